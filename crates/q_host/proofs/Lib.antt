@@ -1,0 +1,4 @@
+pub mod Moments
+pub mod Puts
+pub mod Sequences
+pub mod Told

@@ -1,0 +1,6 @@
+pub mod Files
+pub mod Reads
+pub mod View
+pub mod Steps
+pub mod Calls
+pub mod Faults

@@ -1,0 +1,11 @@
+mod Crashes
+mod Effects
+mod Firsts
+mod History
+mod Keeping
+mod Leasts
+mod Outcomes
+mod Results
+mod Sound
+mod Steps
+mod Tables

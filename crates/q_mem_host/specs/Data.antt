@@ -1,0 +1,34 @@
+-- What the data of a host in memory stand for.
+use Rattle.std.specs.Prelude.{◌≡◌, ◌<◌, ℕ, true, List, [], ◌∷◌, length, take, slice_get, if◌then◌else◌, Some, None, Vec, unwrap_or}
+use Rattle.q_model.specs.declared.spot.Area.{Area}
+use Rattle.std.specs.Option.{option_map}
+use Rattle.std.specs.declared.alloc.Global.{Global}
+use Rattle.q_host.specs.Files.{Table, same_place}
+use Rattle.q_mem_host.specs.Kept.{Kept}
+use Rattle.q_mem_host.specs.Event.{Event, state_of}
+use Rattle.q_mem_host.specs.declared.file.File.{File}
+use Rattle.q_mem_host.specs.declared.entries.Entry.{Entry}
+
+-- the items of a `Vec`
+abbrev pub items_of : Vec ℕ Global → List ℕ
+items_of v = v.items
+
+-- a file without its memory
+abbrev pub kept : File → Kept
+kept f = record { bytes = f.bytes.items; soft = f.soft.items; synced = unwrap_or (option_map items_of f.synced) f.bytes.items }
+
+-- the first entry of each place counts
+abbrev pub table : List Entry → Table Kept
+table [] a n = None
+table (e ∷ es) a n = if same_place e.area e.name a n then Some (kept e.file) else table es a n
+
+-- the first entry of a place has this index
+pub record IsFirst (es : List Entry) (i : ℕ) (a : Area) (n : List ℕ) : Type 0 where
+  pub within : i < length es
+  pub here : (e : Entry) → slice_get es i ≡ Some e → same_place e.area e.name a n ≡ true
+  pub before : table (take i es) a n ≡ None
+
+-- the files and the told bytes are those that the history leads to
+pub record KeepsUp (entries : List Entry) (bytes : List ℕ) (h : List Event) : Type 0 where
+  pub disk : table entries ≡ (state_of h).disk
+  pub told : bytes ≡ (state_of h).told

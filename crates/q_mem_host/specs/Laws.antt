@@ -1,0 +1,19 @@
+-- The laws of the clock of a host in memory.
+use Rattle.std.proofs.Common.{ℕ, ◌≤◌, List, length, refl, sym, subst, arith, take_all, Option, Some, None}
+use Rattle.q_host.specs.View.{Remains, now}
+use Rattle.q_mem_host.specs.Kept.{Kept}
+use Rattle.q_mem_host.specs.Event.{Event, state_of}
+use Rattle.q_mem_host.specs.Left.{MayLeave, LeftSince, IsLeft, read_of, view_of}
+
+pub mem_counts_now : (h : List Event) (t : ℕ) (c : Remains) → t ≤ length h → MayLeave (state_of h) c → LeftSince h t c
+mem_counts_now h t c le left = (length h, le, omega arith, subst (λ (l : List Event). MayLeave (state_of l) c) (sym (take_all (length h) h (omega arith))) left)
+
+pub mem_only_now : (h : List Event) (c : Remains) → LeftSince h (length h) c → MayLeave (state_of h) c
+mem_only_now h c left = subst (λ (l : List Event). MayLeave (state_of l) c) (take_all left.0 h left.1) left.3
+
+here : (o : Option Kept) → IsLeft o (read_of o)
+here None = tt
+here (Some k) = record { no_shorter = omega arith; no_longer = omega arith; firm = λ i h out. refl }
+
+pub mem_stays_whole : (h : List Event) → MayLeave (state_of h) (now (view_of h))
+mem_stays_whole h = record { told = refl; each = λ a n. here ((state_of h).disk a n) }

@@ -1,0 +1,9 @@
+pub mod Kept
+pub mod Event
+pub mod Left
+pub mod Laws
+pub mod Data
+pub mod Record
+pub mod Plans
+pub mod Memo
+pub mod Least

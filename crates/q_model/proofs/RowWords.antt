@@ -1,0 +1,75 @@
+-- Words of worked runs: events, and the lines that they lead to.
+use Rattle.std.specs.Prelude.{ℕ, zero, suc, ◌+◌, drop, List, [], ◌∷◌, ◌++◌, codes, decimal, flat_map, Some, false}
+use Rattle.q_model.specs.declared.event.Event.TheVariants as events
+use Rattle.q_model.specs.declared.event.Item.{Item}
+use Rattle.q_model.specs.declared.event.Item.TheVariants.{Heard}
+use Rattle.q_model.specs.declared.event.Mode.TheVariants.{Deliver}
+use Rattle.q_model.specs.declared.id.Id.{Id}
+use Rattle.q_model.specs.declared.outcome.Outcome.{Outcome}
+use Rattle.q_model.specs.declared.outcome.Outcome.TheVariants as outcomes
+use Rattle.q_model.specs.declared.outcome.SiteState.TheVariants.{Up, Down}
+use Rattle.q_model.specs.declared.rows.Mark.{Mark}
+use Rattle.q_model.specs.declared.rows.Place.{Place}
+use Rattle.q_model.specs.Book.{empty_book}
+use Rattle.q_model.specs.Message.{Message}
+use Rattle.q_model.specs.Notices.{text_line}
+use Rattle.q_model.specs.Routes.{no_table, world_of}
+use Rattle.q_model.specs.Run.{run_of}
+use Rattle.q_model.specs.Settings.{Settings}
+use Rattle.q_model.specs.Text.{text}
+
+abbrev pub at : ℕ → Item
+at t = Heard (events.At t)
+
+abbrev pub mail : List ℕ → List (List ℕ) → Item
+mail sender to = Heard (events.Mail (Some sender) to [])
+
+abbrev pub up : ℕ → List Outcome → Item
+up number outcomes = Heard (events.Reply number Up outcomes)
+
+abbrev pub down : ℕ → List Outcome → Item
+down number outcomes = Heard (events.Reply number Down outcomes)
+
+-- n deliveries from number i on succeed
+abbrev pub ups : ℕ → ℕ → List Item
+ups zero i = []
+ups (suc n) i = up i (outcomes.Ok ∷ []) ∷ ups n (i + 1)
+
+-- what is told for these items on an empty spool
+abbrev pub told : Settings → List Item → List ℕ
+unfolding run_of text
+told settings items = text no_table (run_of (world_of settings) Deliver empty_book items)
+
+-- the same from the n-th line on
+abbrev pub told_from : ℕ → Settings → List Item → List ℕ
+unfolding run_of text
+told_from n settings items = text no_table (drop n (run_of (world_of settings) Deliver empty_book items))
+
+abbrev pub lines : List (List ℕ) → List ℕ
+lines texts = flat_map text_line texts
+
+-- n addresses from number i on, each made by f
+abbrev pub many : ℕ → ℕ → (ℕ → List ℕ) → List (List ℕ)
+many zero i f = []
+many (suc n) i f = f i ∷ many n (i + 1) f
+
+abbrev pub same_domain : ℕ → List ℕ
+same_domain i = codes "r" ++ decimal i ++ codes "@y.example"
+
+abbrev pub own_domain : List ℕ → ℕ → List ℕ
+own_domain name i = codes "r@" ++ name ++ decimal i ++ codes ".example"
+
+abbrev pub id : ℕ → Id
+id n = record { generation = 1; serial = n; bounce = false }
+
+-- the message of number n, to one recipient
+abbrev pub one_to : ℕ → Mark → Place → Message
+one_to n mark place = record {
+  id = id n;
+  sender = Some (codes "a@x.example");
+  arrival = 1000;
+  content = [];
+  recipients = record { address = codes "b@y.example"; mark = mark } ∷ [];
+  failures = [];
+  place = place;
+}

@@ -1,0 +1,47 @@
+-- Which file is taken next: incoming and deferred give by turns (qmgr(8), "fairness").
+use Rattle.std.specs.Option.{option_map_or}
+use Rattle.std.specs.Prelude.{Bool, false, if◌then◌else◌, Option, option_and_then, option_map, Some, true}
+use Rattle.q_model.specs.declared.id.Id.{Id}
+use Rattle.q_model.specs.declared.rows.DeferredName.{DeferredName}
+use Rattle.q_model.specs.declared.rows.Scan.{Scan}
+use Rattle.q_model.specs.Book.{ids_at}
+use Rattle.q_model.specs.Ids.{id_before, id_eq}
+use Rattle.q_model.specs.Ledger.{Ledger}
+use Rattle.q_model.specs.Lists.{least}
+use Rattle.q_model.specs.Places.{is_incoming}
+use Rattle.q_model.specs.Scans.{scan_next}
+
+-- which queue gives, and the name that it gives
+pub data Pick : Type 0 where
+  from_incoming : Id → Pick
+  from_deferred : DeferredName → Pick
+
+-- the id of what is taken next
+abbrev pub pick_id : Pick → Id
+pick_id (from_incoming id) = id
+pick_id (from_deferred name) = name.id
+
+-- the least id in incoming
+abbrev pub incoming_next : Ledger → Option Id
+incoming_next l = least id_before (ids_at is_incoming l.book)
+
+-- the scan's next name
+abbrev pub deferred_next : Ledger → Option DeferredName
+deferred_next l = option_and_then (λ s. scan_next l.book s) l.scan
+
+-- the queue whose turn it is gives; else the one that has a message
+abbrev pub pick : Ledger → Option Pick
+pick l = option_map_or (λ id. option_map_or (λ name. Some (if l.deferred_turn then from_deferred name else from_incoming id)) (deferred_next l) (Some (from_incoming id))) (incoming_next l) (option_map (λ name. from_deferred name) (deferred_next l))
+
+-- the id is the one taken next
+abbrev pub is_pick : Ledger → Id → Bool
+is_pick l id = option_map_or (λ p. id_eq (pick_id p) id) (pick l) false
+
+-- the turn passes, and the walk of deferred goes on behind the name
+abbrev pub passed : Pick → Ledger → Ledger
+passed (from_incoming id) l = record l { deferred_turn = true }
+passed (from_deferred name) l = record l { deferred_turn = false; scan = option_map (λ (s : Scan). record s { place = Some name }) l.scan }
+
+-- the turn and the scan, after a file was taken
+abbrev pub taken : Ledger → Ledger
+taken l = option_map_or (λ p. passed p l) (pick l) l

@@ -1,0 +1,44 @@
+//! The types that every other crate speaks of, and (in `specs/`) the definition of what a queue
+//! manager does: the book of messages, the ledger of one life, the entries of a trace, the next
+//! decision and whole runs.
+#![tactic(auto)]
+
+mod address;
+mod entry;
+mod event;
+mod file_head;
+mod hop;
+mod id;
+mod id_text;
+mod name;
+mod names;
+mod no_memory;
+mod outcome;
+mod padded;
+mod rooms;
+mod rows;
+mod sequence;
+mod site;
+mod spot;
+#[cfg(test)]
+mod tests;
+
+pub use address::{Address, split_domain};
+pub use entry::Entry;
+pub use event::{Event, Item, Mode, Trigger};
+pub use file_head::{Batch, Cursor, FileHead, Head, Taken};
+pub use hop::Hop;
+pub use id::{Id, Moment};
+pub use id_text::{due_name, due_of, id_name, id_of};
+pub use name::Name;
+pub use names::Names;
+pub use no_memory::NoMemory;
+pub use outcome::{Failure, Note, Outcome, SiteState, Why};
+pub use rooms::Rooms;
+pub use rows::{
+    Admitted, DeferredName, Delivery, Health, Mark, Need, Place, Request, Row, Scan, Served,
+    SiteRecord, Unsettled,
+};
+pub use sequence::{Addresses, Bytes, Counted, Notes, Outcomes, Positions, Records, Sequence};
+pub use site::Site;
+pub use spot::{Area, Spot};

@@ -1,0 +1,10 @@
+pub mod Ranges
+pub mod Fields
+pub mod Parameters
+pub mod Times
+pub mod Values
+pub mod Texts
+pub mod Readings
+pub mod Files
+pub mod Drafts
+pub mod Lines

@@ -1,0 +1,248 @@
+-- A life agrees with what its turns lead to.
+use Rattle.std.proofs.Common.{◌≡◌, ◌≤◌, ◌<◌, ℕ, ◌+◌, max, Bool, true, false, List, [], ◌∷◌, length, Option, Some, refl, sym, ap, ◌∙◌, if◌then◌else◌, arith, subst}
+use Rattle.std.specs.Prelude.{fold, nat_le, count_by, slice_get, ◌&&◌, ◌==◌}
+use Rattle.std.proofs.lemmas.Bool.{and_parts}
+use Rattle.std.proofs.lemmas.Bool.Decides.{nat_tests}
+use Rattle.q_model.specs.declared.entry.Entry.{Entry}
+use Rattle.q_model.specs.Past.{is_arrive}
+use Rattle.q_model.specs.declared.entry.Entry.TheVariants.{Life, At, Admit, Load, Reply, Mark, Sync, Remove}
+use Rattle.q_model.specs.declared.event.Event.TheVariants as events
+use Rattle.q_model.specs.declared.event.Item.TheVariants.{Heard}
+use Rattle.q_model.specs.declared.event.Mode.TheVariants.{Deliver}
+use Rattle.q_model.specs.declared.outcome.Outcome.{Outcome}
+use Rattle.q_model.specs.declared.outcome.Outcome.TheVariants as outcomes
+use Rattle.q_model.specs.declared.outcome.SiteState.{SiteState}
+use Rattle.q_model.specs.declared.outcome.SiteState.TheVariants.{Up, Down}
+use Rattle.q_model.specs.declared.spot.Area.TheVariants.{Active}
+use Rattle.q_model.specs.Ledger.{Ledger}
+use Rattle.q_model.specs.Lists.{has_none}
+use Rattle.q_model.specs.QueueFileBytes.{file_bytes, mark_at}
+use Rattle.q_model.specs.Run.{turn}
+use Rattle.q_model.specs.Step.{after_all}
+use Rattle.q_host.specs.declared.error.HostError.{HostError}
+use Rattle.q_host.specs.Files.{Files}
+use Rattle.q_host.specs.View.{Remains}
+use Rattle.q_top.specs.Agrees.{Agrees, StageAgrees, IsAwaiting, IsFlying, HasFiles, Turns, Breaks}
+use Rattle.q_top.specs.Begins.{before_life}
+use Rattle.q_top.specs.declared.life.Life.{Life as LifeOf}
+use Rattle.q_top.specs.declared.life.Stage.{Stage}
+use Rattle.q_top.specs.declared.life.Stage.TheVariants.{Awaited, InFlight, Gone}
+use Rattle.q_top.specs.Fits.{fits, is_awaited, is_in_flight}
+use Rattle.q_top.specs.MailSteps.{life_steps, mail_steps, reply_steps}
+use Rattle.q_top.specs.OneMessage.{world, idle, file_message}
+use Rattle.q_top.specs.Reading.{is_one_ok}
+use Rattle.q_top.specs.Spools.{Spool, unopened, empty, holds, first_id, IsSpool}
+use Rattle.q_top.specs.Steps.{entries_of, spool_after, Plays, Halts}
+use Rattle.q_top.proofs.Fitting.{life}
+use Rattle.q_top.proofs.Turning.{arrive, start, mail_entries, reply_entries, idle_at, flying_at, after_begin, after_mail, after_reply, turn_at_idle, turn_at_flying, turn_mail, turn_reply}
+
+pub begun_awaits : IsAwaiting 0 false (after_all world before_life (entries_of life_steps)) (spool_after unopened life_steps)
+unfolding after_all
+begun_awaits = record { next_run = 0; past = Life 1 Deliver ∷ []; ledger = after_begin; begun = refl; no_arrival = refl; no_start = refl; spool = refl }
+
+-- the clock is there
+pub at_agrees : (stage : Stage) (clock t : ℕ) (timed : Bool) (l : Ledger) (s : Spool) → StageAgrees stage clock timed l s
+    → (turn world l (Heard (events.At t)) ≡ At (max clock t) ∷ []) × StageAgrees stage (max clock t) true (after_all world l (At (max clock t) ∷ [])) s
+unfolding after_all
+at_agrees Awaited clock t timed l s a = (
+  rw a.ledger (turn_at_idle clock a.next_run t timed false a.past),
+  record {
+    next_run = if nat_le a.next_run (max clock t) then max clock t + 300 else a.next_run;
+    past = At (max clock t) ∷ a.past;
+    ledger = rw a.ledger (idle_at clock a.next_run (max clock t) timed false a.past);
+    begun = refl;
+    no_arrival = a.no_arrival;
+    no_start = a.no_start;
+    spool = a.spool;
+  },
+)
+at_agrees (InFlight at) clock t timed l s a = (
+  rw a.ledger (turn_at_flying clock a.next_run t a.sender a.address a.arrival a.past),
+  record {
+    next_run = if nat_le a.next_run (max clock t) then max clock t + 300 else a.next_run;
+    sender = a.sender;
+    address = a.address;
+    arrival = a.arrival;
+    past = At (max clock t) ∷ a.past;
+    ledger = rw a.ledger (flying_at clock a.next_run (max clock t) a.sender a.address a.arrival a.past);
+    begun = refl;
+    arrived = a.arrived;
+    clock = refl;
+    spool = a.spool;
+    mark = a.mark;
+  },
+)
+at_agrees Gone clock t timed l s a = (
+  rw a.ledger (turn_at_idle clock a.next_run t timed true a.past),
+  record {
+    next_run = if nat_le a.next_run (max clock t) then max clock t + 300 else a.next_run;
+    past = At (max clock t) ∷ a.past;
+    ledger = rw a.ledger (idle_at clock a.next_run (max clock t) timed true a.past);
+    begun = refl;
+    arrived = a.arrived;
+    spool = a.spool;
+  },
+)
+
+pub at_agrees_with : (stage : Stage) (clock t m : ℕ) (timed : Bool) (l : Ledger) (s : Spool) → m ≡ max clock t → StageAgrees stage clock timed l s
+    → (turn world l (Heard (events.At t)) ≡ At m ∷ []) × StageAgrees stage m true (after_all world l (At m ∷ [])) s
+at_agrees_with stage clock t m timed l s e a =
+    subst (λ x. (turn world l (Heard (events.At t)) ≡ At x ∷ []) × StageAgrees stage x true (after_all world l (At x ∷ [])) s) (sym e) (at_agrees stage clock t timed l s a)
+
+-- what a life holds of the files stays
+pub keeps_files : (stage : Stage) (f g : Files) → ((s : Spool) → IsSpool s f → IsSpool s g) → HasFiles stage f → HasFiles stage g
+keeps_files Awaited f g by h = by empty h
+keeps_files (InFlight at) f g by h = (h.0, h.1, by (holds Active h.0) h.2)
+keeps_files Gone f g by h = by empty h
+
+-- the files of a message in flight, and where its mark stands
+pub in_flight_files : (stage : Stage) (at : ℕ) (f : Files) → stage ≡ InFlight at → HasFiles stage f → HasFiles (InFlight at) f
+in_flight_files stage at f e h = subst (λ (x : Stage). HasFiles x f) e h
+
+pub awaited_files : (stage : Stage) (f : Files) → stage ≡ Awaited → HasFiles stage f → IsSpool empty f
+awaited_files stage f e h = subst (λ (x : Stage). HasFiles x f) e h
+
+-- ---- the message comes
+
+is_one : (n : ℕ) → (n == 1) ≡ true → n ≡ 1
+is_one n h = grind (arith, nat_tests)
+
+only_one : (to : List (List ℕ)) (address : List ℕ) → (length to == 1) ≡ true → slice_get to 0 ≡ Some address → to ≡ address ∷ []
+only_one [] address h e = absurd cc
+only_one (a ∷ []) address h e = cc
+only_one (a ∷ b ∷ to) address h e = absurd (omega (arith, is_one (length (a ∷ b ∷ to)) h))
+
+nothing : (content : List ℕ) → has_none content ≡ true → content ≡ []
+nothing [] h = refl
+nothing (b ∷ bs) h = absurd cc
+
+awaited : (stage : Stage) → is_awaited stage ≡ true → stage ≡ Awaited
+awaited Awaited h = refl
+awaited (InFlight at) h = absurd cc
+awaited Gone h = absurd cc
+
+-- what an event that fits says of the life
+pub record IsFirstMail (old : LifeOf) (to : List (List ℕ)) (content address : List ℕ) : Type 0 where
+  pub timed : old.timed ≡ true
+  pub stage : old.stage ≡ Awaited
+  pub only : to ≡ address ∷ []
+  pub no_content : content ≡ []
+
+pub first_mail : (old : LifeOf) (sender : Option (List ℕ)) (to : List (List ℕ)) (content address : List ℕ) → fits old (events.Mail sender to content) ≡ true → slice_get to 0 ≡ Some address → IsFirstMail old to content address
+first_mail old sender to content address h e =
+    let three = and_parts ((old.timed && is_awaited old.stage) && (length to == 1)) (has_none content) h in
+    let two = and_parts (old.timed && is_awaited old.stage) (length to == 1) three.0 in
+    let one = and_parts old.timed (is_awaited old.stage) two.0 in
+    record { timed = one.0; stage = awaited old.stage one.1; only = only_one to address two.1 e; no_content = nothing content three.1 }
+
+pub has_recipient : (old : LifeOf) (sender : Option (List ℕ)) (to : List (List ℕ)) (content : List ℕ) → fits old (events.Mail sender to content) ≡ true → 0 < length to
+has_recipient old sender [] content h =
+    let three = and_parts ((old.timed && is_awaited old.stage) && false) (has_none content) h in
+    let two = and_parts (old.timed && is_awaited old.stage) false three.0 in absurd (cc)
+has_recipient old sender (a ∷ to) content h = omega arith
+
+not_zero : (n : ℕ) → 1 ≤ n → (n == 0) ≡ false
+not_zero n h = grind (arith, nat_tests)
+
+still_some : (n k : ℕ) → 1 ≤ n → 1 ≤ n + k
+still_some n k h = omega (arith, h)
+
+-- a count of arrivals that has begun
+some_arrivals : (n : ℕ) (past : List Entry) → 1 ≤ n → (fold (λ a x. a + (if is_arrive x then 1 else 0)) n past == 0) ≡ false
+some_arrivals n [] h = not_zero n h
+some_arrivals n (e ∷ past) h = some_arrivals (n + (if is_arrive e then 1 else 0)) past (still_some n (if is_arrive e then 1 else 0) h)
+
+first_arrival : (sender : Option (List ℕ)) (address : List ℕ) (past : List Entry) → (count_by is_arrive (start address ∷ Load first_id 0 1 ∷ Admit first_id ∷ arrive sender address ∷ past) == 0) ≡ false
+first_arrival sender address past = some_arrivals 1 past (omega arith)
+
+pub mail_agrees : (old : LifeOf) (l : Ledger) (s : Spool) (sender : Option (List ℕ)) (to : List (List ℕ)) (content address file : List ℕ) (at : ℕ) → IsFirstMail old to content address → Agrees old l s
+    → file ≡ file_bytes (file_message sender old.clock address false) (80 ∷ []) → at ≡ mark_at (file_message sender old.clock address false) 0
+    → (s ≡ empty) × (turn world l (Heard (events.Mail sender to content)) ≡ entries_of (mail_steps sender address file)) × Agrees (life old.clock old.timed (InFlight at)) (after_all world l (entries_of (mail_steps sender address file))) (holds Active file)
+mail_agrees old l s sender to content address file at first agrees is mark =
+    let a : IsAwaiting old.clock old.timed l s = subst (λ (x : Stage). StageAgrees x old.clock old.timed l s) first.stage agrees in
+    let b : IsAwaiting old.clock true l s = subst (λ x. IsAwaiting old.clock x l s) first.timed a in (
+      a.spool,
+      rw (first.only, first.no_content, b.ledger) (turn_mail old.clock b.next_run sender address b.past b.no_arrival b.no_start),
+      record {
+        next_run = b.next_run;
+        sender = sender;
+        address = address;
+        arrival = old.clock;
+        past = start address ∷ Load first_id 0 1 ∷ Admit first_id ∷ arrive sender address ∷ b.past;
+        ledger = ap (λ (x : Ledger). after_all world x (mail_entries sender address)) b.ledger ∙ after_mail old.clock b.next_run sender address b.past;
+        begun = refl;
+        arrived = first_arrival sender address b.past;
+        clock = first.timed;
+        spool = ap (λ (x : List ℕ). holds Active x) is;
+        mark = mark;
+      },
+    )
+
+-- ---- it is delivered
+
+is_success : (os : List Outcome) → is_one_ok os ≡ true → os ≡ outcomes.Ok ∷ []
+is_success [] h = absurd cc
+is_success (outcomes.Ok ∷ []) h = refl
+is_success (outcomes.Ok ∷ o ∷ os) h = absurd cc
+is_success (outcomes.Later code ∷ os) h = absurd cc
+is_success (outcomes.Never code ∷ os) h = absurd cc
+
+pub record IsSuccess (number : ℕ) (site : SiteState) (os : List Outcome) : Type 0 where
+  pub first : number ≡ 1
+  pub up : site ≡ Up
+  pub one : os ≡ outcomes.Ok ∷ []
+
+pub first_success : (old : LifeOf) (number : ℕ) (site : SiteState) (os : List Outcome) → fits old (events.Reply number site os) ≡ true → IsSuccess number site os
+first_success old number Up os h =
+    let two = and_parts (is_in_flight old.stage && (number == 1)) (is_one_ok os) h in
+    let one = and_parts (is_in_flight old.stage) (number == 1) two.0 in
+    record { first = is_one number one.1; up = refl; one = is_success os two.1 }
+first_success old number Down os h = absurd cc
+
+pub reply_agrees : (old : LifeOf) (l : Ledger) (s : Spool) (number at : ℕ) (site : SiteState) (os : List Outcome) → IsSuccess number site os → old.stage ≡ InFlight at → Agrees old l s
+    → (file : List ℕ) × (s ≡ holds Active file) × (turn world l (Heard (events.Reply number site os)) ≡ entries_of (reply_steps at file)) × Agrees (life old.clock old.timed Gone) (after_all world l (entries_of (reply_steps at file))) empty
+reply_agrees old l s number at site os success stage agrees =
+    let a : IsFlying old.clock at old.timed l s = subst (λ (x : Stage). StageAgrees x old.clock old.timed l s) stage agrees in (
+      file_bytes (file_message a.sender a.arrival a.address false) (80 ∷ []),
+      a.spool,
+      rw (success.first, success.up, success.one, a.ledger) (turn_reply old.clock a.next_run a.sender a.address a.arrival a.past),
+      record {
+        next_run = a.next_run;
+        past = Remove first_id ∷ Sync first_id ∷ Mark first_id 0 ∷ Reply 1 Up (outcomes.Ok ∷ []) ∷ a.past;
+        ledger = ap (λ (x : Ledger). after_all world x reply_entries) a.ledger ∙ after_reply old.clock a.next_run a.sender a.address a.arrival a.past ∙ ap (λ b. idle old.clock b a.next_run true (Remove first_id ∷ Sync first_id ∷ Mark first_id 0 ∷ Reply 1 Up (outcomes.Ok ∷ []) ∷ a.past)) (sym a.clock);
+        begun = refl;
+        arrived = a.arrived;
+        spool = refl;
+      },
+    )
+
+-- ---- what a turn that was given up says
+
+pub mail_breaks : (old : LifeOf) (sender : Option (List ℕ)) (to : List (List ℕ)) (content address file : List ℕ) (error : HostError) (before after : Remains) → IsFirstMail old to content address
+    → Halts empty (mail_steps sender address file) error before after → Breaks old (Heard (events.Mail sender to content)) error before after
+mail_breaks old sender to content address file error before after first h l s agrees =
+    let a : IsAwaiting old.clock old.timed l s = subst (λ (x : Stage). StageAgrees x old.clock old.timed l s) first.stage agrees in
+    let b : IsAwaiting old.clock true l s = subst (λ x. IsAwaiting old.clock x l s) first.timed a in (
+      mail_steps sender address file,
+      rw (first.only, first.no_content, b.ledger) (turn_mail old.clock b.next_run sender address b.past b.no_arrival b.no_start),
+      subst (λ x. Halts x (mail_steps sender address file) error before after) (sym a.spool) h,
+    )
+
+pub mail_turns : (old : LifeOf) (sender : Option (List ℕ)) (to : List (List ℕ)) (content address file : List ℕ) (at : ℕ) (before after : Remains) → IsFirstMail old to content address
+    → file ≡ file_bytes (file_message sender old.clock address false) (80 ∷ []) → at ≡ mark_at (file_message sender old.clock address false) 0
+    → Plays empty (mail_steps sender address file) before after → Turns old (life old.clock old.timed (InFlight at)) (Heard (events.Mail sender to content)) before after
+mail_turns old sender to content address file at before after first is mark p l s agrees =
+    let (spool, entries, new) = mail_agrees old l s sender to content address file at first agrees is mark in
+    (mail_steps sender address file, entries, new, subst (λ x. Plays x (mail_steps sender address file) before after) (sym spool) p)
+
+pub reply_breaks : (old : LifeOf) (number at : ℕ) (site : SiteState) (os : List Outcome) (error : HostError) (before after : Remains) → IsSuccess number site os → old.stage ≡ InFlight at
+    → ((file : List ℕ) → Halts (holds Active file) (reply_steps at file) error before after) → Breaks old (Heard (events.Reply number site os)) error before after
+reply_breaks old number at site os error before after success stage h l s agrees =
+    let (file, spool, entries, new) = reply_agrees old l s number at site os success stage agrees in
+    (reply_steps at file, entries, subst (λ x. Halts x (reply_steps at file) error before after) (sym spool) (h file))
+
+pub reply_turns : (old : LifeOf) (number at : ℕ) (site : SiteState) (os : List Outcome) (before after : Remains) → IsSuccess number site os → old.stage ≡ InFlight at
+    → ((file : List ℕ) → Plays (holds Active file) (reply_steps at file) before after) → Turns old (life old.clock old.timed Gone) (Heard (events.Reply number site os)) before after
+reply_turns old number at site os before after success stage p l s agrees =
+    let (file, spool, entries, new) = reply_agrees old l s number at site os success stage agrees in
+    (reply_steps at file, entries, new, subst (λ x. Plays x (reply_steps at file) before after) (sym spool) (p file))

@@ -1,0 +1,12 @@
+pub mod Agreeing
+pub mod EventLists
+pub mod FileBytes
+pub mod FirstFiles
+pub mod Fitting
+pub mod Lines
+pub mod MailPlays
+pub mod Playing
+pub mod Readings
+pub mod Replaying
+pub mod Stepping
+pub mod Turning

@@ -1,0 +1,32 @@
+-- The entries of the one message, each with the spool that it leads to.
+use Rattle.std.specs.Prelude.{ℕ, List, [], ◌∷◌, Option}
+use Rattle.q_model.specs.declared.entry.Entry.TheVariants.{Life, Arrive, Admit, Load, Start, Reply, Mark, Sync, Remove}
+use Rattle.q_model.specs.declared.event.Mode.TheVariants.{Deliver}
+use Rattle.q_model.specs.declared.outcome.Outcome.TheVariants as outcomes
+use Rattle.q_model.specs.declared.outcome.SiteState.TheVariants.{Up}
+use Rattle.q_model.specs.declared.spot.Area.TheVariants.{Incoming, Active}
+use Rattle.q_host.specs.Files.{written}
+use Rattle.q_top.specs.OneMessage.{site_of}
+use Rattle.q_top.specs.Spools.{Spool, empty, holds, first_id}
+use Rattle.q_top.specs.Steps.{Steps}
+
+-- the life begins
+abbrev pub life_steps : Steps
+life_steps = (Life 1 Deliver, empty) ∷ []
+
+-- the message is read and its delivery begins
+abbrev pub sent : Spool → List ℕ → Steps
+sent s address = (Load first_id 0 1, s) ∷ (Start 1 first_id (site_of address) (0 ∷ []), s) ∷ []
+
+-- it comes, is admitted, read and sent
+abbrev pub mail_steps : Option (List ℕ) → List ℕ → List ℕ → Steps
+mail_steps sender address file = (Arrive first_id sender (address ∷ []) [], holds Incoming file) ∷ (Admit first_id, holds Active file) ∷ sent (holds Active file) address
+
+-- its delivery succeeds: it is marked, synced and removed; the mark byte stands at this offset
+abbrev pub reply_steps : ℕ → List ℕ → Steps
+reply_steps at file =
+    (Reply 1 Up (outcomes.Ok ∷ []), holds Active file)
+    ∷ (Mark first_id 0, holds Active (written at (68 ∷ []) file))
+    ∷ (Sync first_id, holds Active (written at (68 ∷ []) file))
+    ∷ (Remove first_id, empty)
+    ∷ []

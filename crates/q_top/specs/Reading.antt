@@ -1,0 +1,61 @@
+-- Which items of an event list are taken, and the first line that can't be.
+use Rattle.std.specs.Prelude.{ℕ, ◌+◌, Bool, true, false, ◌&&◌, ◌==◌, if◌then◌else◌, List, [], ◌∷◌, ◌++◌, length, Option, Some, None, option_and_then}
+use Rattle.q_model.specs.declared.event.Event.{Event}
+use Rattle.q_model.specs.declared.event.Event.TheVariants as events
+use Rattle.q_model.specs.declared.event.Item.{Item}
+use Rattle.q_model.specs.declared.event.Item.TheVariants.{Begin, Heard, Finish}
+use Rattle.q_model.specs.declared.outcome.Outcome.{Outcome}
+use Rattle.q_model.specs.declared.outcome.Outcome.TheVariants as outcomes
+use Rattle.q_model.specs.declared.outcome.SiteState.TheVariants.{Up, Down}
+use Rattle.q_model.specs.Ledger.{Ledger}
+use Rattle.q_model.specs.Lists.{has_none}
+use Rattle.q_model.specs.Past.{arrivals}
+use Rattle.q_model.specs.Run.{entry_of, turn}
+use Rattle.q_model.specs.Settings.{World}
+use Rattle.q_model.specs.Step.{allowed, after_all}
+use Rattle.q_top.specs.EventLines.{line_item}
+
+-- the items through `end`; those before the line that can't be taken, and its number; or those of all lines, without an `end`
+pub data Reading : Type 0 where
+  ended : List Item → Reading
+  faulty : List Item → ℕ → Reading
+  going : List Item → Reading
+
+-- the one outcome is a success
+abbrev pub is_one_ok : List Outcome → Bool
+is_one_ok [] = false
+is_one_ok (outcomes.Ok ∷ []) = true
+is_one_ok (outcomes.Ok ∷ o ∷ os) = false
+is_one_ok (outcomes.Later code ∷ os) = false
+is_one_ok (outcomes.Never code ∷ os) = false
+
+-- So far a life takes one message, to one recipient and without content, and hears of successes alone.
+abbrev pub is_handled : Ledger → Event → Bool
+is_handled l (events.At t) = true
+is_handled l (events.Mail sender to content) = (length to == 1) && has_none content && (arrivals l == 0)
+is_handled l (events.Reply number Up outcomes) = is_one_ok outcomes
+is_handled l (events.Reply number Down outcomes) = false
+is_handled l (events.Trigger kind) = false
+
+-- the event fits what went before: an `at` came, and a reply names a delivery in flight
+abbrev pub may_hear : World → Ledger → Event → Bool
+may_hear w l event = is_handled l event && allowed w l (entry_of l (Heard event))
+
+-- these items, and then what follows
+abbrev pub behind : List Item → Reading → Reading
+behind items (ended more) = ended (items ++ more)
+behind items (faulty more n) = faulty (items ++ more) n
+behind items (going more) = going (items ++ more)
+
+-- What a line leads to, where `next` reads the lines behind it from a ledger on. No line begins a life so far.
+abbrev pub take_line : World → Ledger → ℕ → Option (Option Item) → (Ledger → Reading) → Reading
+take_line w l n None next = faulty [] n
+take_line w l n (Some None) next = next l
+take_line w l n (Some (Some Begin)) next = faulty [] n
+take_line w l n (Some (Some Finish)) next = ended (Finish ∷ [])
+take_line w l n (Some (Some (Heard event))) next = if may_hear w l event then behind (Heard event ∷ []) (next (after_all w l (turn w l (Heard event)))) else faulty [] n
+
+-- the lines from number n on, where the ledger is what the items before them led to
+unfoldable pub read_from : World → Ledger → ℕ → List (Option (List ℕ)) → Reading
+read_from w l n [] = going []
+read_from w l n (line ∷ lines) = take_line w l n (option_and_then line_item line) (λ m. read_from w m (n + 1) lines)

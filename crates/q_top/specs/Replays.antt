@@ -1,0 +1,57 @@
+-- How far a replay came: which items of the text were taken, and what was told for them.
+use Rattle.std.specs.Prelude.{◌≡◌, ◌⊎◌, ◌+◌, ℕ, true, List, [], ◌++◌, length, Option, Some, IfSome}
+use Rattle.q_model.specs.declared.event.Item.{Item}
+use Rattle.q_model.specs.declared.event.Item.TheVariants.{Begin}
+use Rattle.q_model.specs.declared.event.Mode.TheVariants.{Deliver}
+use Rattle.q_model.specs.Book.{empty_book}
+use Rattle.q_model.specs.Ledger.{Ledger}
+use Rattle.q_model.specs.Run.{run_of, turn}
+use Rattle.q_model.specs.Step.{after_all}
+use Rattle.q_host.specs.declared.error.HostError.{HostError}
+use Rattle.q_host.specs.View.{Remains}
+use Rattle.q_top.specs.Begins.{before_life}
+use Rattle.q_top.specs.EventList.{lines_of, lines_from}
+use Rattle.q_top.specs.OneMessage.{world}
+use Rattle.q_top.specs.Reading.{Reading, ended, faulty, going, read_from}
+use Rattle.q_top.specs.ReaderState.{is_in_line}
+use Rattle.q_top.specs.Spools.{unopened}
+use Rattle.q_top.specs.Steps.{Steps, entries_of, Plays, Halts}
+
+-- the ledger of the first life when it has begun
+abbrev pub first_ledger : Ledger
+first_ledger = after_all world before_life (turn world before_life Begin)
+
+-- which items of a text are taken
+abbrev pub read_text : List ℕ → Reading
+read_text bytes = read_from world first_ledger 1 (lines_of bytes)
+
+-- the items that are taken, as far as the text goes
+abbrev pub items_in : Reading → List Item
+items_in (ended items) = items
+items_in (faulty items line) = items
+items_in (going items) = items
+
+-- the entries of these items were carried out and told
+abbrev pub IsTold : List Item → Remains → Remains → Type 0
+IsTold items before after = (steps : Steps) × (run_of world Deliver empty_book items ≡ entries_of steps) × Plays unopened steps before after
+
+-- they were up to one that was given up
+abbrev pub IsToldInPart : List Item → HostError → Remains → Remains → Type 0
+IsToldInPart items error before after = (steps : Steps) × (run_of world Deliver empty_book items ≡ entries_of steps) × Halts unopened steps error before after
+
+-- the text is an event list of these items, each of which fits
+abbrev pub IsWhole : Option (List ℕ) → List Item → Type 0
+IsWhole text items = IfSome text (λ bytes. read_text bytes ≡ ended items)
+
+-- these items stand before the line that can't be taken; a text without an `end` lacks the line after its last
+abbrev pub IsFaulty : Option (List ℕ) → List Item → ℕ → Type 0
+IsFaulty text items line = IfSome text (λ bytes. (read_text bytes ≡ faulty items line) ⊎ ((read_text bytes ≡ going items) × (line ≡ length (lines_of bytes) + 1)))
+
+-- these items stand in the lines that were taken whole; behind them a part of a line was taken, and the source has the rest
+abbrev pub IsCutOff : Option (List ℕ) → Option (List ℕ) → List Item → Type 0
+IsCutOff text left items = IfSome text (λ bytes. (lines : List (Option (List ℕ))) × (limit : ℕ) × (part : List ℕ) × (rest : List ℕ)
+    × (lines_of bytes ≡ lines ++ lines_from limit [] (part ++ rest)) × (is_in_line part ≡ true) × (left ≡ Some rest) × (read_from world first_ledger 1 lines ≡ going items))
+
+-- these items are the first of those that are taken
+abbrev pub IsFront : Option (List ℕ) → List Item → Type 0
+IsFront text items = IfSome text (λ bytes. (more : List Item) × (items_in (read_text bytes) ≡ items ++ more))

@@ -1,0 +1,23 @@
+-- The number of each status, and the status of a refusal of the host.
+use Rattle.std.specs.Prelude.{ℕ}
+use Rattle.q_host.specs.declared.error.HostError.{HostError}
+use Rattle.q_host.specs.declared.error.HostError.TheVariants as errors
+use Rattle.q_top.specs.declared.status.Status.{Status}
+use Rattle.q_top.specs.declared.status.Status.TheVariants.{Done, Usage, BadInput, Disk, Tell, Source, Damaged, NoMemory}
+
+-- the exit status of a program
+abbrev pub number_of : Status → ℕ
+number_of Done = 0
+number_of Usage = 1
+number_of (BadInput file line) = 2
+number_of Disk = 3
+number_of Tell = 4
+number_of Source = 5
+number_of (Damaged area name) = 6
+number_of NoMemory = 9
+
+-- how a command ends where the host refused a call
+abbrev pub status_of : HostError → Status
+status_of errors.Disk = Disk
+status_of errors.Tell = Tell
+status_of errors.NoMemory = NoMemory

@@ -1,0 +1,75 @@
+//! The words of a command, and what each does.
+ghost use Rattle.std.specs.Prelude.{◌≡◌, ◌⊎◌, ℕ, List, Some, IsSome, IsTrue, IsFalse, map, string_bytes};
+ghost use Rattle.q_host.specs.Faults.{Rose};
+ghost use Rattle.q_host.specs.View.{now};
+ghost use Rattle.q_model.specs.Values.{Spot};
+ghost use Rattle.q_model.specs.declared.spot.Area.{Area};
+ghost use Rattle.q_stream.specs.Takes.{Rose as SourceRose};
+ghost use Rattle.q_top.specs.Answers.{answer_of};
+ghost use Rattle.q_top.specs.Commands.{is_replay, IsTurnedAway, IsRun};
+ghost use Rattle.q_top.specs.Faultless.{NoFault, NoSourceFault};
+ghost use Rattle.q_top.specs.FirstFile.{IsFirstFile, IsSameHost, areas_in_order};
+ghost use Rattle.q_top.specs.ReplayEnds.{ReplayEnds};
+ghost use Rattle.q_top.specs.Spools.{IsSpool, is_looked_at, unopened};
+
+use crate::replay::replay;
+use crate::spool::first_file;
+use crate::status::{Status, status_of};
+use q_host::Host;
+use q_stream::Source;
+use std::alloc::Global;
+
+/// Whether the words are `replay` alone.
+fn is_replay(words: &[String]) -> bool
+    ensures { result ≡ is_replay (map string_bytes words.now) }
+{
+    let [word] = words else {
+        return false;
+    };
+    word.as_str() == "replay"
+}
+
+/// Runs a command on the spool of a host.
+///
+/// The one command so far is `replay`: it reads an event list from the source, takes its events
+/// through the spool, and tells each decision. The spool has to be empty: no generation, no
+/// message in `incoming`, `active`, `deferred`, `hold` or `corrupt`. Each line of the trace is
+/// told after the disk holds what it says, so what was told before a refusal stands.
+///
+/// `Usage` comes for other words and `Damaged` for a spool that isn't empty, with its first file,
+/// both before anything is read or changed. `BadInput` comes at the first line that is none of an
+/// event list or whose event can't be taken, or behind the last where `end` is missing. `Disk`,
+/// `Tell` and `Source` come where the host or the source failed, `NoMemory` where memory ran out.
+pub fn qmgr<H: Host, S: Source>(
+    alloc: Global,
+    words: &[String],
+    source: &mut S,
+    host: &mut H,
+) -> Status
+    // With `Done` the source's bytes are an event list, and its run was told.
+    ensures done { IsTrue H.tells → IsSpool unopened (H.view host.old).files → result ≡ Status.Done → IsRun (S.left source.old) (now (H.view host.old)) (now (H.view host.new)) }
+    // How far each other status says that the run went.
+    ensures ends { IsTrue H.tells → IsSpool unopened (H.view host.old).files → IsTrue (is_replay (map string_bytes words.now)) → ReplayEnds (S.left source.old) (S.left source.new) (now (H.view host.old)) (now (H.view host.new)) result }
+    // Where nothing fails, the text alone says how the replay ends, if memory suffices.
+    ensures answers { (bytes : List ℕ) → IsTrue H.tells → IsSpool unopened (H.view host.old).files → IsTrue (is_replay (map string_bytes words.now)) → S.left source.old ≡ Some bytes → NoFault (H.faults host.old) (H.faults host.new) → NoSourceFault (S.faults source.old) (S.faults source.new) → (result ≡ answer_of bytes) ⊎ (result ≡ Status.NoMemory) }
+    ensures usage { IsFalse (is_replay (map string_bytes words.now)) → (result ≡ Status.Usage) × (source.new ≡ source.old) × (host.new ≡ host.old) }
+    ensures only_usage { result ≡ Status.Usage → IsFalse (is_replay (map string_bytes words.now)) }
+    // A spool with a file in an area that is looked at is turned away.
+    ensures in_the_way { (a : Area) (n : List ℕ) → IsTrue H.tells → IsTrue (is_replay (map string_bytes words.now)) → IsTrue (is_looked_at a) → IsSome ((H.view host.old).files a n) → IsTurnedAway result × (source.new ≡ source.old) × IsSameHost (now (H.view host.old)) (now (H.view host.new)) }
+    ensures only_in_the_way { (spot : Spot) → IsTrue H.tells → result ≡ Status.Damaged spot.area spot.name → IsFirstFile areas_in_order (H.view host.old).files (Some spot) }
+    ensures disk { result ≡ Status.Disk → Rose (H.faults host.old).disk (H.faults host.new).disk }
+    ensures tell { result ≡ Status.Tell → Rose (H.faults host.old).tell (H.faults host.new).tell }
+    ensures source { result ≡ Status.Source → SourceRose (S.faults source.old) (S.faults source.new) }
+{
+    if !is_replay(words) {
+        return Status::Usage;
+    }
+    match first_file(alloc, host) {
+        Ok(None) => replay(alloc, source, host),
+        Ok(Some(spot)) => Status::Damaged {
+            area: spot.area,
+            name: spot.name,
+        },
+        Err(error) => status_of(error),
+    }
+}

@@ -1,0 +1,253 @@
+//! One life of the queue manager, in which at most one message comes, to one recipient.
+ghost use Rattle.std.specs.Prelude.{◌≡◌, ◌<◌, ◌∷◌, ◌==◌, [], IfOk, IsErrOf, IsTrue, OnOk, codes, length, true};
+ghost use Rattle.q_model.specs.declared.entry.Entry.TheVariants as entries;
+ghost use Rattle.q_model.specs.declared.event.Event.TheVariants as events;
+ghost use Rattle.q_model.specs.declared.event.Item.TheVariants as items;
+ghost use Rattle.q_model.specs.declared.outcome.Outcome.TheVariants as outcomes;
+ghost use Rattle.q_model.specs.declared.outcome.SiteState.TheVariants as states;
+ghost use Rattle.q_model.specs.Lists.{has_none};
+ghost use Rattle.q_host.specs.View.{now};
+ghost use Rattle.q_top.specs.Agrees.{Breaks, HasFiles, Turns};
+ghost use Rattle.q_top.specs.Begins.{Begins, NeverBegins, Ends};
+ghost use Rattle.q_top.specs.Causes.{HasCause};
+ghost use Rattle.q_top.specs.Fits.{fits, is_awaited, is_in_flight};
+ghost use Rattle.q_top.specs.Reading.{is_one_ok};
+ghost use Rattle.q_top.specs.MailSteps.{sent};
+ghost use Rattle.q_top.specs.Spools.{IsSpool, Spool, unopened};
+ghost use Rattle.q_top.specs.Steps.{Halts, Plays};
+
+use crate::queue_file::queue_file;
+use crate::step::{self, FIRST};
+use crate::tell::tell;
+use q_host::{Host, HostError};
+use q_model::{
+    Address, Addresses, Bytes, Entry, Event, Moment, Name, NoMemory, Outcome, Outcomes, Positions,
+    Site, SiteState, split_domain,
+};
+use std::alloc::Global;
+
+/// What has become of the one message.
+#[derive(Clone, Copy, Debug, PartialEq, Eq)]
+pub(crate) enum Stage {
+    /// It hasn't come.
+    Awaited,
+    /// It is in flight; its mark byte stands at this offset of its file.
+    InFlight { mark_at: u64 },
+    /// It was delivered.
+    Gone,
+}
+
+/// A life that goes on.
+#[derive(Debug, Drop)]
+pub(crate) struct Life {
+    clock: Moment,
+    timed: bool,
+    stage: Stage,
+}
+
+fn is_one_ok(outcomes: &[Outcome]) -> bool
+    ensures { result ≡ is_one_ok outcomes.now }
+{
+    match outcomes {
+        [Outcome::Ok] => true,
+        _ => false,
+    }
+}
+
+fn first_position(alloc: Global) -> Result<Positions, NoMemory>
+    ensures { IfOk result (λ p. p ≡ 0 ∷ []) }
+{
+    let mut positions = Positions::new(alloc);
+    positions.push(0)?;
+    Ok(positions)
+}
+
+impl Life {
+    /// Whether the event can be taken now.
+    pub(crate) fn fits(&self, event: &Event) -> bool
+        ensures { result ≡ fits self.now event.now }
+    {
+        match event {
+            Event::At { .. } => true,
+            Event::Mail { to, content, .. } => {
+                let awaited = self.stage == Stage::Awaited;
+                self.timed & awaited & (to.len() == 1) & (content.len() == 0)
+            }
+            Event::Reply {
+                number,
+                site: SiteState::Up,
+                outcomes,
+            } => {
+                let in_flight = matches!(self.stage, Stage::InFlight { .. });
+                in_flight & (*number == 1) & is_one_ok(outcomes.as_slice())
+            }
+            Event::Reply { .. } => false,
+            Event::Trigger { .. } => false,
+        }
+    }
+
+    /// Opens an empty spool.
+    pub(crate) fn begin<H: Host>(
+        alloc: Global,
+        host: &mut H,
+        generation: Name,
+    ) -> Result<Life, HostError>
+        requires { generation ≡ codes "00000001" }
+        ensures ok { IfOk result (λ life. IsTrue H.tells → Begins life (now (H.view host.old)) (now (H.view host.new))) }
+        ensures files { IfOk result (λ life. IsTrue H.tells → IsSpool unopened (H.view host.old).files → HasFiles life.stage (H.view host.new).files) }
+        ensures err { (error : HostError) → IsErrOf result error → IsTrue H.tells → NeverBegins error (now (H.view host.old)) (now (H.view host.new)) }
+        ensures cause { HasCause (H.faults host.old) (H.faults host.new) result }
+    {
+        step::begin(alloc, host, generation)?;
+        Ok(Life {
+            clock: 0,
+            timed: false,
+            stage: Stage::Awaited,
+        })
+    }
+
+    /// The clock is there.
+    fn at<H: Host>(&mut self, alloc: Global, host: &mut H, moment: Moment) -> Result<(), HostError>
+        requires { IsTrue H.tells → HasFiles self.old.stage (H.view host.old).files }
+        ensures ok { OnOk result (IsTrue H.tells → Turns self.old self.new (items.Heard (events.At moment)) (now (H.view host.old)) (now (H.view host.new))) }
+        ensures files { OnOk result (IsTrue H.tells → HasFiles self.new.stage (H.view host.new).files) }
+        ensures err { (error : HostError) → IsErrOf result error → IsTrue H.tells → Breaks self.old (items.Heard (events.At moment)) error (now (H.view host.old)) (now (H.view host.new)) }
+        ensures cause { HasCause (H.faults host.old) (H.faults host.new) result }
+    {
+        let clock = self.clock.max(moment);
+        tell(alloc, host, &Entry::At { moment: clock })?;
+        self.clock = clock;
+        self.timed = true;
+        Ok(())
+    }
+
+    /// The message comes, is read and sent.
+    fn mail<H: Host>(
+        &mut self,
+        alloc: Global,
+        host: &mut H,
+        sender: Option<Address>,
+        to: Addresses,
+        content: Bytes,
+    ) -> Result<(), HostError>
+        requires fits { fits self.old (events.Mail sender to content) ≡ true }
+        requires there { IsTrue H.tells → HasFiles self.old.stage (H.view host.old).files }
+        ensures ok { OnOk result (IsTrue H.tells → Turns self.old self.new (items.Heard (events.Mail sender to content)) (now (H.view host.old)) (now (H.view host.new))) }
+        ensures files { OnOk result (IsTrue H.tells → HasFiles self.new.stage (H.view host.new).files) }
+        ensures err { (error : HostError) → IsErrOf result error → IsTrue H.tells → Breaks self.old (items.Heard (events.Mail sender to content)) error (now (H.view host.old)) (now (H.view host.new)) }
+        ensures cause { HasCause (H.faults host.old) (H.faults host.new) result }
+    {
+        let address = to.get(0);
+        let positions = first_position(alloc)?;
+        let file = queue_file(alloc, &sender, self.clock, &address)?;
+        step::arrive(alloc, host, &file.bytes, sender, to, content)?;
+        step::admit(alloc, host)?;
+        send(alloc, host, &address, positions)?;
+        self.stage = Stage::InFlight {
+            mark_at: file.mark_at,
+        };
+        Ok(())
+    }
+
+    /// The message was delivered.
+    fn reply<H: Host>(
+        &mut self,
+        alloc: Global,
+        host: &mut H,
+        number: u64,
+        site: SiteState,
+        outcomes: Outcomes,
+    ) -> Result<(), HostError>
+        requires fits { fits self.old (events.Reply number site outcomes) ≡ true }
+        requires there { IsTrue H.tells → HasFiles self.old.stage (H.view host.old).files }
+        ensures ok { OnOk result (IsTrue H.tells → Turns self.old self.new (items.Heard (events.Reply number site outcomes)) (now (H.view host.old)) (now (H.view host.new))) }
+        ensures files { OnOk result (IsTrue H.tells → HasFiles self.new.stage (H.view host.new).files) }
+        ensures err { (error : HostError) → IsErrOf result error → IsTrue H.tells → Breaks self.old (items.Heard (events.Reply number site outcomes)) error (now (H.view host.old)) (now (H.view host.new)) }
+        ensures cause { HasCause (H.faults host.old) (H.faults host.new) result }
+    {
+        let Stage::InFlight { mark_at } = self.stage else {
+            unreachable!()
+        };
+        let entry = Entry::Reply {
+            number,
+            site,
+            outcomes,
+        };
+        tell(alloc, host, &entry)?;
+        step::mark(alloc, host, mark_at)?;
+        step::sync(alloc, host)?;
+        step::remove(alloc, host)?;
+        self.stage = Stage::Gone;
+        Ok(())
+    }
+
+    /// Takes an event that fits.
+    pub(crate) fn step<H: Host>(
+        &mut self,
+        alloc: Global,
+        host: &mut H,
+        event: Event,
+    ) -> Result<(), HostError>
+        requires fits { fits self.old event ≡ true }
+        requires there { IsTrue H.tells → HasFiles self.old.stage (H.view host.old).files }
+        ensures ok { OnOk result (IsTrue H.tells → Turns self.old self.new (items.Heard event) (now (H.view host.old)) (now (H.view host.new))) }
+        ensures files { OnOk result (IsTrue H.tells → HasFiles self.new.stage (H.view host.new).files) }
+        ensures err { (error : HostError) → IsErrOf result error → IsTrue H.tells → Breaks self.old (items.Heard event) error (now (H.view host.old)) (now (H.view host.new)) }
+        ensures cause { HasCause (H.faults host.old) (H.faults host.new) result }
+    {
+        match event {
+            Event::At { moment } => self.at(alloc, host, moment),
+            Event::Mail {
+                sender,
+                to,
+                content,
+            } => self.mail(alloc, host, sender, to, content),
+            Event::Reply {
+                number,
+                site,
+                outcomes,
+            } => self.reply(alloc, host, number, site, outcomes),
+            Event::Trigger { .. } => unreachable!(),
+        }
+    }
+
+    /// The life ends as asked.
+    pub(crate) fn finish<H: Host>(self, alloc: Global, host: &mut H) -> Result<(), HostError>
+        ensures ok { OnOk result (IsTrue H.tells → Ends self (now (H.view host.old)) (now (H.view host.new))) }
+        ensures err { (error : HostError) → IsErrOf result error → IsTrue H.tells → Breaks self items.Finish error (now (H.view host.old)) (now (H.view host.new)) }
+        ensures cause { HasCause (H.faults host.old) (H.faults host.new) result }
+    {
+        tell(alloc, host, &Entry::End)
+    }
+}
+
+/// The message is read and its delivery begins.
+fn send<H: Host>(
+    alloc: Global,
+    host: &mut H,
+    address: &Address,
+    positions: Positions,
+) -> Result<(), HostError>
+    requires { positions ≡ 0 ∷ [] }
+    ensures ok { OnOk result (IsTrue H.tells → (s : Spool) → Plays s (sent s address.now) (now (H.view host.old)) (now (H.view host.new))) }
+    ensures err { (error : HostError) → IsErrOf result error → IsTrue H.tells → (s : Spool) → Halts s (sent s address.now) error (now (H.view host.old)) (now (H.view host.new)) }
+    ensures cause { HasCause (H.faults host.old) (H.faults host.new) result }
+{
+    let load = Entry::Load {
+        id: FIRST,
+        from: 0,
+        to: 1,
+    };
+    tell(alloc, host, &load)?;
+    let site = Site {
+        transport: 0,
+        hop: split_domain(address),
+    };
+    let start = Entry::Start {
+        number: 1,
+        id: FIRST,
+        site,
+        positions,
+    };
+    tell(alloc, host, &start)
+}

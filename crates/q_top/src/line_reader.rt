@@ -1,0 +1,153 @@
+//! Lines of a source, which gives its bytes in pieces.
+ghost use Rattle.std.specs.Prelude.{◌≡◌, ◌≤◌, ◌<◌, length, IfSome, OnOk, OnErr, IfOk, [], ◌∷◌, Some, None};
+ghost use Rattle.q_stream.specs.Takes.{Rose, HasCause};
+ghost use Rattle.q_top.specs.ReaderState.{left_of, Fills, NextIs, LineIs, Spends, StopsInLine};
+
+use q_model::NoMemory;
+use q_stream::{Source, Take};
+use std::alloc::Global;
+use std::marker::Model;
+
+/// How many bytes an event list may have.
+pub(crate) const LONGEST: u64 = 16_777_216;
+
+const PIECE: usize = 4096;
+
+/// The next line of a text.
+#[derive(Debug, Drop)]
+pub(crate) enum Line {
+    /// A line without its LF. A last line may lack its LF.
+    Text(Vec<u8>),
+    /// The line in which the text passes its limit.
+    TooLong,
+    /// There is no line more.
+    End,
+}
+
+#[derive(Clone, Copy, Debug, PartialEq, Eq)]
+pub(crate) enum LineError {
+    Source,
+    NoMemory,
+}
+
+enum Next {
+    Byte(u8),
+    End,
+    Failed,
+}
+
+/// Cuts a text into lines: the bytes that were taken and not given yet, and how many more the
+/// text may have.
+#[derive(Drop)]
+pub(crate) struct LineReader {
+    buffer: [u8; PIECE],
+    at: usize,
+    end: usize,
+    budget: u64,
+}
+
+impl Model for LineReader {
+    ghost use Rattle.std.specs.Prelude.{take, drop, ◌≤◌};
+    ghost use Rattle.q_top.specs.BufferedText.{ReaderState};
+
+    ghost Value = { ReaderState };
+
+    ghost view = { λ r. record { buffered = drop r.at (take r.end r.buffer); budget = r.budget } };
+
+    ghost invariant = { λ r. (r.at ≤ r.end) × (r.end ≤ 4096) };
+}
+
+impl LineReader {
+    pub(crate) fn new() -> LineReader
+        ensures buffered { result.buffered ≡ [] }
+        ensures budget { result.budget ≡ 16777216 }
+    {
+        LineReader {
+            buffer: [0; PIECE],
+            at: 0,
+            end: 0,
+            budget: LONGEST,
+        }
+    }
+
+    /// Takes bytes from the source, where all that were taken before are given.
+    fn fill<S: Source>(&mut self, source: &mut S) -> Take
+        requires { self.old.buffered ≡ [] }
+        ensures fills { Fills (S.left source.old) self.new (S.left source.new) result }
+        ensures budget { self.new.budget ≡ self.old.budget }
+        ensures cause { HasCause (S.faults source.old) (S.faults source.new) result }
+    {
+        let taken = source.take(&mut self.buffer);
+        self.at = 0;
+        self.end = match taken {
+            Take::Took(count) => count,
+            Take::End => 0,
+            Take::Failed => 0,
+        };
+        taken
+    }
+
+    /// Gives the first byte of those that were taken.
+    fn give(&mut self) -> u8
+        requires { 0 < length self.old.buffered }
+        ensures byte { self.old.buffered ≡ result ∷ self.new.buffered }
+        ensures budget { self.new.budget ≡ self.old.budget }
+    {
+        let byte = self.buffer[self.at];
+        self.at += 1;
+        byte
+    }
+
+    fn next_byte<S: Source>(&mut self, source: &mut S) -> Next
+        ensures next { NextIs (left_of self.old (S.left source.old)) (left_of self.new (S.left source.new)) (S.left source.new) result }
+        ensures budget { self.new.budget ≡ self.old.budget }
+        ensures later { S.faults source.old ≤ S.faults source.new }
+        ensures cause { result ≡ Next.Failed → Rose (S.faults source.old) (S.faults source.new) }
+    {
+        if self.at < self.end {
+            return Next::Byte(self.give());
+        }
+        match self.fill(source) {
+            Take::Took(_) => Next::Byte(self.give()),
+            Take::End => Next::End,
+            Take::Failed => Next::Failed,
+        }
+    }
+
+    /// The next line of what is left.
+    pub(crate) fn read_line<S: Source>(
+        &mut self,
+        alloc: Global,
+        source: &mut S,
+    ) -> Result<Line, LineError>
+        ensures line { IfOk result (λ line. LineIs self.old (left_of self.old (S.left source.old)) self.new (left_of self.new (S.left source.new)) line) }
+        ensures progress { IfOk result (λ line. Spends self.old self.new line) }
+        ensures source { result ≡ Err LineError.Source → StopsInLine (left_of self.old (S.left source.old)) (S.left source.new) × Rose (S.faults source.old) (S.faults source.new) }
+        ensures later { S.faults source.old ≤ S.faults source.new }
+    {
+        let mut line = Vec::new(alloc);
+        loop {
+            match self.next_byte(source) {
+                Next::Byte(byte) => {
+                    if self.budget == 0 {
+                        return Ok(Line::TooLong);
+                    }
+                    self.budget -= 1;
+                    if byte == b'\n' {
+                        return Ok(Line::Text(line));
+                    }
+                    let Ok(()) = line.push(byte) else {
+                        return Err(LineError::NoMemory);
+                    };
+                }
+                Next::End => {
+                    if line.is_empty() {
+                        return Ok(Line::End);
+                    }
+                    return Ok(Line::Text(line));
+                }
+                Next::Failed => return Err(LineError::Source),
+            }
+        }
+    }
+}

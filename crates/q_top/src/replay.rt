@@ -1,0 +1,160 @@
+//! Replaying an event list.
+ghost use Rattle.std.specs.Prelude.{◌≡◌, ◌≢◌, ◌≤◌, ℕ, List, Option, IfErr, IfOk, IsTrue, codes};
+ghost use Rattle.q_host.specs.Faults.{Rose};
+ghost use Rattle.q_host.specs.View.{Remains, now};
+ghost use Rattle.q_stream.specs.Takes.{Rose as SourceRose};
+ghost use Rattle.q_top.specs.Agrees.{HasFiles};
+ghost use Rattle.q_top.specs.ReplayEnds.{Finishes, ReplayEnds, Went};
+ghost use Rattle.q_top.specs.Spools.{IsSpool, unopened};
+ghost use Rattle.q_top.specs.TakenLine.{GivesUp, Takes};
+
+use crate::event_line::line_item;
+use crate::life::Life;
+use crate::line_reader::{Line, LineError, LineReader};
+use crate::status::{InputFile, Status, status_of};
+use q_host::{Host, HostError};
+use q_model::{Item, Name};
+use q_stream::Source;
+use std::alloc::Global;
+
+/// What a line of the list led to.
+#[derive(Clone, Copy, Debug, PartialEq, Eq)]
+pub(crate) enum Taken {
+    /// It is passed over.
+    Passed,
+    /// Its event was heard.
+    Heard,
+    /// It is the `end`.
+    Ended,
+}
+
+/// Why a line wasn't taken.
+#[derive(Clone, Copy, Debug, PartialEq, Eq)]
+pub(crate) enum Refusal {
+    /// It is none of an event list, or its event doesn't fit.
+    BadLine,
+    /// The host refused a call.
+    Host(HostError),
+    NoMemory,
+}
+
+/// Takes a line of the list.
+fn take<H: Host>(
+    alloc: Global,
+    host: &mut H,
+    life: &mut Life,
+    text: &[u8],
+) -> Result<Taken, Refusal>
+    requires { IsTrue H.tells → HasFiles life.old.stage (H.view host.old).files }
+    ensures ok { IfOk result (λ taken. Takes H.tells life.old life.new text.now (now (H.view host.old)) (now (H.view host.new)) taken) }
+    ensures files { IfOk result (λ taken. IsTrue H.tells → HasFiles life.new.stage (H.view host.new).files) }
+    ensures err { IfErr result (λ refusal. GivesUp H.tells life.old text.now (now (H.view host.old)) (now (H.view host.new)) refusal) }
+    ensures disk_later { (H.faults host.old).disk ≤ (H.faults host.new).disk }
+    ensures tell_later { (H.faults host.old).tell ≤ (H.faults host.new).tell }
+    ensures disk { IfErr result (λ refusal. refusal ≡ Refusal.Host HostError.Disk → Rose (H.faults host.old).disk (H.faults host.new).disk) }
+    ensures tell { IfErr result (λ refusal. refusal ≡ Refusal.Host HostError.Tell → Rose (H.faults host.old).tell (H.faults host.new).tell) }
+{
+    let Ok(read) = line_item(alloc, text) else {
+        return Err(Refusal::NoMemory);
+    };
+    match read {
+        None => Err(Refusal::BadLine),
+        Some(None) => Ok(Taken::Passed),
+        Some(Some(Item::Begin)) => Err(Refusal::BadLine),
+        Some(Some(Item::Finish)) => Ok(Taken::Ended),
+        Some(Some(Item::Heard { event })) => {
+            if !life.fits(&event) {
+                return Err(Refusal::BadLine);
+            }
+            match life.step(alloc, host, event) {
+                Ok(()) => Ok(Taken::Heard),
+                Err(error) => Err(Refusal::Host(error)),
+            }
+        }
+    }
+}
+
+fn bad_line(line: u64) -> Status
+    ensures { result ≡ Status.BadInput InputFile.Events line }
+{
+    Status::BadInput {
+        file: InputFile::Events,
+        line,
+    }
+}
+
+/// Ends the life.
+fn finish<H: Host>(alloc: Global, host: &mut H, life: Life) -> Status
+    ensures ends { IsTrue H.tells → Finishes life (now (H.view host.old)) (now (H.view host.new)) result }
+    ensures disk { result ≡ Status.Disk → Rose (H.faults host.old).disk (H.faults host.new).disk }
+    ensures tell { result ≡ Status.Tell → Rose (H.faults host.old).tell (H.faults host.new).tell }
+    ensures no_source { result ≢ Status.Source }
+    ensures no_usage { result ≢ Status.Usage }
+{
+    match life.finish(alloc, host) {
+        Ok(()) => Status::Done,
+        Err(error) => status_of(error),
+    }
+}
+
+/// Reads the list to its end, from a life that has begun.
+fn read_on<H: Host, S: Source>(alloc: Global, source: &mut S, host: &mut H, begun: Life) -> Status
+    requires { IsTrue H.tells → HasFiles begun.stage (H.view host.old).files }
+    ensures ends { IsTrue H.tells → (text : Option (List ℕ)) (before : Remains) → Went text (S.left source.old) 16777216 1 begun before (now (H.view host.old)) → ReplayEnds text (S.left source.new) before (now (H.view host.new)) result }
+    ensures disk { result ≡ Status.Disk → Rose (H.faults host.old).disk (H.faults host.new).disk }
+    ensures tell { result ≡ Status.Tell → Rose (H.faults host.old).tell (H.faults host.new).tell }
+    ensures source { result ≡ Status.Source → SourceRose (S.faults source.old) (S.faults source.new) }
+    ensures no_usage { result ≢ Status.Usage }
+{
+    let mut life = begun;
+    let mut reader = LineReader::new();
+    let mut line = 1;
+    loop {
+        let text = match reader.read_line(alloc, source) {
+            Ok(Line::Text(text)) => text,
+            Ok(Line::TooLong) => return bad_line(line),
+            Ok(Line::End) => return bad_line(line),
+            Err(LineError::Source) => return Status::Source,
+            Err(LineError::NoMemory) => return Status::NoMemory,
+        };
+        match take(alloc, host, &mut life, &text) {
+            Ok(Taken::Passed) => {
+                line += 1;
+                continue;
+            }
+            Ok(Taken::Heard) => {
+                line += 1;
+                continue;
+            }
+            Ok(Taken::Ended) => return finish(alloc, host, life),
+            Err(Refusal::BadLine) => return bad_line(line),
+            Err(Refusal::Host(error)) => return status_of(error),
+            Err(Refusal::NoMemory) => return Status::NoMemory,
+        }
+    }
+}
+
+/// The name of the first generation.
+fn first_generation() -> Name
+    ensures { result ≡ codes "00000001" }
+{
+    let Some(name) = Name::new(b"00000001") else {
+        unreachable!()
+    };
+    name
+}
+
+/// Replays an event list on an empty spool.
+pub(crate) fn replay<H: Host, S: Source>(alloc: Global, source: &mut S, host: &mut H) -> Status
+    requires { IsTrue H.tells → IsSpool unopened (H.view host.old).files }
+    ensures ends { IsTrue H.tells → ReplayEnds (S.left source.old) (S.left source.new) (now (H.view host.old)) (now (H.view host.new)) result }
+    ensures disk { result ≡ Status.Disk → Rose (H.faults host.old).disk (H.faults host.new).disk }
+    ensures tell { result ≡ Status.Tell → Rose (H.faults host.old).tell (H.faults host.new).tell }
+    ensures source { result ≡ Status.Source → SourceRose (S.faults source.old) (S.faults source.new) }
+    ensures no_usage { result ≢ Status.Usage }
+{
+    match Life::begin(alloc, host, first_generation()) {
+        Ok(life) => read_on(alloc, source, host, life),
+        Err(error) => status_of(error),
+    }
+}

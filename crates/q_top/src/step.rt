@@ -1,0 +1,111 @@
+//! The entries that change the disk: first the disk, then the line.
+ghost use Rattle.std.specs.Prelude.{◌≡◌, ◌≤◌, ◌∷◌, [], List, ℕ, length, IsErrOf, IsSome, IsSomeAnd, IsTrue, OnOk, codes};
+ghost use Rattle.q_model.specs.declared.entry.Entry.TheVariants as entries;
+ghost use Rattle.q_model.specs.declared.event.Mode.TheVariants as modes;
+ghost use Rattle.q_model.specs.declared.spot.Area.TheVariants as areas;
+ghost use Rattle.q_model.specs.IdTexts.{id_text};
+ghost use Rattle.q_host.specs.Files.{written};
+ghost use Rattle.q_host.specs.View.{now};
+ghost use Rattle.q_top.specs.Causes.{HasCause};
+ghost use Rattle.q_top.specs.Spools.{unopened, empty, holds, first_id};
+ghost use Rattle.q_top.specs.Steps.{Does, Stops};
+
+use crate::tell::tell;
+use q_files::store_file;
+use q_host::{Host, HostError};
+use q_model::{Address, Addresses, Area, Bytes, Entry, Id, Mode, Name, id_name};
+use std::alloc::Global;
+
+/// The first message of the first life.
+pub(crate) const FIRST: Id = Id {
+    generation: 1,
+    serial: 1,
+    bounce: false,
+};
+
+/// The life begins: boot has its generation from now on.
+pub(crate) fn begin<H: Host>(alloc: Global, host: &mut H, generation: Name) -> Result<(), HostError>
+    requires { generation ≡ codes "00000001" }
+    ensures ok { OnOk result (IsTrue H.tells → Does unopened (entries.Life 1 modes.Deliver) empty (now (H.view host.old)) (now (H.view host.new))) }
+    ensures err { (error : HostError) → IsErrOf result error → IsTrue H.tells → Stops unopened (entries.Life 1 modes.Deliver) empty error (now (H.view host.old)) (now (H.view host.new)) }
+    ensures cause { HasCause (H.faults host.old) (H.faults host.new) result }
+{
+    host.create(Area::Boot, generation)?;
+    let entry = Entry::Life {
+        generation: 1,
+        mode: Mode::Deliver,
+    };
+    tell(alloc, host, &entry)
+}
+
+/// The message stands in incoming.
+pub(crate) fn arrive<H: Host>(
+    alloc: Global,
+    host: &mut H,
+    file: &[u8],
+    sender: Option<Address>,
+    to: Addresses,
+    content: Bytes,
+) -> Result<(), HostError>
+    ensures ok { OnOk result (IsTrue H.tells → Does empty (entries.Arrive first_id sender to content) (holds areas.Incoming file.now) (now (H.view host.old)) (now (H.view host.new))) }
+    ensures err { (error : HostError) → IsErrOf result error → IsTrue H.tells → Stops empty (entries.Arrive first_id sender to content) (holds areas.Incoming file.now) error (now (H.view host.old)) (now (H.view host.new)) }
+    ensures cause { HasCause (H.faults host.old) (H.faults host.new) result }
+{
+    store_file(host, id_name(FIRST), file)?;
+    let entry = Entry::Arrive {
+        id: FIRST,
+        sender,
+        to,
+        content,
+    };
+    tell(alloc, host, &entry)
+}
+
+/// The message moves to active.
+pub(crate) fn admit<H: Host>(alloc: Global, host: &mut H) -> Result<(), HostError>
+    requires { IsTrue H.tells → IsSome ((H.view host.old).files areas.Incoming (id_text first_id)) }
+    ensures ok { OnOk result (IsTrue H.tells → (file : List ℕ) → Does (holds areas.Incoming file) (entries.Admit first_id) (holds areas.Active file) (now (H.view host.old)) (now (H.view host.new))) }
+    ensures err { (error : HostError) → IsErrOf result error → IsTrue H.tells → (file : List ℕ) → Stops (holds areas.Incoming file) (entries.Admit first_id) (holds areas.Active file) error (now (H.view host.old)) (now (H.view host.new)) }
+    ensures cause { HasCause (H.faults host.old) (H.faults host.new) result }
+{
+    let name = id_name(FIRST);
+    host.rename(Area::Incoming, name, Area::Active, name)?;
+    tell(alloc, host, &Entry::Admit { id: FIRST })
+}
+
+/// The recipient's mark byte is written, at this offset of the file.
+pub(crate) fn mark<H: Host>(alloc: Global, host: &mut H, mark_at: u64) -> Result<(), HostError>
+    requires { IsTrue H.tells → IsSomeAnd ((H.view host.old).files areas.Active (id_text first_id)) (λ file. mark_at ≤ length file) }
+    ensures ok { OnOk result (IsTrue H.tells → (file : List ℕ) → Does (holds areas.Active file) (entries.Mark first_id 0) (holds areas.Active (written mark_at (68 ∷ []) file)) (now (H.view host.old)) (now (H.view host.new))) }
+    ensures err { (error : HostError) → IsErrOf result error → IsTrue H.tells → (file : List ℕ) → Stops (holds areas.Active file) (entries.Mark first_id 0) (holds areas.Active (written mark_at (68 ∷ []) file)) error (now (H.view host.old)) (now (H.view host.new)) }
+    ensures cause { HasCause (H.faults host.old) (H.faults host.new) result }
+{
+    host.write_at(Area::Active, id_name(FIRST), mark_at, b"D")?;
+    let entry = Entry::Mark {
+        id: FIRST,
+        position: 0,
+    };
+    tell(alloc, host, &entry)
+}
+
+/// The mark outlives a crash from now on.
+pub(crate) fn sync<H: Host>(alloc: Global, host: &mut H) -> Result<(), HostError>
+    requires { IsTrue H.tells → IsSome ((H.view host.old).files areas.Active (id_text first_id)) }
+    ensures ok { OnOk result (IsTrue H.tells → (file : List ℕ) → Does (holds areas.Active file) (entries.Sync first_id) (holds areas.Active file) (now (H.view host.old)) (now (H.view host.new))) }
+    ensures err { (error : HostError) → IsErrOf result error → IsTrue H.tells → (file : List ℕ) → Stops (holds areas.Active file) (entries.Sync first_id) (holds areas.Active file) error (now (H.view host.old)) (now (H.view host.new)) }
+    ensures cause { HasCause (H.faults host.old) (H.faults host.new) result }
+{
+    host.sync(Area::Active, id_name(FIRST))?;
+    tell(alloc, host, &Entry::Sync { id: FIRST })
+}
+
+/// The message is gone.
+pub(crate) fn remove<H: Host>(alloc: Global, host: &mut H) -> Result<(), HostError>
+    requires { IsTrue H.tells → IsSome ((H.view host.old).files areas.Active (id_text first_id)) }
+    ensures ok { OnOk result (IsTrue H.tells → (file : List ℕ) → Does (holds areas.Active file) (entries.Remove first_id) empty (now (H.view host.old)) (now (H.view host.new))) }
+    ensures err { (error : HostError) → IsErrOf result error → IsTrue H.tells → (file : List ℕ) → Stops (holds areas.Active file) (entries.Remove first_id) empty error (now (H.view host.old)) (now (H.view host.new)) }
+    ensures cause { HasCause (H.faults host.old) (H.faults host.new) result }
+{
+    host.remove(Area::Active, id_name(FIRST))?;
+    tell(alloc, host, &Entry::Remove { id: FIRST })
+}

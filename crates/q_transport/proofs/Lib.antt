@@ -1,0 +1,5 @@
+mod ContentLaws
+mod LineLaws
+mod NameLaws
+mod ReadLaws
+mod RouteLaws

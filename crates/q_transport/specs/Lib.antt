@@ -1,0 +1,9 @@
+pub mod Names
+pub mod Contents
+pub mod Routing
+pub mod Texts
+pub mod TableLines
+pub mod Parts
+pub mod Readings
+pub mod Files
+pub mod Lines

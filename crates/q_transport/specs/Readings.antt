@@ -1,0 +1,43 @@
+-- What a line of a transport table adds to what the lines before it said.
+use Rattle.std.specs.Option.{option_map_or}
+use Rattle.std.specs.Prelude.{◌&&◌, ◌++◌, ◌==◌, ◌≡◌, [], Bool, Err, if◌then◌else◌, is_some, length, List, map, nat_le, Ok, Result, ◌||◌, ℕ, ◌∷◌}
+use Rattle.q_model.specs.Texts.{lower}
+use Rattle.q_transport.specs.Contents.{Contents, entry_of}
+use Rattle.q_transport.specs.Names.{number_of, with_name}
+use Rattle.q_transport.specs.TableLines.{line_of, Parts}
+use Rattle.q_transport.specs.Texts.{is_passed_over}
+use Rattle.q_transport.specs.declared.error.TableError.{TableError}
+use Rattle.q_transport.specs.declared.error.TableError.TheVariants.{BadLine, NoMemory, TooMany, Twice}
+
+-- the entry of a line is the last, with its pattern in lower case
+abbrev pub with_parts : Contents → Parts → Contents
+with_parts c p = record {
+  names = with_name c.names p.transport;
+  entries = c.entries ++ (record { pattern = map lower p.pattern; transport = number_of c.names p.transport; hop = p.hop }) ∷ [];
+}
+
+-- there are 10,000 entries, or the name would be a 21st
+abbrev pub is_full : Contents → Parts → Bool
+is_full c p = nat_le 10000 (length c.entries) || ((number_of c.names p.transport == length c.names) && nat_le 20 (length c.names))
+
+-- line n has these parts
+abbrev pub add_parts : ℕ → Contents → Parts → Result Contents TableError
+add_parts n c p =
+    if is_some (entry_of c.entries (map lower p.pattern)) then Err (Twice n) else if is_full c p then Err (TooMany n) else Ok (with_parts c p)
+
+-- line n
+abbrev pub read_line : ℕ → Contents → List ℕ → Result Contents TableError
+read_line n c line = if is_passed_over line then Ok c else option_map_or (add_parts n c) (line_of line) (Err (BadLine n))
+
+-- a call answers what is read, unless memory runs out
+abbrev pub IsAnswer : Result Contents TableError → Result Contents TableError → Type 0
+IsAnswer (Ok c) read = read ≡ Ok c
+IsAnswer (Err NoMemory) read = Unit {0}
+IsAnswer (Err (BadLine n)) read = read ≡ Err (BadLine n)
+IsAnswer (Err (Twice n)) read = read ≡ Err (Twice n)
+IsAnswer (Err (TooMany n)) read = read ≡ Err (TooMany n)
+
+-- a call that changes a table in place does what is read: at Ok its new state is what is read
+abbrev pub Gives : Result (Unit {0}) TableError → Contents → Result Contents TableError → Type 0
+Gives (Ok _) new read = IsAnswer (Ok new) read
+Gives (Err e) new read = IsAnswer (Err e) read

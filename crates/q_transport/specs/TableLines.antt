@@ -1,0 +1,37 @@
+-- The parts of a line of a transport table: `pattern transport:nexthop` (transport(5)).
+use Rattle.std.specs.List.{list_all}
+use Rattle.std.specs.Prelude.{◌+◌, ◌==◌, Bool, drop, if◌then◌else◌, List, None, Option, option_and_then, option_map, position, Some, take, ℕ}
+use Rattle.q_model.specs.Lists.{has_none}
+use Rattle.q_model.specs.Texts.{is_hop}
+use Rattle.q_transport.specs.Texts.{is_blank, is_text_byte, is_transport, trimmed_start}
+
+-- a pattern, the name of a transport, and a next hop; none is the domain of the recipient
+pub record Parts : Type 0 where
+  pub pattern : List ℕ
+  pub transport : List ℕ
+  pub hop : Option (List ℕ)
+
+-- a next hop, which may be empty
+abbrev pub hop_of : List ℕ → Option (Option (List ℕ))
+hop_of text = if has_none text then Some None else if is_hop text then Some (Some text) else None
+
+-- the parts, where the name and the next hop have their forms
+abbrev pub parts_of : List ℕ → List ℕ → List ℕ → Option Parts
+parts_of pattern name text =
+    if is_transport name then option_map (λ hop. record { pattern = pattern; transport = name; hop = hop }) (hop_of text) else None
+
+-- a colon
+abbrev pub is_colon : ℕ → Bool
+is_colon b = b == 58
+
+-- the first colon stands between the name and the next hop
+abbrev pub target_of : List ℕ → List ℕ → Option Parts
+target_of pattern text = option_and_then (λ at. parts_of pattern (take at text) (drop (at + 1) text)) (position is_colon text)
+
+-- the first blank stands behind the pattern, which isn't empty
+abbrev pub divided : List ℕ → Option Parts
+divided line = option_and_then (λ at. if at == 0 then None else target_of (take at line) (trimmed_start (drop at line))) (position is_blank line)
+
+-- the parts of a line
+abbrev pub line_of : List ℕ → Option Parts
+line_of line = if list_all is_text_byte line then divided line else None

@@ -1,0 +1,79 @@
+//! The parts of a line of a transport table.
+ghost use Rattle.std.specs.Prelude.{◌≡◌, if◌then◌else◌, None, option_map, Some};
+ghost use Rattle.q_transport.specs.Parts.{seen};
+ghost use Rattle.q_transport.specs.TableLines.{divided, hop_of, line_of, parts_of, target_of};
+ghost use Rattle.q_transport.specs.Texts.{is_transport};
+
+use crate::text::{around, blank, colon, is_text, is_transport, trim_start};
+use q_model::Hop;
+
+/// A pattern, the name of a transport, and a next hop; none is the domain of the recipient.
+#[derive(Debug, Drop)]
+pub(crate) struct Line<'a> {
+    pub(crate) pattern: &'a [u8],
+    pub(crate) transport: Hop,
+    pub(crate) hop: Option<Hop>,
+}
+
+/// The name of a transport.
+fn transport(name: &[u8]) -> Option<Hop>
+    ensures { result ≡ (if is_transport name.now then Some name.now else None) }
+{
+    if !is_transport(name) {
+        return None;
+    }
+    Hop::new(name)
+}
+
+/// A next hop, which may be empty.
+fn next_hop(text: &[u8]) -> Option<Option<Hop>>
+    ensures { result ≡ hop_of text.now }
+{
+    if text.is_empty() {
+        return Some(None);
+    }
+    Some(Some(Hop::new(text)?))
+}
+
+fn parts<'a>(pattern: &'a [u8], name: &[u8], text: &[u8]) -> Option<Line<'a>>
+    ensures { option_map seen result ≡ parts_of pattern.now name.now text.now }
+{
+    let transport = transport(name)?;
+    let hop = next_hop(text)?;
+    Some(Line {
+        pattern,
+        transport,
+        hop,
+    })
+}
+
+/// The first colon stands between the name and the next hop.
+fn target<'a>(pattern: &'a [u8], text: &[u8]) -> Option<Line<'a>>
+    ensures { option_map seen result ≡ target_of pattern.now text.now }
+{
+    let at = colon(text)?;
+    let (name, hop) = around(text, at);
+    parts(pattern, name, hop)
+}
+
+/// The first blank stands behind the pattern, which isn't empty.
+fn divided(line: &[u8]) -> Option<Line<'_>>
+    ensures { option_map seen result ≡ divided line.now }
+{
+    let at = blank(line)?;
+    if at == 0 {
+        return None;
+    }
+    let (pattern, rest) = line.split_at(at);
+    target(pattern, trim_start(rest))
+}
+
+/// The parts of a line that isn't passed over.
+pub(crate) fn parse(line: &[u8]) -> Option<Line<'_>>
+    ensures { option_map seen result ≡ line_of line.now }
+{
+    if !is_text(line) {
+        return None;
+    }
+    divided(line)
+}

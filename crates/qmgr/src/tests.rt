@@ -1,0 +1,126 @@
+//! Event lists that are replayed on a spool in memory, each with its status and its trace.
+use q_mem_host::MemHost;
+use q_model::{Area, Name};
+use q_stream::MemSource;
+use q_top::qmgr;
+use std::alloc::Global;
+use std::process::Abort;
+use std::test::Fail;
+
+const FIRST: &[u8] = b"at 1000\nmail a@x.example b@y.example\nreply 1 up ok\nend\n";
+
+const FIRST_TRACE: &[u8] = b"life 1\nat 1000\narrive 00000001-00000001 a@x.example 0 b@y.example\n\
+admit 00000001-00000001\nload 00000001-00000001 0 1\n\
+start 1 00000001-00000001 smtp y.example 0\nreply 1 up ok\nmark 00000001-00000001 0\n\
+sync 00000001-00000001\nremove 00000001-00000001\nend\n";
+
+fn words_of(alloc: Global, texts: &[&str]) -> Result<Vec<String>, Fail> {
+    let mut words = Vec::new(alloc);
+    for text in texts {
+        words.push(String::from_str(alloc, text)?)?;
+    }
+    Ok(words)
+}
+
+// What a replay answers, as its fault line, and what it told.
+fn row(
+    rt: &impl Abort,
+    alloc: Global,
+    text: &[u8],
+    piece: usize,
+    fails: &[u64],
+    answer: &str,
+    told: &[u8],
+) -> Result<(), Fail> {
+    let mut source = MemSource::new(alloc, text, piece.max(1), fails)?;
+    let mut host = MemHost::new(alloc);
+    let words = words_of(alloc, &["replay"])?;
+    let status = qmgr(alloc, &words, &mut source, &mut host);
+    let shown = format!(in alloc; "{status}")?;
+    assert_eq!(rt; shown.as_str(), answer);
+    assert_eq!(rt; host.told(), told);
+    Ok(())
+}
+
+#[test]
+fn one_message(rt: HostRuntime) -> Result<(), Fail> {
+    for piece in [1, 2, 3, 65_536] {
+        row(&rt, rt.alloc(), FIRST, piece, &[], "done", FIRST_TRACE)?;
+    }
+    Ok(())
+}
+
+#[test]
+fn lists(rt: HostRuntime) -> Result<(), Fail> {
+    let timed: &[u8] = b"life 1\nat 7\n";
+    let rows: [(&[u8], &str, &[u8]); 14] = [
+        (b"end", "done", b"life 1\nend\n"),
+        (b"# x\n\nend\nmore", "done", b"life 1\nend\n"),
+        (b"at 7\nat 3\nend\n", "done", b"life 1\nat 7\nat 7\nend\n"),
+        (b"", "bad input: events line 1", b"life 1\n"),
+        (b"at 7\n", "bad input: events line 2", timed),
+        (b"at 07\nend\n", "bad input: events line 1", b"life 1\n"),
+        (b"at 7\r\nend\n", "bad input: events line 1", b"life 1\n"),
+        (
+            b"at 999990000001\n",
+            "bad input: events line 1",
+            b"life 1\n",
+        ),
+        (
+            b"mail a@b c@d\nend\n",
+            "bad input: events line 1",
+            b"life 1\n",
+        ),
+        (b"at 7\nreply 1 up ok\n", "bad input: events line 2", timed),
+        (b"at 7\nmail a@b\nend\n", "bad input: events line 2", timed),
+        (
+            b"at 7\nmail a@b c@\nend\n",
+            "bad input: events line 2",
+            timed,
+        ),
+        (b"at 7\n\nreplay\n", "bad input: events line 3", timed),
+        (b"END\n", "bad input: events line 1", b"life 1\n"),
+    ];
+    for (text, answer, told) in rows {
+        row(&rt, rt.alloc(), text, 3, &[], answer, told)?;
+    }
+    row(&rt, rt.alloc(), FIRST, 5, &[2], "input fault", b"life 1\n")
+}
+
+#[test]
+fn refusals(rt: HostRuntime) -> Result<(), Fail> {
+    let alloc = rt.alloc();
+    let name = Name::new(b"00000001-00000001").ok_or("no name")?;
+    // the words, the area in which a file stands, the call that fails, and the answer
+    let rows: [(&[&str], Area, u64, &str); 8] = [
+        (
+            &["replay"],
+            Area::Active,
+            0,
+            "damaged spool: active/00000001-00000001",
+        ),
+        (
+            &["replay"],
+            Area::Boot,
+            0,
+            "damaged spool: boot/00000001-00000001",
+        ),
+        (&["replay"], Area::Tmp, 0, "done"),
+        (&[], Area::Tmp, 0, "wrong words"),
+        (&["replay", "now"], Area::Tmp, 0, "wrong words"),
+        (&["run"], Area::Active, 0, "wrong words"),
+        (&["replay"], Area::Tmp, 3, "disk fault"),
+        (&["replay"], Area::Tmp, 8, "output fault"),
+    ];
+    for (texts, area, failing, answer) in rows {
+        let mut source = MemSource::new(alloc, FIRST, 9, &[])?;
+        let mut host = MemHost::new(alloc);
+        host.put_file(area, name, b"x")?;
+        host.fail_call(failing);
+        let words = words_of(alloc, texts)?;
+        let status = qmgr(alloc, &words, &mut source, &mut host);
+        let shown = format!(in alloc; "{status}")?;
+        assert_eq!(rt; shown.as_str(), answer);
+    }
+    Ok(())
+}
