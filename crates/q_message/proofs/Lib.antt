@@ -1,1 +1,7 @@
+pub mod FrontLaws
+pub mod HeadLaws
+pub mod NameLaws
 pub mod NewFileLaws
+pub mod PendingLaws
+pub mod RecordReads
+pub mod WindowLaws

@@ -1,6 +1,8 @@
 -- A life agrees with what its turns lead to.
-use Rattle.std.proofs.Common.{◌≡◌, ◌≤◌, ◌<◌, ℕ, ◌+◌, max, Bool, true, false, List, [], ◌∷◌, length, Option, Some, refl, sym, ap, ◌∙◌, if◌then◌else◌, arith, subst}
-use Rattle.std.specs.Prelude.{fold, nat_le, count_by, slice_get, ◌&&◌, ◌==◌}
+use Rattle.std.proofs.Common.{◌≡◌, ◌≤◌, ℕ, ◌+◌, max, Bool, true, false, List, [], ◌∷◌, length, Option, Some, refl, sym, ap, ◌∙◌, if◌then◌else◌, arith, subst}
+use Rattle.std.specs.List.{list_all}
+use Rattle.std.specs.Prelude.{replicate, fold, nat_le, count_by, slice_get, ◌&&◌, ◌==◌}
+use Rattle.std.specs.Option.{option_map_or}
 use Rattle.std.proofs.lemmas.Bool.{and_parts}
 use Rattle.std.proofs.lemmas.Bool.Decides.{nat_tests}
 use Rattle.q_model.specs.declared.entry.Entry.{Entry}
@@ -16,14 +18,21 @@ use Rattle.q_model.specs.declared.outcome.SiteState.TheVariants.{Up, Down}
 use Rattle.q_model.specs.declared.spot.Area.TheVariants.{Active}
 use Rattle.q_model.specs.Ledger.{Ledger}
 use Rattle.q_model.specs.Lists.{has_none}
-use Rattle.q_model.specs.QueueFileBytes.{file_bytes, mark_at}
+use Rattle.q_model.specs.QueueFile.{FileMessage, queue_file}
+use Rattle.q_model.specs.QueueFileBytes.{IsFileMessage, file_bytes, mark_at}
 use Rattle.q_model.specs.Run.{turn}
 use Rattle.q_model.specs.Step.{after_all}
+use Rattle.q_model.specs.Texts.{is_address}
+use Rattle.q_model.specs.Values.{Taken}
+use Rattle.q_model.proofs.QueueFileLaws.{queue_file_again}
+use Rattle.q_message.specs.NewFile.{new_message}
+use Rattle.q_message.specs.Pending.{taken_at}
 use Rattle.q_host.specs.declared.error.HostError.{HostError}
 use Rattle.q_host.specs.Files.{Files}
-use Rattle.q_host.specs.View.{Remains}
+use Rattle.q_host.specs.View.{View}
 use Rattle.q_top.specs.Agrees.{Agrees, StageAgrees, IsAwaiting, IsFlying, HasFiles, Turns, Breaks}
 use Rattle.q_top.specs.Begins.{before_life}
+use Rattle.q_top.specs.Books.{Follows}
 use Rattle.q_top.specs.declared.life.Life.{Life as LifeOf}
 use Rattle.q_top.specs.declared.life.Stage.{Stage}
 use Rattle.q_top.specs.declared.life.Stage.TheVariants.{Awaited, InFlight, Gone}
@@ -34,17 +43,18 @@ use Rattle.q_top.specs.Reading.{is_one_ok}
 use Rattle.q_top.specs.Spools.{Spool, unopened, empty, holds, first_id, IsSpool}
 use Rattle.q_top.specs.Steps.{entries_of, spool_after, Plays, Halts}
 use Rattle.q_top.proofs.Fitting.{life}
+use Rattle.q_top.proofs.Following.{file_reads, mail_follows, reply_follows}
 use Rattle.q_top.proofs.Turning.{arrive, start, mail_entries, reply_entries, idle_at, flying_at, after_begin, after_mail, after_reply, turn_at_idle, turn_at_flying, turn_mail, turn_reply}
 
 pub begun_awaits : IsAwaiting 0 false (after_all world before_life (entries_of life_steps)) (spool_after unopened life_steps)
 unfolding after_all
-begun_awaits = record { next_run = 0; past = Life 1 Deliver ∷ []; ledger = after_begin; begun = refl; no_arrival = refl; no_start = refl; spool = refl }
+begun_awaits = record { next_run = 0; past = Life 1 Deliver ∷ []; ledger = after_begin; begun = refl; no_arrival = refl; no_start = refl; clock = omega arith; spool = refl }
 
 -- the clock is there
-pub at_agrees : (stage : Stage) (clock t : ℕ) (timed : Bool) (l : Ledger) (s : Spool) → StageAgrees stage clock timed l s
+pub at_agrees : (stage : Stage) (clock t : ℕ) (timed : Bool) (l : Ledger) (s : Spool) → t ≤ 999990000000 → StageAgrees stage clock timed l s
     → (turn world l (Heard (events.At t)) ≡ At (max clock t) ∷ []) × StageAgrees stage (max clock t) true (after_all world l (At (max clock t) ∷ [])) s
 unfolding after_all
-at_agrees Awaited clock t timed l s a = (
+at_agrees Awaited clock t timed l s le a = (
   rw a.ledger (turn_at_idle clock a.next_run t timed false a.past),
   record {
     next_run = if nat_le a.next_run (max clock t) then max clock t + 300 else a.next_run;
@@ -53,10 +63,11 @@ at_agrees Awaited clock t timed l s a = (
     begun = refl;
     no_arrival = a.no_arrival;
     no_start = a.no_start;
+    clock = omega (arith, le, a.clock);
     spool = a.spool;
   },
 )
-at_agrees (InFlight at) clock t timed l s a = (
+at_agrees (InFlight at) clock t timed l s le a = (
   rw a.ledger (turn_at_flying clock a.next_run t a.sender a.address a.arrival a.past),
   record {
     next_run = if nat_le a.next_run (max clock t) then max clock t + 300 else a.next_run;
@@ -68,11 +79,12 @@ at_agrees (InFlight at) clock t timed l s a = (
     begun = refl;
     arrived = a.arrived;
     clock = refl;
+    message = a.message;
     spool = a.spool;
     mark = a.mark;
   },
 )
-at_agrees Gone clock t timed l s a = (
+at_agrees Gone clock t timed l s le a = (
   rw a.ledger (turn_at_idle clock a.next_run t timed true a.past),
   record {
     next_run = if nat_le a.next_run (max clock t) then max clock t + 300 else a.next_run;
@@ -84,10 +96,10 @@ at_agrees Gone clock t timed l s a = (
   },
 )
 
-pub at_agrees_with : (stage : Stage) (clock t m : ℕ) (timed : Bool) (l : Ledger) (s : Spool) → m ≡ max clock t → StageAgrees stage clock timed l s
+pub at_agrees_with : (stage : Stage) (clock t m : ℕ) (timed : Bool) (l : Ledger) (s : Spool) → t ≤ 999990000000 → m ≡ max clock t → StageAgrees stage clock timed l s
     → (turn world l (Heard (events.At t)) ≡ At m ∷ []) × StageAgrees stage m true (after_all world l (At m ∷ [])) s
-at_agrees_with stage clock t m timed l s e a =
-    subst (λ x. (turn world l (Heard (events.At t)) ≡ At x ∷ []) × StageAgrees stage x true (after_all world l (At x ∷ [])) s) (sym e) (at_agrees stage clock t timed l s a)
+at_agrees_with stage clock t m timed l s le e a =
+    subst (λ x. (turn world l (Heard (events.At t)) ≡ At x ∷ []) × StageAgrees stage x true (after_all world l (At x ∷ [])) s) (sym e) (at_agrees stage clock t timed l s le a)
 
 -- what a life holds of the files stays
 pub keeps_files : (stage : Stage) (f g : Files) → ((s : Spool) → IsSpool s f → IsSpool s g) → HasFiles stage f → HasFiles stage g
@@ -135,11 +147,48 @@ first_mail old sender to content address h e =
     let one = and_parts old.timed (is_awaited old.stage) two.0 in
     record { timed = one.0; stage = awaited old.stage one.1; only = only_one to address two.1 e; no_content = nothing content three.1 }
 
-pub has_recipient : (old : LifeOf) (sender : Option (List ℕ)) (to : List (List ℕ)) (content : List ℕ) → fits old (events.Mail sender to content) ≡ true → 0 < length to
-has_recipient old sender [] content h =
+-- the forms of a message's addresses make a message that a queue file can hold
+one_message : (sender : Option (List ℕ)) (address : List ℕ) (arrival : ℕ) → option_map_or is_address sender true ≡ true → is_address address ≡ true → arrival ≤ 999990000000 → IsFileMessage (file_message sender arrival address false)
+one_message sender address arrival from to le = record { sender = from; arrival = le; some = omega arith; few = omega arith; addresses = ap (λ b. b && true) to; content = omega arith }
+
+-- it has one recipient
+pub mail_first : (old : LifeOf) (sender : Option (List ℕ)) (to : List (List ℕ)) (content : List ℕ) → fits old (events.Mail sender to content) ≡ true → (address : List ℕ) × IsFirstMail old to content address
+mail_first old sender [] content h =
     let three = and_parts ((old.timed && is_awaited old.stage) && false) (has_none content) h in
-    let two = and_parts (old.timed && is_awaited old.stage) false three.0 in absurd (cc)
-has_recipient old sender (a ∷ to) content h = omega arith
+    let two = and_parts (old.timed && is_awaited old.stage) false three.0 in absurd cc
+mail_first old sender (address ∷ to) content h = (address, first_mail old sender (address ∷ to) content address h refl)
+
+pub address_form : (to : List (List ℕ)) (address : List ℕ) → to ≡ address ∷ [] → list_all is_address to ≡ true → is_address address ≡ true
+address_form to address only h = (and_parts (is_address address) true (subst (λ (xs : List (List ℕ)). list_all is_address xs ≡ true) only h)).0
+
+-- the sizes of the message are within the limits of a queue file
+pub few_recipients : (to : List (List ℕ)) (address : List ℕ) → to ≡ address ∷ [] → (1 ≤ length to) × (length to ≤ 50000)
+few_recipients to address only = (omega (arith, ap length only), omega (arith, ap length only))
+
+pub short_content : (content bytes : List ℕ) → bytes ≡ content → content ≡ [] → length bytes ≤ 20000000
+short_content content bytes same none = omega (arith, ap length (same ∙ none))
+
+-- its file is that of the message
+pub one_file : (sender : Option (List ℕ)) (arrival : ℕ) (to : List (List ℕ)) (address content bytes file : List ℕ) → to ≡ address ∷ [] → content ≡ [] → bytes ≡ content
+    → file ≡ file_bytes (new_message (record { sender = sender; arrival = arrival }) to bytes) (replicate (length to) 80) → file ≡ file_bytes (file_message sender arrival address false) (80 ∷ [])
+one_file sender arrival to address content bytes file only none same is =
+    is ∙ ap (λ (x : List ℕ). file_bytes (new_message (record { sender = sender; arrival = arrival }) to x) (replicate (length to) 80)) (same ∙ none)
+    ∙ ap (λ (xs : List (List ℕ)). file_bytes (new_message (record { sender = sender; arrival = arrival }) xs []) (replicate (length xs) 80)) only
+
+-- it reads as the message
+pub file_read : (sender : Option (List ℕ)) (arrival : ℕ) (address file : List ℕ) → option_map_or is_address sender true ≡ true → is_address address ≡ true → arrival ≤ 999990000000 → file ≡ file_bytes (file_message sender arrival address false) (80 ∷ [])
+    → queue_file file ≡ Some (file_message sender arrival address false)
+file_read sender arrival address file from to le is = ap queue_file is ∙ queue_file_again (file_message sender arrival address false) (80 ∷ []) (one_message sender address arrival from to le) refl
+
+-- what was read of it
+pub record IsTaken (m : FileMessage) (taken : Taken) (address : List ℕ) : Type 0 where
+  pub mark : taken.mark_at ≡ mark_at m 0
+  pub to : taken.address ≡ address
+
+pub one_taken : (sender : Option (List ℕ)) (arrival : ℕ) (address : List ℕ) (taken : Taken) → Some taken ≡ Some (taken_at (file_message sender arrival address false) 0) → IsTaken (file_message sender arrival address false) taken address
+one_taken sender arrival address taken h =
+    let same : taken ≡ taken_at (file_message sender arrival address false) 0 = cc in
+    record { mark = ap (λ (t : Taken). t.mark_at) same; to = ap (λ (t : Taken). t.address) same }
 
 not_zero : (n : ℕ) → 1 ≤ n → (n == 0) ≡ false
 not_zero n h = grind (arith, nat_tests)
@@ -155,28 +204,38 @@ some_arrivals n (e ∷ past) h = some_arrivals (n + (if is_arrive e then 1 else 
 first_arrival : (sender : Option (List ℕ)) (address : List ℕ) (past : List Entry) → (count_by is_arrive (start address ∷ Load first_id 0 1 ∷ Admit first_id ∷ arrive sender address ∷ past) == 0) ≡ false
 first_arrival sender address past = some_arrivals 1 past (omega arith)
 
-pub mail_agrees : (old : LifeOf) (l : Ledger) (s : Spool) (sender : Option (List ℕ)) (to : List (List ℕ)) (content address file : List ℕ) (at : ℕ) → IsFirstMail old to content address → Agrees old l s
-    → file ≡ file_bytes (file_message sender old.clock address false) (80 ∷ []) → at ≡ mark_at (file_message sender old.clock address false) 0
-    → (s ≡ empty) × (turn world l (Heard (events.Mail sender to content)) ≡ entries_of (mail_steps sender address file)) × Agrees (life old.clock old.timed (InFlight at)) (after_all world l (entries_of (mail_steps sender address file))) (holds Active file)
-mail_agrees old l s sender to content address file at first agrees is mark =
-    let a : IsAwaiting old.clock old.timed l s = subst (λ (x : Stage). StageAgrees x old.clock old.timed l s) first.stage agrees in
-    let b : IsAwaiting old.clock true l s = subst (λ x. IsAwaiting old.clock x l s) first.timed a in (
-      a.spool,
-      rw (first.only, first.no_content, b.ledger) (turn_mail old.clock b.next_run sender address b.past b.no_arrival b.no_start),
-      record {
-        next_run = b.next_run;
-        sender = sender;
-        address = address;
-        arrival = old.clock;
-        past = start address ∷ Load first_id 0 1 ∷ Admit first_id ∷ arrive sender address ∷ b.past;
-        ledger = ap (λ (x : Ledger). after_all world x (mail_entries sender address)) b.ledger ∙ after_mail old.clock b.next_run sender address b.past;
-        begun = refl;
-        arrived = first_arrival sender address b.past;
-        clock = first.timed;
-        spool = ap (λ (x : List ℕ). holds Active x) is;
-        mark = mark;
-      },
-    )
+module _ (old : LifeOf) (l : Ledger) (s : Spool) (sender : Option (List ℕ)) (to : List (List ℕ)) (content address file : List ℕ)
+    (first : IsFirstMail old to content address) (agrees : Agrees old l s) (from_form : option_map_or is_address sender true ≡ true) (to_form : is_address address ≡ true)
+    (is : file ≡ file_bytes (file_message sender old.clock address false) (80 ∷ [])) where
+  awaiting : IsAwaiting old.clock true l s
+  awaiting = subst (λ x. IsAwaiting old.clock x l s) first.timed (subst (λ (x : Stage). StageAgrees x old.clock old.timed l s) first.stage agrees)
+
+  lawful : IsFileMessage (file_message sender old.clock address false)
+  lawful = one_message sender address old.clock from_form to_form awaiting.clock
+
+  -- the turn of the message, from a ledger with which the life agrees
+  pub mail_turn : (s ≡ empty) × (turn world l (Heard (events.Mail sender to content)) ≡ entries_of (mail_steps sender address file)) × Follows l (mail_steps sender address file)
+  mail_turn = (
+    awaiting.spool,
+    rw (first.only, first.no_content, awaiting.ledger) (turn_mail old.clock awaiting.next_run sender address awaiting.past awaiting.no_arrival awaiting.no_start),
+    subst (λ (x : Ledger). Follows x (mail_steps sender address file)) (sym awaiting.ledger) (mail_follows old.clock awaiting.next_run sender address awaiting.past file (file_reads sender address file old.clock is lawful)),
+  )
+
+  pub mail_agrees : (at : ℕ) → at ≡ mark_at (file_message sender old.clock address false) 0 → Agrees (life old.clock old.timed (InFlight at)) (after_all world l (entries_of (mail_steps sender address file))) (holds Active file)
+  mail_agrees at mark = record {
+    next_run = awaiting.next_run;
+    sender = sender;
+    address = address;
+    arrival = old.clock;
+    past = start address ∷ Load first_id 0 1 ∷ Admit first_id ∷ arrive sender address ∷ awaiting.past;
+    ledger = ap (λ (x : Ledger). after_all world x (mail_entries sender address)) awaiting.ledger ∙ after_mail old.clock awaiting.next_run sender address awaiting.past;
+    begun = refl;
+    arrived = first_arrival sender address awaiting.past;
+    clock = first.timed;
+    message = lawful;
+    spool = ap (λ (x : List ℕ). holds Active x) is;
+    mark = mark;
+  }
 
 -- ---- it is delivered
 
@@ -200,12 +259,14 @@ first_success old number Up os h =
 first_success old number Down os h = absurd cc
 
 pub reply_agrees : (old : LifeOf) (l : Ledger) (s : Spool) (number at : ℕ) (site : SiteState) (os : List Outcome) → IsSuccess number site os → old.stage ≡ InFlight at → Agrees old l s
-    → (file : List ℕ) × (s ≡ holds Active file) × (turn world l (Heard (events.Reply number site os)) ≡ entries_of (reply_steps at file)) × Agrees (life old.clock old.timed Gone) (after_all world l (entries_of (reply_steps at file))) empty
+    → (file : List ℕ) × (s ≡ holds Active file) × (turn world l (Heard (events.Reply number site os)) ≡ entries_of (reply_steps at file)) × Follows l (reply_steps at file) × Agrees (life old.clock old.timed Gone) (after_all world l (entries_of (reply_steps at file))) empty
 reply_agrees old l s number at site os success stage agrees =
     let a : IsFlying old.clock at old.timed l s = subst (λ (x : Stage). StageAgrees x old.clock old.timed l s) stage agrees in (
       file_bytes (file_message a.sender a.arrival a.address false) (80 ∷ []),
       a.spool,
       rw (success.first, success.up, success.one, a.ledger) (turn_reply old.clock a.next_run a.sender a.address a.arrival a.past),
+      subst (λ (x : Ledger). Follows x (reply_steps at (file_bytes (file_message a.sender a.arrival a.address false) (80 ∷ [])))) (sym a.ledger) (reply_follows old.clock a.next_run a.sender a.address a.arrival a.past at (file_bytes (file_message a.sender a.arrival a.address false) (80 ∷ [])) a.mark
+          (file_reads a.sender a.address (file_bytes (file_message a.sender a.arrival a.address false) (80 ∷ [])) a.arrival refl a.message)),
       record {
         next_run = a.next_run;
         past = Remove first_id ∷ Sync first_id ∷ Mark first_id 0 ∷ Reply 1 Up (outcomes.Ok ∷ []) ∷ a.past;
@@ -216,33 +277,30 @@ reply_agrees old l s number at site os success stage agrees =
       },
     )
 
--- ---- what a turn that was given up says
+-- ---- what a turn says
 
-pub mail_breaks : (old : LifeOf) (sender : Option (List ℕ)) (to : List (List ℕ)) (content address file : List ℕ) (error : HostError) (before after : Remains) → IsFirstMail old to content address
-    → Halts empty (mail_steps sender address file) error before after → Breaks old (Heard (events.Mail sender to content)) error before after
-mail_breaks old sender to content address file error before after first h l s agrees =
-    let a : IsAwaiting old.clock old.timed l s = subst (λ (x : Stage). StageAgrees x old.clock old.timed l s) first.stage agrees in
-    let b : IsAwaiting old.clock true l s = subst (λ x. IsAwaiting old.clock x l s) first.timed a in (
-      mail_steps sender address file,
-      rw (first.only, first.no_content, b.ledger) (turn_mail old.clock b.next_run sender address b.past b.no_arrival b.no_start),
-      subst (λ x. Halts x (mail_steps sender address file) error before after) (sym a.spool) h,
-    )
+module _ (old : LifeOf) (sender : Option (List ℕ)) (to : List (List ℕ)) (content address : List ℕ) (before after : View)
+    (first : IsFirstMail old to content address) (from_form : option_map_or is_address sender true ≡ true) (to_form : is_address address ≡ true) where
+  pub mail_breaks : (file : List ℕ) (error : HostError) → file ≡ file_bytes (file_message sender old.clock address false) (80 ∷ [])
+      → Halts empty (mail_steps sender address file) error before after → Breaks old (Heard (events.Mail sender to content)) error before after
+  mail_breaks file error is h l s agrees =
+      let (spool, entries, follows) = mail_turn old l s sender to content address file first agrees from_form to_form is in
+      (mail_steps sender address file, entries, follows, subst (λ x. Halts x (mail_steps sender address file) error before after) (sym spool) h)
 
-pub mail_turns : (old : LifeOf) (sender : Option (List ℕ)) (to : List (List ℕ)) (content address file : List ℕ) (at : ℕ) (before after : Remains) → IsFirstMail old to content address
-    → file ≡ file_bytes (file_message sender old.clock address false) (80 ∷ []) → at ≡ mark_at (file_message sender old.clock address false) 0
-    → Plays empty (mail_steps sender address file) before after → Turns old (life old.clock old.timed (InFlight at)) (Heard (events.Mail sender to content)) before after
-mail_turns old sender to content address file at before after first is mark p l s agrees =
-    let (spool, entries, new) = mail_agrees old l s sender to content address file at first agrees is mark in
-    (mail_steps sender address file, entries, new, subst (λ x. Plays x (mail_steps sender address file) before after) (sym spool) p)
+  pub mail_turns : (file : List ℕ) (at : ℕ) → file ≡ file_bytes (file_message sender old.clock address false) (80 ∷ []) → at ≡ mark_at (file_message sender old.clock address false) 0
+      → Plays empty (mail_steps sender address file) before after → Turns old (life old.clock old.timed (InFlight at)) (Heard (events.Mail sender to content)) before after
+  mail_turns file at is mark p l s agrees =
+      let (spool, entries, follows) = mail_turn old l s sender to content address file first agrees from_form to_form is in
+      (mail_steps sender address file, entries, follows, mail_agrees old l s sender to content address file first agrees from_form to_form is at mark, subst (λ x. Plays x (mail_steps sender address file) before after) (sym spool) p)
 
-pub reply_breaks : (old : LifeOf) (number at : ℕ) (site : SiteState) (os : List Outcome) (error : HostError) (before after : Remains) → IsSuccess number site os → old.stage ≡ InFlight at
+pub reply_breaks : (old : LifeOf) (number at : ℕ) (site : SiteState) (os : List Outcome) (error : HostError) (before after : View) → IsSuccess number site os → old.stage ≡ InFlight at
     → ((file : List ℕ) → Halts (holds Active file) (reply_steps at file) error before after) → Breaks old (Heard (events.Reply number site os)) error before after
 reply_breaks old number at site os error before after success stage h l s agrees =
-    let (file, spool, entries, new) = reply_agrees old l s number at site os success stage agrees in
-    (reply_steps at file, entries, subst (λ x. Halts x (reply_steps at file) error before after) (sym spool) (h file))
+    let (file, spool, entries, follows, new) = reply_agrees old l s number at site os success stage agrees in
+    (reply_steps at file, entries, follows, subst (λ x. Halts x (reply_steps at file) error before after) (sym spool) (h file))
 
-pub reply_turns : (old : LifeOf) (number at : ℕ) (site : SiteState) (os : List Outcome) (before after : Remains) → IsSuccess number site os → old.stage ≡ InFlight at
+pub reply_turns : (old : LifeOf) (number at : ℕ) (site : SiteState) (os : List Outcome) (before after : View) → IsSuccess number site os → old.stage ≡ InFlight at
     → ((file : List ℕ) → Plays (holds Active file) (reply_steps at file) before after) → Turns old (life old.clock old.timed Gone) (Heard (events.Reply number site os)) before after
 reply_turns old number at site os before after success stage p l s agrees =
-    let (file, spool, entries, new) = reply_agrees old l s number at site os success stage agrees in
-    (reply_steps at file, entries, new, subst (λ x. Plays x (reply_steps at file) before after) (sym spool) (p file))
+    let (file, spool, entries, follows, new) = reply_agrees old l s number at site os success stage agrees in
+    (reply_steps at file, entries, follows, new, subst (λ x. Plays x (reply_steps at file) before after) (sym spool) (p file))

@@ -11,7 +11,7 @@ use Rattle.q_model.specs.Settings.{World}
 use Rattle.q_model.specs.Step.{after_all}
 use Rattle.q_model.specs.Text.{text}
 use Rattle.q_host.specs.Faults.{Rose}
-use Rattle.q_host.specs.View.{Remains}
+use Rattle.q_host.specs.View.{View}
 use Rattle.q_top.specs.Answers.{answer_of, answer_to}
 use Rattle.q_top.specs.Commands.{IsRun}
 use Rattle.q_top.specs.EventLines.{line_item}
@@ -58,15 +58,15 @@ unfolding event_list
 list_ends bytes items h = items_end world (lines_of bytes) first_ledger 1 items h
 
 -- what was told of the items of a text that is whole
-run_told : (text_read : Option (List ℕ)) (before after : Remains) (items : List Item) → IsWhole text_read items → IsTold items before after → IsRun text_read before after
+run_told : (text_read : Option (List ℕ)) (before after : View) (items : List Item) → IsWhole text_read items → IsTold items before after → IsRun text_read before after
 run_told None before after items whole told = tt
-run_told (Some bytes) before after items whole (steps, entries, plays) = (items, list_ends bytes items whole, plays.told ∙ ap (λ es. before.told ++ text no_table es) (sym entries))
+run_told (Some bytes) before after items whole told = (items, list_ends bytes items whole, told.plays.told ∙ ap (λ es. before.told ++ text no_table es) (sym told.run))
 
-pub done_told : (text_read left : Option (List ℕ)) (before after : Remains) (status : Status) → status ≡ Done → ReplayEnds text_read left before after status → IsRun text_read before after
+pub done_told : (text_read left : Option (List ℕ)) (before after : View) (status : Status) → status ≡ Done → ReplayEnds text_read left before after status → IsRun text_read before after
 done_told text_read left before after status is ends = let (items, whole, told) : ReplayEnds text_read left before after Done = subst (λ (s : Status). ReplayEnds text_read left before after s) is ends in run_told text_read before after items whole told
 
 -- the text alone says how a replay ends
-module _ (left : Option (List ℕ)) (before after : Remains) where
+module _ (left : Option (List ℕ)) (before after : View) where
   answers_at : (bytes : List ℕ) (status : Status) → ReplayEnds (Some bytes) left before after status → (status ≡ Disk → ⊥) → (status ≡ Tell → ⊥) → (status ≡ Source → ⊥) → (status ≡ answer_of bytes) ⊎ (status ≡ NoMemory)
   answers_at bytes Done (items, whole, told) d t s = inl (sym (ap (λ (r : Reading). answer_to r (length (lines_of bytes) + 1)) whole))
   answers_at bytes (BadInput Events line) (items, inl fault, told) d t s = inl (sym (ap (λ (r : Reading). answer_to r (length (lines_of bytes) + 1)) fault))

@@ -1,5 +1,5 @@
 -- The first file of a spool.
-use Rattle.std.proofs.Common.{◌≡◌, inl, inr, ℕ, List, [], ◌∷◌, Option, Some, None, refl, sym, ap, ◌∙◌, subst, arith}
+use Rattle.std.proofs.Common.{◌≡◌, inl, inr, ℕ, List, [], ◌∷◌, Option, Some, None, refl, sym, ◌∙◌, subst, arith}
 use Rattle.std.specs.Prelude.{slice_get, ◌≤◌, ◌⊎◌, length, Contains, IsSome, true}
 use Rattle.std.specs.Ordering.{nat_cmp}
 use Rattle.std.specs.declared.cmp.Ordering.TheVariants.{Less}
@@ -11,7 +11,10 @@ use Rattle.q_host.specs.Files.{Files}
 use Rattle.q_host.specs.Reads.{IsListing}
 use Rattle.q_top.specs.FirstFile.{IsFirstName, IsFirstFile, IsSameHost, areas_in_order}
 use Rattle.q_top.specs.Spools.{IsSpool, is_looked_at, unopened}
-use Rattle.q_host.specs.View.{Remains}
+use Rattle.q_host.specs.Calls.{Stays}
+use Rattle.q_host.specs.Steps.{Stay}
+use Rattle.q_host.specs.View.{View, now}
+use Rattle.q_host.proofs.Moments.{goes_again, goes_nowhere}
 
 pub first_listed : (f : List ℕ → Option (List ℕ)) (names : List (List ℕ)) (n : List ℕ) → slice_get names 0 ≡ Some n → IsListing f None names → IsFirstName f (Some n)
 first_listed f [] n e h = absurd cc
@@ -76,8 +79,16 @@ not_unopened f spot (inr (a, inr (b, inr (c, inr (d, inl (at, first)))))) h = fi
 not_unopened f spot (inr (a, inr (b, inr (c, inr (d, inr (e, inl (at, first))))))) h = first_of Corrupt f spot h refl at first
 not_unopened f spot (inr (a, inr (b, inr (c, inr (d, inr (e, inr (g, none))))))) h = none
 
-abbrev remains : Files → List ℕ → Remains
-remains f x = record { files = f; told = x }
+-- a look at the files, and another
+pub stays_both : (u v w : View) → Stays u v → Stays v w → Stays u w
+stays_both u v w p q = record {
+  files = q.files ∙ p.files;
+  told = q.told ∙ p.told;
+  goes = goes_again Stay p.goes q.goes (λ x y z first second. second ∙ first) (λ x y h. h) (λ x y h. h);
+}
 
-pub same_host : (before after : Remains) → IsSameHost before after → after ≡ before
-same_host before after same = ap (λ (f : Files). remains f after.told) same.files ∙ ap (λ (x : List ℕ). remains before.files x) same.told
+pub stays_here : (v : View) → Stays v v
+stays_here v = record { files = refl; told = refl; goes = goes_nowhere Stay Stay v (λ x. refl) }
+
+pub same_host : (v w : View) → Stays v w → IsSameHost (now v) (now w)
+same_host v w st = record { files = st.files; told = st.told }

@@ -1,64 +1,114 @@
--- How the calls of an entry change the spool of a first life.
-use Rattle.std.proofs.Common.{◌≡◌, ◌≢◌, ◌⊎◌, inl, inr, ◌≤◌, ◌+◌, ℕ, zero, suc, Bool, true, false, if◌then◌else◌, List, [], ◌∷◌, ◌++◌, take, drop, Option, Some, None, refl, sym, ap, ◌∙◌, subst, arith, append-nil, take-append-drop}
-use Rattle.std.specs.Prelude.{codes, Result, OnOk, Ok, Err}
-use Rattle.std.specs.Option.{option_map}
+-- How the calls of an entry change the spool of a first life, at each moment.
+use Rattle.std.proofs.Common.{◌≡◌, ◌≢◌, ◌⊎◌, inl, inr, ⊎_elim, ◌≤◌, ℕ, List, ◌++◌, length, take, None, refl, sym, ap, ◌∙◌, subst, arith, append-nil, take_all}
+use Rattle.std.specs.Prelude.{Result, OnOk, OnErr, IsErrOf, Ok, Err}
 use Rattle.q_model.specs.declared.entry.Entry.{Entry}
-use Rattle.q_model.specs.declared.spot.Area.{Area}
-use Rattle.q_model.specs.declared.spot.Area.TheVariants.{Boot, Tmp, Incoming, Active, Bounce}
-use Rattle.q_model.specs.IdTexts.{id_text}
+use Rattle.q_model.specs.declared.spot.Area.TheVariants.{Bounce}
 use Rattle.q_model.specs.Routes.{no_table}
 use Rattle.q_model.specs.Text.{line}
-use Rattle.q_host.specs.Calls.{Stays, Changes, Writes, Syncs}
+use Rattle.q_host.specs.Calls.{Stays, Changes, Tells, IsAsItWas}
 use Rattle.q_host.specs.declared.error.HostError.{HostError}
-use Rattle.q_host.specs.Files.{Files, same_place, put, with_file, without_file, moved, written}
-use Rattle.q_host.specs.View.{Remains, View, now}
-use Rattle.q_host.proofs.Puts.{put-other, other_area, same_place-refl, same_place-true}
-use Rattle.q_files.specs.Stores.{IsAsBefore, IsStored, MayStore, Stores}
-use Rattle.q_top.specs.Spools.{Spool, unopened, empty, holds, first_id, is_looked_at, boot_file, file_at, IsSpool, SameLogs}
-use Rattle.q_top.specs.Steps.{Does, Stops}
+use Rattle.q_host.specs.declared.error.HostError.TheVariants.{Tell, NoMemory, Disk}
+use Rattle.q_host.specs.Files.{Files}
+use Rattle.q_host.specs.View.{Goes, LeavesOnly, Remains, View}
+use Rattle.q_host.proofs.Moments.{leaves_by, leaves_on}
+use Rattle.q_top.specs.Spools.{Spool, HoldsSpool, IsLeft, IsSpool, LeavesSpool, SameLogs}
+use Rattle.q_top.specs.Steps.{Does, Stops, WithinStep}
+use Rattle.q_top.proofs.SpoolChanges.{name}
 
 -- what Ok means, carried over
 pub on_ok : {T E : Type 0} {P Q : Type 0} (r : Result T E) → (P → Q) → OnOk r P → OnOk r Q
 on_ok (Ok v) f h = f h
 on_ok (Err e) f h = h
 
+-- what an error means, of one error
+pub of_err : {T : Type 0} {E : Type 0} {P : Type 0} (r : Result T E) (e : E) → IsErrOf r e → OnErr r P → P
+of_err (Ok v) e is h = absurd cc
+of_err (Err x) e is h = h
+
+-- what a host tells of crashes at a moment
+pub record IsLawful (v : View) : Type 0 where
+  pub only : (c : Remains) → v.left_since v.moment c → v.may_leave c
+  pub told : (c : Remains) → v.may_leave c → c.told ≡ v.told
+
+-- nothing more is told, and the files are those before the change or after it
+pub record Between (s t : Spool) (before : List ℕ) (c : Remains) : Type 0 where
+  pub told : c.told ≡ before
+  pub files : IsLeft s c.files ⊎ IsLeft t c.files
+
 -- the change of the disk of an entry: all of it, or none or all
-pub record Changed (s t : Spool) (old new : Remains) : Type 0 where
+pub record Changed (s t : Spool) (old new : View) : Type 0 where
   pub told : new.told ≡ old.told
   pub files : IsSpool s old.files → IsSpool t new.files
   pub logs : SameLogs old.files new.files
+  pub crash : HoldsSpool s old → LeavesSpool t new
+  pub moments : HoldsSpool s old → LeavesOnly old new (Between s t old.told)
 
-pub record MayChange (s t : Spool) (old new : Remains) : Type 0 where
+pub record MayChange (s t : Spool) (old new : View) : Type 0 where
   pub told : new.told ≡ old.told
   pub files : IsSpool s old.files → IsSpool s new.files ⊎ IsSpool t new.files
   pub logs : SameLogs old.files new.files
+  pub moments : HoldsSpool s old → LeavesOnly old new (Between s t old.told)
 
 same_logs : (f g h : Files) → SameLogs f g → SameLogs g h → SameLogs f h
-same_logs f g h p q n = q n ∙ p n
+same_logs f g h p q n other = q n other ∙ p n other
 
--- first the disk, then the line
-pub changed_does : (s t : Spool) (e : Entry) (old mid new : Remains) → Changed s t old mid → Does t e t mid new → Does s e t old new
-changed_does s t e old mid new c d = record {
-  told = d.told ∙ ap (λ (x : List ℕ). x ++ line no_table e) c.told;
-  files = λ h. d.files (c.files h);
-  logs = same_logs old.files mid.files new.files c.logs d.logs;
+pub changed_holds : (s t : Spool) (old new : View) → Changed s t old new → HoldsSpool s old → HoldsSpool t new
+changed_holds s t old new c h = record { reads = c.files h.reads; crash = c.crash h }
+
+-- nothing of a line was told yet
+before_line : (s t : Spool) (e : Entry) (told : List ℕ) (c : Remains) → Between s t told c → WithinStep s e t told c
+before_line s t e told c b = record {
+  part = 0;
+  short = omega arith;
+  told = b.told ∙ sym (append-nil told);
+  files = b.files;
+  disk_first = λ some. absurd (omega arith);
 }
 
-pub changed_stops : (s t : Spool) (e : Entry) (error : HostError) (old mid new : Remains) → Changed s t old mid → Stops t e t error mid new → Stops s e t error old new
-changed_stops s t e error old mid new c d = record {
-  part = d.part;
-  told = d.told ∙ ap (λ (x : List ℕ). x ++ take d.part (line no_table e)) c.told;
-  only_tell = d.only_tell;
-  files = λ h. inr (both (d.files (c.files h)));
-  disk_first = λ some h. d.disk_first some (c.files h);
-  logs = same_logs old.files mid.files new.files c.logs d.logs;
+-- within the line, behind the change
+behind_change : (s t : Spool) (e : Entry) (told told' : List ℕ) (c : Remains) → told' ≡ told → WithinStep t e t told' c → WithinStep s e t told c
+behind_change s t e told told' c same w = record {
+  part = w.part;
+  short = w.short;
+  told = w.told ∙ ap (λ (x : List ℕ). x ++ take w.part (line no_table e)) same;
+  files = inr (both w.files);
+  disk_first = w.disk_first;
 }
   where
-    both : IsSpool t new.files ⊎ IsSpool t new.files → IsSpool t new.files
+    both : IsLeft t c.files ⊎ IsLeft t c.files → IsLeft t c.files
     both (inl h) = h
     both (inr h) = h
 
-pub may_stop : (s t : Spool) (e : Entry) (error : HostError) (old new : Remains) → MayChange s t old new → Stops s e t error old new
+module _ (s t : Spool) (e : Entry) (old mid new : View) (c : Changed s t old mid) where
+  line_moments : (HoldsSpool t mid → LeavesOnly mid new (WithinStep t e t mid.told)) → HoldsSpool s old → LeavesOnly old new (WithinStep s e t old.told)
+  line_moments then h = leaves_on (WithinStep s e t old.told) (c.moments h) (then (changed_holds s t old mid c h)) (λ x b. before_line s t e old.told x b) (λ x w. behind_change s t e old.told mid.told x c.told w)
+
+  -- first the disk, then the line
+  pub changed_does : Does t e t mid new → Does s e t old new
+  changed_does d = record {
+    told = d.told ∙ ap (λ (x : List ℕ). x ++ line no_table e) c.told;
+    files = λ h. d.files (c.files h);
+    logs = same_logs old.files mid.files new.files c.logs d.logs;
+    crash = λ h. d.crash (changed_holds s t old mid c h);
+    moments = line_moments d.moments;
+  }
+
+  pub changed_stops : (error : HostError) → Stops t e t error mid new → Stops s e t error old new
+  changed_stops error d = record {
+    part = d.part;
+    told = d.told ∙ ap (λ (x : List ℕ). x ++ take d.part (line no_table e)) c.told;
+    only_tell = d.only_tell;
+    files = λ h. inr (both (d.files (c.files h)));
+    disk_first = λ some h. d.disk_first some (c.files h);
+    logs = same_logs old.files mid.files new.files c.logs d.logs;
+    moments = line_moments d.moments;
+  }
+    where
+      both : IsSpool t new.files ⊎ IsSpool t new.files → IsSpool t new.files
+      both (inl h) = h
+      both (inr h) = h
+
+pub may_stop : (s t : Spool) (e : Entry) (error : HostError) (old new : View) → MayChange s t old new → Stops s e t error old new
 may_stop s t e error old new m = record {
   part = 0;
   told = m.told ∙ sym (append-nil old.told);
@@ -66,136 +116,115 @@ may_stop s t e error old new m = record {
   files = m.files;
   disk_first = λ some h. absurd (omega arith);
   logs = m.logs;
+  moments = λ h. leaves_by-only (m.moments h);
 }
-
-pub changed_may : (s t : Spool) (old new : Remains) → Changed s t old new → MayChange s t old new
-changed_may s t old new c = record { told = c.told; files = λ h. inr (c.files h); logs = c.logs }
-
-pub stays_may : (s t : Spool) (v w : View) → Stays v w → MayChange s t (now v) (now w)
-stays_may s t v w st = record {
-  told = st.told;
-  files = λ h. inl (λ a n look. ap (λ (g : Files). g a n) st.files ∙ h a n look);
-  logs = λ n. ap (λ (g : Files). g Bounce n) st.files;
-}
-
--- a change that was made or wasn't
-pub made_or_not : (s t : Spool) (change : Files → Files) (v w : View) → (Changes change v w → Changed s t (now v) (now w)) → Changes change v w ⊎ Stays v w → MayChange s t (now v) (now w)
-made_or_not s t change v w by (inl ch) = changed_may s t (now v) (now w) (by ch)
-made_or_not s t change v w by (inr st) = stays_may s t v w st
-
--- ---- the places of a first life
-
-looked : (a : Area) → is_looked_at a ≡ true → a ≢ Tmp
-looked a look same = cc
-
--- a place that is looked at is no other than the one message's, or not
-choose : {X : Type 0} (t : Bool) (x y z : X) → (t ≡ true → z ≡ x) → (t ≡ false → z ≡ y) → z ≡ (if t then x else y)
-choose true x y z h k = h refl
-choose false x y z h k = k refl
-
-abbrev name : List ℕ
-name = id_text first_id
-
-put_at : (f : Files) (b : Area) (m : List ℕ) (x : Option (List ℕ)) (a : Area) (n : List ℕ) → put f b m x a n ≡ (if same_place b m a n then x else f a n)
-unfolding put
-put_at f b m x a n = refl
-
-abbrev boot : List ℕ
-boot = codes "00000001"
-
-pub created : (v w : View) → Changes (λ f. with_file f Boot boot []) v w → Changed unopened empty (now v) (now w)
-created v w ch = record {
-  told = ch.told;
-  files = λ h a n look. ap (λ (g : Files). g a n) ch.files ∙ put_at v.files Boot boot (Some []) a n ∙ ap (λ (x : Option (List ℕ)). if same_place Boot boot a n then Some [] else x) (h a n look);
-  logs = λ n. ap (λ (g : Files). g Bounce n) ch.files ∙ put-other v.files Boot boot (Some []) Bounce n (other_area Boot boot Bounce n (λ same. cc));
-}
-
-pub stored : (file : List ℕ) (old new : Remains) → Stores name file old new → Changed empty (holds Incoming file) old new
-stored file old new s = record {
-  told = s.told;
-  files = λ h a n look. choose (same_place Incoming name a n) (Some file) (boot_file a n) (new.files a n)
-      (λ e. let same = same_place-true Incoming name a n e in sym (ap (λ b. new.files b n) same.0) ∙ sym (ap (new.files Incoming) same.1) ∙ s.files.whole)
-      (λ e. s.files.others a n (looked a look) e ∙ h a n look);
-  logs = λ n. s.files.others Bounce n (λ same. cc) (other_area Incoming name Bounce n (λ same. cc));
-}
-
-pub may_store : (file : List ℕ) (old new : Remains) → MayStore name file old new → MayChange empty (holds Incoming file) old new
-may_store file old new m = by m.files
   where
-    by : IsAsBefore old.files new.files ⊎ IsStored name file old.files new.files → MayChange empty (holds Incoming file) old new
-    by (inl same) = record {
-      told = m.told;
-      files = λ h. inl (λ a n look. same a n (looked a look) ∙ h a n look);
-      logs = λ n. same Bounce n (λ e. cc);
+    leaves_by-only : LeavesOnly old new (Between s t old.told) → LeavesOnly old new (WithinStep s e t old.told)
+    leaves_by-only l = record {
+      later = l.later;
+      each = λ c left. before_line s t e old.told c (l.each c left);
+      before = λ at c le left. ⊎_elim (λ was. inl was) (λ b. inr (before_line s t e old.told c b)) (l.before at c le left);
     }
-    by (inr there) = changed_may empty (holds Incoming file) old new (stored file old new (record { files = there; told = m.told }))
 
-by_test : {X : Type 0} (t : Bool) (x y z : X) → (t ≡ true → x ≡ z) → (t ≡ false → y ≡ z) → (if t then x else y) ≡ z
-by_test true x y z h k = h refl
-by_test false x y z h k = k refl
+pub changed_may : (s t : Spool) (old new : View) → Changed s t old new → MayChange s t old new
+changed_may s t old new c = record { told = c.told; files = λ h. inr (c.files h); logs = c.logs; moments = c.moments }
 
--- boot's file stands at no place of the message
-no_boot : (b a : Area) (n : List ℕ) → Boot ≢ b → same_place b name a n ≡ true → boot_file a n ≡ None
-no_boot b a n differ e = by_test (same_place Boot boot a n) (Some []) None None (λ k. absurd (differ ((same_place-true Boot boot a n k).0 ∙ sym (same_place-true b name a n e).0))) (λ k. refl)
+-- ---- a call by its step
 
--- the message's file is at its place
-pub here : (b : Area) (file : List ℕ) (f : Files) → is_looked_at b ≡ true → IsSpool (holds b file) f → f b name ≡ Some file
-here b file f look h = h b name look ∙ ap (λ (t : Bool). if t then Some file else boot_file b name) (same_place-refl b name)
+module _ (s t : Spool) (v w : View) (lawful : IsLawful v) where
+  -- what may be left meanwhile
+  pub meanwhile : {S M : Remains → Remains → Type 0} → Goes S M v w → ((d c : Remains) → IsLeft s d.files → M d c → (c.told ≡ d.told) × (IsLeft s c.files ⊎ IsLeft t c.files)) → HoldsSpool s v → LeavesOnly v w (Between s t v.told)
+  meanwhile goes step h = leaves_by (λ d. (d.told ≡ v.told) × IsLeft s d.files) (Between s t v.told) lawful.only goes (λ d m. (lawful.told d m, h.crash.left d m))
+      (λ d p. record { told = p.0; files = inl p.1 }) (λ d c p m. let q = step d c p.1 m in record { told = q.0 ∙ p.0; files = q.1 })
 
-elsewhere : (b : Area) (file : List ℕ) (f : Files) → IsSpool (holds b file) f → (a : Area) (n : List ℕ) → is_looked_at a ≡ true → same_place b name a n ≡ false → f a n ≡ boot_file a n
-elsewhere b file f h a n look e = h a n look ∙ ap (λ (t : Bool). if t then Some file else boot_file a n) e
+  pub stays_may : Stays v w → MayChange s t v w
+  stays_may st = record {
+    told = st.told;
+    files = λ h. inl (subst (λ (f : Files). IsSpool s f) (sym st.files) h);
+    logs = λ n other. ap (λ (g : Files). g Bounce n) st.files;
+    moments = meanwhile st.goes (λ d c left same. (ap (λ (r : Remains). r.told) same, inl (subst (λ (r : Remains). IsLeft s r.files) (sym same) left)));
+  }
 
-taken_away : (b : Area) (file : List ℕ) (f : Files) → Boot ≢ b → IsSpool (holds b file) f → (a : Area) (n : List ℕ) → is_looked_at a ≡ true → without_file f b name a n ≡ boot_file a n
-taken_away b file f differ h a n look =
-    put_at f b name None a n ∙ by_test (same_place b name a n) None (f a n) (boot_file a n) (λ e. sym (no_boot b a n differ e)) (λ e. elsewhere b file f h a n look e)
+  -- a change that the files of a spool and what a crash leaves of it undergo
+  pub changed_by : (change : Files → Files) → ((f : Files) → IsSpool s f → IsSpool t (change f)) → ((f : Files) → IsLeft s f → IsLeft t (change f)) → ((f : Files) → IsLeft t f → f Bounce name ≡ None) → ((f : Files) → SameLogs f (change f)) → Changes change v w → Changed s t v w
+  changed_by change reads left no_log logs ch = record {
+    told = ch.told;
+    files = λ h. subst (λ (f : Files). IsSpool t f) (sym ch.files) (reads v.files h);
+    logs = λ n other. ap (λ (g : Files). g Bounce n) ch.files ∙ logs v.files n other;
+    crash = λ h.
+        let after : (c : Remains) → w.may_leave c → IsLeft t c.files = λ c m. let d = ch.goes.crash c m in subst (λ (f : Files). IsLeft t f) (sym d.2.0) (left d.0.files (h.crash.left d.0 d.1)) in
+        record { left = after; no_log = λ c m none. no_log c.files (after c m) };
+    moments = meanwhile ch.goes (λ d c was step. (step.1, inr (subst (λ (f : Files). IsLeft t f) (sym step.0) (left d.files was))));
+  }
 
-pub admitted : (file : List ℕ) (v w : View) → Changes (λ f. moved f Incoming name Active name) v w → Changed (holds Incoming file) (holds Active file) (now v) (now w)
-admitted file v w ch = record {
-  told = ch.told;
-  files = λ h a n look. ap (λ (g : Files). g a n) ch.files ∙ put_at (without_file v.files Incoming name) Active name (v.files Incoming name) a n
-      ∙ ap (λ (x : Option (List ℕ)). if same_place Active name a n then x else without_file v.files Incoming name a n) (here Incoming file v.files refl h)
-      ∙ ap (λ (x : Option (List ℕ)). if same_place Active name a n then Some file else x) (taken_away Incoming file v.files (λ e. cc) h a n look);
-  logs = λ n. ap (λ (g : Files). g Bounce n) ch.files ∙ put-other (without_file v.files Incoming name) Active name (v.files Incoming name) Bounce n (other_area Active name Bounce n (λ e. cc))
-      ∙ put-other v.files Incoming name None Bounce n (other_area Incoming name Bounce n (λ e. cc));
+  pub made_or_not : (change : Files → Files) → (Changes change v w → Changed s t v w) → Changes change v w ⊎ Stays v w → MayChange s t v w
+  made_or_not change by (inl ch) = changed_may s t v w (by ch)
+  made_or_not change by (inr st) = stays_may st
+
+-- ---- telling a line
+
+module _ (s : Spool) (e : Entry) (k : ℕ) (short : k ≤ length (line no_table e)) (v w : View) (lawful : IsLawful v) (told : Tells (line no_table e) k v w) where
+  same_files : IsSpool s v.files → IsSpool s w.files
+  same_files h = subst (λ (f : Files). IsSpool s f) (sym told.files) h
+
+  same_log : SameLogs v.files w.files
+  same_log n other = ap (λ (g : Files). g Bounce n) told.files
+
+  telling : HoldsSpool s v → LeavesOnly v w (WithinStep s e s v.told)
+  telling h = leaves_by (λ d. (d.told ≡ v.told) × IsLeft s d.files) (WithinStep s e s v.told) lawful.only told.goes (λ d m. (lawful.told d m, h.crash.left d m))
+      (λ d p. record { part = 0; short = omega arith; told = p.0 ∙ sym (append-nil v.told); files = inl p.1; disk_first = λ some. p.1 })
+      (λ d c p a.
+      let left : IsLeft s c.files = subst (λ (f : Files). IsLeft s f) (sym a.2.files) p.1 in
+      record { part = a.0; short = a.1; told = a.2.told ∙ ap (λ (x : List ℕ). x ++ take a.0 (line no_table e)) p.0; files = inl left; disk_first = λ some. left })
+
+  pub tells_does : k ≡ length (line no_table e) → Does s e s v w
+  tells_does all = record {
+    told = told.told ∙ ap (λ (x : List ℕ). v.told ++ x) (take_all k (line no_table e) (omega (arith, all)));
+    files = same_files;
+    logs = same_log;
+    crash = λ h. record {
+      left = λ c m. let d = told.goes.crash c m in subst (λ (f : Files). IsLeft s f) (sym d.2.files) (h.crash.left d.0 d.1);
+      no_log = λ c m none. let d = told.goes.crash c m in ap (λ (f : Files). f Bounce name) d.2.files ∙ h.crash.no_log d.0 d.1 (sym (ap (λ (f : Files). f Bounce name) told.files) ∙ none);
+    };
+    moments = telling;
+  }
+
+  pub tells_stops : (error : HostError) → (error ≢ Tell → k ≡ 0) → Stops s e s error v w
+  tells_stops error only = record {
+    part = k;
+    told = told.told;
+    only_tell = only;
+    files = λ h. inl (same_files h);
+    disk_first = λ some h. same_files h;
+    logs = same_log;
+    moments = telling;
+  }
+
+-- the host is as it was
+pub as_it_was : (s t : Spool) (e : Entry) (error : HostError) (v w : View) → IsLawful v → IsAsItWas v w → Stops s e t error v w
+as_it_was s t e error v w lawful as_before = record {
+  part = 0;
+  told = as_before.told ∙ sym (append-nil v.told);
+  only_tell = λ h. refl;
+  files = λ h. inl (subst (λ (f : Files). IsSpool s f) (sym as_before.files) h);
+  disk_first = λ some h. absurd (omega arith);
+  logs = λ n other. ap (λ (g : Files). g Bounce n) as_before.files;
+  moments = λ h. record {
+    later = omega (arith, as_before.moment);
+    each = λ c left. still h c (lawful.only c (as_before.left_since v.moment c left));
+    before = λ at c le left. inl (as_before.left_since at c left);
+  };
 }
-
-pub removed : (file : List ℕ) (v w : View) → Changes (λ f. without_file f Active name) v w → Changed (holds Active file) empty (now v) (now w)
-removed file v w ch = record {
-  told = ch.told;
-  files = λ h a n look. ap (λ (g : Files). g a n) ch.files ∙ taken_away Active file v.files (λ e. cc) h a n look;
-  logs = λ n. ap (λ (g : Files). g Bounce n) ch.files ∙ put-other v.files Active name None Bounce n (other_area Active name Bounce n (λ e. cc));
-}
-
-pub synced : (file : List ℕ) (v w : View) → Syncs Active name v w → Changed (holds Active file) (holds Active file) (now v) (now w)
-synced file v w s = record {
-  told = s.told;
-  files = λ h a n look. ap (λ (g : Files). g a n) s.files ∙ h a n look;
-  logs = λ n. ap (λ (g : Files). g Bounce n) s.files;
-}
-
--- k bytes of the mark
-written_at : (at k : ℕ) (file : List ℕ) (v w : View) → Writes Active name at (68 ∷ []) k v w → Changed (holds Active file) (holds Active (written at (take k (68 ∷ [])) file)) (now v) (now w)
-written_at at k file v w wr = record {
-  told = wr.told;
-  files = λ h a n look. ap (λ (g : Files). g a n) wr.files ∙ put_at v.files Active name (option_map (written at (take k (68 ∷ []))) (v.files Active name)) a n
-      ∙ ap (λ (x : Option (List ℕ)). if same_place Active name a n then option_map (written at (take k (68 ∷ []))) x else v.files a n) (here Active file v.files refl h)
-      ∙ by_test (same_place Active name a n) (Some (written at (take k (68 ∷ [])) file)) (v.files a n) (file_at (holds Active (written at (take k (68 ∷ [])) file)) a n)
-      (λ e. rw e refl) (λ e. elsewhere Active file v.files h a n look e ∙ rw e refl);
-  logs = λ n. ap (λ (g : Files). g Bounce n) wr.files ∙ put-other v.files Active name (option_map (written at (take k (68 ∷ []))) (v.files Active name)) Bounce n (other_area Active name Bounce n (λ e. cc));
-}
-
-pub marked : (at : ℕ) (file : List ℕ) (v w : View) → Writes Active name at (68 ∷ []) 1 v w → Changed (holds Active file) (holds Active (written at (68 ∷ []) file)) (now v) (now w)
-marked at file v w wr = written_at at 1 file v w wr
-
-nothing_written : (at : ℕ) (file : List ℕ) → written at [] file ≡ file
-nothing_written at file = ap (λ m. take at file ++ [] ++ drop m file) (plus_none at) ∙ ap (λ (l : List ℕ). l ++ drop at file) (append-nil (take at file)) ∙ take-append-drop at file
   where
-    plus_none : (n : ℕ) → n + 0 ≡ n
-    plus_none n = omega arith
+    still : HoldsSpool s v → (c : Remains) → v.may_leave c → WithinStep s e t v.told c
+    still h c m = record { part = 0; short = omega arith; told = lawful.told c m ∙ sym (append-nil v.told); files = inl (h.crash.left c m); disk_first = λ some. absurd (omega arith) }
 
-pub may_mark : (at k : ℕ) (file : List ℕ) (v w : View) → k ≤ 1 → Writes Active name at (68 ∷ []) k v w → MayChange (holds Active file) (holds Active (written at (68 ∷ []) file)) (now v) (now w)
-may_mark at zero file v w le wr =
-    let c = written_at at 0 file v w wr in
-    record { told = c.told; files = λ h. inl (subst (λ (x : List ℕ). IsSpool (holds Active x) w.files) (nothing_written at file) (c.files h)); logs = c.logs }
-may_mark at (suc zero) file v w le wr = changed_may (holds Active file) (holds Active (written at (68 ∷ []) file)) (now v) (now w) (written_at at 1 file v w wr)
-may_mark at (suc (suc k)) file v w le wr = absurd (omega (arith, le))
+-- no call was made
+pub stands_still : (v : View) → IsAsItWas v v
+stands_still v = record { files = refl; told = refl; moment = refl; may_leave = λ c m. m; left_since = λ at c m. m }
+
+-- a line that was told in part, or not at all
+pub line_stops : (s : Spool) (e : Entry) (error : HostError) (v w : View) → IsLawful v → (k : ℕ) × (k ≤ length (line no_table e)) × Tells (line no_table e) k v w → (error ≡ NoMemory → IsAsItWas v w) → (error ≡ Disk → ⊥) → Stops s e s error v w
+line_stops s e Tell v w lawful (k, short, told) memory disk = tells_stops s e k short v w lawful told Tell (λ other. absurd (other refl))
+line_stops s e NoMemory v w lawful some memory disk = as_it_was s s e NoMemory v w lawful (memory refl)
+line_stops s e Disk v w lawful some memory disk = absurd (disk refl)

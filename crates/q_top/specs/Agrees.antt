@@ -1,16 +1,17 @@
 -- With which ledgers and spools a life agrees, and how it goes on from them.
-use Rattle.std.specs.Prelude.{◌≡◌, ◌≤◌, ℕ, Bool, true, false, List, [], ◌∷◌, Option, count_by, length, ◌==◌}
+use Rattle.std.specs.Prelude.{◌≡◌, ◌≤◌, ◌<◌, ℕ, Bool, true, false, List, [], ◌∷◌, Option, count_by, length, ◌==◌}
 use Rattle.q_model.specs.declared.entry.Entry.{Entry}
 use Rattle.q_model.specs.declared.event.Item.{Item}
 use Rattle.q_model.specs.declared.spot.Area.TheVariants.{Active}
 use Rattle.q_model.specs.Ledger.{Ledger}
 use Rattle.q_model.specs.Past.{is_arrive, is_start, is_living}
-use Rattle.q_model.specs.QueueFileBytes.{file_bytes, mark_at}
+use Rattle.q_model.specs.QueueFileBytes.{IsFileMessage, file_bytes, mark_at}
 use Rattle.q_model.specs.Run.{turn}
 use Rattle.q_model.specs.Step.{after_all}
 use Rattle.q_host.specs.declared.error.HostError.{HostError}
 use Rattle.q_host.specs.Files.{Files}
-use Rattle.q_host.specs.View.{Remains}
+use Rattle.q_host.specs.View.{View}
+use Rattle.q_top.specs.Books.{Follows}
 use Rattle.q_top.specs.declared.life.Life.{Life}
 use Rattle.q_top.specs.declared.life.Stage.{Stage}
 use Rattle.q_top.specs.declared.life.Stage.TheVariants.{Awaited, InFlight, Gone}
@@ -30,6 +31,7 @@ pub record IsAwaiting (now : ℕ) (timed : Bool) (l : Ledger) (s : Spool) : Type
   pub begun : is_begun past ≡ true
   pub no_arrival : count_by is_arrive past ≡ 0
   pub no_start : count_by is_start past ≡ 0
+  pub clock : now ≤ 999990000000
   pub spool : s ≡ empty
 
 -- the message is in flight, and its file stands in active
@@ -43,6 +45,7 @@ pub record IsFlying (now at : ℕ) (timed : Bool) (l : Ledger) (s : Spool) : Typ
   pub begun : is_begun past ≡ true
   pub arrived : (count_by is_arrive past == 0) ≡ false
   pub clock : timed ≡ true
+  pub message : IsFileMessage (file_message sender arrival address false)
   pub spool : s ≡ holds Active (file_bytes (file_message sender arrival address false) (80 ∷ []))
   pub mark : at ≡ mark_at (file_message sender arrival address false) 0
 
@@ -67,14 +70,14 @@ Agrees life l s = StageAgrees life.stage life.clock life.timed l s
 -- the files that the life needs are there
 abbrev pub HasFiles : Stage → Files → Type 0
 HasFiles Awaited files = IsSpool empty files
-HasFiles (InFlight at) files = (file : List ℕ) × (at ≤ length file) × IsSpool (holds Active file) files
+HasFiles (InFlight at) files = (file : List ℕ) × (at < length file) × IsSpool (holds Active file) files
 HasFiles Gone files = IsSpool empty files
 
 -- From each ledger and spool with which the life agreed it carried out and told the turn of the item, and agrees with what they came to.
-abbrev pub Turns : Life → Life → Item → Remains → Remains → Type 0
+abbrev pub Turns : Life → Life → Item → View → View → Type 0
 Turns old new item before after = (l : Ledger) (s : Spool) → Agrees old l s
-    → (steps : Steps) × (turn world l item ≡ entries_of steps) × Agrees new (after_all world l (entries_of steps)) (spool_after s steps) × Plays s steps before after
+    → (steps : Steps) × (turn world l item ≡ entries_of steps) × Follows l steps × Agrees new (after_all world l (entries_of steps)) (spool_after s steps) × Plays s steps before after
 
 -- from each of them it gave the turn up at some entry
-abbrev pub Breaks : Life → Item → HostError → Remains → Remains → Type 0
-Breaks old item error before after = (l : Ledger) (s : Spool) → Agrees old l s → (steps : Steps) × (turn world l item ≡ entries_of steps) × Halts s steps error before after
+abbrev pub Breaks : Life → Item → HostError → View → View → Type 0
+Breaks old item error before after = (l : Ledger) (s : Spool) → Agrees old l s → (steps : Steps) × (turn world l item ≡ entries_of steps) × Follows l steps × Halts s steps error before after

@@ -6,7 +6,7 @@ use Rattle.q_model.specs.Book.{empty_book}
 use Rattle.q_model.specs.Routes.{no_table}
 use Rattle.q_model.specs.Run.{run_of}
 use Rattle.q_model.specs.Text.{text}
-use Rattle.q_host.specs.View.{Remains}
+use Rattle.q_host.specs.View.{View}
 use Rattle.q_top.specs.declared.status.Status.{Status}
 use Rattle.q_top.specs.declared.status.Status.TheVariants.{Done, Usage, BadInput, Disk, Tell, Source, Damaged, NoMemory}
 use Rattle.q_top.specs.EventList.{event_list}
@@ -30,5 +30,5 @@ IsTurnedAway Tell = ⊥
 IsTurnedAway Source = ⊥
 
 -- the text is an event list, and what its run says was told: the run in which each entry is the ledger's next
-abbrev pub IsRun : Option (List ℕ) → Remains → Remains → Type 0
+abbrev pub IsRun : Option (List ℕ) → View → View → Type 0
 IsRun bytes before after = IfSome bytes (λ bs. (items : List Item) × (event_list bs ≡ Some items) × (after.told ≡ before.told ++ text no_table (run_of world Deliver empty_book items)))

@@ -1,6 +1,7 @@
 pub mod Agrees
 pub mod Answers
 pub mod Begins
+pub mod Books
 pub mod BufferedText
 pub mod Causes
 pub mod Commands
@@ -9,9 +10,11 @@ pub mod EventList
 pub mod Faultless
 pub mod FirstFile
 pub mod Fits
+pub mod Forgets
 pub mod MailSteps
 pub mod OneMessage
 pub mod ReaderState
+pub mod Reached
 pub mod Reading
 pub mod ReplayEnds
 pub mod Replays
@@ -19,3 +22,4 @@ pub mod Spools
 pub mod Statuses
 pub mod Steps
 pub mod TakenLine
+pub mod Unread

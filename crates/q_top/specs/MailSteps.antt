@@ -5,9 +5,8 @@ use Rattle.q_model.specs.declared.event.Mode.TheVariants.{Deliver}
 use Rattle.q_model.specs.declared.outcome.Outcome.TheVariants as outcomes
 use Rattle.q_model.specs.declared.outcome.SiteState.TheVariants.{Up}
 use Rattle.q_model.specs.declared.spot.Area.TheVariants.{Incoming, Active}
-use Rattle.q_host.specs.Files.{written}
 use Rattle.q_top.specs.OneMessage.{site_of}
-use Rattle.q_top.specs.Spools.{Spool, empty, holds, first_id}
+use Rattle.q_top.specs.Spools.{Spool, empty, holds, marking, marked, first_id}
 use Rattle.q_top.specs.Steps.{Steps}
 
 -- the life begins
@@ -26,7 +25,7 @@ mail_steps sender address file = (Arrive first_id sender (address ∷ []) [], ho
 abbrev pub reply_steps : ℕ → List ℕ → Steps
 reply_steps at file =
     (Reply 1 Up (outcomes.Ok ∷ []), holds Active file)
-    ∷ (Mark first_id 0, holds Active (written at (68 ∷ []) file))
-    ∷ (Sync first_id, holds Active (written at (68 ∷ []) file))
+    ∷ (Mark first_id 0, marking at file)
+    ∷ (Sync first_id, holds Active (marked at file))
     ∷ (Remove first_id, empty)
     ∷ []

@@ -2,9 +2,12 @@
 use Rattle.std.specs.Prelude.{ℕ, Bool, true, false, List, [], ◌∷◌, Option, None}
 use Rattle.q_model.specs.declared.entry.Entry.{Entry}
 use Rattle.q_model.specs.declared.event.Mode.TheVariants.{Deliver}
+use Rattle.q_model.specs.declared.rows.Mark.{Mark}
+use Rattle.q_model.specs.declared.rows.Place.{Place}
 use Rattle.q_model.specs.declared.rows.Mark.TheVariants as marks
 use Rattle.q_model.specs.declared.rows.Place.TheVariants as places
 use Rattle.q_model.specs.declared.rows.Health.TheVariants as healths
+use Rattle.q_model.specs.Book.{Book}
 use Rattle.q_model.specs.Ledger.{Ledger}
 use Rattle.q_model.specs.Message.{Message}
 use Rattle.q_model.specs.QueueFile.{FileMessage}
@@ -22,17 +25,25 @@ world = world_of defaults
 abbrev pub file_message : Option (List ℕ) → ℕ → List ℕ → Bool → FileMessage
 file_message sender arrival address marked = record { sender = sender; arrival = arrival; content = []; recipients = record { address = address; marked = marked } ∷ [] }
 
--- the message in active
-abbrev pub only_message : Option (List ℕ) → List ℕ → ℕ → Message
-only_message sender address arrival = record {
+-- the message with this mark at this place
+abbrev pub one_message : Option (List ℕ) → List ℕ → ℕ → Mark → Place → Message
+one_message sender address arrival mark place = record {
   id = first_id;
   sender = sender;
   arrival = arrival;
   content = [];
-  recipients = record { address = address; mark = marks.Unmarked } ∷ [];
+  recipients = record { address = address; mark = mark } ∷ [];
   failures = [];
-  place = places.Active;
+  place = place;
 }
+
+-- the message in active
+abbrev pub only_message : Option (List ℕ) → List ℕ → ℕ → Message
+only_message sender address arrival = one_message sender address arrival marks.Unmarked places.Active
+
+-- the book of a first life with these messages
+abbrev pub only_book : List Message → Book
+only_book messages = record { generation = 1; messages = messages; damaged = [] }
 
 abbrev pub site_of : List ℕ → Site
 site_of address = record { transport = 0; hop = domain_of address }

@@ -7,9 +7,10 @@ use Rattle.q_model.specs.Book.{empty_book}
 use Rattle.q_model.specs.Run.{run_of}
 use Rattle.q_model.specs.Step.{after_all}
 use Rattle.q_host.specs.declared.error.HostError.TheVariants as errors
-use Rattle.q_host.specs.View.{Remains}
+use Rattle.q_host.specs.View.{View}
 use Rattle.q_top.specs.Agrees.{Agrees, Breaks}
 use Rattle.q_top.specs.Begins.{before_life, Ends}
+use Rattle.q_top.specs.Books.{Follows}
 use Rattle.q_top.specs.declared.life.Life.{Life}
 use Rattle.q_top.specs.declared.status.InputFile.TheVariants.{Events}
 use Rattle.q_top.specs.declared.status.Status.{Status}
@@ -28,17 +29,18 @@ pub record IsReading (bytes : List ℕ) (lines : List (Option (List ℕ))) (item
   pub number : line ≡ length lines + 1
 
 -- these items were taken and told, and what is left may have so many bytes and begins with this line
-pub record WentBy (text left : Option (List ℕ)) (limit line : ℕ) (life : Life) (items : List Item) (steps : Steps) (before after : Remains) : Type 0 where
+pub record WentBy (text left : Option (List ℕ)) (limit line : ℕ) (life : Life) (items : List Item) (steps : Steps) (before after : View) : Type 0 where
   pub entries : run_of world Deliver empty_book items ≡ entries_of steps
+  pub follows : Follows before_life steps
   pub agrees : Agrees life (after_all world before_life (entries_of steps)) (spool_after unopened steps)
   pub plays : Plays unopened steps before after
   pub reading : IfSome text (λ bytes. (lines : List (Option (List ℕ))) × (rest : List ℕ) × (left ≡ Some rest) × IsReading bytes lines items limit rest line)
 
-abbrev pub Went : Option (List ℕ) → Option (List ℕ) → ℕ → ℕ → Life → Remains → Remains → Type 0
+abbrev pub Went : Option (List ℕ) → Option (List ℕ) → ℕ → ℕ → Life → View → View → Type 0
 Went text left limit line life before after = (items : List Item) × (steps : Steps) × WentBy text left limit line life items steps before after
 
 -- what the status says of the text and of what was told
-abbrev pub ReplayEnds : Option (List ℕ) → Option (List ℕ) → Remains → Remains → Status → Type 0
+abbrev pub ReplayEnds : Option (List ℕ) → Option (List ℕ) → View → View → Status → Type 0
 ReplayEnds text left before after Done = (items : List Item) × IsWhole text items × IsTold items before after
 ReplayEnds text left before after (BadInput Events line) = (items : List Item) × IsFaulty text items line × IsTold items before after
 ReplayEnds text left before after Source = (items : List Item) × IsCutOff text left items × IsTold items before after
@@ -49,7 +51,7 @@ ReplayEnds text left before after Usage = ⊥
 ReplayEnds text left before after (Damaged area name) = ⊥
 
 -- how the end of a life ends a replay
-abbrev pub Finishes : Life → Remains → Remains → Status → Type 0
+abbrev pub Finishes : Life → View → View → Status → Type 0
 Finishes life before after Done = Ends life before after
 Finishes life before after Disk = Breaks life Finish errors.Disk before after
 Finishes life before after Tell = Breaks life Finish errors.Tell before after

@@ -1,20 +1,24 @@
 -- How far a replay came: which items of the text were taken, and what was told for them.
-use Rattle.std.specs.Prelude.{◌≡◌, ◌⊎◌, ◌+◌, ℕ, true, List, [], ◌++◌, length, Option, Some, IfSome}
+use Rattle.std.specs.Prelude.{◌≡◌, ◌⊎◌, ◌<◌, ◌+◌, ℕ, true, List, [], ◌∷◌, ◌++◌, length, Option, Some, IfSome}
 use Rattle.q_model.specs.declared.event.Item.{Item}
 use Rattle.q_model.specs.declared.event.Item.TheVariants.{Begin}
 use Rattle.q_model.specs.declared.event.Mode.TheVariants.{Deliver}
+use Rattle.q_model.specs.declared.entry.Entry.{Entry}
 use Rattle.q_model.specs.Book.{empty_book}
+use Rattle.q_model.specs.FilesStand.{Stands}
 use Rattle.q_model.specs.Ledger.{Ledger}
 use Rattle.q_model.specs.Run.{run_of, turn}
 use Rattle.q_model.specs.Step.{after_all}
 use Rattle.q_host.specs.declared.error.HostError.{HostError}
-use Rattle.q_host.specs.View.{Remains}
+use Rattle.q_host.specs.Files.{Files}
+use Rattle.q_host.specs.View.{View}
 use Rattle.q_top.specs.Begins.{before_life}
+use Rattle.q_top.specs.Books.{Follows}
 use Rattle.q_top.specs.EventList.{lines_of, lines_from}
 use Rattle.q_top.specs.OneMessage.{world}
 use Rattle.q_top.specs.Reading.{Reading, ended, faulty, going, read_from}
 use Rattle.q_top.specs.ReaderState.{is_in_line}
-use Rattle.q_top.specs.Spools.{unopened}
+use Rattle.q_top.specs.Spools.{unopened, IsSpool}
 use Rattle.q_top.specs.Steps.{Steps, entries_of, Plays, Halts}
 
 -- the ledger of the first life when it has begun
@@ -31,13 +35,26 @@ items_in (ended items) = items
 items_in (faulty items line) = items
 items_in (going items) = items
 
--- the entries of these items were carried out and told
-abbrev pub IsTold : List Item → Remains → Remains → Type 0
-IsTold items before after = (steps : Steps) × (run_of world Deliver empty_book items ≡ entries_of steps) × Plays unopened steps before after
+-- the files stand for the book after these entries
+abbrev pub StandsAfter : List Entry → Files → Type 0
+StandsAfter entries files = Stands files (after_all world before_life entries).book
 
--- they were up to one that was given up
-abbrev pub IsToldInPart : List Item → HostError → Remains → Remains → Type 0
-IsToldInPart items error before after = (steps : Steps) × (run_of world Deliver empty_book items ≡ entries_of steps) × Halts unopened steps error before after
+-- the entries of these items were carried out and told
+pub record IsTold (items : List Item) (before after : View) : Type 0 where
+  pub steps : Steps
+  pub run : run_of world Deliver empty_book items ≡ entries_of steps
+  pub follows : Follows before_life steps
+  pub plays : Plays unopened steps before after
+  pub book : IsSpool unopened before.files → StandsAfter (entries_of steps) after.files
+
+-- They were up to one that was given up. The files stand for the book before it, or after it.
+pub record IsToldInPart (items : List Item) (error : HostError) (before after : View) : Type 0 where
+  pub steps : Steps
+  pub run : run_of world Deliver empty_book items ≡ entries_of steps
+  pub follows : Follows before_life steps
+  pub halts : Halts unopened steps error before after
+  pub book : IsSpool unopened before.files → StandsAfter (entries_of halts.done) after.files ⊎ StandsAfter (entries_of halts.done ++ halts.e ∷ []) after.files
+  pub disk_first : 0 < halts.part → IsSpool unopened before.files → StandsAfter (entries_of halts.done ++ halts.e ∷ []) after.files
 
 -- the text is an event list of these items, each of which fits
 abbrev pub IsWhole : Option (List ℕ) → List Item → Type 0

@@ -1,7 +1,7 @@
 //! The words of a command, and what each does.
 ghost use Rattle.std.specs.Prelude.{◌≡◌, ◌⊎◌, ℕ, List, Some, IsSome, IsTrue, IsFalse, map, string_bytes};
 ghost use Rattle.q_host.specs.Faults.{Rose};
-ghost use Rattle.q_host.specs.View.{now};
+ghost use Rattle.q_host.specs.View.{LeavesOnly, now};
 ghost use Rattle.q_model.specs.Values.{Spot};
 ghost use Rattle.q_model.specs.declared.spot.Area.{Area};
 ghost use Rattle.q_stream.specs.Takes.{Rose as SourceRose};
@@ -10,7 +10,8 @@ ghost use Rattle.q_top.specs.Commands.{is_replay, IsTurnedAway, IsRun};
 ghost use Rattle.q_top.specs.Faultless.{NoFault, NoSourceFault};
 ghost use Rattle.q_top.specs.FirstFile.{IsFirstFile, IsSameHost, areas_in_order};
 ghost use Rattle.q_top.specs.ReplayEnds.{ReplayEnds};
-ghost use Rattle.q_top.specs.Spools.{IsSpool, is_looked_at, unopened};
+ghost use Rattle.q_top.specs.Reached.{IsAtExit, IsLeftBehind};
+ghost use Rattle.q_top.specs.Spools.{HoldsSpool, IsSpool, is_looked_at, unopened};
 
 use crate::replay::replay;
 use crate::spool::first_file;
@@ -47,9 +48,15 @@ pub fn qmgr<H: Host, S: Source>(
     host: &mut H,
 ) -> Status
     // With `Done` the source's bytes are an event list, and its run was told.
-    ensures done { IsTrue H.tells → IsSpool unopened (H.view host.old).files → result ≡ Status.Done → IsRun (S.left source.old) (now (H.view host.old)) (now (H.view host.new)) }
+    ensures done { IsTrue H.tells → IsSpool unopened (H.view host.old).files → result ≡ Status.Done → IsRun (S.left source.old) (H.view host.old) (H.view host.new) }
     // How far each other status says that the run went.
-    ensures ends { IsTrue H.tells → IsSpool unopened (H.view host.old).files → IsTrue (is_replay (map string_bytes words.now)) → ReplayEnds (S.left source.old) (S.left source.new) (now (H.view host.old)) (now (H.view host.new)) result }
+    ensures ends { IsTrue H.tells → IsSpool unopened (H.view host.old).files → IsTrue (is_replay (map string_bytes words.now)) → ReplayEnds (S.left source.old) (S.left source.new) (H.view host.old) (H.view host.new) result }
+    // At its end the files stand for the book after the entries that were told, or after these and
+    // the next one.
+    ensures book { IsTrue H.tells → IsSpool unopened (H.view host.old).files → IsTrue (is_replay (map string_bytes words.now)) → IsAtExit (S.left source.old) (H.view host.old) (H.view host.new) }
+    // A crash at any moment leaves such files too, but for marks that weren't synced, and no part
+    // of a line whose entry the files don't have.
+    ensures any_moment { IsTrue H.tells → HoldsSpool unopened (H.view host.old) → IsTrue (is_replay (map string_bytes words.now)) → LeavesOnly (H.view host.old) (H.view host.new) (IsLeftBehind (S.left source.old) (H.view host.old).told) }
     // Where nothing fails, the text alone says how the replay ends, if memory suffices.
     ensures answers { (bytes : List ℕ) → IsTrue H.tells → IsSpool unopened (H.view host.old).files → IsTrue (is_replay (map string_bytes words.now)) → S.left source.old ≡ Some bytes → NoFault (H.faults host.old) (H.faults host.new) → NoSourceFault (S.faults source.old) (S.faults source.new) → (result ≡ answer_of bytes) ⊎ (result ≡ Status.NoMemory) }
     ensures usage { IsFalse (is_replay (map string_bytes words.now)) → (result ≡ Status.Usage) × (source.new ≡ source.old) × (host.new ≡ host.old) }

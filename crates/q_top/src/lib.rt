@@ -3,10 +3,10 @@
 #![tactic(auto)]
 
 mod command;
-mod entry_text;
 mod event_line;
 mod life;
 mod line_reader;
+mod load;
 mod queue_file;
 mod replay;
 mod spool;

@@ -1,21 +1,21 @@
 //! One life of the queue manager, in which at most one message comes, to one recipient.
-ghost use Rattle.std.specs.Prelude.{◌≡◌, ◌<◌, ◌∷◌, ◌==◌, [], IfOk, IsErrOf, IsTrue, OnOk, codes, length, true};
+ghost use Rattle.std.specs.Prelude.{◌≡◌, ◌<◌, ◌≤◌, ◌∷◌, ◌==◌, [], IfOk, IsErrOf, IsTrue, OnOk, codes, length, true};
 ghost use Rattle.q_model.specs.declared.entry.Entry.TheVariants as entries;
 ghost use Rattle.q_model.specs.declared.event.Event.TheVariants as events;
 ghost use Rattle.q_model.specs.declared.event.Item.TheVariants as items;
 ghost use Rattle.q_model.specs.declared.outcome.Outcome.TheVariants as outcomes;
 ghost use Rattle.q_model.specs.declared.outcome.SiteState.TheVariants as states;
 ghost use Rattle.q_model.specs.Lists.{has_none};
-ghost use Rattle.q_host.specs.View.{now};
 ghost use Rattle.q_top.specs.Agrees.{Breaks, HasFiles, Turns};
 ghost use Rattle.q_top.specs.Begins.{Begins, NeverBegins, Ends};
 ghost use Rattle.q_top.specs.Causes.{HasCause};
-ghost use Rattle.q_top.specs.Fits.{fits, is_awaited, is_in_flight};
+ghost use Rattle.q_top.specs.Fits.{fits, is_awaited, is_in_flight, IsInForm};
 ghost use Rattle.q_top.specs.Reading.{is_one_ok};
 ghost use Rattle.q_top.specs.MailSteps.{sent};
 ghost use Rattle.q_top.specs.Spools.{IsSpool, Spool, unopened};
 ghost use Rattle.q_top.specs.Steps.{Halts, Plays};
 
+use crate::load;
 use crate::queue_file::queue_file;
 use crate::step::{self, FIRST};
 use crate::tell::tell;
@@ -35,6 +35,15 @@ pub(crate) enum Stage {
     InFlight { mark_at: u64 },
     /// It was delivered.
     Gone,
+}
+
+/// How a life took an event.
+#[derive(Clone, Copy, Debug, PartialEq, Eq)]
+pub(crate) enum Stepped {
+    /// Its turn was carried out.
+    Done,
+    /// The message that was admitted can't be read, which a host that tells its files never shows.
+    Unreadable,
 }
 
 /// A life that goes on.
@@ -93,9 +102,10 @@ impl Life {
         generation: Name,
     ) -> Result<Life, HostError>
         requires { generation ≡ codes "00000001" }
-        ensures ok { IfOk result (λ life. IsTrue H.tells → Begins life (now (H.view host.old)) (now (H.view host.new))) }
+        ensures ok { IfOk result (λ life. IsTrue H.tells → Begins life (H.view host.old) (H.view host.new)) }
+        ensures clock { IfOk result (λ life. life.clock ≤ 999990000000) }
         ensures files { IfOk result (λ life. IsTrue H.tells → IsSpool unopened (H.view host.old).files → HasFiles life.stage (H.view host.new).files) }
-        ensures err { (error : HostError) → IsErrOf result error → IsTrue H.tells → NeverBegins error (now (H.view host.old)) (now (H.view host.new)) }
+        ensures err { (error : HostError) → IsErrOf result error → IsTrue H.tells → NeverBegins error (H.view host.old) (H.view host.new) }
         ensures cause { HasCause (H.faults host.old) (H.faults host.new) result }
     {
         step::begin(alloc, host, generation)?;
@@ -108,10 +118,13 @@ impl Life {
 
     /// The clock is there.
     fn at<H: Host>(&mut self, alloc: Global, host: &mut H, moment: Moment) -> Result<(), HostError>
-        requires { IsTrue H.tells → HasFiles self.old.stage (H.view host.old).files }
-        ensures ok { OnOk result (IsTrue H.tells → Turns self.old self.new (items.Heard (events.At moment)) (now (H.view host.old)) (now (H.view host.new))) }
+        requires timely { moment ≤ 999990000000 }
+        requires clock { self.old.clock ≤ 999990000000 }
+        requires there { IsTrue H.tells → HasFiles self.old.stage (H.view host.old).files }
+        ensures ok { OnOk result (IsTrue H.tells → Turns self.old self.new (items.Heard (events.At moment)) (H.view host.old) (H.view host.new)) }
         ensures files { OnOk result (IsTrue H.tells → HasFiles self.new.stage (H.view host.new).files) }
-        ensures err { (error : HostError) → IsErrOf result error → IsTrue H.tells → Breaks self.old (items.Heard (events.At moment)) error (now (H.view host.old)) (now (H.view host.new)) }
+        ensures clock { self.new.clock ≤ 999990000000 }
+        ensures err { (error : HostError) → IsErrOf result error → IsTrue H.tells → Breaks self.old (items.Heard (events.At moment)) error (H.view host.old) (H.view host.new) }
         ensures cause { HasCause (H.faults host.old) (H.faults host.new) result }
     {
         let clock = self.clock.max(moment);
@@ -129,24 +142,29 @@ impl Life {
         sender: Option<Address>,
         to: Addresses,
         content: Bytes,
-    ) -> Result<(), HostError>
+    ) -> Result<Stepped, HostError>
         requires fits { fits self.old (events.Mail sender to content) ≡ true }
+        requires form { IsInForm (events.Mail sender to content) }
+        requires clock { self.old.clock ≤ 999990000000 }
         requires there { IsTrue H.tells → HasFiles self.old.stage (H.view host.old).files }
-        ensures ok { OnOk result (IsTrue H.tells → Turns self.old self.new (items.Heard (events.Mail sender to content)) (now (H.view host.old)) (now (H.view host.new))) }
+        ensures ok { IfOk result (λ stepped. IsTrue H.tells → (stepped ≡ Stepped.Done) × Turns self.old self.new (items.Heard (events.Mail sender to content)) (H.view host.old) (H.view host.new)) }
         ensures files { OnOk result (IsTrue H.tells → HasFiles self.new.stage (H.view host.new).files) }
-        ensures err { (error : HostError) → IsErrOf result error → IsTrue H.tells → Breaks self.old (items.Heard (events.Mail sender to content)) error (now (H.view host.old)) (now (H.view host.new)) }
+        ensures clock { self.new.clock ≡ self.old.clock }
+        ensures err { (error : HostError) → IsErrOf result error → IsTrue H.tells → Breaks self.old (items.Heard (events.Mail sender to content)) error (H.view host.old) (H.view host.new) }
         ensures cause { HasCause (H.faults host.old) (H.faults host.new) result }
     {
-        let address = to.get(0);
+        let file = queue_file(alloc, &sender, self.clock, &to, content.as_slice())?;
         let positions = first_position(alloc)?;
-        let file = queue_file(alloc, &sender, self.clock, &address)?;
-        step::arrive(alloc, host, &file.bytes, sender, to, content)?;
+        step::arrive(alloc, host, file.as_slice(), sender, to, content)?;
         step::admit(alloc, host)?;
-        send(alloc, host, &address, positions)?;
-        self.stage = Stage::InFlight {
-            mark_at: file.mark_at,
+        let Some(taken) = load::recipient(alloc, host)? else {
+            return Ok(Stepped::Unreadable);
         };
-        Ok(())
+        send(alloc, host, &taken.address, positions)?;
+        self.stage = Stage::InFlight {
+            mark_at: taken.mark_at,
+        };
+        Ok(Stepped::Done)
     }
 
     /// The message was delivered.
@@ -160,9 +178,10 @@ impl Life {
     ) -> Result<(), HostError>
         requires fits { fits self.old (events.Reply number site outcomes) ≡ true }
         requires there { IsTrue H.tells → HasFiles self.old.stage (H.view host.old).files }
-        ensures ok { OnOk result (IsTrue H.tells → Turns self.old self.new (items.Heard (events.Reply number site outcomes)) (now (H.view host.old)) (now (H.view host.new))) }
+        ensures ok { OnOk result (IsTrue H.tells → Turns self.old self.new (items.Heard (events.Reply number site outcomes)) (H.view host.old) (H.view host.new)) }
         ensures files { OnOk result (IsTrue H.tells → HasFiles self.new.stage (H.view host.new).files) }
-        ensures err { (error : HostError) → IsErrOf result error → IsTrue H.tells → Breaks self.old (items.Heard (events.Reply number site outcomes)) error (now (H.view host.old)) (now (H.view host.new)) }
+        ensures clock { self.new.clock ≡ self.old.clock }
+        ensures err { (error : HostError) → IsErrOf result error → IsTrue H.tells → Breaks self.old (items.Heard (events.Reply number site outcomes)) error (H.view host.old) (H.view host.new) }
         ensures cause { HasCause (H.faults host.old) (H.faults host.new) result }
     {
         let Stage::InFlight { mark_at } = self.stage else {
@@ -187,16 +206,22 @@ impl Life {
         alloc: Global,
         host: &mut H,
         event: Event,
-    ) -> Result<(), HostError>
+    ) -> Result<Stepped, HostError>
         requires fits { fits self.old event ≡ true }
+        requires form { IsInForm event }
+        requires clock { self.old.clock ≤ 999990000000 }
         requires there { IsTrue H.tells → HasFiles self.old.stage (H.view host.old).files }
-        ensures ok { OnOk result (IsTrue H.tells → Turns self.old self.new (items.Heard event) (now (H.view host.old)) (now (H.view host.new))) }
+        ensures ok { IfOk result (λ stepped. IsTrue H.tells → (stepped ≡ Stepped.Done) × Turns self.old self.new (items.Heard event) (H.view host.old) (H.view host.new)) }
         ensures files { OnOk result (IsTrue H.tells → HasFiles self.new.stage (H.view host.new).files) }
-        ensures err { (error : HostError) → IsErrOf result error → IsTrue H.tells → Breaks self.old (items.Heard event) error (now (H.view host.old)) (now (H.view host.new)) }
+        ensures clock { self.new.clock ≤ 999990000000 }
+        ensures err { (error : HostError) → IsErrOf result error → IsTrue H.tells → Breaks self.old (items.Heard event) error (H.view host.old) (H.view host.new) }
         ensures cause { HasCause (H.faults host.old) (H.faults host.new) result }
     {
         match event {
-            Event::At { moment } => self.at(alloc, host, moment),
+            Event::At { moment } => {
+                self.at(alloc, host, moment)?;
+                Ok(Stepped::Done)
+            }
             Event::Mail {
                 sender,
                 to,
@@ -206,15 +231,18 @@ impl Life {
                 number,
                 site,
                 outcomes,
-            } => self.reply(alloc, host, number, site, outcomes),
+            } => {
+                self.reply(alloc, host, number, site, outcomes)?;
+                Ok(Stepped::Done)
+            }
             Event::Trigger { .. } => unreachable!(),
         }
     }
 
     /// The life ends as asked.
     pub(crate) fn finish<H: Host>(self, alloc: Global, host: &mut H) -> Result<(), HostError>
-        ensures ok { OnOk result (IsTrue H.tells → Ends self (now (H.view host.old)) (now (H.view host.new))) }
-        ensures err { (error : HostError) → IsErrOf result error → IsTrue H.tells → Breaks self items.Finish error (now (H.view host.old)) (now (H.view host.new)) }
+        ensures ok { OnOk result (IsTrue H.tells → Ends self (H.view host.old) (H.view host.new)) }
+        ensures err { (error : HostError) → IsErrOf result error → IsTrue H.tells → Breaks self items.Finish error (H.view host.old) (H.view host.new) }
         ensures cause { HasCause (H.faults host.old) (H.faults host.new) result }
     {
         tell(alloc, host, &Entry::End)
@@ -229,8 +257,8 @@ fn send<H: Host>(
     positions: Positions,
 ) -> Result<(), HostError>
     requires { positions ≡ 0 ∷ [] }
-    ensures ok { OnOk result (IsTrue H.tells → (s : Spool) → Plays s (sent s address.now) (now (H.view host.old)) (now (H.view host.new))) }
-    ensures err { (error : HostError) → IsErrOf result error → IsTrue H.tells → (s : Spool) → Halts s (sent s address.now) error (now (H.view host.old)) (now (H.view host.new)) }
+    ensures ok { OnOk result (IsTrue H.tells → (s : Spool) → Plays s (sent s address.now) (H.view host.old) (H.view host.new)) }
+    ensures err { (error : HostError) → IsErrOf result error → IsTrue H.tells → (s : Spool) → Halts s (sent s address.now) error (H.view host.old) (H.view host.new) }
     ensures cause { HasCause (H.faults host.old) (H.faults host.new) result }
 {
     let load = Entry::Load {

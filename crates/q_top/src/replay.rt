@@ -1,19 +1,21 @@
 //! Replaying an event list.
-ghost use Rattle.std.specs.Prelude.{◌≡◌, ◌≢◌, ◌≤◌, ℕ, List, Option, IfErr, IfOk, IsTrue, codes};
+ghost use Rattle.std.specs.Prelude.{◌≡◌, ◌≢◌, ◌≤◌, IfErr, IfOk, IsTrue, codes};
+ghost use Rattle.q_model.specs.declared.spot.Area.TheVariants as areas;
+ghost use Rattle.q_model.specs.IdTexts.{id_text};
 ghost use Rattle.q_host.specs.Faults.{Rose};
-ghost use Rattle.q_host.specs.View.{Remains, now};
 ghost use Rattle.q_stream.specs.Takes.{Rose as SourceRose};
 ghost use Rattle.q_top.specs.Agrees.{HasFiles};
-ghost use Rattle.q_top.specs.ReplayEnds.{Finishes, ReplayEnds, Went};
-ghost use Rattle.q_top.specs.Spools.{IsSpool, unopened};
+ghost use Rattle.q_top.specs.ReplayEnds.{Finishes, ReplayEnds};
+ghost use Rattle.q_top.specs.Spools.{IsSpool, first_id, unopened};
 ghost use Rattle.q_top.specs.TakenLine.{GivesUp, Takes};
 
 use crate::event_line::line_item;
-use crate::life::Life;
+use crate::life::{Life, Stepped};
 use crate::line_reader::{Line, LineError, LineReader};
 use crate::status::{InputFile, Status, status_of};
+use crate::step::FIRST;
 use q_host::{Host, HostError};
-use q_model::{Item, Name};
+use q_model::{Area, Item, Name, id_name};
 use q_stream::Source;
 use std::alloc::Global;
 
@@ -35,6 +37,8 @@ pub(crate) enum Refusal {
     BadLine,
     /// The host refused a call.
     Host(HostError),
+    /// The message can't be read.
+    Unreadable,
     NoMemory,
 }
 
@@ -45,10 +49,12 @@ fn take<H: Host>(
     life: &mut Life,
     text: &[u8],
 ) -> Result<Taken, Refusal>
-    requires { IsTrue H.tells → HasFiles life.old.stage (H.view host.old).files }
-    ensures ok { IfOk result (λ taken. Takes H.tells life.old life.new text.now (now (H.view host.old)) (now (H.view host.new)) taken) }
+    requires there { IsTrue H.tells → HasFiles life.old.stage (H.view host.old).files }
+    requires clock { life.old.clock ≤ 999990000000 }
+    ensures clock { life.new.clock ≤ 999990000000 }
+    ensures ok { IfOk result (λ taken. Takes H.tells life.old life.new text.now (H.view host.old) (H.view host.new) taken) }
     ensures files { IfOk result (λ taken. IsTrue H.tells → HasFiles life.new.stage (H.view host.new).files) }
-    ensures err { IfErr result (λ refusal. GivesUp H.tells life.old text.now (now (H.view host.old)) (now (H.view host.new)) refusal) }
+    ensures err { IfErr result (λ refusal. GivesUp H.tells life.old text.now (H.view host.old) (H.view host.new) refusal) }
     ensures disk_later { (H.faults host.old).disk ≤ (H.faults host.new).disk }
     ensures tell_later { (H.faults host.old).tell ≤ (H.faults host.new).tell }
     ensures disk { IfErr result (λ refusal. refusal ≡ Refusal.Host HostError.Disk → Rose (H.faults host.old).disk (H.faults host.new).disk) }
@@ -67,7 +73,8 @@ fn take<H: Host>(
                 return Err(Refusal::BadLine);
             }
             match life.step(alloc, host, event) {
-                Ok(()) => Ok(Taken::Heard),
+                Ok(Stepped::Done) => Ok(Taken::Heard),
+                Ok(Stepped::Unreadable) => Err(Refusal::Unreadable),
                 Err(error) => Err(Refusal::Host(error)),
             }
         }
@@ -83,9 +90,19 @@ fn bad_line(line: u64) -> Status
     }
 }
 
+/// The message in active can't be read.
+fn unreadable() -> Status
+    ensures { result ≡ Status.Damaged areas.Active (id_text first_id) }
+{
+    Status::Damaged {
+        area: Area::Active,
+        name: id_name(FIRST),
+    }
+}
+
 /// Ends the life.
 fn finish<H: Host>(alloc: Global, host: &mut H, life: Life) -> Status
-    ensures ends { IsTrue H.tells → Finishes life (now (H.view host.old)) (now (H.view host.new)) result }
+    ensures ends { IsTrue H.tells → Finishes life (H.view host.old) (H.view host.new) result }
     ensures disk { result ≡ Status.Disk → Rose (H.faults host.old).disk (H.faults host.new).disk }
     ensures tell { result ≡ Status.Tell → Rose (H.faults host.old).tell (H.faults host.new).tell }
     ensures no_source { result ≢ Status.Source }
@@ -97,16 +114,29 @@ fn finish<H: Host>(alloc: Global, host: &mut H, life: Life) -> Status
     }
 }
 
-/// Reads the list to its end, from a life that has begun.
-fn read_on<H: Host, S: Source>(alloc: Global, source: &mut S, host: &mut H, begun: Life) -> Status
-    requires { IsTrue H.tells → HasFiles begun.stage (H.view host.old).files }
-    ensures ends { IsTrue H.tells → (text : Option (List ℕ)) (before : Remains) → Went text (S.left source.old) 16777216 1 begun before (now (H.view host.old)) → ReplayEnds text (S.left source.new) before (now (H.view host.new)) result }
+/// The name of the first generation.
+fn first_generation() -> Name
+    ensures { result ≡ codes "00000001" }
+{
+    let Some(name) = Name::new(b"00000001") else {
+        unreachable!()
+    };
+    name
+}
+
+/// Replays an event list on an empty spool.
+pub(crate) fn replay<H: Host, S: Source>(alloc: Global, source: &mut S, host: &mut H) -> Status
+    requires { IsTrue H.tells → IsSpool unopened (H.view host.old).files }
+    ensures ends { IsTrue H.tells → ReplayEnds (S.left source.old) (S.left source.new) (H.view host.old) (H.view host.new) result }
     ensures disk { result ≡ Status.Disk → Rose (H.faults host.old).disk (H.faults host.new).disk }
     ensures tell { result ≡ Status.Tell → Rose (H.faults host.old).tell (H.faults host.new).tell }
     ensures source { result ≡ Status.Source → SourceRose (S.faults source.old) (S.faults source.new) }
     ensures no_usage { result ≢ Status.Usage }
 {
-    let mut life = begun;
+    let mut life = match Life::begin(alloc, host, first_generation()) {
+        Ok(life) => life,
+        Err(error) => return status_of(error),
+    };
     let mut reader = LineReader::new();
     let mut line = 1;
     loop {
@@ -129,32 +159,8 @@ fn read_on<H: Host, S: Source>(alloc: Global, source: &mut S, host: &mut H, begu
             Ok(Taken::Ended) => return finish(alloc, host, life),
             Err(Refusal::BadLine) => return bad_line(line),
             Err(Refusal::Host(error)) => return status_of(error),
+            Err(Refusal::Unreadable) => return unreadable(),
             Err(Refusal::NoMemory) => return Status::NoMemory,
         }
-    }
-}
-
-/// The name of the first generation.
-fn first_generation() -> Name
-    ensures { result ≡ codes "00000001" }
-{
-    let Some(name) = Name::new(b"00000001") else {
-        unreachable!()
-    };
-    name
-}
-
-/// Replays an event list on an empty spool.
-pub(crate) fn replay<H: Host, S: Source>(alloc: Global, source: &mut S, host: &mut H) -> Status
-    requires { IsTrue H.tells → IsSpool unopened (H.view host.old).files }
-    ensures ends { IsTrue H.tells → ReplayEnds (S.left source.old) (S.left source.new) (now (H.view host.old)) (now (H.view host.new)) result }
-    ensures disk { result ≡ Status.Disk → Rose (H.faults host.old).disk (H.faults host.new).disk }
-    ensures tell { result ≡ Status.Tell → Rose (H.faults host.old).tell (H.faults host.new).tell }
-    ensures source { result ≡ Status.Source → SourceRose (S.faults source.old) (S.faults source.new) }
-    ensures no_usage { result ≢ Status.Usage }
-{
-    match Life::begin(alloc, host, first_generation()) {
-        Ok(life) => read_on(alloc, source, host, life),
-        Err(error) => status_of(error),
     }
 }

@@ -1,8 +1,8 @@
 //! Whether a spool is empty.
 ghost use Rattle.std.specs.Prelude.{◌≡◌, [], ◌∷◌, Some, None, OnOk, IfOk, IsTrue, drop};
 ghost use Rattle.q_host.specs.Faults.{DiskCause};
-ghost use Rattle.q_host.specs.View.{now};
-ghost use Rattle.q_top.specs.FirstFile.{IsFirstName, IsFirstFile, areas_in_order, IsSameHost};
+ghost use Rattle.q_host.specs.Calls.{Stays};
+ghost use Rattle.q_top.specs.FirstFile.{IsFirstName, IsFirstFile, areas_in_order};
 
 use q_host::{Host, HostError};
 use q_model::{Area, Name, Names, Spot};
@@ -25,7 +25,7 @@ fn first_name<H: Host>(
     names: &mut Names,
 ) -> Result<Option<Name>, HostError>
     ensures first { IfOk result (λ first. IsTrue H.tells → IsFirstName ((H.view host.old).files area) first) }
-    ensures same { IsTrue H.tells → IsSameHost (now (H.view host.old)) (now (H.view host.new)) }
+    ensures stays { IsTrue H.tells → Stays (H.view host.old) (H.view host.new) }
     ensures cause { DiskCause (H.faults host.old) (H.faults host.new) result }
 {
     host.list_after(area, None, names)?;
@@ -42,7 +42,7 @@ fn first_in<H: Host>(
     names: &mut Names,
 ) -> Result<Option<Spot>, HostError>
     ensures first { IfOk result (λ first. IsTrue H.tells → IsFirstFile areas.now (H.view host.old).files first) }
-    ensures same { IsTrue H.tells → IsSameHost (now (H.view host.old)) (now (H.view host.new)) }
+    ensures stays { IsTrue H.tells → Stays (H.view host.old) (H.view host.new) }
     ensures cause { DiskCause (H.faults host.old) (H.faults host.new) result }
 {
     let [area, others @ ..] = areas else {
@@ -57,7 +57,7 @@ fn first_in<H: Host>(
 /// The first file that says that the spool isn't empty.
 pub(crate) fn first_file<H: Host>(alloc: Global, host: &mut H) -> Result<Option<Spot>, HostError>
     ensures first { IfOk result (λ first. IsTrue H.tells → IsFirstFile areas_in_order (H.view host.old).files first) }
-    ensures same { IsTrue H.tells → IsSameHost (now (H.view host.old)) (now (H.view host.new)) }
+    ensures stays { IsTrue H.tells → Stays (H.view host.old) (H.view host.new) }
     ensures cause { DiskCause (H.faults host.old) (H.faults host.new) result }
 {
     let mut names = Names::new(alloc)?;

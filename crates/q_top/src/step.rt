@@ -1,19 +1,19 @@
 //! The entries that change the disk: first the disk, then the line.
-ghost use Rattle.std.specs.Prelude.{◌≡◌, ◌≤◌, ◌∷◌, [], List, ℕ, length, IsErrOf, IsSome, IsSomeAnd, IsTrue, OnOk, codes};
+ghost use Rattle.std.specs.Prelude.{◌≡◌, ◌<◌, ◌∷◌, [], List, ℕ, length, IsErrOf, IsSome, IsSomeAnd, IsTrue, OnOk, codes};
 ghost use Rattle.q_model.specs.declared.entry.Entry.TheVariants as entries;
 ghost use Rattle.q_model.specs.declared.event.Mode.TheVariants as modes;
 ghost use Rattle.q_model.specs.declared.spot.Area.TheVariants as areas;
 ghost use Rattle.q_model.specs.IdTexts.{id_text};
-ghost use Rattle.q_host.specs.Files.{written};
-ghost use Rattle.q_host.specs.View.{now};
+ghost use Rattle.q_host.specs.Faults.{DiskCause};
 ghost use Rattle.q_top.specs.Causes.{HasCause};
-ghost use Rattle.q_top.specs.Spools.{unopened, empty, holds, first_id};
+ghost use Rattle.q_top.specs.Forgets.{Forgets, LogGone};
+ghost use Rattle.q_top.specs.Spools.{unopened, empty, holds, marking, marked, first_id};
 ghost use Rattle.q_top.specs.Steps.{Does, Stops};
 
 use crate::tell::tell;
-use q_files::store_file;
 use q_host::{Host, HostError};
-use q_model::{Address, Addresses, Area, Bytes, Entry, Id, Mode, Name, id_name};
+use q_model::{Address, Addresses, Area, Bytes, Entry, Id, Mode, Name, Spot, id_name};
+use q_store::store_file;
 use std::alloc::Global;
 
 /// The first message of the first life.
@@ -23,13 +23,28 @@ pub(crate) const FIRST: Id = Id {
     bounce: false,
 };
 
+/// Takes away a failure log under the id that the first message will have. It is of no message,
+/// and would count as that message's own.
+fn forget_log<H: Host>(host: &mut H) -> Result<(), HostError>
+    ensures gone { OnOk result (IsTrue H.tells → LogGone (H.view host.old) (H.view host.new)) }
+    ensures others { IsTrue H.tells → Forgets (H.view host.old) (H.view host.new) }
+    ensures cause { DiskCause (H.faults host.old) (H.faults host.new) result }
+{
+    let name = id_name(FIRST);
+    if host.has(Area::Bounce, name)? {
+        host.remove(Area::Bounce, name)?;
+    }
+    Ok(())
+}
+
 /// The life begins: boot has its generation from now on.
 pub(crate) fn begin<H: Host>(alloc: Global, host: &mut H, generation: Name) -> Result<(), HostError>
     requires { generation ≡ codes "00000001" }
-    ensures ok { OnOk result (IsTrue H.tells → Does unopened (entries.Life 1 modes.Deliver) empty (now (H.view host.old)) (now (H.view host.new))) }
-    ensures err { (error : HostError) → IsErrOf result error → IsTrue H.tells → Stops unopened (entries.Life 1 modes.Deliver) empty error (now (H.view host.old)) (now (H.view host.new)) }
+    ensures ok { OnOk result (IsTrue H.tells → Does unopened (entries.Life 1 modes.Deliver) empty (H.view host.old) (H.view host.new)) }
+    ensures err { (error : HostError) → IsErrOf result error → IsTrue H.tells → Stops unopened (entries.Life 1 modes.Deliver) empty error (H.view host.old) (H.view host.new) }
     ensures cause { HasCause (H.faults host.old) (H.faults host.new) result }
 {
+    forget_log(host)?;
     host.create(Area::Boot, generation)?;
     let entry = Entry::Life {
         generation: 1,
@@ -47,25 +62,30 @@ pub(crate) fn arrive<H: Host>(
     to: Addresses,
     content: Bytes,
 ) -> Result<(), HostError>
-    ensures ok { OnOk result (IsTrue H.tells → Does empty (entries.Arrive first_id sender to content) (holds areas.Incoming file.now) (now (H.view host.old)) (now (H.view host.new))) }
-    ensures err { (error : HostError) → IsErrOf result error → IsTrue H.tells → Stops empty (entries.Arrive first_id sender to content) (holds areas.Incoming file.now) error (now (H.view host.old)) (now (H.view host.new)) }
+    ensures ok { OnOk result (IsTrue H.tells → Does empty (entries.Arrive first_id sender to content) (holds areas.Incoming file.now) (H.view host.old) (H.view host.new)) }
+    ensures err { (error : HostError) → IsErrOf result error → IsTrue H.tells → Stops empty (entries.Arrive first_id sender to content) (holds areas.Incoming file.now) error (H.view host.old) (H.view host.new) }
     ensures cause { HasCause (H.faults host.old) (H.faults host.new) result }
 {
-    store_file(host, id_name(FIRST), file)?;
-    let entry = Entry::Arrive {
+    let name = id_name(FIRST);
+    let spot = Spot {
+        area: Area::Incoming,
+        name,
+    };
+    store_file(host, name, spot, file)?;
+    let arrival = Entry::Arrive {
         id: FIRST,
         sender,
         to,
         content,
     };
-    tell(alloc, host, &entry)
+    tell(alloc, host, &arrival)
 }
 
 /// The message moves to active.
 pub(crate) fn admit<H: Host>(alloc: Global, host: &mut H) -> Result<(), HostError>
     requires { IsTrue H.tells → IsSome ((H.view host.old).files areas.Incoming (id_text first_id)) }
-    ensures ok { OnOk result (IsTrue H.tells → (file : List ℕ) → Does (holds areas.Incoming file) (entries.Admit first_id) (holds areas.Active file) (now (H.view host.old)) (now (H.view host.new))) }
-    ensures err { (error : HostError) → IsErrOf result error → IsTrue H.tells → (file : List ℕ) → Stops (holds areas.Incoming file) (entries.Admit first_id) (holds areas.Active file) error (now (H.view host.old)) (now (H.view host.new)) }
+    ensures ok { OnOk result (IsTrue H.tells → (file : List ℕ) → Does (holds areas.Incoming file) (entries.Admit first_id) (holds areas.Active file) (H.view host.old) (H.view host.new)) }
+    ensures err { (error : HostError) → IsErrOf result error → IsTrue H.tells → (file : List ℕ) → Stops (holds areas.Incoming file) (entries.Admit first_id) (holds areas.Active file) error (H.view host.old) (H.view host.new) }
     ensures cause { HasCause (H.faults host.old) (H.faults host.new) result }
 {
     let name = id_name(FIRST);
@@ -75,9 +95,9 @@ pub(crate) fn admit<H: Host>(alloc: Global, host: &mut H) -> Result<(), HostErro
 
 /// The recipient's mark byte is written, at this offset of the file.
 pub(crate) fn mark<H: Host>(alloc: Global, host: &mut H, mark_at: u64) -> Result<(), HostError>
-    requires { IsTrue H.tells → IsSomeAnd ((H.view host.old).files areas.Active (id_text first_id)) (λ file. mark_at ≤ length file) }
-    ensures ok { OnOk result (IsTrue H.tells → (file : List ℕ) → Does (holds areas.Active file) (entries.Mark first_id 0) (holds areas.Active (written mark_at (68 ∷ []) file)) (now (H.view host.old)) (now (H.view host.new))) }
-    ensures err { (error : HostError) → IsErrOf result error → IsTrue H.tells → (file : List ℕ) → Stops (holds areas.Active file) (entries.Mark first_id 0) (holds areas.Active (written mark_at (68 ∷ []) file)) error (now (H.view host.old)) (now (H.view host.new)) }
+    requires { IsTrue H.tells → IsSomeAnd ((H.view host.old).files areas.Active (id_text first_id)) (λ file. mark_at < length file) }
+    ensures ok { OnOk result (IsTrue H.tells → (file : List ℕ) → Does (holds areas.Active file) (entries.Mark first_id 0) (marking mark_at file) (H.view host.old) (H.view host.new)) }
+    ensures err { (error : HostError) → IsErrOf result error → IsTrue H.tells → (file : List ℕ) → Stops (holds areas.Active file) (entries.Mark first_id 0) (marking mark_at file) error (H.view host.old) (H.view host.new) }
     ensures cause { HasCause (H.faults host.old) (H.faults host.new) result }
 {
     host.write_at(Area::Active, id_name(FIRST), mark_at, b"D")?;
@@ -88,11 +108,11 @@ pub(crate) fn mark<H: Host>(alloc: Global, host: &mut H, mark_at: u64) -> Result
     tell(alloc, host, &entry)
 }
 
-/// The mark outlives a crash from now on.
+/// The mark at this offset of the file outlives a crash from now on.
 pub(crate) fn sync<H: Host>(alloc: Global, host: &mut H) -> Result<(), HostError>
     requires { IsTrue H.tells → IsSome ((H.view host.old).files areas.Active (id_text first_id)) }
-    ensures ok { OnOk result (IsTrue H.tells → (file : List ℕ) → Does (holds areas.Active file) (entries.Sync first_id) (holds areas.Active file) (now (H.view host.old)) (now (H.view host.new))) }
-    ensures err { (error : HostError) → IsErrOf result error → IsTrue H.tells → (file : List ℕ) → Stops (holds areas.Active file) (entries.Sync first_id) (holds areas.Active file) error (now (H.view host.old)) (now (H.view host.new)) }
+    ensures ok { OnOk result (IsTrue H.tells → (at : ℕ) (file : List ℕ) → Does (marking at file) (entries.Sync first_id) (holds areas.Active (marked at file)) (H.view host.old) (H.view host.new)) }
+    ensures err { (error : HostError) → IsErrOf result error → IsTrue H.tells → (at : ℕ) (file : List ℕ) → Stops (marking at file) (entries.Sync first_id) (holds areas.Active (marked at file)) error (H.view host.old) (H.view host.new) }
     ensures cause { HasCause (H.faults host.old) (H.faults host.new) result }
 {
     host.sync(Area::Active, id_name(FIRST))?;
@@ -102,8 +122,8 @@ pub(crate) fn sync<H: Host>(alloc: Global, host: &mut H) -> Result<(), HostError
 /// The message is gone.
 pub(crate) fn remove<H: Host>(alloc: Global, host: &mut H) -> Result<(), HostError>
     requires { IsTrue H.tells → IsSome ((H.view host.old).files areas.Active (id_text first_id)) }
-    ensures ok { OnOk result (IsTrue H.tells → (file : List ℕ) → Does (holds areas.Active file) (entries.Remove first_id) empty (now (H.view host.old)) (now (H.view host.new))) }
-    ensures err { (error : HostError) → IsErrOf result error → IsTrue H.tells → (file : List ℕ) → Stops (holds areas.Active file) (entries.Remove first_id) empty error (now (H.view host.old)) (now (H.view host.new)) }
+    ensures ok { OnOk result (IsTrue H.tells → (file : List ℕ) → Does (holds areas.Active file) (entries.Remove first_id) empty (H.view host.old) (H.view host.new)) }
+    ensures err { (error : HostError) → IsErrOf result error → IsTrue H.tells → (file : List ℕ) → Stops (holds areas.Active file) (entries.Remove first_id) empty error (H.view host.old) (H.view host.new) }
     ensures cause { HasCause (H.faults host.old) (H.faults host.new) result }
 {
     host.remove(Area::Active, id_name(FIRST))?;

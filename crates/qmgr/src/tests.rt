@@ -1,5 +1,5 @@
 //! Event lists that are replayed on a spool in memory, each with its status and its trace.
-use q_mem_host::MemHost;
+use q_mem_host::{MemHost, Rot};
 use q_model::{Area, Name};
 use q_stream::MemSource;
 use q_top::qmgr;
@@ -84,7 +84,7 @@ fn lists(rt: HostRuntime) -> Result<(), Fail> {
     for (text, answer, told) in rows {
         row(&rt, rt.alloc(), text, 3, &[], answer, told)?;
     }
-    row(&rt, rt.alloc(), FIRST, 5, &[2], "input fault", b"life 1\n")
+    row(&rt, rt.alloc(), FIRST, 5, &[1], "input fault", b"life 1\n")
 }
 
 #[test]
@@ -110,7 +110,7 @@ fn refusals(rt: HostRuntime) -> Result<(), Fail> {
         (&["replay", "now"], Area::Tmp, 0, "wrong words"),
         (&["run"], Area::Active, 0, "wrong words"),
         (&["replay"], Area::Tmp, 3, "disk fault"),
-        (&["replay"], Area::Tmp, 8, "output fault"),
+        (&["replay"], Area::Tmp, 9, "output fault"),
     ];
     for (texts, area, failing, answer) in rows {
         let mut source = MemSource::new(alloc, FIRST, 9, &[])?;
@@ -122,5 +122,87 @@ fn refusals(rt: HostRuntime) -> Result<(), Fail> {
         let shown = format!(in alloc; "{status}")?;
         assert_eq!(rt; shown.as_str(), answer);
     }
+    Ok(())
+}
+
+// A spool on which a call of this number fails: what is told, and whether the message stands in
+// incoming.
+#[test]
+fn faults(rt: HostRuntime) -> Result<(), Fail> {
+    let alloc = rt.alloc();
+    let name = Name::new(b"00000001-00000001").ok_or("no name")?;
+    let rows: [(u64, &str, &[u8], bool); 4] = [
+        // the sync of the file
+        (13, "disk fault", b"life 1\nat 1000\n", false),
+        // the rename
+        (14, "disk fault", b"life 1\nat 1000\n", false),
+        // the line of the arrival
+        (15, "output fault", b"life 1\nat 1000\n", true),
+        // the move to active
+        (
+            16,
+            "disk fault",
+            b"life 1\nat 1000\narrive 00000001-00000001 a@x.example 0 b@y.example\n",
+            true,
+        ),
+    ];
+    for (failing, answer, told, stands) in rows {
+        let mut source = MemSource::new(alloc, FIRST, 9, &[])?;
+        let mut host = MemHost::new(alloc);
+        host.fail_call(failing);
+        let words = words_of(alloc, &["replay"])?;
+        let status = qmgr(alloc, &words, &mut source, &mut host);
+        let shown = format!(in alloc; "{status}")?;
+        assert_eq!(rt; shown.as_str(), answer);
+        assert_eq!(rt; host.told(), told);
+        assert_eq!(rt; host.file(Area::Incoming, name).is_some(), stands);
+    }
+    Ok(())
+}
+
+/// The file of the first message, as it arrives.
+const ARRIVED: &[u8] = b"C\x00\x00\x00\x0c\x00\x00\x00\x01\x00\x00\x00\x01\x00\x00\x00\x00\
+    T\x00\x00\x00\x08\x00\x00\x00\x00\x00\x00\x03\xe8\
+    S\x00\x00\x00\x0ba@x.example\
+    R\x00\x00\x00\x0cPb@y.example\
+    N\x00\x00\x00\x00\
+    E\x00\x00\x00\x00";
+
+// A spool that stops after so many calls of the message's arrival (create, write, sync, rename and
+// tell), and what a crash then leaves: whether the message is there, and whether it is told.
+#[test]
+fn crashes(rt: HostRuntime) -> Result<(), Fail> {
+    let alloc = rt.alloc();
+    let name = Name::new(b"00000001-00000001").ok_or("no name")?;
+    let before: &[u8] = b"life 1\nat 1000\n";
+    let after: &[u8] = b"life 1\nat 1000\narrive 00000001-00000001 a@x.example 0 b@y.example\n";
+    for choice in [Rot::Keep, Rot::Old, Rot::Byte(0x44)] {
+        for calls in 0..6 {
+            let mut source = MemSource::new(alloc, FIRST, 9, &[])?;
+            let mut host = MemHost::new(alloc);
+            host.stop_after(10 + calls);
+            let words = words_of(alloc, &["replay"])?;
+            qmgr(alloc, &words, &mut source, &mut host);
+            let left = host.crash(choice);
+            let file = left.file(Area::Incoming, name);
+            assert_eq!(rt; file, if calls < 4 { None } else { Some(ARRIVED) });
+            assert_eq!(rt; left.told(), if calls < 5 { before } else { after });
+        }
+    }
+    Ok(())
+}
+
+// A failure log that an operator left under the first id is no log of the message.
+#[test]
+fn old_log_is_taken_away(rt: HostRuntime) -> Result<(), Fail> {
+    let alloc = rt.alloc();
+    let name = Name::new(b"00000001-00000001").ok_or("no name")?;
+    let mut source = MemSource::new(alloc, FIRST, 9, &[])?;
+    let mut host = MemHost::new(alloc);
+    host.put_file(Area::Bounce, name, b"OR\x02\x26\0\0\0\0\0")?;
+    let words = words_of(alloc, &["replay"])?;
+    qmgr(alloc, &words, &mut source, &mut host);
+    assert_eq!(rt; host.told(), FIRST_TRACE);
+    assert_eq!(rt; host.file(Area::Bounce, name), None);
     Ok(())
 }

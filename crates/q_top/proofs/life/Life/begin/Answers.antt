@@ -1,25 +1,26 @@
 use Rattle.std.proofs.Common.{[], refl, subst}
 use Rattle.q_model.specs.declared.entry.Entry.TheVariants.{Life}
 use Rattle.q_model.specs.declared.event.Mode.TheVariants.{Deliver}
-use Rattle.q_host.specs.View.{now}
 use Rattle.q_top.specs.MailSteps.{life_steps}
 use Rattle.q_top.specs.Spools.{unopened, empty}
 use Rattle.q_top.specs.Steps.{Halts}
 use Rattle.q_top.proofs.Agreeing.{begun_awaits}
+use Rattle.q_top.proofs.Following.{begin_follows}
 use Rattle.q_top.proofs.Playing.{same_error, plays_one, halts_first}
 use Rattle.q_top.proofs.Turning.{turn_begin}
 use Rattle.q_top.proofs.life.Life.begin.Goals as goal
 
 pub returns-in_err-begin-clause-err : goal.returns-in_err-begin-clause-err
 returns-in_err-begin-clause-err g c error is t =
-    let before = now (g.H.Host.view c.args.host.now) in
-    let after = now (g.H.Host.view c.begin.new.host) in
+    let before = g.H.Host.view c.args.host.now in
+    let after = g.H.Host.view c.begin.new.host in
     let inner = c.in_err-begin.field-0.0 in (
       life_steps,
       turn_begin,
+      begin_follows,
       subst (λ x. Halts unopened life_steps x before after) (same_error c.from_residual.result inner error c.from_residual.ensures.1 is)
           (halts_first unopened (Life 1 Deliver) empty [] inner before after (c.in_err-begin.ensures.err inner refl t)),
     )
 
 pub returns-clause-ok : goal.returns-clause-ok
-returns-clause-ok g c t = (life_steps, turn_begin, begun_awaits, plays_one unopened (Life 1 Deliver) empty _ _ (c.in_ok-begin.ensures.ok t))
+returns-clause-ok g c t = (life_steps, turn_begin, begin_follows, begun_awaits, plays_one unopened (Life 1 Deliver) empty _ _ (c.in_ok-begin.ensures.ok t))

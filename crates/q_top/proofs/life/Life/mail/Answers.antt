@@ -1,89 +1,214 @@
-use Rattle.std.proofs.Common.{◌∷◌, [], refl, subst, ◌∙◌}
+use Rattle.std.proofs.Common.{◌≡◌, ◌∙◌, ◌∷◌, [], ℕ, List, false, Some, ap, refl, subst, sym}
 use Rattle.q_model.specs.declared.entry.Entry.TheVariants.{Arrive}
 use Rattle.q_model.specs.declared.event.Event.TheVariants as events
 use Rattle.q_model.specs.declared.event.Item.TheVariants as items
 use Rattle.q_model.specs.declared.spot.Area.TheVariants.{Incoming, Active}
-use Rattle.q_host.specs.View.{now}
+use Rattle.q_model.specs.QueueFileBytes.{file_bytes}
+use Rattle.q_model.specs.Values.{Taken}
+use Rattle.q_host.specs.Files.{Files}
+use Rattle.q_message.specs.Pending.{taken_at}
 use Rattle.q_top.specs.Agrees.{Breaks}
-use Rattle.q_top.specs.Spools.{empty, holds, first_id}
-use Rattle.q_top.specs.Steps.{Does, Stops}
-use Rattle.q_top.proofs.Agreeing.{first_mail, mail_breaks, mail_turns, awaited_files}
-use Rattle.q_top.proofs.MailPlays.{mail_play, no_mail, arrive_halts, admit_halts, send_halts, is_there}
-use Rattle.q_top.proofs.Playing.{same_error}
+use Rattle.q_top.specs.MailSteps.{sent}
+use Rattle.q_top.specs.OneMessage.{file_message}
+use Rattle.q_top.specs.Spools.{empty, holds, first_id, IsSpool}
+use Rattle.q_top.specs.Steps.{Does, Halts, Plays, Stops}
+use Rattle.q_top.proofs.Agreeing.{address_form, awaited_files, file_read, mail_breaks, mail_first, mail_turns, one_file, one_taken}
 use Rattle.q_top.proofs.FileBytes.{mark_in_file}
+use Rattle.q_top.proofs.MailPlays.{first_does, first_stops, mail_play, no_mail, arrive_halts, admit_halts, read_halts, send_halts, is_there}
+use Rattle.q_top.proofs.Playing.{same_error}
+use Rattle.q_top.proofs.SpoolChanges.{here}
+use Rattle.q_top.proofs.Stepping.{IsLawful}
 use Rattle.q_top.proofs.life.Life.mail.Goals as goal
-
-pub returns-in_err-positions-clause-err : goal.returns-in_err-positions-clause-err
-returns-in_err-positions-clause-err g c error is t =
-    let first = first_mail c.args.self.now c.args.sender c.args.to c.args.content c.get-address.result c.requires.fits c.get-address.ensures in
-    mail_breaks c.args.self.now c.args.sender c.args.to c.args.content c.get-address.result [] error _ _ first (no_mail c.args.sender c.get-address.result error (now (g.H.Host.view c.args.host.now)))
 
 pub returns-in_err-file-clause-err : goal.returns-in_err-file-clause-err
 returns-in_err-file-clause-err g c error is t =
-    let first = first_mail c.args.self.now c.args.sender c.args.to c.args.content c.get-address.result c.requires.fits c.get-address.ensures in
-    mail_breaks c.args.self.now c.args.sender c.args.to c.args.content c.get-address.result [] error _ _ first (no_mail c.args.sender c.get-address.result error (now (g.H.Host.view c.args.host.now)))
+    let old = c.args.self.now in
+    let sender = c.args.sender in
+    let (address, first) = mail_first old sender c.args.to c.args.content c.requires.fits in
+    let form = address_form c.args.to address first.only c.requires.form.1 in
+    let v = g.H.Host.view c.args.host.now in
+    let file = file_bytes (file_message sender old.clock address false) (80 ∷ []) in
+    mail_breaks old sender c.args.to c.args.content address v v first c.requires.form.0 form file error refl
+    (no_mail sender address file error v (record { only = g.met.H.Host.only_now c.args.host.now; told = g.met.H.Host.told_stays c.args.host.now }))
+
+pub returns-in_err-positions-clause-err : goal.returns-in_err-positions-clause-err
+returns-in_err-positions-clause-err g c error is t =
+    let old = c.args.self.now in
+    let sender = c.args.sender in
+    let (address, first) = mail_first old sender c.args.to c.args.content c.requires.fits in
+    let form = address_form c.args.to address first.only c.requires.form.1 in
+    let v = g.H.Host.view c.args.host.now in
+    let file = file_bytes (file_message sender old.clock address false) (80 ∷ []) in
+    mail_breaks old sender c.args.to c.args.content address v v first c.requires.form.0 form file error refl
+    (no_mail sender address file error v (record { only = g.met.H.Host.only_now c.args.host.now; told = g.met.H.Host.told_stays c.args.host.now }))
 
 pub returns-in_err-arrive-clause-err : goal.returns-in_err-arrive-clause-err
-returns-in_err-arrive-clause-err g c error is t =
-    let before = now (g.H.Host.view c.args.host.now) in
-    let after = now (g.H.Host.view c.arrive.new.host) in
-    let event = events.Mail c.args.sender c.args.to c.args.content in
-    let first = first_mail c.args.self.now c.args.sender c.args.to c.args.content c.get-address.result c.requires.fits c.get-address.ensures in
+returns-in_err-arrive-clause-err g c error is-error t =
+    let old = c.args.self.now in
+    let sender = c.args.sender in
+    let (address, first) = mail_first old sender c.args.to c.args.content c.requires.fits in
+    let form = address_form c.args.to address first.only c.requires.form.1 in
+    let file = c.as_slice-2.result.now in
+    let is : file ≡ file_bytes (file_message sender old.clock address false) (80 ∷ []) = one_file sender old.clock c.args.to address c.args.content c.as_slice.result.now file first.only first.no_content c.as_slice.ensures (c.as_slice-2.ensures ∙ c.in_ok-file.ensures) in
+    let before = g.H.Host.view c.args.host.now in
+    let mid = g.H.Host.view c.arrive.new.host in
+    let stop : Stops empty (Arrive first_id sender (address ∷ []) []) (holds Incoming file) c.in_err-arrive.field-0.0 before mid = first_stops sender c.args.to c.args.content address file before mid first.only first.no_content c.in_err-arrive.field-0.0 (c.in_err-arrive.ensures.err c.in_err-arrive.field-0.0 refl t) in
     let inner = c.in_err-arrive.field-0.0 in
-    let stop : Stops empty (Arrive first_id c.args.sender (c.get-address.result ∷ []) []) (holds Incoming c.deref.result.now) inner before after = rw (first.only, first.no_content) at c.in_err-arrive.ensures.err inner refl t in
-    subst (λ x. Breaks c.args.self.now (items.Heard event) x before after) (same_error c.from_residual-in_err-arrive.result inner error c.from_residual-in_err-arrive.ensures.1 is)
-    (mail_breaks c.args.self.now c.args.sender c.args.to c.args.content c.get-address.result c.deref.result.now inner before after first (arrive_halts c.args.sender c.get-address.result c.deref.result.now inner before after stop))
+    subst (λ x. Breaks old (items.Heard (events.Mail sender c.args.to c.args.content)) x before mid) (same_error c.from_residual-in_err-arrive.result inner error c.from_residual-in_err-arrive.ensures.1 is-error)
+    (mail_breaks old sender c.args.to c.args.content address before mid first c.requires.form.0 form file inner is
+    (arrive_halts sender address file inner before mid stop))
 
 pub admit-requires : goal.admit-requires
 admit-requires g c t =
-    let first = first_mail c.args.self.now c.args.sender c.args.to c.args.content c.get-address.result c.requires.fits c.get-address.ensures in
-    is_there Incoming c.deref.result.now _ refl ((c.in_ok-arrive.ensures.ok t).files (awaited_files c.args.self.now.stage _ first.stage (c.requires.there t)))
+    let (address, first) = mail_first c.args.self.now c.args.sender c.args.to c.args.content c.requires.fits in
+    is_there Incoming c.as_slice-2.result.now _ refl ((c.in_ok-arrive.ensures.ok t).files (awaited_files c.args.self.now.stage _ first.stage (c.requires.there t)))
 
 pub returns-in_err-admit-clause-err : goal.returns-in_err-admit-clause-err
-returns-in_err-admit-clause-err g c error is t =
-    let before = now (g.H.Host.view c.args.host.now) in
-    let mid = now (g.H.Host.view c.arrive.new.host) in
-    let after = now (g.H.Host.view c.admit.new.host) in
-    let file = c.deref.result.now in
-    let event = events.Mail c.args.sender c.args.to c.args.content in
-    let first = first_mail c.args.self.now c.args.sender c.args.to c.args.content c.get-address.result c.requires.fits c.get-address.ensures in
+returns-in_err-admit-clause-err g c error is-error t =
+    let old = c.args.self.now in
+    let sender = c.args.sender in
+    let (address, first) = mail_first old sender c.args.to c.args.content c.requires.fits in
+    let form = address_form c.args.to address first.only c.requires.form.1 in
+    let file = c.as_slice-2.result.now in
+    let is : file ≡ file_bytes (file_message sender old.clock address false) (80 ∷ []) = one_file sender old.clock c.args.to address c.args.content c.as_slice.result.now file first.only first.no_content c.as_slice.ensures (c.as_slice-2.ensures ∙ c.in_ok-file.ensures) in
+    let before = g.H.Host.view c.args.host.now in
+    let mid = g.H.Host.view c.arrive.new.host in
+    let later = g.H.Host.view c.admit.new.host in
+    let does : Does empty (Arrive first_id sender (address ∷ []) []) (holds Incoming file) before mid = first_does sender c.args.to c.args.content address file before mid first.only first.no_content (c.in_ok-arrive.ensures.ok t) in
     let inner = c.in_err-admit.field-0.0 in
-    let does : Does empty (Arrive first_id c.args.sender (c.get-address.result ∷ []) []) (holds Incoming file) before mid = rw (first.only, first.no_content) at c.in_ok-arrive.ensures.ok t in
-    subst (λ x. Breaks c.args.self.now (items.Heard event) x before after) (same_error c.from_residual-in_err-admit.result inner error c.from_residual-in_err-admit.ensures.1 is)
-    (mail_breaks c.args.self.now c.args.sender c.args.to c.args.content c.get-address.result file inner before after first (admit_halts c.args.sender c.get-address.result file inner before mid after does (c.in_err-admit.ensures.err inner refl t file)))
+    subst (λ x. Breaks old (items.Heard (events.Mail sender c.args.to c.args.content)) x before later) (same_error c.from_residual-in_err-admit.result inner error c.from_residual-in_err-admit.ensures.1 is-error)
+    (mail_breaks old sender c.args.to c.args.content address before later first c.requires.form.0 form file inner is
+    (admit_halts sender address file inner before mid later does (c.in_err-admit.ensures.err inner refl t file)))
+
+pub recipient-requires : goal.recipient-requires
+recipient-requires g c t =
+    let (address, first) = mail_first c.args.self.now c.args.sender c.args.to c.args.content c.requires.fits in
+    let file = c.as_slice-2.result.now in
+    is_there Active file _ refl ((c.in_ok-admit.ensures.ok t file).files ((c.in_ok-arrive.ensures.ok t).files (awaited_files c.args.self.now.stage _ first.stage (c.requires.there t))))
+
+pub returns-in_err-taken-clause-err : goal.returns-in_err-taken-clause-err
+returns-in_err-taken-clause-err g c error is-error t =
+    let old = c.args.self.now in
+    let sender = c.args.sender in
+    let (address, first) = mail_first old sender c.args.to c.args.content c.requires.fits in
+    let form = address_form c.args.to address first.only c.requires.form.1 in
+    let file = c.as_slice-2.result.now in
+    let is : file ≡ file_bytes (file_message sender old.clock address false) (80 ∷ []) = one_file sender old.clock c.args.to address c.args.content c.as_slice.result.now file first.only first.no_content c.as_slice.ensures (c.as_slice-2.ensures ∙ c.in_ok-file.ensures) in
+    let before = g.H.Host.view c.args.host.now in
+    let mid = g.H.Host.view c.arrive.new.host in
+    let later = g.H.Host.view c.admit.new.host in
+    let does : Does empty (Arrive first_id sender (address ∷ []) []) (holds Incoming file) before mid = first_does sender c.args.to c.args.content address file before mid first.only first.no_content (c.in_ok-arrive.ensures.ok t) in
+    let admits = c.in_ok-admit.ensures.ok t file in
+    let lawful : IsLawful later = record { only = g.met.H.Host.only_now c.admit.new.host; told = g.met.H.Host.told_stays c.admit.new.host } in
+    let spool = admits.files (does.files (awaited_files old.stage before.files first.stage (c.requires.there t))) in
+    let read = g.H.Host.view c.recipient.new.host in
+    let then : IsLawful read = record { only = g.met.H.Host.only_now c.recipient.new.host; told = g.met.H.Host.told_stays c.recipient.new.host } in
+    let inner = c.in_err-taken.field-0.0 in
+    subst (λ x. Breaks old (items.Heard (events.Mail sender c.args.to c.args.content)) x before read) (same_error c.from_residual-in_err-taken.result inner error c.from_residual-in_err-taken.ensures.1 is-error)
+    (mail_breaks old sender c.args.to c.args.content address before read first c.requires.form.0 form file inner is
+    (read_halts sender address file before mid later read read does admits lawful (c.recipient.ensures.stays t) inner then))
+
+pub returns-in_default-clause-ok : goal.returns-in_default-clause-ok
+returns-in_default-clause-ok g c t =
+    let old = c.args.self.now in
+    let sender = c.args.sender in
+    let (address, first) = mail_first old sender c.args.to c.args.content c.requires.fits in
+    let form = address_form c.args.to address first.only c.requires.form.1 in
+    let file = c.as_slice-2.result.now in
+    let is : file ≡ file_bytes (file_message sender old.clock address false) (80 ∷ []) = one_file sender old.clock c.args.to address c.args.content c.as_slice.result.now file first.only first.no_content c.as_slice.ensures (c.as_slice-2.ensures ∙ c.in_ok-file.ensures) in
+    let before = g.H.Host.view c.args.host.now in
+    let mid = g.H.Host.view c.arrive.new.host in
+    let later = g.H.Host.view c.admit.new.host in
+    let does : Does empty (Arrive first_id sender (address ∷ []) []) (holds Incoming file) before mid = first_does sender c.args.to c.args.content address file before mid first.only first.no_content (c.in_ok-arrive.ensures.ok t) in
+    let admits = c.in_ok-admit.ensures.ok t file in
+    let lawful : IsLawful later = record { only = g.met.H.Host.only_now c.admit.new.host; told = g.met.H.Host.told_stays c.admit.new.host } in
+    let spool = admits.files (does.files (awaited_files old.stage before.files first.stage (c.requires.there t))) in
+    let taken : c.in_ok-taken.field-0 ≡ Some (taken_at (file_message sender old.clock address false) 0) = c.in_ok-taken.ensures.taken sender address file old.clock t (here Active file later.files refl spool) (file_read sender old.clock address file c.requires.form.0 form c.requires.clock is) in
+    absurd (c.in_default.not-Some _ taken)
+
+pub returns-in_default-clause-files : goal.returns-in_default-clause-files
+returns-in_default-clause-files g c t =
+    let old = c.args.self.now in
+    let sender = c.args.sender in
+    let (address, first) = mail_first old sender c.args.to c.args.content c.requires.fits in
+    let form = address_form c.args.to address first.only c.requires.form.1 in
+    let file = c.as_slice-2.result.now in
+    let is : file ≡ file_bytes (file_message sender old.clock address false) (80 ∷ []) = one_file sender old.clock c.args.to address c.args.content c.as_slice.result.now file first.only first.no_content c.as_slice.ensures (c.as_slice-2.ensures ∙ c.in_ok-file.ensures) in
+    let before = g.H.Host.view c.args.host.now in
+    let mid = g.H.Host.view c.arrive.new.host in
+    let later = g.H.Host.view c.admit.new.host in
+    let does : Does empty (Arrive first_id sender (address ∷ []) []) (holds Incoming file) before mid = first_does sender c.args.to c.args.content address file before mid first.only first.no_content (c.in_ok-arrive.ensures.ok t) in
+    let admits = c.in_ok-admit.ensures.ok t file in
+    let lawful : IsLawful later = record { only = g.met.H.Host.only_now c.admit.new.host; told = g.met.H.Host.told_stays c.admit.new.host } in
+    let spool = admits.files (does.files (awaited_files old.stage before.files first.stage (c.requires.there t))) in
+    let taken : c.in_ok-taken.field-0 ≡ Some (taken_at (file_message sender old.clock address false) 0) = c.in_ok-taken.ensures.taken sender address file old.clock t (here Active file later.files refl spool) (file_read sender old.clock address file c.requires.form.0 form c.requires.clock is) in
+    absurd (c.in_default.not-Some _ taken)
 
 pub returns-in_err-send-clause-err : goal.returns-in_err-send-clause-err
-returns-in_err-send-clause-err g c error is t =
-    let before = now (g.H.Host.view c.args.host.now) in
-    let mid = now (g.H.Host.view c.arrive.new.host) in
-    let later = now (g.H.Host.view c.admit.new.host) in
-    let after = now (g.H.Host.view c.send.new.host) in
-    let file = c.deref.result.now in
-    let event = events.Mail c.args.sender c.args.to c.args.content in
-    let first = first_mail c.args.self.now c.args.sender c.args.to c.args.content c.get-address.result c.requires.fits c.get-address.ensures in
+returns-in_err-send-clause-err g c error is-error t =
+    let old = c.args.self.now in
+    let sender = c.args.sender in
+    let (address, first) = mail_first old sender c.args.to c.args.content c.requires.fits in
+    let form = address_form c.args.to address first.only c.requires.form.1 in
+    let file = c.as_slice-2.result.now in
+    let is : file ≡ file_bytes (file_message sender old.clock address false) (80 ∷ []) = one_file sender old.clock c.args.to address c.args.content c.as_slice.result.now file first.only first.no_content c.as_slice.ensures (c.as_slice-2.ensures ∙ c.in_ok-file.ensures) in
+    let before = g.H.Host.view c.args.host.now in
+    let mid = g.H.Host.view c.arrive.new.host in
+    let later = g.H.Host.view c.admit.new.host in
+    let does : Does empty (Arrive first_id sender (address ∷ []) []) (holds Incoming file) before mid = first_does sender c.args.to c.args.content address file before mid first.only first.no_content (c.in_ok-arrive.ensures.ok t) in
+    let admits = c.in_ok-admit.ensures.ok t file in
+    let lawful : IsLawful later = record { only = g.met.H.Host.only_now c.admit.new.host; told = g.met.H.Host.told_stays c.admit.new.host } in
+    let spool = admits.files (does.files (awaited_files old.stage before.files first.stage (c.requires.there t))) in
+    let read = g.H.Host.view c.recipient.new.host in
+    let after = g.H.Host.view c.send.new.host in
+    let fact : Some c.in-Some.taken ≡ Some (taken_at (file_message sender old.clock address false) 0) = sym c.in-Some.is ∙ c.in_ok-taken.ensures.taken sender address file old.clock t (here Active file later.files refl spool) (file_read sender old.clock address file c.requires.form.0 form c.requires.clock is) in
+    let taken = one_taken sender old.clock address c.in-Some.taken fact in
     let inner = c.in_err-send.field-0.0 in
-    let does : Does empty (Arrive first_id c.args.sender (c.get-address.result ∷ []) []) (holds Incoming file) before mid = rw (first.only, first.no_content) at c.in_ok-arrive.ensures.ok t in
-    subst (λ x. Breaks c.args.self.now (items.Heard event) x before after) (same_error c.from_residual-in_err-send.result inner error c.from_residual-in_err-send.ensures.1 is)
-    (mail_breaks c.args.self.now c.args.sender c.args.to c.args.content c.get-address.result file inner before after first
-    (send_halts c.args.sender c.get-address.result file inner before mid later after does (c.in_ok-admit.ensures.ok t file) (c.in_err-send.ensures.err inner refl t (holds Active file))))
+    subst (λ x. Breaks old (items.Heard (events.Mail sender c.args.to c.args.content)) x before after) (same_error c.from_residual-in_err-send.result inner error c.from_residual-in_err-send.ensures.1 is-error)
+    (mail_breaks old sender c.args.to c.args.content address before after first c.requires.form.0 form file inner is
+    (send_halts sender address file before mid later read after does admits lawful (c.recipient.ensures.stays t) inner (subst (λ (a : List ℕ). Halts (holds Active file) (sent (holds Active file) a) inner read after) (ap (λ (x : Taken). x.address) c.taken.view_is ∙ taken.to) (c.in_err-send.ensures.err inner refl t (holds Active file)))))
 
 pub returns-clause-ok : goal.returns-clause-ok
 returns-clause-ok g c t =
-    let before = now (g.H.Host.view c.args.host.now) in
-    let mid = now (g.H.Host.view c.arrive.new.host) in
-    let later = now (g.H.Host.view c.admit.new.host) in
-    let after = now (g.H.Host.view c.send.new.host) in
-    let file = c.deref.result.now in
-    let first = first_mail c.args.self.now c.args.sender c.args.to c.args.content c.get-address.result c.requires.fits c.get-address.ensures in
-    let does : Does empty (Arrive first_id c.args.sender (c.get-address.result ∷ []) []) (holds Incoming file) before mid = rw (first.only, first.no_content) at c.in_ok-arrive.ensures.ok t in
-    mail_turns c.args.self.now c.args.sender c.args.to c.args.content c.get-address.result file c.in_ok-file.file.mark_at before after first (c.deref.ensures.value ∙ c.in_ok-file.ensures.bytes) c.in_ok-file.ensures.mark
-    (mail_play c.args.sender c.get-address.result file before mid later after does (c.in_ok-admit.ensures.ok t file) (c.in_ok-send.ensures.ok t (holds Active file)))
+    let old = c.args.self.now in
+    let sender = c.args.sender in
+    let (address, first) = mail_first old sender c.args.to c.args.content c.requires.fits in
+    let form = address_form c.args.to address first.only c.requires.form.1 in
+    let file = c.as_slice-2.result.now in
+    let is : file ≡ file_bytes (file_message sender old.clock address false) (80 ∷ []) = one_file sender old.clock c.args.to address c.args.content c.as_slice.result.now file first.only first.no_content c.as_slice.ensures (c.as_slice-2.ensures ∙ c.in_ok-file.ensures) in
+    let before = g.H.Host.view c.args.host.now in
+    let mid = g.H.Host.view c.arrive.new.host in
+    let later = g.H.Host.view c.admit.new.host in
+    let does : Does empty (Arrive first_id sender (address ∷ []) []) (holds Incoming file) before mid = first_does sender c.args.to c.args.content address file before mid first.only first.no_content (c.in_ok-arrive.ensures.ok t) in
+    let admits = c.in_ok-admit.ensures.ok t file in
+    let lawful : IsLawful later = record { only = g.met.H.Host.only_now c.admit.new.host; told = g.met.H.Host.told_stays c.admit.new.host } in
+    let spool = admits.files (does.files (awaited_files old.stage before.files first.stage (c.requires.there t))) in
+    let read = g.H.Host.view c.recipient.new.host in
+    let after = g.H.Host.view c.send.new.host in
+    let fact : Some c.in-Some.taken ≡ Some (taken_at (file_message sender old.clock address false) 0) = sym c.in-Some.is ∙ c.in_ok-taken.ensures.taken sender address file old.clock t (here Active file later.files refl spool) (file_read sender old.clock address file c.requires.form.0 form c.requires.clock is) in
+    let taken = one_taken sender old.clock address c.in-Some.taken fact in
+    let plays = subst (λ (a : List ℕ). Plays (holds Active file) (sent (holds Active file) a) read after) (ap (λ (x : Taken). x.address) c.taken.view_is ∙ taken.to) (c.in_ok-send.ensures.ok t (holds Active file)) in
+    (refl, mail_turns old sender c.args.to c.args.content address before after first c.requires.form.0 form file c.taken.inside.mark_at is (ap (λ (x : Taken). x.mark_at) c.taken.view_is ∙ taken.mark) (mail_play sender address file before mid later read after does admits lawful (c.recipient.ensures.stays t) plays))
 
 pub returns-clause-files : goal.returns-clause-files
 returns-clause-files g c t =
-    let file = c.deref.result.now in
-    let first = first_mail c.args.self.now c.args.sender c.args.to c.args.content c.get-address.result c.requires.fits c.get-address.ensures in (
+    let old = c.args.self.now in
+    let sender = c.args.sender in
+    let (address, first) = mail_first old sender c.args.to c.args.content c.requires.fits in
+    let form = address_form c.args.to address first.only c.requires.form.1 in
+    let file = c.as_slice-2.result.now in
+    let is : file ≡ file_bytes (file_message sender old.clock address false) (80 ∷ []) = one_file sender old.clock c.args.to address c.args.content c.as_slice.result.now file first.only first.no_content c.as_slice.ensures (c.as_slice-2.ensures ∙ c.in_ok-file.ensures) in
+    let before = g.H.Host.view c.args.host.now in
+    let mid = g.H.Host.view c.arrive.new.host in
+    let later = g.H.Host.view c.admit.new.host in
+    let does : Does empty (Arrive first_id sender (address ∷ []) []) (holds Incoming file) before mid = first_does sender c.args.to c.args.content address file before mid first.only first.no_content (c.in_ok-arrive.ensures.ok t) in
+    let admits = c.in_ok-admit.ensures.ok t file in
+    let lawful : IsLawful later = record { only = g.met.H.Host.only_now c.admit.new.host; told = g.met.H.Host.told_stays c.admit.new.host } in
+    let spool = admits.files (does.files (awaited_files old.stage before.files first.stage (c.requires.there t))) in
+    let read = g.H.Host.view c.recipient.new.host in
+    let fact : Some c.in-Some.taken ≡ Some (taken_at (file_message sender old.clock address false) 0) = sym c.in-Some.is ∙ c.in_ok-taken.ensures.taken sender address file old.clock t (here Active file later.files refl spool) (file_read sender old.clock address file c.requires.form.0 form c.requires.clock is) in
+    let taken = one_taken sender old.clock address c.in-Some.taken fact in (
       file,
-      mark_in_file c.args.sender c.args.self.now.clock c.get-address.result file c.in_ok-file.file.mark_at (c.deref.ensures.value ∙ c.in_ok-file.ensures.bytes) c.in_ok-file.ensures.mark,
-      (c.in_ok-send.ensures.ok t (holds Active file)).files ((c.in_ok-admit.ensures.ok t file).files ((c.in_ok-arrive.ensures.ok t).files (awaited_files c.args.self.now.stage _ first.stage (c.requires.there t)))),
+      mark_in_file sender old.clock address file c.taken.inside.mark_at is (ap (λ (x : Taken). x.mark_at) c.taken.view_is ∙ taken.mark),
+      (c.in_ok-send.ensures.ok t (holds Active file)).files (subst (λ (f : Files). IsSpool (holds Active file) f) (sym (c.recipient.ensures.stays t).files) spool),
     )

@@ -1,0 +1,38 @@
+//! A large queue file.
+use q_message::write_message;
+use q_model::{Address, Addresses, Bytes, Head, NoMemory};
+use std::alloc::Global;
+
+fn recipients(alloc: Global, count: u16) -> Result<Addresses, NoMemory> {
+    let mut to = Addresses::new(alloc);
+    for _i in 0..count {
+        if let Some(address) = Address::new(b"somebody@destination.example") {
+            to.push(address)?;
+        }
+    }
+    Ok(to)
+}
+
+/// 400 bytes for each recipient.
+fn content(alloc: Global, count: u16) -> Result<Vec<u8>, NoMemory> {
+    let mut content = Vec::new(alloc);
+    for _i in 0..count {
+        content.extend_from_slice(&[b'x'; 400])?;
+    }
+    Ok(content)
+}
+
+/// The file of a message to so many recipients. `None` where memory is short or the message is
+/// none that a queue file holds.
+pub(crate) fn file_of(alloc: Global, count: u16) -> Option<Bytes> {
+    let head = Head {
+        sender: None,
+        arrival: 1000,
+    };
+    let to = recipients(alloc, count).ok()?;
+    let content = content(alloc, count).ok()?;
+    if to.len() == 0 || to.len() > 50_000 || content.len() > 20_000_000 {
+        return None;
+    }
+    write_message(alloc, &head, &to, &content).ok()
+}

@@ -1,0 +1,4 @@
+pub mod NumberValues
+pub mod WordLists
+pub mod LineParts
+pub mod Leading

@@ -1,0 +1,75 @@
+-- The first item of an event list.
+use Rattle.std.specs.List.{flat_map, take_while}
+use Rattle.std.specs.Option.{option_map_or}
+use Rattle.std.specs.Prelude.{◌+◌, [], Bool, drop, false, if◌then◌else◌, length, List, None, not, Option, option_and_then, Some, true, ℕ, ◌∷◌}
+use Rattle.q_model.specs.Lists.{has_none}
+use Rattle.q_model.specs.Notices.{text_line}
+use Rattle.q_model.specs.declared.event.Event.TheVariants as events
+use Rattle.q_events.specs.EventLines.{line_of}
+use Rattle.q_events.specs.TextLines.{cut, is_long, TextLine, whole, bytes_of}
+use Rattle.q_events.specs.declared.item.Item.{Item}
+use Rattle.q_events.specs.declared.item.Item.TheVariants as items
+use Rattle.q_events.specs.declared.line.Line.{Line}
+use Rattle.q_events.specs.declared.line.Line.TheVariants.{Body, Passed, Told}
+use Rattle.q_events.specs.declared.line.Command.{Command}
+use Rattle.q_events.specs.declared.line.Command.TheVariants as commands
+
+-- what a line says, if it is whole and not too long
+abbrev pub meaning : TextLine → Option Line
+meaning (whole line) = if is_long (whole line) then None else line_of line
+meaning (cut line) = None
+
+-- the lines that may stand before a mail: those that are passed over, and those of its content
+abbrev pub is_leading : Option Line → Bool
+is_leading None = false
+is_leading (Some Passed) = true
+is_leading (Some Body) = true
+is_leading (Some (Told command)) = false
+
+abbrev pub leads : TextLine → Bool
+leads line = is_leading (meaning line)
+
+-- a line of content is TEXT, which stands behind `body` and a space, and LF
+abbrev pub content_by : List ℕ → Option Line → List ℕ
+content_by text None = []
+content_by text (Some Passed) = []
+content_by text (Some Body) = text_line (drop 5 text)
+content_by text (Some (Told command)) = []
+
+abbrev pub content_of : TextLine → List ℕ
+content_of line = content_by (bytes_of line) (meaning line)
+
+-- the item of a command in line n behind this content, which only a mail may have
+abbrev pub item_of : List ℕ → ℕ → Command → Option Item
+item_of content n (commands.Mail sender to) = Some (items.Step (events.Mail sender to content) n)
+item_of content n (commands.Plain event) = if has_none content then Some (items.Step event n) else None
+item_of content n commands.Restart = if has_none content then Some items.Restart else None
+item_of content n commands.End = if has_none content then Some items.End else None
+
+-- what stands first in an event list: an item, with the number of its line and the lines behind it; a line that can't stand there; or the end of the bytes that a list may have
+pub data Reading : Type 0 where
+  found : Item → ℕ → List TextLine → Reading
+  bad : ℕ → Reading
+  past_limit : Reading
+
+-- the command of a line
+abbrev pub command_in : Option Line → Option Command
+command_in None = None
+command_in (Some Passed) = None
+command_in (Some Body) = None
+command_in (Some (Told command)) = Some command
+
+-- a line is cut by the limit of the list, and isn't too long before
+abbrev pub passes_limit : TextLine → Bool
+passes_limit (whole line) = false
+passes_limit (cut line) = not (is_long (cut line))
+
+-- what the first of these lines gives, which has number n and stands behind this content; where there is none, `end` is missing
+abbrev pub item_at : List ℕ → ℕ → List TextLine → Reading
+item_at content n [] = bad n
+item_at content n (line ∷ more) = if passes_limit line then past_limit
+    else option_map_or (λ item. found item n more) (option_and_then (item_of content n) (command_in (meaning line))) (bad n)
+
+-- the first item of these lines, of which the first has number n
+abbrev pub first_item : ℕ → List TextLine → Reading
+first_item n lines = item_at (flat_map content_of (take_while leads lines)) (n + length (take_while leads lines)) (drop (length (take_while leads lines)) lines)

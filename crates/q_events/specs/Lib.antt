@@ -1,0 +1,7 @@
+pub mod TextLines
+pub mod Words
+pub mod EventLines
+pub mod EventList
+pub mod States
+pub mod Readings
+pub mod LineReadings

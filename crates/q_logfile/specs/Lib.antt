@@ -1,0 +1,4 @@
+pub mod Codes
+pub mod HasRecords
+pub mod OpenRecords
+pub mod TmpNames

@@ -1,0 +1,236 @@
+//! Reading the head of a queue file, for which the whole file is passed over.
+ghost use Rattle.std.specs.Prelude.{◌≡◌, ◌≤◌, ◌+◌, ◌*◌, ◌<◌, ◌^◌, ℕ, List, drop, Some, None, Err, IsTrue, IsSome, IfOk, IfSome, IsErrOf, OnOk, option_map};
+ghost use Rattle.std.specs.Option.{option_and_then};
+ghost use Rattle.q_model.specs.QueueFile.{arrival_of, counts_of, queue_file, sender_of};
+ghost use Rattle.q_host.specs.Calls.{Stays};
+ghost use Rattle.q_message.specs.Causes.{Gives, ReadCause};
+ghost use Rattle.q_message.specs.FileHeads.{fault_at, head_of};
+ghost use Rattle.q_message.specs.Fronts.{front_body};
+ghost use Rattle.q_message.specs.Readings.{content_from, end_from, head_from, marks_counted, recipients_from, start_from, start_size};
+ghost use Rattle.q_message.specs.Windows.{Shows};
+ghost use Rattle.q_message.specs.declared.error.MessageError.TheVariants.{NotAMessage};
+
+use crate::body::{Counts, VERSION, arrival_in, counts_in, sender_in};
+use crate::error::MessageError;
+use crate::front::{begins_record, front_body};
+use crate::recipients::{front_recipient, recipient_size};
+use crate::window::Window;
+use q_host::Host;
+use q_model::{Address, FileHead, Head, Moment, Spot};
+use std::marker::Model;
+
+/// What the records before those of the recipients say.
+#[derive(Clone, Copy, Debug, PartialEq, Eq)]
+struct Start {
+    counts: Counts,
+    head: Head,
+}
+
+impl Model for Start {
+    ghost use Rattle.q_message.specs.Readings.{Start as StartValue};
+
+    ghost Value = { StartValue };
+
+    ghost view = { λ s. record { counts = s.counts; head = s.head } };
+
+    ghost inverse = { λ v. record { counts = v.counts; head = v.head } };
+}
+
+/// Where the records of the counts, of the arrival and of the sender begin.
+const COUNTS_AT: u64 = 0;
+
+const ARRIVAL_AT: u64 = 17;
+
+const SENDER_AT: u64 = 30;
+
+/// The bytes from an offset on; none, where there are fewer.
+fn behind(bytes: &[u8], offset: u64) -> &[u8]
+    ensures { result.now ≡ drop offset bytes.now }
+{
+    if offset > bytes.len() as u64 {
+        return &bytes[bytes.len()..];
+    }
+    &bytes[offset as usize..]
+}
+
+fn front_counts(bytes: &[u8]) -> Option<Counts>
+    ensures { result ≡ option_and_then counts_of (front_body 67 bytes.now) }
+{
+    counts_in(front_body(bytes, b'C')?)
+}
+
+fn front_arrival(bytes: &[u8]) -> Option<Moment>
+    ensures { result ≡ option_and_then arrival_of (front_body 84 bytes.now) }
+{
+    arrival_in(front_body(bytes, b'T')?)
+}
+
+fn front_sender(bytes: &[u8]) -> Option<Option<Address>>
+    ensures { result ≡ option_and_then sender_of (front_body 83 bytes.now) }
+{
+    sender_in(front_body(bytes, b'S')?)
+}
+
+/// What the bytes say before the recipients, or the offset of the record that breaks the form.
+fn start_in(bytes: &[u8]) -> Result<Start, u64>
+    ensures { result ≡ start_from bytes.now }
+{
+    let counts = front_counts(bytes).ok_or(COUNTS_AT)?;
+    let arrival = front_arrival(behind(bytes, ARRIVAL_AT)).ok_or(ARRIVAL_AT)?;
+    let sender = front_sender(behind(bytes, SENDER_AT)).ok_or(SENDER_AT)?;
+    Ok(Start {
+        counts,
+        head: Head { sender, arrival },
+    })
+}
+
+/// How many bytes the records before those of the recipients have.
+fn start_size(head: &Head) -> u32
+    ensures size { result ≡ start_size head.now }
+    ensures few { result ≤ 289 }
+{
+    match &head.sender {
+        Some(sender) => 35 + sender.bytes().len() as u32,
+        None => 35,
+    }
+}
+
+/// Reads the records before those of the recipients.
+fn read_start<H: Host>(host: &mut H, spot: Spot, window: &mut Window) -> Result<Start, MessageError>
+    requires there { IsTrue H.tells → IsSome ((H.view host.old).files spot.area spot.name) }
+    requires front { window.old.at ≡ 0 }
+    ensures reads { IsTrue H.tells → (file : List ℕ) → (H.view host.old).files spot.area spot.name ≡ Some file → Shows file window.old → Gives (λ s. s) result (start_from file) }
+    ensures shows { OnOk result (IsTrue H.tells → (file : List ℕ) → (H.view host.old).files spot.area spot.name ≡ Some file → Shows file window.old → Shows file window.new) }
+    ensures at { IfOk result (λ s. window.new.at ≡ start_size s.head) }
+    ensures near { OnOk result (window.new.at ≤ 289) }
+    ensures few { IfOk result (λ s. s.counts.recipients ≤ 50000) }
+    ensures short { IfOk result (λ s. s.counts.content ≤ 20000000) }
+    ensures stays { IsTrue H.tells → Stays (H.view host.old) (H.view host.new) }
+    ensures cause { ReadCause (H.faults host.old) (H.faults host.new) result }
+{
+    window.fill(host, spot)?;
+    match start_in(window.bytes()) {
+        Ok(start) => {
+            window.skip(start_size(&start.head));
+            Ok(start)
+        }
+        Err(place) => Err(MessageError::NotAMessage { place }),
+    }
+}
+
+/// Passes over so many recipients, and counts those that are marked.
+fn count_marked<H: Host>(
+    host: &mut H,
+    spot: Spot,
+    window: &mut Window,
+    recipients: u32,
+) -> Result<u32, MessageError>
+    requires there { IsTrue H.tells → IsSome ((H.view host.old).files spot.area spot.name) }
+    requires near { window.old.at ≤ 289 }
+    requires few { recipients ≤ 50000 }
+    ensures reads { IsTrue H.tells → (file : List ℕ) → (H.view host.old).files spot.area spot.name ≡ Some file → Shows file window.old → Gives (λ marked. (marked, window.new.at)) result (marks_counted 0 (recipients_from recipients window.old.at (drop window.old.at file))) }
+    ensures shows { OnOk result (IsTrue H.tells → (file : List ℕ) → (H.view host.old).files spot.area spot.name ≡ Some file → Shows file window.old → Shows file window.new) }
+    ensures near { window.new.at ≤ 289 + 260 * recipients }
+    ensures stays { IsTrue H.tells → Stays (H.view host.old) (H.view host.new) }
+    ensures cause { ReadCause (H.faults host.old) (H.faults host.new) result }
+{
+    let mut marked = 0;
+    for _ in 0..recipients {
+        window.fill(host, spot)?;
+        let Some(recipient) = front_recipient(window.bytes()) else {
+            return Err(MessageError::NotAMessage { place: window.at() });
+        };
+        if recipient.marked {
+            marked += 1;
+        }
+        window.skip(recipient_size(&recipient));
+    }
+    Ok(marked)
+}
+
+/// Passes over the record of the content, of which the body isn't read.
+fn pass_content<H: Host>(
+    host: &mut H,
+    spot: Spot,
+    window: &mut Window,
+    content: u32,
+) -> Result<(), MessageError>
+    requires there { IsTrue H.tells → IsSome ((H.view host.old).files spot.area spot.name) }
+    requires near { window.old.at ≤ 20000000 }
+    requires short { content ≤ 20000000 }
+    ensures reads { IsTrue H.tells → (file : List ℕ) → (H.view host.old).files spot.area spot.name ≡ Some file → Shows file window.old → Gives (λ _. window.new.at) result (content_from content window.old.at (drop window.old.at file)) }
+    ensures shows { OnOk result (IsTrue H.tells → (file : List ℕ) → (H.view host.old).files spot.area spot.name ≡ Some file → Shows file window.old → Shows file window.new) }
+    ensures near { window.new.at ≤ 40000005 }
+    ensures stays { IsTrue H.tells → Stays (H.view host.old) (H.view host.new) }
+    ensures cause { ReadCause (H.faults host.old) (H.faults host.new) result }
+{
+    window.fill(host, spot)?;
+    let size = host.size(spot.area, spot.name)?;
+    let at = window.at();
+    if !begins_record(window.bytes(), b'N', content) || size < at + 5 + content as u64 {
+        return Err(MessageError::NotAMessage { place: at });
+    }
+    window.skip(5 + content);
+    Ok(())
+}
+
+/// Reads the last record, behind which nothing stands.
+fn read_end<H: Host>(host: &mut H, spot: Spot, window: &mut Window) -> Result<(), MessageError>
+    requires there { IsTrue H.tells → IsSome ((H.view host.old).files spot.area spot.name) }
+    requires near { window.old.at ≤ 40000005 }
+    ensures reads { IsTrue H.tells → (file : List ℕ) → (H.view host.old).files spot.area spot.name ≡ Some file → Shows file window.old → Gives (λ _. tt) result (end_from window.old.at (drop window.old.at file)) }
+    ensures stays { IsTrue H.tells → Stays (H.view host.old) (H.view host.new) }
+    ensures cause { ReadCause (H.faults host.old) (H.faults host.new) result }
+{
+    window.fill(host, spot)?;
+    let at = window.at();
+    if !begins_record(window.bytes(), b'E', 0) {
+        return Err(MessageError::NotAMessage { place: at });
+    }
+    if window.bytes().len() > 5 {
+        return Err(MessageError::NotAMessage { place: at + 5 });
+    }
+    Ok(())
+}
+
+/// What the records say, or the offset of the first that breaks the form.
+fn read_whole<H: Host>(host: &mut H, spot: Spot) -> Result<FileHead, MessageError>
+    requires { IsTrue H.tells → IsSome ((H.view host.old).files spot.area spot.name) }
+    ensures reads { IsTrue H.tells → (file : List ℕ) → (H.view host.old).files spot.area spot.name ≡ Some file → Gives (λ head. head) result (head_from file) }
+    ensures stays { IsTrue H.tells → Stays (H.view host.old) (H.view host.new) }
+    ensures cause { ReadCause (H.faults host.old) (H.faults host.new) result }
+{
+    let mut window = Window::new(0);
+    let start = read_start(host, spot, &mut window)?;
+    let first_at = window.at();
+    let marked = count_marked(host, spot, &mut window, start.counts.recipients)?;
+    let content_at = window.at() + 5;
+    pass_content(host, spot, &mut window, start.counts.content)?;
+    read_end(host, spot, &mut window)?;
+    Ok(FileHead {
+        version: VERSION,
+        head: start.head,
+        recipients: start.counts.recipients,
+        marked,
+        first_at,
+        content_at,
+        content_len: start.counts.content,
+    })
+}
+
+/// The head of the queue file at this place, which has to be there where the host tells its files.
+///
+/// The whole file is passed over, 65,536 bytes at a time, but for the content, which isn't read:
+/// the call takes no memory, and its time grows with the length of the records before the content.
+/// `NotAMessage` comes exactly where the bytes are no queue file of version 1. Its place is the
+/// offset of the first record that breaks the form, or of the first byte behind the last record.
+pub fn read_head<H: Host>(host: &mut H, spot: Spot) -> Result<FileHead, MessageError>
+    requires { IsTrue H.tells → IsSome ((H.view host.old).files spot.area spot.name) }
+    ensures head { IfOk result (λ head. IsTrue H.tells → IfSome ((H.view host.old).files spot.area spot.name) (λ file. option_map head_of (queue_file file) ≡ Some head)) }
+    ensures no_message { (place : ℕ) → IsErrOf result (NotAMessage place) → IsTrue H.tells → IfSome ((H.view host.old).files spot.area spot.name) (λ file. (queue_file file ≡ None) × (place ≡ fault_at file)) }
+    // Nothing is changed.
+    ensures stays { IsTrue H.tells → Stays (H.view host.old) (H.view host.new) }
+    ensures cause { ReadCause (H.faults host.old) (H.faults host.new) result }
+{
+    read_whole(host, spot)
+}

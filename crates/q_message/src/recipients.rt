@@ -1,0 +1,87 @@
+//! Reading recipients of a queue file.
+ghost use Rattle.std.specs.Prelude.{◌≡◌, ◌≤◌, ◌+◌, ◌<◌, ℕ, List, [], length, Some, IsTrue, IsSome, IfOk, IfSome, IsErrOf};
+ghost use Rattle.std.specs.Option.{IsSomeAnd};
+ghost use Rattle.q_model.specs.QueueFile.{queue_file};
+ghost use Rattle.q_host.specs.Calls.{Stays};
+ghost use Rattle.q_message.specs.Causes.{ReadCause};
+ghost use Rattle.q_message.specs.Pending.{HasCursor, cursor_at, position_behind, taken_from};
+ghost use Rattle.q_message.specs.Readings.{front_recipient, recipient_size};
+ghost use Rattle.q_message.specs.declared.error.MessageError.TheVariants.{NotAMessage};
+
+use crate::body::{Recipient, recipient_in};
+use crate::error::MessageError;
+use crate::front::front_body;
+use crate::window::Window;
+use q_host::Host;
+use q_model::{Batch, Cursor, FileHead, Spot, Taken};
+
+/// The offset of the mark byte in the record of a recipient.
+const MARK_AT: u64 = 5;
+
+/// The recipient whose record stands at the front.
+pub(crate) fn front_recipient(bytes: &[u8]) -> Option<Recipient>
+    ensures { result ≡ front_recipient bytes.now }
+{
+    recipient_in(front_body(bytes, b'R')?)
+}
+
+/// How many bytes the record of a recipient has.
+pub(crate) fn recipient_size(recipient: &Recipient) -> u32
+    ensures size { result ≡ recipient_size recipient.now }
+    ensures few { result ≤ 260 }
+{
+    6 + recipient.address.bytes().len() as u32
+}
+
+/// Takes the recipients of a queue file from the cursor on, in order, whose mark isn't set: the
+/// first `max`, or all where fewer are left. They are added to the batch, which is empty and has
+/// room for `max`. The answer is the place behind the last one that was taken where `max` were
+/// taken, else the place behind the last recipient.
+///
+/// The head is that of the file, but for its number of marked recipients, and the cursor is the
+/// place of one of its recipients or of their end. The file is read 65,536 bytes at a time. Where
+/// the host tells its files, `NotAMessage` never comes.
+pub fn read_recipients<H: Host>(
+    host: &mut H,
+    spot: Spot,
+    file: &FileHead,
+    cursor: Cursor,
+    max: u32,
+    out: &mut Batch,
+) -> Result<Cursor, MessageError>
+    requires there { IsTrue H.tells → IsSome ((H.view host.old).files spot.area spot.name) }
+    requires some { 1 ≤ max }
+    requires empty { out.old.items ≡ [] }
+    requires room { max ≤ out.old.room }
+    requires reading { IsTrue H.tells → IfSome ((H.view host.old).files spot.area spot.name) (λ bytes. HasCursor bytes file.now cursor) }
+    ensures taken { IfOk result (λ next. IsTrue H.tells → IfSome ((H.view host.old).files spot.area spot.name) (λ bytes. IfSome (queue_file bytes) (λ m. out.new.items ≡ taken_from m cursor.position max))) }
+    ensures next { IfOk result (λ next. IsTrue H.tells → IfSome ((H.view host.old).files spot.area spot.name) (λ bytes. IfSome (queue_file bytes) (λ m. next ≡ cursor_at m (position_behind m cursor.position max)))) }
+    ensures no_message { (place : ℕ) → IsErrOf result (NotAMessage place) → IsTrue H.tells → ⊥ }
+    ensures room { out.new.room ≡ out.old.room }
+    ensures stays { IsTrue H.tells → Stays (H.view host.old) (H.view host.new) }
+    ensures cause { ReadCause (H.faults host.old) (H.faults host.new) result }
+{
+    let mut window = Window::new(cursor.at);
+    let recipients = file.recipients;
+    let mut position = cursor.position;
+    while position < recipients && out.len() < max as usize {
+        window.fill(host, spot)?;
+        let at = window.at();
+        let Some(recipient) = front_recipient(window.bytes()) else {
+            return Err(MessageError::NotAMessage { place: at });
+        };
+        if !recipient.marked {
+            out.push(Taken {
+                position,
+                mark_at: at.saturating_add(MARK_AT),
+                address: recipient.address,
+            });
+        }
+        window.skip(recipient_size(&recipient));
+        position += 1;
+    }
+    Ok(Cursor {
+        position,
+        at: window.at(),
+    })
+}

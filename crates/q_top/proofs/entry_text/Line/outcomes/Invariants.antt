@@ -1,7 +1,0 @@
-use Rattle.std.proofs.Common.{◌≡◌, ◌++◌, take, map}
-use Rattle.std.specs.Prelude.{flat_map}
-use Rattle.q_model.specs.Text.{spaced, outcome_text}
-use Rattle.q_top.proofs.entry_text.Line.outcomes.Given as goal
-
-abbrev pub invariant-loop-outcome : goal.invariant-loop-outcome
-invariant-loop-outcome l = l.self ≡ l.initial.self ++ flat_map spaced (map outcome_text (take l.outcome-index l.outcomes))

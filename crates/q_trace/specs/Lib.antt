@@ -1,0 +1,6 @@
+pub mod Answers
+pub mod Bodies
+pub mod Bounds
+pub mod Kinds
+pub mod PartTexts
+pub mod Parts

@@ -1,0 +1,125 @@
+//! What stands behind the first word of a line whose entry has no list.
+ghost use Rattle.std.specs.Prelude.{◌≡◌, option_map};
+ghost use Rattle.q_trace.specs.Bodies.{at_of, defer_of, life_in, life_of, load_of, log_of, mark_of, plain_of, preempt_of};
+ghost use Rattle.q_trace.specs.PartTexts.{id_of};
+ghost use Rattle.q_transport.specs.Routing.{table_of};
+
+use crate::fields::{id_field, number32_field, transport_field, why_field};
+use crate::kind::Kind;
+use crate::part_texts::{id, number32, number64, trigger};
+use crate::parts::cut;
+use q_feedback::read_number;
+use q_model::{Entry, Failure, Mode};
+use q_transport::Table;
+
+/// The greatest moment that is given.
+const LAST_MOMENT: u64 = 999_990_000_000;
+
+/// The greatest moment of twelve digits.
+const LAST_DUE: u64 = 999_999_999_999;
+
+fn life_in(text: &[u8], mode: Mode) -> Option<Entry>
+    ensures { result ≡ life_in mode text.now }
+{
+    let generation = read_number(text, 1, u32::MAX)?;
+    Some(Entry::Life { generation, mode })
+}
+
+fn life(text: &[u8]) -> Option<Entry>
+    ensures { result ≡ life_of text.now }
+{
+    match cut(text) {
+        None => life_in(text, Mode::Deliver),
+        Some((number, b"intake")) => life_in(number, Mode::Intake),
+        Some(_) => None,
+    }
+}
+
+fn at(text: &[u8]) -> Option<Entry>
+    ensures { result ≡ at_of text.now }
+{
+    let moment = number64(text, LAST_MOMENT)?;
+    Some(Entry::At { moment })
+}
+
+fn load(text: &[u8]) -> Option<Entry>
+    ensures { result ≡ load_of text.now }
+{
+    let (id, rest) = id_field(text)?;
+    let (from, rest) = number32_field(rest)?;
+    let to = number32(rest)?;
+    Some(Entry::Load { id, from, to })
+}
+
+fn preempt(text: &[u8], table: &Table) -> Option<Entry>
+    ensures { result ≡ preempt_of (table_of table.now) text.now }
+{
+    let (child, rest) = id_field(text)?;
+    let (parent, rest) = id_field(rest)?;
+    let (transport, rest) = transport_field(rest, table)?;
+    let need = number32(rest)?;
+    Some(Entry::Preempt {
+        child,
+        parent,
+        transport,
+        need,
+    })
+}
+
+fn log(text: &[u8]) -> Option<Entry>
+    ensures { result ≡ log_of text.now }
+{
+    let (id, rest) = id_field(text)?;
+    let (position, rest) = number32_field(rest)?;
+    let (why, rest) = why_field(rest)?;
+    let code = read_number(rest, 0, 65_535)? as u16;
+    let failure = Failure {
+        position,
+        why,
+        code,
+    };
+    Some(Entry::Log { id, failure })
+}
+
+fn mark(text: &[u8]) -> Option<Entry>
+    ensures { result ≡ mark_of text.now }
+{
+    let (id, rest) = id_field(text)?;
+    let position = number32(rest)?;
+    Some(Entry::Mark { id, position })
+}
+
+fn defer(text: &[u8]) -> Option<Entry>
+    ensures { result ≡ defer_of text.now }
+{
+    let (id, rest) = id_field(text)?;
+    let due = number64(rest, LAST_DUE)?;
+    Some(Entry::Defer { id, due })
+}
+
+/// The entry of a kind without a list; of the other kinds none.
+#[tactic(auto, unfolding(crate::specs::Bodies::plain_of))]
+pub(crate) fn plain(kind: Kind, text: &[u8], table: &Table) -> Option<Entry>
+    ensures { result ≡ plain_of (table_of table.now) kind text.now }
+{
+    match kind {
+        Kind::Life => life(text),
+        Kind::At => at(text),
+        Kind::Back => Some(Entry::Back { id: id(text)? }),
+        Kind::Admit => Some(Entry::Admit { id: id(text)? }),
+        Kind::Load => load(text),
+        Kind::Preempt => preempt(text, table),
+        Kind::Log => log(text),
+        Kind::Mark => mark(text),
+        Kind::Sync => Some(Entry::Sync { id: id(text)? }),
+        Kind::Defer => defer(text),
+        Kind::Bounce => Some(Entry::Bounce { id: id(text)? }),
+        Kind::Remove => Some(Entry::Remove { id: id(text)? }),
+        Kind::Corrupt => Some(Entry::Corrupt { id: id(text)? }),
+        Kind::Trigger => {
+            let kind = trigger(text)?;
+            Some(Entry::Trigger { kind })
+        }
+        Kind::Arrive | Kind::Start | Kind::Reply | Kind::Skip => None,
+    }
+}
