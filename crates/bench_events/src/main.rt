@@ -1,5 +1,5 @@
 //! How fast event lists are read: `bench_events N` makes a list of N thousand messages in memory,
-//! reads it through its end, and prints the bytes read in a second. 600 make a list of 100 MB.
+//! reads it through its end, and prints the bytes read in a second. 700 make a list of 100 MB.
 #![tactic(auto)]
 
 mod reading;

@@ -87,6 +87,39 @@ fn lists(rt: HostRuntime) -> Result<(), Fail> {
     row(&rt, rt.alloc(), FIRST, 5, &[1], "input fault", b"life 1\n")
 }
 
+// The first list with another reply, and without its `end`.
+#[test]
+fn lists_of_a_message(rt: HostRuntime) -> Result<(), Fail> {
+    let sent: &[u8] = b"life 1\nat 1000\narrive 00000001-00000001 a@x.example 0 b@y.example\n\
+admit 00000001-00000001\nload 00000001-00000001 0 1\n\
+start 1 00000001-00000001 smtp y.example 0\n";
+    let delivered: &[u8] = b"life 1\nat 1000\n\
+arrive 00000001-00000001 a@x.example 0 b@y.example\nadmit 00000001-00000001\n\
+load 00000001-00000001 0 1\nstart 1 00000001-00000001 smtp y.example 0\nreply 1 up ok\n\
+mark 00000001-00000001 0\nsync 00000001-00000001\nremove 00000001-00000001\n";
+    let rows: [(&[u8], &str, &[u8]); 3] = [
+        (
+            b"at 1000\nmail a@x.example b@y.example\nreply 1 up ok ok\nend\n",
+            "bad input: events line 3",
+            sent,
+        ),
+        (
+            b"at 1000\nmail a@x.example b@y.example\nreply 1 down ok\nend\n",
+            "bad input: events line 3",
+            sent,
+        ),
+        (
+            b"at 1000\nmail a@x.example b@y.example\nreply 1 up ok\n",
+            "bad input: events line 4",
+            delivered,
+        ),
+    ];
+    for (text, answer, told) in rows {
+        row(&rt, rt.alloc(), text, 3, &[], answer, told)?;
+    }
+    Ok(())
+}
+
 #[test]
 fn refusals(rt: HostRuntime) -> Result<(), Fail> {
     let alloc = rt.alloc();

@@ -1,0 +1,97 @@
+-- A new core agrees with the ledger in which a life has begun.
+use Rattle.std.proofs.Common.{◌≡◌, ℕ, zero, suc, ◌+◌, Bool, true, false, List, [], ◌∷◌, length, map, replicate, refl, sym, ap, ◌∙◌, None}
+use Rattle.std.specs.Prelude.{if◌then◌else◌, nat_lt}
+use Rattle.std.specs.List.{enumerate_from}
+use Rattle.q_core.proofs.ListLaws.{length-numbered}
+use Rattle.q_core.specs.Agrees.{Agrees, jobs_of}
+use Rattle.q_core.specs.Fitting.{IsFit}
+use Rattle.q_core.specs.declared.line.Job.{Job}
+use Rattle.q_core.specs.declared.state.Core.{Core}
+use Rattle.q_core.specs.declared.state.Seen.TheVariants.{Unknown}
+use Rattle.q_model.specs.Book.{Book}
+use Rattle.q_model.specs.Ledger.{Ledger, opening}
+use Rattle.q_model.specs.Settings.{World}
+use Rattle.q_model.specs.Step.{after, change, noted, settle_line}
+use Rattle.q_model.specs.Values.{SiteRecord}
+use Rattle.q_model.specs.declared.event.Mode.{Mode}
+use Rattle.q_model.specs.declared.id.Id.{Id}
+use Rattle.q_model.specs.declared.entry.Entry.TheVariants as entries
+
+-- nothing is held
+pub record IsEmptyCore (c : Core) (mode : Mode) (transports : ℕ) : Type 0 where
+  pub mode_is : c.mode ≡ mode
+  pub clock : c.clock.seconds ≡ 0
+  pub admitted : c.admitted.items ≡ []
+  pub waiting : c.waiting.items ≡ []
+  pub flights : c.flights.items ≡ []
+  pub served : c.served.items ≡ []
+  pub unsettled : c.unsettled.items ≡ []
+  pub lines : c.lines.items ≡ replicate transports []
+  pub sites : c.sites.items ≡ []
+  pub synced : c.synced.items ≡ []
+
+-- so is nothing of the plain fields
+abbrev pub blank : Core → Core
+blank c = record c { timed = false; next_run = 0; scan = None; asked = None; ignores = false; deferred_turn = false; in_memory = 0; starts = 0; active = Unknown; incoming = Unknown; deferred = Unknown }
+
+abbrev pub begun : World → Mode → Book → Ledger
+begun w mode book = after w (opening mode book) (entries.Life (book.generation + 1) mode)
+
+-- before it is settled
+abbrev raw : World → Mode → Book → Ledger
+raw w mode book = noted (entries.Life (book.generation + 1) mode) (change w (opening mode book) (entries.Life (book.generation + 1) mode))
+
+same_length : (t : ℕ) → length (replicate {A = List Id} t []) ≡ t
+same_length zero = refl
+same_length (suc t) = ap suc (same_length t)
+
+lines_begin : (l k : Ledger) (n t : ℕ) → map (jobs_of l) (enumerate_from n (map (settle_line k) (enumerate_from n (replicate t [])))) ≡ replicate t []
+lines_begin l k n zero = refl
+lines_begin l k n (suc t) = ap (λ (js : List (List Job)). [] ∷ js) (lines_begin l k (n + 1) t)
+
+abbrev no_records : List SiteRecord
+no_records = []
+
+no_sites : (b : Bool) → [] ≡ (if b then no_records else no_records)
+no_sites true = refl
+no_sites false = refl
+
+pub begin_law : (w : World) (mode : Mode) (book : Book) (c : Core) (t : ℕ) → c.params ≡ w.settings → c.transports ≡ t → t ≡ length w.table.transports → IsEmptyCore c mode t →
+    IsFit (begun w mode book) → Agrees w (blank c) (begun w mode book)
+unfolding after
+begin_law w mode book c t settings given count e fit = record {
+  parts = record {
+    settings = settings;
+    count = given ∙ count ∙ sym (length-numbered (settle_line (raw w mode book)) 0 (replicate (length w.table.transports) []) ∙ same_length (length w.table.transports));
+    transports = length-numbered (settle_line (raw w mode book)) 0 (replicate (length w.table.transports) []) ∙ same_length (length w.table.transports);
+    mode = e.mode_is;
+    clock = e.clock;
+    timed = refl;
+    next_run = refl;
+    ignores = refl;
+    deferred_turn = refl;
+    admitted = e.admitted;
+    present = refl;
+    waiting = e.waiting;
+    flights = e.flights;
+    memory = refl;
+    served = e.served;
+    unsettled = e.unsettled;
+    lines = e.lines ∙ ap (λ n. replicate n []) count ∙ sym (lines_begin (begun w mode book) (raw w mode book) 0 (length w.table.transports));
+    fresh = λ id transport some gone. cc;
+    sites = e.sites ∙ no_sites (nat_lt w.settings.recipient_limit 0);
+    synced = e.synced;
+    starts = refl;
+    active = tt;
+    incoming = tt;
+    leftovers_stand = fit.leftovers_stand;
+    synced_well = refl;
+    orderly = fit.orderly;
+  };
+  scan = record { settles = refl; seen = tt };
+}
+
+-- on an empty book a new core agrees without a premise
+pub empty_fits : (w : World) (mode : Mode) (generation : ℕ) → IsFit (begun w mode (record { generation = generation; messages = []; damaged = [] }))
+unfolding after
+empty_fits w mode generation = record { leftovers_stand = λ id m left there. cc; orderly = refl }

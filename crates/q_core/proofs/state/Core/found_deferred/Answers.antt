@@ -1,0 +1,7 @@
+use Rattle.std.proofs.Common.{subst, sym}
+use Rattle.q_core.proofs.LookLaws.{deferred_law}
+use Rattle.q_core.specs.Agrees.{Agrees}
+use Rattle.q_core.proofs.state.Core.found_deferred.Goals as goal
+
+pub returns : goal.returns
+returns c = λ w l scan a e f. subst (λ k. Agrees w k l) (sym c.look_at.ensures) (deferred_law c.args.found scan a e f)

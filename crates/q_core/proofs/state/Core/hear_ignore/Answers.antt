@@ -1,0 +1,13 @@
+use Rattle.std.proofs.Common.{refl}
+use Rattle.q_model.specs.declared.entry.Entry.TheVariants as entries
+use Rattle.q_model.specs.declared.event.Trigger.TheVariants as triggers
+use Rattle.q_model.specs.Step.{after}
+use Rattle.q_core.proofs.StepLaws.{raw_law}
+use Rattle.q_core.proofs.NoteLaws.{ignore_law, note_law}
+use Rattle.q_core.proofs.SettleLaws.{settle_law}
+use Rattle.q_core.proofs.state.Core.hear_ignore.Goals as goal
+
+pub returns : goal.returns
+unfolding after
+returns c = λ w l a.
+    settle_law l refl refl (note_law (entries.Trigger triggers.A) (record { no_admit = λ id. refl; no_start_of = λ id t. refl; no_charge = λ id t. refl; no_start = refl }) (ignore_law (raw_law a c.requires))) c.settle.ensures

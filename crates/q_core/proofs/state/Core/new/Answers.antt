@@ -1,0 +1,50 @@
+use Rattle.std.proofs.Common.{false, None, refl}
+use Rattle.q_core.proofs.BeginLaws.{begin_law}
+use Rattle.q_core.proofs.FitLaws.{fit_law}
+use Rattle.q_core.specs.declared.state.Core.{Core}
+use Rattle.q_core.specs.declared.state.Seen.TheVariants.{Unknown}
+use Rattle.q_core.proofs.state.Core.new.Goals as goal
+
+pub returns-clause-fit : goal.returns-clause-fit
+returns-clause-fit c = λ w book settings count fit.
+    let core : Core = record {
+      params = c.args.params;
+      transports = c.args.transports;
+      mode = c.args.mode;
+      clock = c.new.result;
+      timed = false;
+      next_run = 0;
+      scan = None;
+      asked = None;
+      ignores = false;
+      deferred_turn = false;
+      admitted = c.new-2.result;
+      waiting = c.new-3.result;
+      flights = c.new-4.result;
+      in_memory = 0;
+      served = c.new-5.result;
+      unsettled = c.new-6.result;
+      lines = c.in_ok-lines.lines;
+      sites = c.new-7.result;
+      synced = c.new-8.result;
+      starts = 0;
+      active = Unknown;
+      incoming = Unknown;
+      deferred = Unknown;
+    } in
+    begin_law w c.args.mode book core c.args.transports settings refl count
+    (record {
+      mode_is = refl;
+      clock = c.new.ensures;
+      admitted = c.new-2.ensures.items;
+      waiting = c.new-3.ensures.items;
+      flights = c.new-4.ensures.items;
+      served = c.new-5.ensures.items;
+      unsettled = c.new-6.ensures.items;
+      lines = c.in_ok-lines.ensures;
+      sites = c.new-7.ensures.items;
+      synced = c.new-8.ensures.items;
+    }) fit
+
+pub returns-clause-orderly : goal.returns-clause-orderly
+returns-clause-orderly c = λ w book settings count distinct orderly. returns-clause-fit c w book settings count (fit_law w c.args.mode book distinct orderly)

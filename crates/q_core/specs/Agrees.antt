@@ -1,0 +1,156 @@
+-- When the core agrees with a ledger: what it holds is what the ledger's parts say.
+use Rattle.std.specs.List.{enumerate_from, list_all, list_any}
+use Rattle.std.specs.Option.{option_map_or}
+use Rattle.std.specs.Prelude.{◌&&◌, ◌==◌, ◌≡◌, Bool, false, is_none, IsTrue, length, List, map, not, Option, slice_get, Some, true, ◌||◌, ℕ}
+use Rattle.q_model.specs.declared.id.Id.{Id}
+use Rattle.q_model.specs.declared.rows.Admitted.{Admitted}
+use Rattle.q_model.specs.declared.rows.DeferredName.{DeferredName}
+use Rattle.q_model.specs.declared.rows.Request.{Request}
+use Rattle.q_model.specs.declared.rows.Scan.{Scan}
+use Rattle.q_model.specs.Accounts.{charged, starts_of}
+use Rattle.q_model.specs.Admissions.{cause_gone}
+use Rattle.q_model.specs.Book.{message_of}
+use Rattle.q_model.specs.Finishing.{has_bounce, is_clean}
+use Rattle.q_model.specs.Leftovers.{is_leftover, next_leftover}
+use Rattle.q_model.specs.Ids.{id_eq}
+use Rattle.q_model.specs.Ledger.{Ledger}
+use Rattle.q_model.specs.Lists.{has_none}
+use Rattle.q_model.specs.Memory.{in_memory, unread_of}
+use Rattle.q_model.specs.Message.{Message, pending, unmarked_logged, written_marks}
+use Rattle.q_model.specs.Past.{starts}
+use Rattle.q_model.specs.Places.{is_active}
+use Rattle.q_model.specs.Settings.{World}
+use Rattle.q_model.specs.Startable.{line_of}
+use Rattle.q_model.specs.Turns.{deferred_next, incoming_next}
+use Rattle.q_core.specs.Scanning.{scan_after}
+use Rattle.q_core.specs.declared.decision.FileFacts.{FileFacts}
+use Rattle.q_core.specs.declared.decision.Found.{Found}
+use Rattle.q_core.specs.declared.line.Job.{Job}
+use Rattle.q_core.specs.declared.slot.Slot.{Slot}
+use Rattle.q_core.specs.declared.state.Core.{Core}
+use Rattle.q_core.specs.declared.state.Seen.{Seen}
+use Rattle.q_core.specs.declared.decision.Found.TheVariants.{Damaged, Nothing, Whole}
+use Rattle.q_core.specs.declared.state.Seen.TheVariants.{Known, Unknown}
+
+-- the row of a message in memory, by whether its bounce stands and by the message
+abbrev pub slot_from : Admitted → Bool → Option Message → Slot
+slot_from a bounced o = record {
+  id = a.id;
+  arrival = option_map_or (λ m. m.arrival) o 0;
+  null_sender = option_map_or (λ m. is_none m.sender) o false;
+  recipients = option_map_or (λ m. length m.recipients) o 0;
+  unread = a.unread;
+  marks = option_map_or (λ m. length (written_marks m)) o 0;
+  pending = option_map_or (λ m. length (pending m)) o 0;
+  unmarked = option_map_or (λ m. length (unmarked_logged m)) o 0;
+  failures = option_map_or (λ m. length m.failures) o 0;
+  bounced = bounced;
+}
+
+-- each of its numbers is counted in the book
+abbrev pub slot_of : Ledger → Admitted → Slot
+slot_of l a = slot_from a (has_bounce l a.id) (message_of l.book a.id)
+
+-- the job of an id at a transport, with its account
+abbrev pub job_of : Ledger → ℕ → Id → Job
+job_of l transport id = record { id = id; starts = starts_of l id transport; charged = charged l id transport }
+
+-- the jobs of a line
+abbrev pub jobs_of : Ledger → (ℕ × List Id) → List Job
+jobs_of l line = map (job_of l line.0) line.1
+
+-- the message stands in active
+abbrev pub is_present : Ledger → Admitted → Bool
+is_present l a = option_map_or (λ m. is_active m.place) (message_of l.book a.id) false
+
+-- what a look tells of a message
+abbrev pub file_of : Ledger → Id → Message → FileFacts
+file_of l id m = record {
+  arrival = m.arrival;
+  null_sender = is_none m.sender;
+  recipients = length m.recipients;
+  pending = length (pending m);
+  failures = length m.failures;
+  unmarked = slice_get (unmarked_logged m) 0;
+  bounced = has_bounce l id;
+  alone = cause_gone l.book id;
+}
+
+-- what a look tells of an id
+abbrev pub found_at : Ledger → ℕ → Id → Found
+found_at l due id = option_map_or (λ m. Whole id due (file_of l id m)) (message_of l.book id) (Damaged id due (cause_gone l.book id))
+
+-- what a look tells where it comes to a name of deferred, or to none
+abbrev pub found_next : Ledger → Option DeferredName → Found
+found_next l o = option_map_or (λ (n : DeferredName). found_at l n.due n.id) o Nothing
+
+-- the true answers to the three looks
+abbrev pub found_active : Ledger → Found
+found_active l = option_map_or (λ id. found_at l 0 id) (next_leftover l) Nothing
+
+abbrev pub found_incoming : Ledger → Found
+found_incoming l = option_map_or (λ id. found_at l 0 id) (incoming_next l) Nothing
+
+abbrev pub found_deferred : Ledger → Found
+found_deferred l = found_next l (deferred_next l)
+
+-- what a look has shown is still true
+abbrev pub IsSeen : Seen → Found → Type 0
+IsSeen Unknown found = Unit {0}
+IsSeen (Known seen) found = seen ≡ found
+
+-- what a look at deferred has shown is still true, and the scan is the ledger's
+abbrev pub IsSeenScan : Seen → Option Scan → Option Request → Ledger → Type 0
+IsSeenScan Unknown scan asked l = Unit {0}
+IsSeenScan (Known found) scan asked l = (scan ≡ l.scan) × (asked ≡ l.asked) × (found ≡ found_deferred l)
+
+-- What the core's scan and request come to be by the book are the ledger's. Where deferred was looked at, they are so already.
+pub record IsScan (c : Core) (l : Ledger) : Type 0 where
+  pub settles : scan_after l.book l.now c.scan c.asked ≡ (l.scan, l.asked)
+  pub seen : IsSeenScan c.deferred c.scan c.asked l
+
+-- a leftover that was synced has each failure marked and each mark synced
+abbrev pub is_synced_well : Ledger → Id → Bool
+is_synced_well l id = not (is_leftover l id) || option_map_or (λ m. is_clean m && has_none (unmarked_logged m)) (message_of l.book id) true
+
+-- outside active each failure is marked and each mark is synced
+abbrev pub is_orderly : Message → Bool
+is_orderly m = is_active m.place || (is_clean m && has_none (unmarked_logged m))
+
+-- an id that has something unread and isn't in the line has no account there
+abbrev pub IsFresh : Ledger → Id → ℕ → Type 0
+IsFresh l id transport = (unread_of l id == 0) ≡ false → list_any (id_eq id) (line_of l transport) ≡ false → (starts_of l id transport ≡ 0) × (charged l id transport ≡ 0)
+
+-- all but the scan
+pub record Holds (w : World) (c : Core) (l : Ledger) : Type 0 where
+  pub settings : c.params ≡ w.settings
+  pub count : c.transports ≡ length l.lines
+  pub transports : length l.lines ≡ length w.table.transports
+  pub mode : c.mode ≡ l.mode
+  pub clock : c.clock.seconds ≡ l.now
+  pub timed : c.timed ≡ l.timed
+  pub next_run : c.next_run ≡ l.next_run
+  pub ignores : c.ignores ≡ l.ignores
+  pub deferred_turn : c.deferred_turn ≡ l.deferred_turn
+  pub admitted : c.admitted.items ≡ map (slot_of l) l.admitted
+  pub present : IsTrue (list_all (is_present l) l.admitted)
+  pub waiting : c.waiting.items ≡ l.waiting
+  pub flights : c.flights.items ≡ l.flights
+  pub memory : c.in_memory ≡ in_memory l
+  pub served : c.served.items ≡ l.served
+  pub unsettled : c.unsettled.items ≡ l.unsettled
+  pub lines : c.lines.items ≡ map (jobs_of l) (enumerate_from 0 l.lines)
+  pub fresh : (id : Id) (transport : ℕ) → IsFresh l id transport
+  pub sites : c.sites.items ≡ l.sites
+  pub synced : c.synced.items ≡ l.synced
+  pub starts : c.starts ≡ starts l
+  pub active : IsSeen c.active (found_active l)
+  pub incoming : IsSeen c.incoming (found_incoming l)
+  pub leftovers_stand : (id : Id) (m : Message) → is_leftover l id ≡ true → message_of l.book id ≡ Some m → is_active m.place ≡ true
+  pub synced_well : IsTrue (list_all (is_synced_well l) l.synced)
+  pub orderly : IsTrue (list_all is_orderly l.book.messages)
+
+-- the core agrees with the ledger
+pub record Agrees (w : World) (c : Core) (l : Ledger) : Type 0 where
+  pub parts : Holds w c l
+  pub scan : IsScan c l

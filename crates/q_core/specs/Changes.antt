@@ -1,0 +1,70 @@
+-- How the core changes.
+use Rattle.std.specs.List.{enumerate_from}
+use Rattle.std.specs.Option.{option_map_or}
+use Rattle.std.specs.Prelude.{◌+◌, ◌≡◌, Bool, false, if◌then◌else◌, is_none, map, nat_le, None, Option, Some, true, ◌||◌, ℕ}
+use Rattle.q_model.specs.declared.id.Id.{Id}
+use Rattle.q_model.specs.declared.rows.Request.{Request}
+use Rattle.q_model.specs.Scans.{joined_request, new_scan}
+use Rattle.q_model.specs.declared.rows.Request.TheVariants as requests
+use Rattle.q_core.specs.Destinations.{forget_in, revive_dead_in, revive_due_in, used_in}
+use Rattle.q_core.specs.Files.{is_nothing}
+use Rattle.q_core.specs.Settled.{settled_line, settled_served}
+use Rattle.q_core.specs.Slots.{without_marks}
+use Rattle.q_core.specs.declared.decision.Found.{Found}
+use Rattle.q_core.specs.declared.state.Core.{Core}
+use Rattle.q_core.specs.declared.state.Seen.{Seen}
+use Rattle.q_core.specs.declared.state.Seen.TheVariants.{Known, Unknown}
+
+-- a request for all where due times are ignored
+abbrev pub request_by : Bool → Request
+request_by ignores = if ignores then requests.All else requests.Due
+
+-- a scan begins, or the request for it is remembered
+abbrev pub asked_scan : Core → Core
+asked_scan c = option_map_or (λ s. record c { asked = Some (joined_request c.asked (request_by c.ignores)); ignores = false }) c.scan
+    (record c { scan = Some (new_scan c.clock.seconds (request_by c.ignores)); deferred = Unknown; ignores = false })
+
+-- the same where the time for it has come
+abbrev pub asked_when_due : Core → Core
+asked_when_due c = if nat_le c.next_run c.clock.seconds then asked_scan (record c { next_run = c.clock.seconds + c.params.run_delay }) else c
+
+-- a look's answer is known
+abbrev pub is_known : Seen → Bool
+is_known Unknown = false
+is_known (Known found) = true
+
+-- the scan's next name was looked at, or there is no scan
+abbrev pub is_looked_at : Core → Bool
+is_looked_at c = is_none c.scan || is_known c.deferred
+
+-- a scan without a next name is over, and a request that is remembered begins
+abbrev pub scan_ended : Core → Option Request → Core
+scan_ended c None = record c { scan = None; deferred = Unknown }
+scan_ended c (Some request) = record c { scan = Some (new_scan c.clock.seconds request); asked = None; deferred = Unknown }
+
+-- what a look at deferred has shown
+abbrev pub looked_at : Core → Found → Core
+looked_at c found = if is_nothing found then scan_ended c c.asked else record c { deferred = Known found }
+
+-- Lines, served rows and site records are those of what is left; nothing else changed.
+pub record IsSettled (old new : Core) : Type 0 where
+  pub rest : new ≡ record old { lines = new.lines; served = new.served; sites = new.sites }
+  pub lines : new.lines.items ≡ map (settled_line old.admitted.items old.waiting.items) (enumerate_from 0 old.lines.items)
+  pub served : new.served.items ≡ settled_served old.waiting.items old.served.items
+  pub sites : new.sites.items ≡ forget_in old.waiting.items old.flights.items old.params.recipient_limit (used_in old.waiting.items old.flights.items old.sites.items)
+
+-- the time is set, and the sites whose time has come are alive
+pub record IsWoken (old new : Core) (moment : ℕ) : Type 0 where
+  pub rest : new ≡ record old { clock = new.clock; timed = true; sites = new.sites }
+  pub seconds : new.clock.seconds ≡ moment
+  pub sites : new.sites.items ≡ map (revive_due_in old.params old.flights.items moment) old.sites.items
+
+-- all dead sites are alive
+pub record IsRevived (old new : Core) : Type 0 where
+  pub rest : new ≡ record old { sites = new.sites }
+  pub sites : new.sites.items ≡ map (revive_dead_in old.params old.flights.items) old.sites.items
+
+-- no mark of the message may be lost any more
+pub record IsSyncedCore (old new : Core) (id : Id) : Type 0 where
+  pub rest : new ≡ record old { admitted = new.admitted }
+  pub admitted : new.admitted.items ≡ map (without_marks id) old.admitted.items

@@ -1,0 +1,47 @@
+-- The next decision, by what the core holds.
+use Rattle.std.specs.Option.{option_or}
+use Rattle.std.specs.Prelude.{◌≡◌, ◌⊎◌, if◌then◌else◌, None, not, Option, Some}
+use Rattle.q_model.specs.declared.entry.Entry.{Entry}
+use Rattle.q_model.specs.declared.rows.Scan.{Scan}
+use Rattle.q_model.specs.Ledger.{Ledger}
+use Rattle.q_model.specs.Settings.{World}
+use Rattle.q_core.specs.Choosing.{next_start_in}
+use Rattle.q_core.specs.Decisions.{IsReadRule, IsRule}
+use Rattle.q_core.specs.Rules.{first_need_in, next_admission_in, next_clearing_in, next_finish_in, next_read_in, next_skip_in, next_sync_in}
+use Rattle.q_core.specs.declared.decision.Decision.{Decision}
+use Rattle.q_core.specs.declared.state.Core.{Core}
+use Rattle.q_core.specs.declared.state.Seen.{Seen}
+use Rattle.q_core.specs.declared.decision.Decision.TheVariants as decisions
+use Rattle.q_core.specs.declared.state.Seen.TheVariants.{Known, Unknown}
+
+-- the look at deferred that a scan wants
+abbrev pub scan_look_of : Scan → Seen → Option Decision
+scan_look_of scan Unknown = Some (decisions.LookDeferred scan.place scan.until)
+scan_look_of scan (Known found) = None
+
+-- a scan's next name is looked at before anything else is decided
+abbrev pub scan_look_in : Seen → Option Scan → Option Decision
+scan_look_in deferred None = None
+scan_look_in deferred (Some scan) = scan_look_of scan deferred
+
+-- the first of the last four rules
+abbrev pub clearing_on : Core → Option Decision
+clearing_on c = option_or (next_clearing_in c c.active) (option_or (next_admission_in c c.incoming) (option_or (next_read_in c) (next_start_in c)))
+
+-- the first of the eight rules
+abbrev pub first_rule_in : Core → Option Decision
+first_rule_in c = option_or (first_need_in c) (option_or (next_sync_in c) (option_or (next_skip_in c) (option_or (next_finish_in c) (clearing_on c))))
+
+-- before the first `at` of a life there is none
+abbrev pub decide_in : Core → Option Decision
+decide_in c = if not c.timed then None else option_or (scan_look_in c.deferred c.scan) (first_rule_in c)
+
+-- a look, at what isn't known
+abbrev pub IsLooking : Core → Option Decision → Type 0
+IsLooking c d = ((d ≡ Some decisions.LookActive) × (c.active ≡ Unknown))
+    ⊎ (((d ≡ Some decisions.LookIncoming) × (c.incoming ≡ Unknown))
+    ⊎ ((scan : Scan) × (d ≡ Some (decisions.LookDeferred scan.place scan.until)) × (c.scan ≡ Some scan) × (c.deferred ≡ Unknown)))
+
+-- the rule has the entry of the decision, which may be a read; or the decision is a look
+abbrev pub IsNext : World → Ledger → Core → Option Decision → Option Entry → Type 0
+IsNext w l c d rule = IsRule c d rule ⊎ (IsReadRule w l d rule ⊎ IsLooking c d)

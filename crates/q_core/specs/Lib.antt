@@ -1,0 +1,16 @@
+pub mod Slots
+pub mod Files
+pub mod Lists
+pub mod Destinations
+pub mod Held
+pub mod Scanning
+pub mod Agrees
+pub mod Fitting
+pub mod Rules
+pub mod Starting
+pub mod Choosing
+pub mod Decisions
+pub mod Queries
+pub mod Deciding
+pub mod Settled
+pub mod Changes

@@ -1,0 +1,66 @@
+//! Which file comes into memory next.
+ghost use Rattle.std.specs.Prelude.{◌≡◌};
+ghost use Rattle.q_core.specs.Files.{picked, taken_found};
+ghost use Rattle.q_core.specs.Rules.{admission_in, has_message_room_in, next_admission_in};
+
+use crate::decision::{Decision, Found};
+use crate::state::{Core, Seen};
+use q_model::Mode;
+
+impl Core {
+    /// Whether another message may come into memory.
+    fn has_message_room(&self) -> bool
+        ensures { result ≡ has_message_room_in self.now }
+    {
+        let delivers = match self.mode {
+            Mode::Deliver => true,
+            Mode::Intake => false,
+        };
+        delivers
+            && self.admitted.len() < self.params.qmgr_message_active_limit as usize
+            && self.params.qmgr_message_recipient_minimum <= self.free()
+    }
+
+    /// The file of the queue whose turn it is, or of the one that has a file.
+    fn take(&self, incoming: &Found, deferred: &Found) -> Option<Decision>
+        ensures { result ≡ taken_found (picked self.now.deferred_turn incoming.now deferred.now) }
+    {
+        if incoming.is_nothing() {
+            deferred.taken()
+        } else if deferred.is_nothing() {
+            incoming.taken()
+        } else if self.deferred_turn {
+            deferred.taken()
+        } else {
+            incoming.taken()
+        }
+    }
+
+    /// What is taken, or the look at deferred that is still wanted.
+    fn admission(&self, incoming: &Found) -> Option<Decision>
+        ensures { result ≡ admission_in self.now incoming.now self.now.deferred self.now.scan }
+    {
+        match &self.scan {
+            None => self.take(incoming, &Found::Nothing),
+            Some(scan) => match &self.deferred {
+                Seen::Unknown => Some(Decision::LookDeferred {
+                    after: scan.place,
+                    until: scan.until,
+                }),
+                Seen::Known { found } => self.take(incoming, found),
+            },
+        }
+    }
+
+    pub(crate) fn next_admission(&self) -> Option<Decision>
+        ensures { result ≡ next_admission_in self.now self.now.incoming }
+    {
+        if !self.has_message_room() {
+            return None;
+        }
+        match &self.incoming {
+            Seen::Unknown => Some(Decision::LookIncoming),
+            Seen::Known { found } => self.admission(found),
+        }
+    }
+}

@@ -1,0 +1,213 @@
+//! What a transport does next: a delivery of the current job begins, or another job preempts it
+//! (SCHEDULER_README, "Preemptive scheduling").
+ghost use Rattle.std.specs.Prelude.{◌≡◌, ◌<◌, ◌^◌, ◌&&◌, ◌==◌, count_by};
+ghost use Rattle.std.specs.Option.{option_copied};
+ghost use Rattle.q_core.specs.Choosing.{behind_jobs, best_in, choice_in, choices_from, choose_in, current_in, is_better_in, is_candidate_in, is_fresh_among, jobs_at, next_start_in, pays_in, rest_in};
+ghost use Rattle.q_core.specs.Lists.{prefer};
+ghost use Rattle.q_model.specs.Ids.{id_eq};
+
+use crate::decision::Decision;
+use crate::line::Job;
+use crate::names::same_id;
+use crate::slot::Slot;
+use crate::state::Core;
+use q_model::Id;
+use q_params::Params;
+
+/// The jobs behind this one.
+fn behind(jobs: &[Job], id: Id) -> &[Job]
+    ensures { result.now ≡ behind_jobs id jobs.now }
+{
+    let mut rest = jobs;
+    while let [job, others @ ..] = rest {
+        rest = others;
+        if same_id(job.id, id) {
+            return rest;
+        }
+    }
+    rest
+}
+
+/// Whether the id is a job among these that began no delivery.
+fn is_fresh(jobs: &[Job], id: Id) -> bool
+    ensures { result ≡ is_fresh_among jobs.now id }
+{
+    jobs.iter()
+        .any(|job| same_id(id, job.id) && job.starts == 0)
+}
+
+/// Whether a job with this need may preempt the parent, which has so much left. What its account
+/// lacks stands on the other side, so that no number is below 0.
+fn pays(params: &Params, parent: &Job, left: u64, need: u64) -> bool
+    ensures { result ≡ pays_in params.now parent.now left need }
+{
+    let cost = u128::from(params.default_delivery_slot_cost);
+    let begun = u128::from(parent.starts);
+    let owed = cost * u128::from(parent.charged);
+    let left = u128::from(left);
+    let need = u128::from(need);
+    let share = u128::from(100u32.saturating_sub(params.default_delivery_slot_discount));
+    let price = need * share * cost + 100 * owed;
+    let credit = 100 * (begun + u128::from(params.default_delivery_slot_loan) * cost);
+    price <= credit
+        && cost * need + owed <= begun + left
+        && cost * u128::from(params.default_minimum_delivery_slots) <= begun + left
+}
+
+impl Core {
+    fn waiting_for(&self, id: Id, transport: u8) -> usize
+        ensures { result ≡ count_by (λ r. id_eq r.id id && (r.site.transport == transport)) self.now.waiting.items }
+    {
+        self.waiting
+            .iter()
+            .filter(|row| same_id(row.id, id) && row.site.transport == transport)
+            .count()
+    }
+
+    /// The deliveries that the message has left at the transport, where each unread recipient
+    /// counts as one.
+    fn rest(&self, id: Id, transport: u8) -> u64
+        ensures { result ≡ rest_in self.now transport id }
+    {
+        self.waiting_for(id, transport) as u64 + u64::from(self.unread(id))
+    }
+
+    fn jobs(&self, transport: u8) -> &[Job]
+        ensures { result.now ≡ jobs_at self.now transport }
+    {
+        match self.lines.get(usize::from(transport)) {
+            Some(line) => line.jobs(),
+            None => &[],
+        }
+    }
+
+    /// The first job in the line that may start something.
+    fn current(&self, transport: u8) -> Option<&Job>
+        ensures { option_copied result ≡ current_in self.now transport }
+    {
+        self.jobs(transport)
+            .iter()
+            .find(|job| self.can_start(job.id, transport))
+    }
+
+    fn pays(&self, parent: &Job, left: u64, need: u64) -> bool
+        ensures { result ≡ pays_in self.now.params parent.now left need }
+    {
+        pays(&self.params, parent, left, need)
+    }
+
+    /// Whether the message may preempt the current job; `behind` are the jobs behind that.
+    fn is_candidate(&self, behind: &[Job], parent: &Job, transport: u8, id: Id) -> bool
+        ensures { result ≡ is_candidate_in self.now transport behind.now parent.now id }
+    {
+        self.params.default_delivery_slot_cost != 0
+            && is_fresh(behind, id)
+            && self.can_start(id, transport)
+            && self.pays(
+                parent,
+                self.rest(parent.id, transport),
+                self.rest(id, transport),
+            )
+    }
+
+    /// Whether the first preempts before the second: its (age + 1) / need is greater.
+    fn is_better(&self, transport: u8, first: &Slot, second: &Slot) -> bool
+        ensures { result ≡ is_better_in self.now transport first.now second.now }
+    {
+        let other = (u128::from(self.clock.since(second.arrival)) + 1)
+            * u128::from(self.rest(first.id, transport));
+        let own = (u128::from(self.clock.since(first.arrival)) + 1)
+            * u128::from(self.rest(second.id, transport));
+        other < own
+    }
+
+    /// The better of a message and of the best behind it.
+    fn better(
+        &self,
+        behind: &[Job],
+        parent: &Job,
+        transport: u8,
+        slot: &Slot,
+        best: Option<Slot>,
+    ) -> Option<Slot>
+        ensures { result ≡ prefer (λ s. is_candidate_in self.now transport behind.now parent.now s.id) (is_better_in self.now transport) slot.now best }
+    {
+        if !self.is_candidate(behind, parent, transport, slot.id) {
+            return best;
+        }
+        match best {
+            None => Some(*slot),
+            Some(other) => {
+                if self.is_better(transport, &other, slot) {
+                    Some(other)
+                } else {
+                    Some(*slot)
+                }
+            }
+        }
+    }
+
+    /// The message that preempts the current job; among equals the first admitted.
+    fn best(&self, behind: &[Job], parent: &Job, transport: u8) -> Option<Slot>
+        ensures { result ≡ best_in self.now transport behind.now parent.now }
+    {
+        let mut best = None;
+        let mut i = self.admitted.len();
+        while i > 0 {
+            i -= 1;
+            best = self.better(behind, parent, transport, &self.admitted[i], best);
+        }
+        best
+    }
+
+    /// What the current job of a transport leads to.
+    fn choose(&self, parent: Job, transport: u8) -> Option<Decision>
+        requires { self.now.starts < 2 ^ 48 }
+        ensures { result ≡ choose_in self.now transport parent }
+    {
+        let behind = behind(self.jobs(transport), parent.id);
+        match self.best(behind, &parent, transport) {
+            Some(child) => Some(Decision::Preempt {
+                child: child.id,
+                parent: parent.id,
+                transport,
+                need: self.rest(child.id, transport),
+            }),
+            None => self.start(parent.id, transport),
+        }
+    }
+
+    fn choice(&self, transport: u8) -> Option<Decision>
+        requires { self.now.starts < 2 ^ 48 }
+        ensures { result ≡ choice_in self.now transport }
+    {
+        match self.current(transport) {
+            Some(parent) => self.choose(*parent, transport),
+            None => None,
+        }
+    }
+
+    /// The choice of the first transport that has one.
+    fn first_choice(&self) -> Option<Decision>
+        requires { self.now.starts < 2 ^ 48 }
+        ensures { result ≡ choices_from self.now 0 self.now.transports }
+    {
+        for transport in 0..self.transports {
+            if let Some(decision) = self.choice(transport) {
+                return Some(decision);
+            }
+        }
+        None
+    }
+
+    /// The choice, while the life has begun fewer than 2^48 deliveries.
+    pub(crate) fn next_start(&self) -> Option<Decision>
+        ensures { result ≡ next_start_in self.now }
+    {
+        if self.starts < 1 << 48 {
+            self.first_choice()
+        } else {
+            None
+        }
+    }
+}

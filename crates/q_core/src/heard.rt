@@ -1,0 +1,98 @@
+//! Events without a row: the clock and the triggers (qmgr(8)).
+ghost use Rattle.std.specs.Prelude.{◌≡◌, ◌≤◌, IsTrue};
+ghost use Rattle.q_core.specs.Agrees.{Agrees};
+ghost use Rattle.q_core.specs.Changes.{IsRevived, IsWoken, asked_when_due, is_looked_at};
+ghost use Rattle.q_model.specs.Ledger.{Ledger};
+ghost use Rattle.q_model.specs.Settings.{World};
+ghost use Rattle.q_model.specs.Step.{after};
+
+use crate::clock::Clock;
+use crate::destination::{revive_all, revive_due};
+use crate::state::{Core, Seen};
+use q_model::{Entry, Moment, Trigger};
+
+impl Core {
+    /// Whether the next name of the scan was looked at, or there is no scan.
+    pub(crate) fn is_looked_at(&self) -> bool
+        ensures { result ≡ is_looked_at self.now }
+    {
+        match (&self.scan, &self.deferred) {
+            (None, _) => true,
+            (Some(_), Seen::Unknown) => false,
+            (Some(_), Seen::Known { .. }) => true,
+        }
+    }
+
+    /// Sets the clock, and revives the destinations whose time has come.
+    fn wake(&mut self, moment: Moment)
+        requires { moment ≤ 999990000000 }
+        ensures { IsWoken self.old self.new moment }
+    {
+        self.clock = Clock::new(moment);
+        self.timed = true;
+        revive_due(&mut self.sites, &self.flights, &self.params, moment);
+    }
+
+    /// Asks for the scan that is due.
+    fn ask_when_due(&mut self)
+        ensures { self.new ≡ asked_when_due self.old }
+    {
+        if self.next_run <= self.clock.seconds {
+            self.next_run = self.clock.seconds + u64::from(self.params.queue_run_delay);
+            self.ask_scan();
+        }
+    }
+
+    /// Takes the event of a moment.
+    pub(crate) fn hear_at(&mut self, moment: Moment)
+        requires early { moment ≤ 999990000000 }
+        requires seen { IsTrue (is_looked_at self.old) }
+        ensures { (w : World) → (l : Ledger) → Agrees w self.old l → Agrees w self.new (after w l (Entry.At moment)) }
+    {
+        self.wake(moment);
+        self.ask_when_due();
+        self.settle();
+    }
+
+    fn revive_all(&mut self)
+        ensures { IsRevived self.old self.new }
+    {
+        revive_all(&mut self.sites, &self.flights, &self.params);
+    }
+
+    fn hear_scan(&mut self)
+        requires { IsTrue (is_looked_at self.old) }
+        ensures { (w : World) → (l : Ledger) → Agrees w self.old l → Agrees w self.new (after w l (Entry.Trigger Trigger.D)) }
+    {
+        self.ask_scan();
+        self.settle();
+    }
+
+    fn hear_ignore(&mut self)
+        requires { IsTrue (is_looked_at self.old) }
+        ensures { (w : World) → (l : Ledger) → Agrees w self.old l → Agrees w self.new (after w l (Entry.Trigger Trigger.A)) }
+    {
+        self.ignores = true;
+        self.settle();
+    }
+
+    fn hear_revival(&mut self)
+        requires { IsTrue (is_looked_at self.old) }
+        ensures { (w : World) → (l : Ledger) → Agrees w self.old l → Agrees w self.new (after w l (Entry.Trigger Trigger.F)) }
+    {
+        self.revive_all();
+        self.settle();
+    }
+
+    /// Takes the event of a trigger.
+    pub(crate) fn hear_trigger(&mut self, kind: Trigger)
+        requires { IsTrue (is_looked_at self.old) }
+        ensures { (w : World) → (l : Ledger) → Agrees w self.old l → Agrees w self.new (after w l (Entry.Trigger kind)) }
+    {
+        match kind {
+            Trigger::D => self.hear_scan(),
+            Trigger::A => self.hear_ignore(),
+            Trigger::F => self.hear_revival(),
+        }
+    }
+}

@@ -1,0 +1,33 @@
+//! The decision core of a queue manager: what is known of one life, held in plain lists, and what
+//! is to be done next (SCHEDULER_README, qmgr(8)). It sees ids, positions and counts, never a
+//! byte of a file.
+#![tactic(auto)]
+
+mod admission;
+mod choice;
+mod clock;
+mod decision;
+mod destination;
+mod finishing;
+mod heard;
+mod idle;
+pub mod laws;
+mod leftover;
+mod line;
+mod names;
+mod next;
+mod queries;
+mod reading;
+mod scan;
+mod settle;
+mod slot;
+mod start;
+mod state;
+mod sync;
+#[cfg(test)]
+mod tests;
+mod unsettled;
+
+pub use decision::{Decision, FileFacts, Found};
+pub use queries::Flight;
+pub use state::Core;

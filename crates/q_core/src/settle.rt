@@ -1,0 +1,102 @@
+//! What holds after each entry: lines, served rows and destinations of what is left.
+ghost use Rattle.std.specs.Prelude.{◌≡◌, find, map};
+ghost use Rattle.std.specs.List.{enumerate_from};
+ghost use Rattle.std.specs.Option.{option_copied};
+ghost use Rattle.q_core.specs.Changes.{IsSettled};
+ghost use Rattle.q_core.specs.Settled.{settled_jobs, settled_line, settled_served, slot_among, stays_among, unread_among, waits_at_site, waits_for};
+
+use crate::destination::{drop_unused, forget_oldest};
+use crate::line::{Job, Line};
+use crate::names::{same_id, same_site};
+use crate::slot::Slot;
+use crate::state::Core;
+use q_model::{Id, Row, Served, Site};
+
+fn slot(admitted: &[Slot], id: Id) -> Option<&Slot>
+    ensures { option_copied result ≡ slot_among admitted.now id }
+{
+    admitted.iter().find(|slot| same_id(slot.id, id))
+}
+
+/// How many positions of the message weren't read.
+fn unread(admitted: &[Slot], id: Id) -> u32
+    ensures { result ≡ unread_among admitted.now id }
+{
+    match slot(admitted, id) {
+        Some(slot) => slot.recipients.saturating_sub(slot.unread),
+        None => 0,
+    }
+}
+
+/// Whether a row of the message waits for the transport.
+fn waits_for(waiting: &[Row], id: Id, transport: usize) -> bool
+    ensures { result ≡ waits_for waiting.now id transport }
+{
+    waiting.iter().any(|row| same_id(row.id, id) && usize::from(row.site.transport) == transport)
+}
+
+/// Whether a row of the message waits at the site.
+fn waits_at(waiting: &[Row], id: Id, site: &Site) -> bool
+    ensures { result ≡ waits_at_site waiting.now id site.now }
+{
+    waiting
+        .iter()
+        .any(|row| same_id(row.id, id) && same_site(&row.site, site))
+}
+
+/// Whether the message has something left at the transport.
+fn stays(admitted: &[Slot], waiting: &[Row], id: Id, transport: usize) -> bool
+    ensures { result ≡ stays_among admitted.now waiting.now transport id }
+{
+    unread(admitted, id) != 0 || waits_for(waiting, id, transport)
+}
+
+/// Takes the jobs that have nothing left out of the line.
+fn settle_jobs(jobs: &mut Vec<Job>, admitted: &[Slot], waiting: &[Row], transport: usize)
+    ensures { jobs.new.items ≡ settled_jobs admitted.now waiting.now transport jobs.old.items }
+{
+    jobs.retain(|job| stays(admitted, waiting, job.id, transport));
+}
+
+impl Line {
+    fn settle(&mut self, admitted: &[Slot], waiting: &[Row], transport: usize)
+        ensures { self.new ≡ settled_jobs admitted.now waiting.now transport self.old }
+    {
+        settle_jobs(&mut self.jobs, admitted, waiting, transport);
+    }
+}
+
+/// Takes the jobs that have nothing left out of the lines.
+fn settle_lines(lines: &mut [Line], admitted: &[Slot], waiting: &[Row])
+    ensures { lines.new ≡ map (settled_line admitted.now waiting.now) (enumerate_from 0 lines.old) }
+{
+    for (transport, line) in lines.iter_mut().enumerate() {
+        line.settle(admitted, waiting, transport);
+    }
+}
+
+fn has_row(served: &Served, waiting: &[Row]) -> bool
+    ensures { result ≡ waits_at_site waiting.now served.now.id served.now.site }
+{
+    waits_at(waiting, served.id, &served.site)
+}
+
+/// Forgets when a message was served at a site where it has no row any more.
+fn settle_served(served: &mut Vec<Served>, waiting: &[Row])
+    ensures { served.new.items ≡ settled_served waiting.now served.old.items }
+{
+    served.retain(|last| has_row(last, waiting));
+}
+
+impl Core {
+    /// Settles after an entry that takes no row from a site.
+    pub(crate) fn settle(&mut self)
+        ensures { IsSettled self.old self.new }
+    {
+        settle_lines(&mut self.lines, &self.admitted, &self.waiting);
+        settle_served(&mut self.served, &self.waiting);
+        drop_unused(&mut self.sites, &self.waiting, &self.flights);
+        let limit = self.params.qmgr_message_recipient_limit as usize;
+        forget_oldest(&mut self.sites, &self.waiting, &self.flights, limit);
+    }
+}

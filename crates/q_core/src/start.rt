@@ -1,0 +1,119 @@
+//! Which waiting row of a message is sent next at a transport.
+ghost use Rattle.std.specs.Prelude.{◌≡◌, ◌<◌, ◌^◌, nat_lt};
+ghost use Rattle.std.specs.Option.{option_copied};
+ghost use Rattle.q_core.specs.Lists.{prefer};
+ghost use Rattle.q_core.specs.Starting.{can_start_in, flights_at, has_room_in, is_startable_in, last_start_in, next_row_in, rows_for, served_for, start_in};
+
+use crate::decision::Decision;
+use crate::destination::busy;
+use crate::names::{same_id, same_site};
+use crate::state::Core;
+use q_model::{Id, Row, Served, Site};
+
+impl Core {
+    fn flights_of(&self, transport: u8) -> usize
+        ensures { result ≡ flights_at self.now transport }
+    {
+        self.flights
+            .iter()
+            .filter(|flight| flight.row.site.transport == transport)
+            .count()
+    }
+
+    /// Whether the site is alive, with fewer deliveries in flight than its window.
+    fn has_room(&self, site: &Site) -> bool
+        ensures { result ≡ has_room_in self.now site.now }
+    {
+        match self.destination(site) {
+            Some(known) => known.takes_more(busy(&self.flights, site) as u64),
+            None => false,
+        }
+    }
+
+    fn is_startable(&self, row: &Row) -> bool
+        ensures { result ≡ is_startable_in self.now row.now }
+    {
+        self.flights_of(row.site.transport) < self.params.default_process_limit as usize
+            && self.has_room(&row.site)
+    }
+
+    fn is_startable_for(&self, id: Id, transport: u8, row: &Row) -> bool
+        ensures { result ≡ rows_for self.now id transport row.now }
+    {
+        same_id(row.id, id) && row.site.transport == transport && self.is_startable(row)
+    }
+
+    /// Whether the message has a row at the transport that may be sent now.
+    pub(crate) fn can_start(&self, id: Id, transport: u8) -> bool
+        ensures { result ≡ can_start_in self.now transport id }
+    {
+        self.waiting
+            .iter()
+            .any(|row| self.is_startable_for(id, transport, row))
+    }
+
+    fn served_at(&self, row: &Row) -> Option<&Served>
+        ensures { option_copied result ≡ served_for self.now row.now }
+    {
+        self.served.iter().find(|served| same_id(served.id, row.id)
+            && same_site(&served.site, &row.site))
+    }
+
+    /// The number of the message's last delivery to the row's site, 0 for none.
+    fn last_start(&self, row: &Row) -> u64
+        ensures { result ≡ last_start_in self.now row.now }
+    {
+        match self.served_at(row) {
+            Some(served) => served.last,
+            None => 0,
+        }
+    }
+
+    /// The earlier of a row and of the one to start among those behind it.
+    fn sooner<'a>(
+        &self,
+        id: Id,
+        transport: u8,
+        row: &'a Row,
+        next: Option<&'a Row>,
+    ) -> Option<&'a Row>
+        ensures { option_copied result ≡ prefer (rows_for self.now id transport) (λ a b. nat_lt (last_start_in self.now a) (last_start_in self.now b)) row.now (option_copied next.entry) }
+    {
+        if !self.is_startable_for(id, transport, row) {
+            return next;
+        }
+        match next {
+            Some(other) if self.last_start(other) < self.last_start(row) => Some(other),
+            _ => Some(row),
+        }
+    }
+
+    /// The row of the message that starts next at the transport. It is of the site that the
+    /// message was sent to longest ago or never; among equals it is the first read.
+    fn next_row(&self, id: Id, transport: u8) -> Option<&Row>
+        ensures { option_copied result ≡ next_row_in self.now transport id }
+    {
+        let mut next = None;
+        let mut i = self.waiting.len();
+        while i > 0 {
+            i -= 1;
+            next = self.sooner(id, transport, &self.waiting[i], next);
+        }
+        next
+    }
+
+    /// The next delivery of the message at the transport.
+    pub(crate) fn start(&self, id: Id, transport: u8) -> Option<Decision>
+        requires { self.now.starts < 2 ^ 48 }
+        ensures { result ≡ start_in self.now transport id }
+    {
+        match self.next_row(id, transport) {
+            Some(row) => Some(Decision::Start {
+                number: self.starts + 1,
+                id: row.id,
+                site: row.site,
+            }),
+            None => None,
+        }
+    }
+}

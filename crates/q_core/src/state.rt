@@ -1,0 +1,121 @@
+//! The state of the core.
+ghost use Rattle.std.specs.Prelude.{◌≡◌, ◌+◌, find, length, IfOk, IsTrue};
+ghost use Rattle.std.specs.Option.{option_copied};
+ghost use Rattle.q_core.specs.Agrees.{Agrees};
+ghost use Rattle.q_core.specs.Fitting.{IsFit};
+ghost use Rattle.q_core.specs.Held.{destination_in, is_dead_in, slot_in};
+ghost use Rattle.q_model.specs.Book.{Book};
+ghost use Rattle.q_model.specs.FilesStand.{all_ids, are_distinct};
+ghost use Rattle.q_model.specs.Ledger.{opening};
+ghost use Rattle.q_model.specs.Orderly.{is_orderly};
+ghost use Rattle.q_model.specs.Settings.{World};
+ghost use Rattle.q_model.specs.Step.{after};
+
+use crate::clock::Clock;
+use crate::decision::Found;
+use crate::destination::Destination;
+use crate::line::{Line, empty_lines};
+use crate::names::{same_id, same_site};
+use crate::slot::Slot;
+use q_model::{
+    Delivery, Entry, Id, Mode, Moment, NoMemory, Request, Row, Scan, Served, Site, Unsettled,
+};
+use q_params::Params;
+use std::alloc::Global;
+
+/// What a look has shown, while it holds.
+#[derive(Clone, Copy, Debug)]
+pub enum Seen {
+    Unknown,
+    Known { found: Found },
+}
+
+/// What is known in one life of a queue manager, without names on disk and without texts.
+#[derive(Debug, Drop)]
+pub struct Core {
+    pub(crate) params: Params,
+    pub(crate) transports: u8,
+    pub(crate) mode: Mode,
+    pub(crate) clock: Clock,
+    pub(crate) timed: bool,
+    pub(crate) next_run: Moment,
+    pub(crate) scan: Option<Scan>,
+    pub(crate) asked: Option<Request>,
+    pub(crate) ignores: bool,
+    pub(crate) deferred_turn: bool,
+    pub(crate) admitted: Vec<Slot>,
+    pub(crate) waiting: Vec<Row>,
+    pub(crate) flights: Vec<Delivery>,
+    /// Recipients that are waiting, in flight or unsettled.
+    pub(crate) in_memory: u64,
+    pub(crate) served: Vec<Served>,
+    pub(crate) unsettled: Vec<Unsettled>,
+    pub(crate) lines: Vec<Line>,
+    pub(crate) sites: Vec<Destination>,
+    pub(crate) synced: Vec<Id>,
+    pub(crate) starts: u64,
+    pub(crate) active: Seen,
+    pub(crate) incoming: Seen,
+    pub(crate) deferred: Seen,
+}
+
+impl Core {
+    /// A core at the beginning of a life, for a table of so many transports. It agrees with the
+    /// ledger of that life on every book that is fit to begin with, and so on every orderly one.
+    pub fn new(alloc: Global, params: Params, transports: u8, mode: Mode) -> Result<Core, NoMemory>
+        ensures fit { IfOk result (λ core. (w : World) → (book : Book) → params ≡ w.settings → transports ≡ length w.table.transports → IsFit (after w (opening mode book) (Entry.Life (book.generation + 1) mode)) → Agrees w core (after w (opening mode book) (Entry.Life (book.generation + 1) mode))) }
+        ensures orderly { IfOk result (λ core. (w : World) → (book : Book) → params ≡ w.settings → transports ≡ length w.table.transports → IsTrue (are_distinct (all_ids book)) → IsTrue (is_orderly book) → Agrees w core (after w (opening mode book) (Entry.Life (book.generation + 1) mode))) }
+    {
+        let lines = empty_lines(alloc, transports)?;
+        Ok(Core {
+            params,
+            transports,
+            mode,
+            clock: Clock::new(0),
+            timed: false,
+            next_run: 0,
+            scan: None,
+            asked: None,
+            ignores: false,
+            deferred_turn: false,
+            admitted: Vec::new(alloc),
+            waiting: Vec::new(alloc),
+            flights: Vec::new(alloc),
+            in_memory: 0,
+            served: Vec::new(alloc),
+            unsettled: Vec::new(alloc),
+            lines,
+            sites: Vec::new(alloc),
+            synced: Vec::new(alloc),
+            starts: 0,
+            active: Seen::Unknown,
+            incoming: Seen::Unknown,
+            deferred: Seen::Unknown,
+        })
+    }
+
+    /// The message in memory with this id.
+    pub(crate) fn slot(&self, id: Id) -> Option<&Slot>
+        ensures { option_copied result ≡ slot_in self.now id }
+    {
+        self.admitted.iter().find(|slot| same_id(slot.id, id))
+    }
+
+    /// What is known of this site.
+    pub(crate) fn destination(&self, site: &Site) -> Option<&Destination>
+        ensures { option_copied result ≡ destination_in self.now site.now }
+    {
+        self.sites
+            .iter()
+            .find(|known| same_site(known.site(), site))
+    }
+
+    pub(crate) fn is_dead_site(&self, site: &Site) -> bool
+        ensures { result ≡ is_dead_in self.now site.now }
+    {
+        match self.destination(site) {
+            Some(known) => known.is_dead(),
+            None => false,
+        }
+    }
+}
