@@ -11,6 +11,7 @@ pub mod ListReads
 pub mod NumberReads
 pub mod OutcomeReads
 pub mod PartLaws
+pub mod SiteLaws
 pub mod TransportReads
 pub mod ValueReads
 pub mod WordReads

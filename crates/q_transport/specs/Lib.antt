@@ -1,7 +1,9 @@
+pub mod Texts
 pub mod Names
 pub mod Contents
+pub mod Entries
 pub mod Routing
-pub mod Texts
+pub mod Lawful
 pub mod TableLines
 pub mod Parts
 pub mod Readings

@@ -5,9 +5,8 @@ use Rattle.q_model.specs.Lists.{first_some}
 use Rattle.q_model.specs.Settings.{Table}
 use Rattle.q_model.specs.Texts.{domain_of, lower}
 use Rattle.q_model.specs.Values.{Site}
-use Rattle.q_transport.specs.Contents.{Contents, entry_of}
+use Rattle.q_transport.specs.Contents.{Contents, entry_of, Rule}
 use Rattle.q_transport.specs.Names.{number_of, smtp, with_name}
-use Rattle.q_transport.specs.declared.rule.Rule.{Rule}
 
 -- the parents of a domain, the nearest first: what stands behind each dot, with that dot before it
 abbrev pub parents : List ℕ → List (List ℕ)

@@ -1,6 +1,7 @@
 -- The parts of a line of a transport table: `pattern transport:nexthop` (transport(5)).
 use Rattle.std.specs.List.{list_all}
-use Rattle.std.specs.Prelude.{◌+◌, ◌==◌, Bool, drop, if◌then◌else◌, List, None, Option, option_and_then, option_map, position, Some, take, ℕ}
+use Rattle.std.specs.Option.{option_map_or}
+use Rattle.std.specs.Prelude.{◌+◌, ◌==◌, ◌≡◌, Bool, drop, if◌then◌else◌, List, None, Option, option_and_then, option_map, position, Some, take, true, ℕ}
 use Rattle.q_model.specs.Lists.{has_none}
 use Rattle.q_model.specs.Texts.{is_hop}
 use Rattle.q_transport.specs.Texts.{is_blank, is_text_byte, is_transport, trimmed_start}
@@ -10,6 +11,11 @@ pub record Parts : Type 0 where
   pub pattern : List ℕ
   pub transport : List ℕ
   pub hop : Option (List ℕ)
+
+-- the name and the next hop have their forms
+pub record AreParts (p : Parts) : Type 0 where
+  pub transport : is_transport p.transport ≡ true
+  pub hop : option_map_or is_hop p.hop true ≡ true
 
 -- a next hop, which may be empty
 abbrev pub hop_of : List ℕ → Option (Option (List ℕ))

@@ -1,6 +1,5 @@
 //! What may be wrong with a transport table.
-use q_model::NoMemory;
-use std::alloc::AllocFailed;
+use std::alloc::{AllocError, AllocFailed};
 use thiserror::Error;
 
 /// The first fault of a transport table, or want of memory. Lines count from 1.
@@ -19,13 +18,13 @@ pub enum TableError {
     TooMany { line: u64 },
 }
 
-impl From<NoMemory> for TableError {
+impl From<AllocError> for TableError {
     ghost use Rattle.std.specs.Prelude.{◌≡◌};
     ghost use Rattle.q_transport.specs.declared.error.TableError.TheVariants.{NoMemory};
 
     ghost from_gives = { λ _ e. e ≡ NoMemory };
 
-    fn from(_: NoMemory) -> Self {
+    fn from(_: AllocError) -> Self {
         TableError::NoMemory
     }
 }

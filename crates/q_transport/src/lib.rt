@@ -1,10 +1,11 @@
 //! The transport table of a queue manager (transport(5)).
 #![tactic(auto)]
 
+mod entries;
 mod error;
 mod line;
+mod lookup;
 mod reader;
-mod rule;
 mod table;
 #[cfg(test)]
 mod tests;

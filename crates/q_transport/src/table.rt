@@ -1,16 +1,22 @@
 //! The transport table.
-ghost use Rattle.std.specs.Prelude.{◌≡◌, ◌<◌, ◌≤◌, ◌++◌, ◌∷◌, ◌==◌, ◌&&◌, ◌||◌, [], bytes_eq, IfErr, length, nat_le, OnOk, position, slice_get, Some};
+ghost use Rattle.std.specs.Prelude.{◌≡◌, ◌<◌, ◌≤◌, ◌++◌, ◌∷◌, ◌==◌, ◌&&◌, ◌||◌, [], bytes_eq, IfErr, length, nat_le, None, OnOk, position, slice_get, Some, true};
+ghost use Rattle.std.specs.Option.{option_map_or};
 ghost use Rattle.q_model.specs.Routes.{no_table};
-ghost use Rattle.q_transport.specs.Contents.{nothing};
+ghost use Rattle.q_model.specs.Texts.{is_hop};
+ghost use Rattle.q_transport.specs.Contents.{entry_of, nothing};
+ghost use Rattle.q_transport.specs.Lawful.{IsLawful};
 ghost use Rattle.q_transport.specs.Names.{number_of, smtp};
 ghost use Rattle.q_transport.specs.Parts.{seen};
 ghost use Rattle.q_transport.specs.Readings.{add_parts, Gives, read_line};
 ghost use Rattle.q_transport.specs.Routing.{table_of};
+ghost use Rattle.q_transport.specs.TableLines.{AreParts};
+ghost use Rattle.q_transport.specs.Texts.{is_transport};
 
+use crate::entries::{Entries, Target};
 use crate::error::TableError;
 use crate::line::{Line, parse};
-use crate::rule::{Rule, deciding, entry, lowered};
-use crate::text::is_passed_over;
+use crate::lookup::deciding;
+use crate::text::{is_passed_over, lowered};
 use q_model::{Address, Hop, Site, split_domain};
 use std::alloc::Global;
 use std::marker::Model;
@@ -27,7 +33,7 @@ const MOST_NAMES: usize = 20;
 #[derive(Debug, Drop)]
 pub struct Table {
     names: Vec<Hop>,
-    entries: Vec<Rule>,
+    entries: Entries,
 }
 
 impl Model for Table {
@@ -35,11 +41,11 @@ impl Model for Table {
 
     ghost Value = { Contents };
 
-    ghost use Rattle.q_transport.specs.Contents.{IsNumbered};
+    ghost use Rattle.q_transport.specs.Contents.{AreContents};
 
-    ghost view = { λ t. record { names = t.names.items; entries = t.entries.items } };
+    ghost view = { λ t. record { names = t.names.items; entries = t.entries } };
 
-    ghost invariant = { λ t. IsNumbered (record { names = t.names.items; entries = t.entries.items }) };
+    ghost invariant = { λ t. AreContents (record { names = t.names.items; entries = t.entries }) };
 }
 
 /// The number of a transport: its place among the names, or the next number where it is new.
@@ -70,7 +76,7 @@ impl Table {
     {
         Table {
             names: Vec::new(alloc),
-            entries: Vec::new(alloc),
+            entries: Entries::new(alloc),
         }
     }
 
@@ -82,9 +88,11 @@ impl Table {
         self.entries.len() >= MOST_ENTRIES || (is_new && self.names.len() >= MOST_NAMES)
     }
 
-    /// Adds the name of a transport.
+    /// Adds the name of a transport, which is new.
     fn push_name(&mut self, name: Hop) -> Result<(), TableError>
-        requires { length self.old.names < 20 }
+        requires few { length self.old.names < 20 }
+        requires form { is_transport name ≡ true }
+        requires new { number_of self.old.names name ≡ length self.old.names }
         ensures ok { OnOk result (self.new ≡ record self.old { names = self.old.names ++ name ∷ [] }) }
         ensures err { IfErr result (λ e. e ≡ TableError.NoMemory) }
     {
@@ -92,22 +100,27 @@ impl Table {
         Ok(())
     }
 
-    /// Adds an entry, whose transport is one of the names.
-    fn push_entry(&mut self, entry: Rule) -> Result<(), TableError>
-        requires { entry.transport < length self.old.names }
-        ensures ok { OnOk result (self.new ≡ record self.old { entries = self.old.entries ++ entry ∷ [] }) }
+    /// Adds an entry, whose transport is one of the names, and whose pattern none has so far.
+    fn push_entry(&mut self, pattern: Vec<u8>, target: Target) -> Result<(), TableError>
+        requires named { target.transport < length self.old.names }
+        requires hop { option_map_or is_hop target.hop true ≡ true }
+        requires new { entry_of self.old.entries pattern.items ≡ None }
+        ensures ok { OnOk result (self.new ≡ record self.old {
+          entries = self.old.entries
+              ++ record { pattern = pattern.items; transport = target.transport; hop = target.hop } ∷ [];
+        }) }
         ensures err { IfErr result (λ e. e ≡ TableError.NoMemory) }
     {
-        self.entries.push(entry)?;
-        Ok(())
+        self.entries.push(pattern, target)
     }
 
     /// Adds the line of this number.
     fn add(&mut self, alloc: Global, number: u64, line: &Line<'_>) -> Result<(), TableError>
+        requires { AreParts (seen line.now) }
         ensures { Gives result self.new (add_parts number self.old (seen line.now)) }
     {
         let pattern = lowered(alloc, line.pattern)?;
-        if entry(self.entries.as_slice(), pattern.as_slice()).is_some() {
+        if self.entries.get(pattern.as_slice()).is_some() {
             return Err(TableError::Twice { line: number });
         }
         let transport = number_of(self.names.as_slice(), line.transport.bytes());
@@ -117,11 +130,11 @@ impl Table {
         if transport == self.names.len() {
             self.push_name(line.transport)?;
         }
-        self.push_entry(Rule {
-            pattern,
+        let target = Target {
             transport: transport as u8,
             hop: line.hop,
-        })
+        };
+        self.push_entry(pattern, target)
     }
 
     /// Takes the line of this number.
@@ -148,21 +161,22 @@ impl Table {
     pub fn route(&self, address: &Address) -> Site
         ensures exact { result ≡ (table_of self.now).route address.now }
         ensures within { result.transport < length (table_of self.now).transports }
+        ensures hop { is_hop result.hop ≡ true }
     {
         let domain = split_domain(address);
-        let Some(entry) = deciding(self.entries.as_slice(), address, &domain) else {
+        let Some(target) = deciding(&self.entries, address, &domain) else {
             let transport = number_of(self.names.as_slice(), b"smtp") as u8;
             return Site {
                 transport,
                 hop: domain,
             };
         };
-        let hop = match entry.hop {
+        let hop = match target.hop {
             Some(hop) => hop,
             None => domain,
         };
         Site {
-            transport: entry.transport,
+            transport: target.transport,
             hop,
         }
     }
@@ -193,5 +207,13 @@ impl Table {
         } else {
             smtp()
         }
+    }
+
+    /// What every table keeps: no two transports have one name, each name has its form, and each
+    /// address goes to one of the transports, at a next hop. For proofs; it does nothing.
+    pub fn lawful(&self)
+        ensures { IsLawful (table_of self.now) }
+    {
+        let _ = &self.names;
     }
 }

@@ -1,8 +1,11 @@
 //! The texts of lines.
-ghost use Rattle.std.specs.Prelude.{◌≡◌, ◌+◌, ◌<◌, drop, IfSome, length, position, take};
+ghost use Rattle.std.specs.Prelude.{◌≡◌, ◌+◌, ◌<◌, drop, IfOk, IfSome, length, map, position, take};
 ghost use Rattle.std.specs.List.{list_all};
+ghost use Rattle.q_model.specs.Texts.{lower};
 ghost use Rattle.q_transport.specs.TableLines.{is_colon};
 ghost use Rattle.q_transport.specs.Texts.{is_blank, is_name_byte, is_passed_over, is_text_byte, is_transport, trimmed_start};
+
+use std::alloc::{AllocError, Global};
 
 fn is_blank(byte: u8) -> bool
     ensures { result ≡ is_blank byte }
@@ -84,4 +87,17 @@ pub(crate) fn trim_start(text: &[u8]) -> &[u8]
         rest = others;
     }
     rest
+}
+
+fn lower(byte: u8) -> u8
+    ensures { result ≡ lower byte }
+{
+    byte.to_ascii_lowercase()
+}
+
+/// A text in lower case.
+pub(crate) fn lowered(alloc: Global, text: &[u8]) -> Result<Vec<u8>, AllocError>
+    ensures { IfOk result (λ bytes. bytes.items ≡ map lower text.now) }
+{
+    text.iter().map(|b| lower(*b)).collect(alloc)
 }
