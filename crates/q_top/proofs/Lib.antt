@@ -1,13 +1,13 @@
 pub mod Agreeing
 pub mod Books
+pub mod CutOff
 pub mod EntrySteps
 pub mod EventLists
 pub mod FileBytes
 pub mod FirstFiles
 pub mod Fitting
 pub mod Following
-pub mod Lines
-pub mod Forms
+pub mod Listings
 pub mod Loading
 pub mod MailPlays
 pub mod Playing

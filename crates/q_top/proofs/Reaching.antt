@@ -18,16 +18,20 @@ use Rattle.q_top.specs.Begins.{before_life}
 use Rattle.q_top.specs.Books.{Follows}
 use Rattle.q_top.specs.declared.status.InputFile.TheVariants.{Events}
 use Rattle.q_top.specs.declared.status.Status.{Status}
-use Rattle.q_top.specs.declared.status.Status.TheVariants.{Done, Usage, BadInput, Disk, Tell, Source, Damaged, NoMemory}
+use Rattle.q_top.specs.declared.status.Status.TheVariants.{Done, Usage, BadInput, Disk, Tell, Source, Damaged, Limit, NoMemory}
 use Rattle.q_top.specs.OneMessage.{world}
 use Rattle.q_top.specs.Reached.{IsAtExit, IsLeftBehind, Reached}
 use Rattle.q_top.specs.ReplayEnds.{ReplayEnds}
-use Rattle.q_top.specs.Replays.{items_in, read_text, IsCutOff, IsFaulty, IsFront, IsTold, IsToldInPart, IsWhole}
+use Rattle.q_events.specs.TextLines.{lines_from}
+use Rattle.q_top.specs.Listings.{listing}
+use Rattle.q_top.specs.Reading.{faulty, read_items}
+use Rattle.q_top.specs.Replays.{first_ledger, items_in, read_text, IsCutOff, IsFaulty, IsFront, IsLimited, IsTold, IsToldInPart, IsWhole}
 use Rattle.q_top.specs.Spools.{Spool, unopened, HoldsSpool, IsLeft, IsSpool}
 use Rattle.q_top.specs.Steps.{Steps, entries_of, WithinSteps}
 use Rattle.q_top.proofs.Books.{stands_unopened}
 use Rattle.q_top.proofs.Playing.{entries_of-append, text-one}
-use Rattle.q_top.proofs.Readings.{reading_front}
+use Rattle.q_top.proofs.CutOff.{front_begins}
+use Rattle.q_top.proofs.Listings.{Lines}
 
 -- ---- which items
 
@@ -40,13 +44,18 @@ front_whole (Some bytes) items h = front_by bytes items (ap items_in h)
 
 front_faulty : (bytes : Option (List ℕ)) (items : List Item) (n : ℕ) → IsFaulty bytes items n → IsFront bytes items
 front_faulty None items n h = tt
-front_faulty (Some bytes) items n (inl h) = front_by bytes items (ap items_in h)
-front_faulty (Some bytes) items n (inr h) = front_by bytes items (ap items_in h.0)
+front_faulty (Some bytes) items n h = front_by bytes items (ap items_in h)
+
+front_limited : (bytes : Option (List ℕ)) (items : List Item) → IsLimited bytes items → IsFront bytes items
+front_limited None items h = tt
+front_limited (Some bytes) items h = front_by bytes items (ap items_in h)
 
 front_cut_off : (bytes left : Option (List ℕ)) (items : List Item) → IsCutOff bytes left items → IsFront bytes items
 front_cut_off None left items h = tt
 front_cut_off (Some bytes) left items (lines, limit, part, rest, all, open_line, there, read) =
-    reading_front bytes lines items limit (part ++ rest) (length lines + 1) (record { read = read; all = all; number = refl })
+    let number : length lines + 1 ≡ 1 + length lines = omega arith in
+    let b = front_begins world first_ledger [] 1 lines (lines_from limit (part ++ rest)) items (read ∙ ap (faulty items) number) in
+    (b.0, ap (λ (x : Lines). items_in (read_items world first_ledger (listing [] 1 x))) all ∙ b.1)
 
 -- ---- at the end
 
@@ -90,6 +99,7 @@ exit_part bytes items error before after h front t = (
 pub exit_reached : (bytes left : Option (List ℕ)) (before after : View) (status : Status) → IsSpool unopened before.files → ReplayEnds bytes left before after status → IsAtExit bytes before after
 exit_reached bytes left before after Done h (items, whole, told) = exit_told bytes items before after h (front_whole bytes items whole) told
 exit_reached bytes left before after (BadInput Events n) h (items, fault, told) = exit_told bytes items before after h (front_faulty bytes items n fault) told
+exit_reached bytes left before after (Limit bound) h (items, is, limit, told) = exit_told bytes items before after h (front_limited bytes items limit) told
 exit_reached bytes left before after Source h (items, cut, told) = exit_told bytes items before after h (front_cut_off bytes left items cut) told
 exit_reached bytes left before after Disk h (items, front, told) = exit_part bytes items errors.Disk before after h front told
 exit_reached bytes left before after Tell h (items, front, told) = exit_part bytes items errors.Tell before after h front told
@@ -158,6 +168,7 @@ module _ (bytes left : Option (List ℕ)) (before after : View) (h : HoldsSpool 
   pub moments_reached : (status : Status) → ReplayEnds bytes left before after status → LeavesOnly before after (IsLeftBehind bytes before.told)
   moments_reached Done (items, whole, told) = moments_told items (front_whole bytes items whole) told
   moments_reached (BadInput Events n) (items, fault, told) = moments_told items (front_faulty bytes items n fault) told
+  moments_reached (Limit bound) (items, is, limit, told) = moments_told items (front_limited bytes items limit) told
   moments_reached Source (items, cut, told) = moments_told items (front_cut_off bytes left items cut) told
   moments_reached Disk (items, front, told) = moments_part items errors.Disk front told
   moments_reached Tell (items, front, told) = moments_part items errors.Tell front told

@@ -8,8 +8,8 @@ use Rattle.q_model.specs.Run.{run_of}
 use Rattle.q_model.specs.Text.{text}
 use Rattle.q_host.specs.View.{View}
 use Rattle.q_top.specs.declared.status.Status.{Status}
-use Rattle.q_top.specs.declared.status.Status.TheVariants.{Done, Usage, BadInput, Disk, Tell, Source, Damaged, NoMemory}
-use Rattle.q_top.specs.EventList.{event_list}
+use Rattle.q_top.specs.declared.status.Status.TheVariants.{Done, Usage, BadInput, Disk, Tell, Source, Damaged, Limit, NoMemory}
+use Rattle.q_top.specs.Listings.{event_list}
 use Rattle.q_top.specs.OneMessage.{world}
 
 -- the words are `replay` alone
@@ -28,6 +28,7 @@ IsTurnedAway Usage = ⊥
 IsTurnedAway (BadInput file line) = ⊥
 IsTurnedAway Tell = ⊥
 IsTurnedAway Source = ⊥
+IsTurnedAway (Limit bound) = ⊥
 
 -- the text is an event list, and what its run says was told: the run in which each entry is the ledger's next
 abbrev pub IsRun : Option (List ℕ) → View → View → Type 0

@@ -2,18 +2,15 @@ pub mod Agrees
 pub mod Answers
 pub mod Begins
 pub mod Books
-pub mod BufferedText
 pub mod Causes
 pub mod Commands
-pub mod EventLines
-pub mod EventList
 pub mod Faultless
 pub mod FirstFile
 pub mod Fits
 pub mod Forgets
+pub mod Listings
 pub mod MailSteps
 pub mod OneMessage
-pub mod ReaderState
 pub mod Reached
 pub mod Reading
 pub mod ReplayEnds
@@ -21,5 +18,5 @@ pub mod Replays
 pub mod Spools
 pub mod Statuses
 pub mod Steps
-pub mod TakenLine
+pub mod TakenItem
 pub mod Unread

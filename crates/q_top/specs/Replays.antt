@@ -14,10 +14,11 @@ use Rattle.q_host.specs.Files.{Files}
 use Rattle.q_host.specs.View.{View}
 use Rattle.q_top.specs.Begins.{before_life}
 use Rattle.q_top.specs.Books.{Follows}
-use Rattle.q_top.specs.EventList.{lines_of, lines_from}
+use Rattle.q_events.specs.Readings.{is_in_line}
+use Rattle.q_events.specs.TextLines.{lines_from, TextLine}
+use Rattle.q_top.specs.Listings.{lines_of, listing, listing_of}
 use Rattle.q_top.specs.OneMessage.{world}
-use Rattle.q_top.specs.Reading.{Reading, ended, faulty, going, read_from}
-use Rattle.q_top.specs.ReaderState.{is_in_line}
+use Rattle.q_top.specs.Reading.{Reading, ended, faulty, limited, read_items}
 use Rattle.q_top.specs.Spools.{unopened, IsSpool}
 use Rattle.q_top.specs.Steps.{Steps, entries_of, Plays, Halts}
 
@@ -27,13 +28,13 @@ first_ledger = after_all world before_life (turn world before_life Begin)
 
 -- which items of a text are taken
 abbrev pub read_text : List ℕ → Reading
-read_text bytes = read_from world first_ledger 1 (lines_of bytes)
+read_text bytes = read_items world first_ledger (listing_of bytes)
 
 -- the items that are taken, as far as the text goes
 abbrev pub items_in : Reading → List Item
 items_in (ended items) = items
 items_in (faulty items line) = items
-items_in (going items) = items
+items_in (limited items) = items
 
 -- the files stand for the book after these entries
 abbrev pub StandsAfter : List Entry → Files → Type 0
@@ -60,14 +61,18 @@ pub record IsToldInPart (items : List Item) (error : HostError) (before after : 
 abbrev pub IsWhole : Option (List ℕ) → List Item → Type 0
 IsWhole text items = IfSome text (λ bytes. read_text bytes ≡ ended items)
 
--- these items stand before the line that can't be taken; a text without an `end` lacks the line after its last
+-- these items stand before the line that can't be taken; a text without an `end` lacks the line behind its last
 abbrev pub IsFaulty : Option (List ℕ) → List Item → ℕ → Type 0
-IsFaulty text items line = IfSome text (λ bytes. (read_text bytes ≡ faulty items line) ⊎ ((read_text bytes ≡ going items) × (line ≡ length (lines_of bytes) + 1)))
+IsFaulty text items line = IfSome text (λ bytes. read_text bytes ≡ faulty items line)
 
--- these items stand in the lines that were taken whole; behind them a part of a line was taken, and the source has the rest
+-- these items stand before the end of the bytes that a list may have, and no `end`
+abbrev pub IsLimited : Option (List ℕ) → List Item → Type 0
+IsLimited text items = IfSome text (λ bytes. read_text bytes ≡ limited items)
+
+-- These items stand in the lines that were taken whole, to which only the line behind them is lacking; of that a part was taken, and the source has the rest.
 abbrev pub IsCutOff : Option (List ℕ) → Option (List ℕ) → List Item → Type 0
-IsCutOff text left items = IfSome text (λ bytes. (lines : List (Option (List ℕ))) × (limit : ℕ) × (part : List ℕ) × (rest : List ℕ)
-    × (lines_of bytes ≡ lines ++ lines_from limit [] (part ++ rest)) × (is_in_line part ≡ true) × (left ≡ Some rest) × (read_from world first_ledger 1 lines ≡ going items))
+IsCutOff text left items = IfSome text (λ bytes. (lines : List TextLine) × (limit : ℕ) × (part : List ℕ) × (rest : List ℕ)
+    × (lines_of bytes ≡ lines ++ lines_from limit (part ++ rest)) × (is_in_line part ≡ true) × (left ≡ Some rest) × (read_items world first_ledger (listing [] 1 lines) ≡ faulty items (length lines + 1)))
 
 -- these items are the first of those that are taken
 abbrev pub IsFront : Option (List ℕ) → List Item → Type 0

@@ -39,9 +39,10 @@ fn is_replay(words: &[String]) -> bool
 ///
 /// `Usage` comes for other words and `Damaged` for a spool that isn't empty, with its first file,
 /// both before anything is read or changed. On a host that doesn't tell its files `Damaged` comes
-/// also for a message that was admitted and can't be read again. `BadInput` comes at the first line that is none of an
-/// event list or whose event can't be taken, or behind the last where `end` is missing. `Disk`,
-/// `Tell` and `Source` come where the host or the source failed, `NoMemory` where memory ran out.
+/// also for a message that was admitted and can't be read again. `BadInput` comes at the first line
+/// that is none of an event list or whose event can't be taken, or behind the last where `end` is
+/// missing; `Limit` where the list goes on behind its first 2^40 bytes. `Disk`, `Tell` and `Source`
+/// come where the host or the source failed, `NoMemory` where memory ran out.
 pub fn qmgr<H: Host, S: Source>(
     alloc: Global,
     words: &[String],

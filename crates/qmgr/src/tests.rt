@@ -2,7 +2,7 @@
 use q_mem_host::{MemHost, Rot};
 use q_model::{Area, Name};
 use q_stream::MemSource;
-use q_top::qmgr;
+use q_top::{Bound, Status, qmgr};
 use std::alloc::Global;
 use std::process::Abort;
 use std::test::Fail;
@@ -53,7 +53,7 @@ fn one_message(rt: HostRuntime) -> Result<(), Fail> {
 #[test]
 fn lists(rt: HostRuntime) -> Result<(), Fail> {
     let timed: &[u8] = b"life 1\nat 7\n";
-    let rows: [(&[u8], &str, &[u8]); 14] = [
+    let rows: [(&[u8], &str, &[u8]); 18] = [
         (b"end", "done", b"life 1\nend\n"),
         (b"# x\n\nend\nmore", "done", b"life 1\nend\n"),
         (b"at 7\nat 3\nend\n", "done", b"life 1\nat 7\nat 7\nend\n"),
@@ -80,6 +80,22 @@ fn lists(rt: HostRuntime) -> Result<(), Fail> {
         ),
         (b"at 7\n\nreplay\n", "bad input: events line 3", timed),
         (b"END\n", "bad input: events line 1", b"life 1\n"),
+        (b"body x\nend\n", "bad input: events line 2", b"life 1\n"),
+        (
+            b"at 7\n#\nrestart\nend\n",
+            "bad input: events line 3",
+            timed,
+        ),
+        (
+            b"at 7\nbody\n\nmail a@b c@d\nend\n",
+            "bad input: events line 4",
+            timed,
+        ),
+        (
+            b"at 7\nmail a@b c@d e@f\nend\n",
+            "bad input: events line 2",
+            timed,
+        ),
     ];
     for (text, answer, told) in rows {
         row(&rt, rt.alloc(), text, 3, &[], answer, told)?;
@@ -117,6 +133,18 @@ mark 00000001-00000001 0\nsync 00000001-00000001\nremove 00000001-00000001\n";
     for (text, answer, told) in rows {
         row(&rt, rt.alloc(), text, 3, &[], answer, told)?;
     }
+    Ok(())
+}
+
+// A limit has its number, and a fault line that names it.
+#[test]
+fn limits(rt: HostRuntime) -> Result<(), Fail> {
+    let status = Status::Limit {
+        bound: Bound::Input,
+    };
+    assert_eq!(rt; status.number(), 8);
+    let shown = format!(in rt.alloc(); "{status}")?;
+    assert_eq!(rt; shown.as_str(), "limit reached: input");
     Ok(())
 }
 
