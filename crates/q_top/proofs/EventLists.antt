@@ -5,7 +5,6 @@ use Rattle.q_model.specs.declared.event.Event.{Event}
 use Rattle.q_model.specs.declared.event.Item.{Item}
 use Rattle.q_model.specs.declared.event.Item.TheVariants.{Heard, Finish}
 use Rattle.q_model.specs.Ledger.{Ledger}
-use Rattle.q_model.specs.Routes.{no_table}
 use Rattle.q_model.specs.Run.{turn}
 use Rattle.q_model.specs.Settings.{World}
 use Rattle.q_model.specs.Step.{after_all}
@@ -16,12 +15,11 @@ use Rattle.q_top.specs.Answers.{answer_of, answer_to}
 use Rattle.q_top.specs.Commands.{IsRun}
 use Rattle.q_events.specs.declared.item.Item.TheVariants.{Step, Restart, End}
 use Rattle.q_top.specs.Listings.{Listing, gives, bad, past_limit, event_list, items_of, listing_of}
-use Rattle.q_top.specs.OneMessage.{world}
 use Rattle.q_top.specs.Reading.{Reading, ended, faulty, limited, behind, may_hear, read_items}
 use Rattle.q_top.specs.ReplayEnds.{ReplayEnds}
 use Rattle.q_top.specs.Replays.{first_ledger, read_text, IsTold, IsWhole}
 use Rattle.q_top.specs.declared.status.Status.{Status}
-use Rattle.q_top.specs.declared.status.InputFile.TheVariants.{Events}
+use Rattle.q_top.specs.declared.status.InputFile.TheVariants.{Events, Parameters, Table}
 use Rattle.q_top.specs.declared.status.Status.TheVariants.{Done, Usage, BadInput, Disk, Tell, Source, Damaged, Limit, NoMemory}
 
 ends_behind : (event : Event) (r : Reading) (items : List Item) → behind (Heard event ∷ []) r ≡ ended items → (more : List Item) × (r ≡ ended more) × (items ≡ Heard event ∷ more)
@@ -49,21 +47,21 @@ items_end w (gives End n more) l items h = let same : Finish ∷ [] ≡ items = 
 items_end w (bad n) l items h = absurd cc
 items_end w past_limit l items h = absurd cc
 
-list_ends : (bytes : List ℕ) (items : List Item) → read_text bytes ≡ ended items → event_list bytes ≡ Some items
+list_ends : (world : World) (bytes : List ℕ) (items : List Item) → read_text world bytes ≡ ended items → event_list bytes ≡ Some items
 unfolding event_list
-list_ends bytes items h = items_end world (listing_of bytes) first_ledger items h
+list_ends world bytes items h = items_end world (listing_of bytes) (first_ledger world) items h
 
 -- what was told of the items of a text that is whole
-run_told : (text_read : Option (List ℕ)) (before after : View) (items : List Item) → IsWhole text_read items → IsTold items before after → IsRun text_read before after
-run_told None before after items whole told = tt
-run_told (Some bytes) before after items whole told = (items, list_ends bytes items whole, told.plays.told ∙ ap (λ es. before.told ++ text no_table es) (sym told.run))
+run_told : (world : World) (text_read : Option (List ℕ)) (before after : View) (items : List Item) → IsWhole world text_read items → IsTold world items before after → IsRun world text_read before after
+run_told world None before after items whole told = tt
+run_told world (Some bytes) before after items whole told = (items, list_ends world bytes items whole, told.plays.told ∙ ap (λ es. before.told ++ text world.table es) (sym told.run))
 
-pub done_told : (text_read left : Option (List ℕ)) (before after : View) (status : Status) → status ≡ Done → ReplayEnds text_read left before after status → IsRun text_read before after
-done_told text_read left before after status is ends = let (items, whole, told) : ReplayEnds text_read left before after Done = subst (λ (s : Status). ReplayEnds text_read left before after s) is ends in run_told text_read before after items whole told
+pub done_told : (world : World) (text_read left : Option (List ℕ)) (before after : View) (status : Status) → status ≡ Done → ReplayEnds world text_read left before after status → IsRun world text_read before after
+done_told world text_read left before after status is ends = let (items, whole, told) : ReplayEnds world text_read left before after Done = subst (λ (s : Status). ReplayEnds world text_read left before after s) is ends in run_told world text_read before after items whole told
 
 -- the text alone says how a replay ends
-module _ (left : Option (List ℕ)) (before after : View) where
-  answers_at : (bytes : List ℕ) (status : Status) → ReplayEnds (Some bytes) left before after status → (status ≡ Disk → ⊥) → (status ≡ Tell → ⊥) → (status ≡ Source → ⊥) → (status ≡ answer_of bytes) ⊎ (status ≡ NoMemory)
+module _ (world : World) (left : Option (List ℕ)) (before after : View) where
+  answers_at : (bytes : List ℕ) (status : Status) → ReplayEnds world (Some bytes) left before after status → (status ≡ Disk → ⊥) → (status ≡ Tell → ⊥) → (status ≡ Source → ⊥) → (status ≡ answer_of world bytes) ⊎ (status ≡ NoMemory)
   answers_at bytes Done (items, whole, told) d t s = inl (sym (ap answer_to whole))
   answers_at bytes (BadInput Events line) (items, fault, told) d t s = inl (sym (ap answer_to fault))
   answers_at bytes (Limit bound) (items, is, limit, told) d t s = inl (ap Limit is ∙ sym (ap answer_to limit))
@@ -71,11 +69,13 @@ module _ (left : Option (List ℕ)) (before after : View) where
   answers_at bytes Disk ends d t s = absurd (d refl)
   answers_at bytes Tell ends d t s = absurd (t refl)
   answers_at bytes Source ends d t s = absurd (s refl)
+  answers_at bytes (BadInput Parameters line) ends d t s = absurd ends
+  answers_at bytes (BadInput Table line) ends d t s = absurd ends
   answers_at bytes Usage ends d t s = absurd ends
   answers_at bytes (Damaged area name) ends d t s = absurd ends
 
-  pub answers : (text_read : Option (List ℕ)) (bytes : List ℕ) (status : Status) → ReplayEnds text_read left before after status → text_read ≡ Some bytes → (status ≡ Disk → ⊥) → (status ≡ Tell → ⊥) → (status ≡ Source → ⊥) → (status ≡ answer_of bytes) ⊎ (status ≡ NoMemory)
-  answers text_read bytes status ends there d t s = answers_at bytes status (subst (λ (o : Option (List ℕ)). ReplayEnds o left before after status) there ends) d t s
+  pub answers : (text_read : Option (List ℕ)) (bytes : List ℕ) (status : Status) → ReplayEnds world text_read left before after status → text_read ≡ Some bytes → (status ≡ Disk → ⊥) → (status ≡ Tell → ⊥) → (status ≡ Source → ⊥) → (status ≡ answer_of world bytes) ⊎ (status ≡ NoMemory)
+  answers text_read bytes status ends there d t s = answers_at bytes status (subst (λ (o : Option (List ℕ)). ReplayEnds world o left before after status) there ends) d t s
 
 -- a count that rose later rose since before
 pub rose_before : (a b n : ℕ) → a ≤ b → Rose b n → Rose a n

@@ -1,5 +1,7 @@
 pub mod Agreeing
 pub mod Books
+pub mod ConfEnds
+pub mod ConfFiles
 pub mod CutOff
 pub mod EntrySteps
 pub mod EventLists
@@ -7,6 +9,8 @@ pub mod FileBytes
 pub mod FirstFiles
 pub mod Fitting
 pub mod Following
+pub mod JobLines
+pub mod Ledgers
 pub mod Listings
 pub mod Loading
 pub mod MailPlays
@@ -14,6 +18,7 @@ pub mod Playing
 pub mod Reaching
 pub mod Readings
 pub mod Replaying
+pub mod Rules
 pub mod SpoolChanges
 pub mod Stepping
 pub mod Turning

@@ -16,7 +16,6 @@ use Rattle.q_events.specs.TextLines.{lines_from}
 use Rattle.q_events.specs.declared.item.Item.{Item as ListItem}
 use Rattle.q_events.specs.declared.item.Item.TheVariants.{Step, Restart, End}
 use Rattle.q_top.specs.Listings.{Listing, gives, bad, past_limit, lines_of, listing}
-use Rattle.q_top.specs.OneMessage.{world}
 use Rattle.q_top.specs.Reading.{Reading, ended, faulty, limited, behind, may_hear, read_items}
 use Rattle.q_top.specs.Replays.{first_ledger, read_text, items_in}
 use Rattle.q_top.proofs.Listings.{Lines, listed, lines_lack, said, up_to}
@@ -49,28 +48,28 @@ reading_first events rest going = ap (λ b. if b then found End events.lines (li
 -- ---- so far
 
 -- the lines of a text that were read, so many, their items, which were taken, and what is left of the text
-pub record IsReading (bytes : List ℕ) (lines : Lines) (items : List Item) (limit : ℕ) (rest : List ℕ) (count : ℕ) : Type 0 where
-  pub read : (others : Lines) → read_items world first_ledger (listing [] 1 (lines ++ others)) ≡ behind items (read_items world (ledger_after world first_ledger items) (listing [] (count + 1) others))
+pub record IsReading (world : World) (bytes : List ℕ) (lines : Lines) (items : List Item) (limit : ℕ) (rest : List ℕ) (count : ℕ) : Type 0 where
+  pub read : (others : Lines) → read_items world (first_ledger world) (listing [] 1 (lines ++ others)) ≡ behind items (read_items world (ledger_after world (first_ledger world) items) (listing [] (count + 1) others))
   pub all : lines_of bytes ≡ lines ++ lines_from limit rest
   pub number : count ≡ length lines
 
-pub reading_begins : (bytes : List ℕ) → IsReading bytes [] [] 1099511627776 bytes 0
+pub reading_begins : (world : World) (bytes : List ℕ) → IsReading world bytes [] [] 1099511627776 bytes 0
 unfolding lines_of
-reading_begins bytes = record {
-  read = λ others. ap (λ (l : Ledger). read_items world l (listing [] 1 others)) (sym (after_none world first_ledger)) ∙ sym (behind_none (read_items world (ledger_after world first_ledger []) (listing [] 1 others)));
+reading_begins world bytes = record {
+  read = λ others. ap (λ (l : Ledger). read_items world l (listing [] 1 others)) (sym (after_none world (first_ledger world))) ∙ sym (behind_none (read_items world (ledger_after world (first_ledger world) []) (listing [] 1 others)));
   all = refl;
   number = refl;
 }
 
 -- what the rest of the text leads to
-module _ (bytes : List ℕ) (lines : Lines) (items : List Item) (limit : ℕ) (rest : List ℕ) (count : ℕ) (r : IsReading bytes lines items limit rest count) where
+module _ (world : World) (bytes : List ℕ) (lines : Lines) (items : List Item) (limit : ℕ) (rest : List ℕ) (count : ℕ) (r : IsReading world bytes lines items limit rest count) where
   abbrev now : Ledger
-  now = ledger_after world first_ledger items
+  now = ledger_after world (first_ledger world) items
 
-  onward : read_text bytes ≡ behind items (read_items world now (listing [] (count + 1) (lines_from limit rest)))
-  onward = ap (λ (x : Lines). read_items world first_ledger (listing [] 1 x)) r.all ∙ r.read (lines_from limit rest)
+  onward : read_text world bytes ≡ behind items (read_items world now (listing [] (count + 1) (lines_from limit rest)))
+  onward = ap (λ (x : Lines). read_items world (first_ledger world) (listing [] 1 x)) r.all ∙ r.read (lines_from limit rest)
 
-  then_says : (answer : Listing) → listing [] (count + 1) (lines_from limit rest) ≡ answer → read_text bytes ≡ behind items (read_items world now answer)
+  then_says : (answer : Listing) → listing [] (count + 1) (lines_from limit rest) ≡ answer → read_text world bytes ≡ behind items (read_items world now answer)
   then_says answer h = onward ∙ ap (λ x. behind items (read_items world now x)) h
 
   -- an item is found
@@ -86,17 +85,17 @@ module _ (bytes : List ℕ) (lines : Lines) (items : List Item) (limit : ℕ) (r
   fit l event k n more h = ap (λ b. if b then behind (Heard event ∷ []) (read_items world (after_all world l (turn world l (Heard event))) more) else faulty [] n) h
 
   pub reading_hears : (event : Event) (line k later : ℕ) (others : List ℕ) → first_item (count + 1) (lines_from limit rest) ≡ found (Step event line) k (lines_from later others) → may_hear world now event ≡ true
-      → (front : Lines) × IsReading bytes (lines ++ front) (items ++ Heard event ∷ []) later others k
+      → (front : Lines) × IsReading world bytes (lines ++ front) (items ++ Heard event ∷ []) later others k
   reading_hears event line k later others h fits =
       let u = up_to (count + 1) (lines_from limit rest) (Step event line) k (lines_from later others) h in (
         u.front,
         record {
           read = λ more.
-              ap (λ (x : Lines). read_items world first_ledger (listing [] 1 x)) (append_assoc lines u.front more) ∙ r.read (u.front ++ more)
+              ap (λ (x : Lines). read_items world (first_ledger world) (listing [] 1 x)) (append_assoc lines u.front more) ∙ r.read (u.front ++ more)
               ∙ ap (λ x. behind items (read_items world now x)) (u.gives more)
               ∙ ap (behind items) (fit now event line k (listing [] (k + 1) more) fits)
               ∙ behind_both items (Heard event ∷ []) (read_items world (after_all world now (turn world now (Heard event))) (listing [] (k + 1) more))
-              ∙ ap (λ (l : Ledger). behind (items ++ Heard event ∷ []) (read_items world l (listing [] (k + 1) more))) (after_one world first_ledger items (Heard event));
+              ∙ ap (λ (l : Ledger). behind (items ++ Heard event ∷ []) (read_items world l (listing [] (k + 1) more))) (after_one world (first_ledger world) items (Heard event));
           all = r.all ∙ ap (λ (x : Lines). lines ++ x) u.all ∙ sym (append_assoc lines u.front (lines_from later others));
           number = omega (arith, r.number, u.number, length-append lines u.front);
         },
@@ -105,34 +104,34 @@ module _ (bytes : List ℕ) (lines : Lines) (items : List Item) (limit : ℕ) (r
   at_fault : (n : ℕ) → behind items (faulty [] n) ≡ faulty items n
   at_fault n = ap (λ (x : List Item). faulty x n) (append-nil items)
 
-  pub reading_misfits : (event : Event) (line k : ℕ) (more : Lines) → first_item (count + 1) (lines_from limit rest) ≡ found (Step event line) k more → may_hear world now event ≡ false → read_text bytes ≡ faulty items k
+  pub reading_misfits : (event : Event) (line k : ℕ) (more : Lines) → first_item (count + 1) (lines_from limit rest) ≡ found (Step event line) k more → may_hear world now event ≡ false → read_text world bytes ≡ faulty items k
   reading_misfits event line k more h fits = then_says _ (up (Step event line) k more h) ∙ ap (behind items) (misfit now event line k (listing [] (k + 1) more) fits) ∙ at_fault k
 
-  pub reading_begins_again : (k : ℕ) (more : Lines) → first_item (count + 1) (lines_from limit rest) ≡ found Restart k more → read_text bytes ≡ faulty items k
+  pub reading_begins_again : (k : ℕ) (more : Lines) → first_item (count + 1) (lines_from limit rest) ≡ found Restart k more → read_text world bytes ≡ faulty items k
   unfolding read_items
   reading_begins_again k more h = then_says _ (up Restart k more h) ∙ at_fault k
 
-  pub reading_ends : (k : ℕ) (more : Lines) → first_item (count + 1) (lines_from limit rest) ≡ found End k more → read_text bytes ≡ ended (items ++ Finish ∷ [])
+  pub reading_ends : (k : ℕ) (more : Lines) → first_item (count + 1) (lines_from limit rest) ≡ found End k more → read_text world bytes ≡ ended (items ++ Finish ∷ [])
   unfolding read_items
   reading_ends k more h = then_says _ (up End k more h)
 
-  pub reading_breaks : (n : ℕ) → first_item (count + 1) (lines_from limit rest) ≡ bad_line n → read_text bytes ≡ faulty items n
+  pub reading_breaks : (n : ℕ) → first_item (count + 1) (lines_from limit rest) ≡ bad_line n → read_text world bytes ≡ faulty items n
   unfolding read_items
   reading_breaks n h = then_says (bad n) (listed (count + 1) (lines_from limit rest) ∙ ap said h) ∙ at_fault n
 
-  pub reading_passes_limit : first_item (count + 1) (lines_from limit rest) ≡ at_limit → read_text bytes ≡ limited items
+  pub reading_passes_limit : first_item (count + 1) (lines_from limit rest) ≡ at_limit → read_text world bytes ≡ limited items
   unfolding read_items
   reading_passes_limit h = then_says past_limit (listed (count + 1) (lines_from limit rest) ∙ ap said h) ∙ ap limited (append-nil items)
 
   -- lines more, which give no item, and none behind them
-  pub reading_lacks : (more : Lines) → list_all leads more ≡ true → read_items world first_ledger (listing [] 1 (lines ++ more)) ≡ faulty items (length (lines ++ more) + 1)
+  pub reading_lacks : (more : Lines) → list_all leads more ≡ true → read_items world (first_ledger world) (listing [] 1 (lines ++ more)) ≡ faulty items (length (lines ++ more) + 1)
   unfolding read_items
   reading_lacks more h =
       let number : (count + 1) + length more ≡ length (lines ++ more) + 1 = omega (arith, r.number, length-append lines more) in
       r.read more ∙ ap (λ x. behind items (read_items world now x)) (lines_lack (count + 1) more h) ∙ at_fault ((count + 1) + length more) ∙ ap (faulty items) number
 
   -- the items so far are the first of those that are taken
-  pub reading_front : (more : List Item) × (items_in (read_text bytes) ≡ items ++ more)
+  pub reading_front : (more : List Item) × (items_in (read_text world bytes) ≡ items ++ more)
   reading_front =
       let others = read_items world now (listing [] (count + 1) (lines_from limit rest)) in
       (items_in others, ap items_in onward ∙ items_behind others)

@@ -6,6 +6,7 @@ use Rattle.q_top.specs.declared.status.Status.{Status}
 use Rattle.q_top.specs.declared.status.Status.TheVariants.{Done, BadInput, Limit}
 use Rattle.q_top.specs.Reading.{Reading, ended, faulty, limited}
 use Rattle.q_top.specs.Replays.{read_text}
+use Rattle.q_model.specs.Settings.{World}
 
 -- Done at `end`; else the line that can't be taken is named, or the limit of the list
 abbrev pub answer_to : Reading → Status
@@ -13,5 +14,5 @@ answer_to (ended items) = Done
 answer_to (faulty items line) = BadInput Events line
 answer_to (limited items) = Limit Input
 
-abbrev pub answer_of : List ℕ → Status
-answer_of bytes = answer_to (read_text bytes)
+abbrev pub answer_of : (world : World) → List ℕ → Status
+answer_of world bytes = answer_to (read_text world bytes)

@@ -4,6 +4,8 @@ pub mod Begins
 pub mod Books
 pub mod Causes
 pub mod Commands
+pub mod Confs
+pub mod ConfReads
 pub mod Faultless
 pub mod FirstFile
 pub mod Fits
@@ -20,3 +22,4 @@ pub mod Statuses
 pub mod Steps
 pub mod TakenItem
 pub mod Unread
+pub mod Worlds

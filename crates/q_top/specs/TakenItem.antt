@@ -13,11 +13,12 @@ use Rattle.q_top.specs.declared.replay.Refusal.TheVariants.{NotTaken, Host, Unre
 use Rattle.q_top.specs.declared.replay.Taken.{Taken}
 use Rattle.q_top.specs.declared.replay.Taken.TheVariants as takens
 use Rattle.q_top.specs.Fits.{fits}
+use Rattle.q_model.specs.Settings.{World}
 
 -- its event is heard, or it is the end, which is left to the caller
-abbrev pub Takes : Bool → Life → Life → Item → View → View → Taken → Type 0
-Takes tells old new item before after takens.Heard = (event : Event) × (line : ℕ) × (item ≡ Step event line) × (fits old event ≡ true) × (IsTrue tells → Turns old new (Heard event) before after)
-Takes tells old new item before after takens.Ended = (item ≡ End) × (new ≡ old) × (IsTrue tells → IsAsItWas before after)
+abbrev pub Takes : (world : World) → Bool → Life → Life → Item → View → View → Taken → Type 0
+Takes world tells old new item before after takens.Heard = (event : Event) × (line : ℕ) × (item ≡ Step event line) × (fits old event ≡ true) × (IsTrue tells → Turns world old new (Heard event) before after)
+Takes world tells old new item before after takens.Ended = (item ≡ End) × (new ≡ old) × (IsTrue tells → IsAsItWas before after)
 
 -- a life begins again, or the event doesn't fit
 abbrev pub IsMisfit : Life → Item → Type 0
@@ -26,7 +27,7 @@ IsMisfit life Restart = Unit {0}
 IsMisfit life End = ⊥
 
 -- it is no event that can be taken, or its event was given up
-abbrev pub GivesUp : Bool → Life → Item → View → View → Refusal → Type 0
-GivesUp tells old item before after NotTaken = IsMisfit old item × (IsTrue tells → IsAsItWas before after)
-GivesUp tells old item before after (Host error) = (event : Event) × (line : ℕ) × (item ≡ Step event line) × (fits old event ≡ true) × (IsTrue tells → Breaks old (Heard event) error before after)
-GivesUp tells old item before after Unreadable = IsTrue tells → ⊥
+abbrev pub GivesUp : (world : World) → Bool → Life → Item → View → View → Refusal → Type 0
+GivesUp world tells old item before after NotTaken = IsMisfit old item × (IsTrue tells → IsAsItWas before after)
+GivesUp world tells old item before after (Host error) = (event : Event) × (line : ℕ) × (item ≡ Step event line) × (fits old event ≡ true) × (IsTrue tells → Breaks world old (Heard event) error before after)
+GivesUp world tells old item before after Unreadable = IsTrue tells → ⊥

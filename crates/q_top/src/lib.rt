@@ -3,6 +3,7 @@
 #![tactic(auto)]
 
 mod command;
+mod conf;
 mod life;
 mod load;
 mod queue_file;

@@ -5,11 +5,14 @@ ghost use Rattle.q_model.specs.declared.spot.Area.TheVariants as areas;
 ghost use Rattle.q_model.specs.IdTexts.{id_text};
 ghost use Rattle.q_host.specs.Faults.{Rose};
 ghost use Rattle.q_stream.specs.Takes.{Rose as SourceRose};
+ghost use Rattle.q_params.specs.Ranges.{IsInRange};
 ghost use Rattle.q_top.specs.Agrees.{HasFiles};
 ghost use Rattle.q_top.specs.ReplayEnds.{Finishes, ReplayEnds};
 ghost use Rattle.q_top.specs.Spools.{IsSpool, first_id, unopened};
+ghost use Rattle.q_top.specs.Worlds.{world_of};
 ghost use Rattle.q_top.specs.TakenItem.{GivesUp, Takes};
 
+use crate::conf::Conf;
 use crate::life::{Life, Stepped};
 use crate::status::{InputFile, Status, status_of, unread};
 use crate::step::FIRST;
@@ -40,14 +43,21 @@ pub(crate) enum Refusal {
 }
 
 /// Takes an item of the list.
-fn take<H: Host>(alloc: Global, host: &mut H, life: &mut Life, item: Item) -> Result<Taken, Refusal>
+fn take<H: Host>(
+    alloc: Global,
+    host: &mut H,
+    conf: &Conf,
+    life: &mut Life,
+    item: Item,
+) -> Result<Taken, Refusal>
     requires there { IsTrue H.tells → HasFiles life.old.stage (H.view host.old).files }
     requires clock { life.old.clock ≤ 999990000000 }
+    requires range { IsInRange (world_of conf.now).settings }
     requires form { IsItemInForm item }
     ensures clock { life.new.clock ≤ 999990000000 }
-    ensures ok { IfOk result (λ taken. Takes H.tells life.old life.new item (H.view host.old) (H.view host.new) taken) }
+    ensures ok { IfOk result (λ taken. Takes (world_of conf.now) H.tells life.old life.new item (H.view host.old) (H.view host.new) taken) }
     ensures files { IfOk result (λ taken. IsTrue H.tells → HasFiles life.new.stage (H.view host.new).files) }
-    ensures err { IfErr result (λ refusal. GivesUp H.tells life.old item (H.view host.old) (H.view host.new) refusal) }
+    ensures err { IfErr result (λ refusal. GivesUp (world_of conf.now) H.tells life.old item (H.view host.old) (H.view host.new) refusal) }
     ensures disk_later { (H.faults host.old).disk ≤ (H.faults host.new).disk }
     ensures tell_later { (H.faults host.old).tell ≤ (H.faults host.new).tell }
     ensures disk { IfErr result (λ refusal. refusal ≡ Refusal.Host HostError.Disk → Rose (H.faults host.old).disk (H.faults host.new).disk) }
@@ -60,7 +70,7 @@ fn take<H: Host>(alloc: Global, host: &mut H, life: &mut Life, item: Item) -> Re
             if !life.fits(&event) {
                 return Err(Refusal::NotTaken);
             }
-            match life.step(alloc, host, event) {
+            match life.step(alloc, host, conf, event) {
                 Ok(Stepped::Done) => Ok(Taken::Heard),
                 Ok(Stepped::Unreadable) => Err(Refusal::Unreadable),
                 Err(error) => Err(Refusal::Host(error)),
@@ -89,14 +99,14 @@ fn unreadable() -> Status
 }
 
 /// Ends the life.
-fn finish<H: Host>(alloc: Global, host: &mut H, life: Life) -> Status
-    ensures ends { IsTrue H.tells → Finishes life (H.view host.old) (H.view host.new) result }
+fn finish<H: Host>(alloc: Global, host: &mut H, conf: &Conf, life: Life) -> Status
+    ensures ends { IsTrue H.tells → Finishes (world_of conf.now) life (H.view host.old) (H.view host.new) result }
     ensures disk { result ≡ Status.Disk → Rose (H.faults host.old).disk (H.faults host.new).disk }
     ensures tell { result ≡ Status.Tell → Rose (H.faults host.old).tell (H.faults host.new).tell }
     ensures no_source { result ≢ Status.Source }
     ensures no_usage { result ≢ Status.Usage }
 {
-    match life.finish(alloc, host) {
+    match life.finish(alloc, host, conf) {
         Ok(()) => Status::Done,
         Err(error) => status_of(error),
     }
@@ -113,15 +123,21 @@ fn first_generation() -> Name
 }
 
 /// Replays an event list on an empty spool.
-pub(crate) fn replay<H: Host, S: Source>(alloc: Global, source: &mut S, host: &mut H) -> Status
-    requires { IsTrue H.tells → IsSpool unopened (H.view host.old).files }
-    ensures ends { IsTrue H.tells → ReplayEnds (S.left source.old) (S.left source.new) (H.view host.old) (H.view host.new) result }
+pub(crate) fn replay<H: Host, S: Source>(
+    alloc: Global,
+    source: &mut S,
+    host: &mut H,
+    conf: &Conf,
+) -> Status
+    requires range { IsInRange (world_of conf.now).settings }
+    requires unopened { IsTrue H.tells → IsSpool unopened (H.view host.old).files }
+    ensures ends { IsTrue H.tells → ReplayEnds (world_of conf.now) (S.left source.old) (S.left source.new) (H.view host.old) (H.view host.new) result }
     ensures disk { result ≡ Status.Disk → Rose (H.faults host.old).disk (H.faults host.new).disk }
     ensures tell { result ≡ Status.Tell → Rose (H.faults host.old).tell (H.faults host.new).tell }
     ensures source { result ≡ Status.Source → SourceRose (S.faults source.old) (S.faults source.new) }
     ensures no_usage { result ≢ Status.Usage }
 {
-    let mut life = match Life::begin(alloc, host, first_generation()) {
+    let mut life = match Life::begin(alloc, host, conf, first_generation()) {
         Ok(life) => life,
         Err(error) => return status_of(error),
     };
@@ -133,9 +149,9 @@ pub(crate) fn replay<H: Host, S: Source>(alloc: Global, source: &mut S, host: &m
             Ok(item) => item,
             Err(error) => return unread(error),
         };
-        match take(alloc, host, &mut life, item) {
+        match take(alloc, host, conf, &mut life, item) {
             Ok(Taken::Heard) => continue,
-            Ok(Taken::Ended) => return finish(alloc, host, life),
+            Ok(Taken::Ended) => return finish(alloc, host, conf, life),
             Err(Refusal::NotTaken) => return bad_line(events.lines()),
             Err(Refusal::Host(error)) => return status_of(error),
             Err(Refusal::Unreadable) => return unreadable(),

@@ -11,6 +11,8 @@ use std::fmt;
 #[derive(Clone, Copy, Debug, PartialEq, Eq)]
 pub enum InputFile {
     Events,
+    Parameters,
+    Table,
 }
 
 /// How a command ended. Everything but `Done` is a refusal.
@@ -91,6 +93,8 @@ impl fmt::Display for Status {
             Status::Usage => write!(f, "wrong words"),
             Status::BadInput { file, line } => match file {
                 InputFile::Events => write!(f, "bad input: events line {line}"),
+                InputFile::Parameters => write!(f, "bad input: parameters line {line}"),
+                InputFile::Table => write!(f, "bad input: table line {line}"),
             },
             Status::Disk => write!(f, "disk fault"),
             Status::Tell => write!(f, "output fault"),

@@ -171,7 +171,7 @@ fn refusals(rt: HostRuntime) -> Result<(), Fail> {
         (&["replay", "now"], Area::Tmp, 0, "wrong words"),
         (&["run"], Area::Active, 0, "wrong words"),
         (&["replay"], Area::Tmp, 3, "disk fault"),
-        (&["replay"], Area::Tmp, 9, "output fault"),
+        (&["replay"], Area::Tmp, 11, "output fault"),
     ];
     for (texts, area, failing, answer) in rows {
         let mut source = MemSource::new(alloc, FIRST, 9, &[])?;
@@ -194,14 +194,14 @@ fn faults(rt: HostRuntime) -> Result<(), Fail> {
     let name = Name::new(b"00000001-00000001").ok_or("no name")?;
     let rows: [(u64, &str, &[u8], bool); 4] = [
         // the sync of the file
-        (13, "disk fault", b"life 1\nat 1000\n", false),
+        (15, "disk fault", b"life 1\nat 1000\n", false),
         // the rename
-        (14, "disk fault", b"life 1\nat 1000\n", false),
+        (16, "disk fault", b"life 1\nat 1000\n", false),
         // the line of the arrival
-        (15, "output fault", b"life 1\nat 1000\n", true),
+        (17, "output fault", b"life 1\nat 1000\n", true),
         // the move to active
         (
-            16,
+            18,
             "disk fault",
             b"life 1\nat 1000\narrive 00000001-00000001 a@x.example 0 b@y.example\n",
             true,
@@ -217,6 +217,76 @@ fn faults(rt: HostRuntime) -> Result<(), Fail> {
         assert_eq!(rt; shown.as_str(), answer);
         assert_eq!(rt; host.told(), told);
         assert_eq!(rt; host.file(Area::Incoming, name).is_some(), stands);
+    }
+    Ok(())
+}
+
+const ROUTED: &[u8] = b"life 1\nat 1000\narrive 00000001-00000001 a@x.example 0 b@y.example\n\
+admit 00000001-00000001\nload 00000001-00000001 0 1\n\
+start 1 00000001-00000001 relay [127.0.0.1]:25 0\nreply 1 up ok\nmark 00000001-00000001 0\n\
+sync 00000001-00000001\nremove 00000001-00000001\nend\n";
+
+// The files `params` and `transport` of conf, and what they lead to. The spool isn't empty where
+// a row says so.
+#[test]
+fn confs(rt: HostRuntime) -> Result<(), Fail> {
+    let alloc = rt.alloc();
+    let params = Name::new(b"params").ok_or("no name")?;
+    let transport = Name::new(b"transport").ok_or("no name")?;
+    let damaged: &[u8] = b"y.example :[127.0.0.1]:25\n";
+    let rows: [(&[u8], &[u8], bool, &str, &[u8]); 8] = [
+        (b"", b"", false, "done", FIRST_TRACE),
+        (
+            b"default_delivery_slot_cost = 1\n",
+            damaged,
+            false,
+            "bad input: parameters line 1",
+            b"",
+        ),
+        (
+            b"queue_run_delay = 60\nqueue_run_delay = 60\n",
+            b"",
+            true,
+            "bad input: parameters line 2",
+            b"",
+        ),
+        (
+            b"qmgr_message_recipient_limit = 5\n",
+            b"",
+            false,
+            "bad input: parameters line 1",
+            b"",
+        ),
+        (b"", damaged, true, "bad input: table line 1", b""),
+        (b"", b"", true, "damaged spool: hold/params", b""),
+        (
+            b"# none\n",
+            b"* relay:[127.0.0.1]:25\n",
+            false,
+            "done",
+            ROUTED,
+        ),
+        (
+            b"initial_destination_concurrency = 1\ndefault_process_limit = 1\n",
+            b"b@y.example relay:[127.0.0.1]:25\ny.example smtp:\n",
+            false,
+            "done",
+            ROUTED,
+        ),
+    ];
+    for (set, table, held, answer, told) in rows {
+        let mut source = MemSource::new(alloc, FIRST, 9, &[])?;
+        let mut host = MemHost::new(alloc);
+        host.put_file(Area::Conf, params, set)?;
+        host.put_file(Area::Conf, transport, table)?;
+        if held {
+            host.put_file(Area::Hold, params, b"x")?;
+        }
+        let words = words_of(alloc, &["replay"])?;
+        let status = qmgr(alloc, &words, &mut source, &mut host);
+        let shown = format!(in alloc; "{status}")?;
+        assert_eq!(rt; shown.as_str(), answer);
+        assert_eq!(rt; host.told(), told);
     }
     Ok(())
 }
@@ -241,7 +311,7 @@ fn crashes(rt: HostRuntime) -> Result<(), Fail> {
         for calls in 0..6 {
             let mut source = MemSource::new(alloc, FIRST, 9, &[])?;
             let mut host = MemHost::new(alloc);
-            host.stop_after(10 + calls);
+            host.stop_after(12 + calls);
             let words = words_of(alloc, &["replay"])?;
             qmgr(alloc, &words, &mut source, &mut host);
             let left = host.crash(choice);
