@@ -219,7 +219,7 @@ command_gives : (e now later : EventsState) (old mid new source : Option (List �
 command_gives e now later old mid new source content text command None led at short said h count = no_item e now later old mid new content text command led at short said (sym h) count
 command_gives e now later old mid new source content text command (Some item) led at short said h count = item_found e now later old mid new content text command item led at short said (sym h) count
 
-is_told : (said : Line) (command : Command) → command_in (Some said) ≡ Some command → said ≡ Told command
+pub is_told : (said : Line) (command : Command) → command_in (Some said) ≡ Some command → said ≡ Told command
 is_told Passed command h = cc
 is_told Body command h = cc
 is_told (Told other) command h = let same : other ≡ command = cc in ap Told same

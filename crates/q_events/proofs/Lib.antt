@@ -2,3 +2,4 @@ pub mod NumberValues
 pub mod WordLists
 pub mod LineParts
 pub mod Leading
+pub mod ItemForms

@@ -5,3 +5,4 @@ pub mod EventList
 pub mod States
 pub mod Readings
 pub mod LineReadings
+pub mod Forms

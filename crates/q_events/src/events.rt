@@ -3,6 +3,7 @@ ghost use Rattle.std.specs.Prelude.{◌≡◌, ◌≤◌, ◌<◌, ◌+◌, ◌+
 ghost use Rattle.q_stream.specs.Takes.{Rose};
 ghost use Rattle.q_model.specs.Notices.{text_line};
 ghost use Rattle.q_events.specs.EventList.{command_in, content_by, item_of};
+ghost use Rattle.q_events.specs.Forms.{IsItemInForm};
 ghost use Rattle.q_events.specs.LineReadings.{GivesLine};
 ghost use Rattle.q_events.specs.Readings.{Gives, is_end};
 ghost use Rattle.q_events.specs.States.{behind};
@@ -96,6 +97,13 @@ impl Events {
         })
     }
 
+    /// How many lines were read. Behind an item it is the number of the item's line.
+    pub fn lines(&self) -> u64
+        ensures { result ≡ self.now.lines }
+    {
+        self.lines
+    }
+
     /// The next line, which is counted.
     fn next_line<S: Source>(&mut self, alloc: Global, source: &mut S) -> Result<Vec<u8>, EventError>
         ensures line { GivesLine self.old (behind self.old.buffered (S.left source.old)) self.new (behind self.new.buffered (S.left source.new)) (S.left source.new) result }
@@ -127,6 +135,7 @@ impl Events {
     fn read_item<S: Source>(&mut self, alloc: Global, source: &mut S) -> Result<Item, EventError>
         requires { self.old.ended ≡ false }
         ensures exact { Gives self.old (behind self.old.buffered (S.left source.old)) self.new (behind self.new.buffered (S.left source.new)) (S.left source.new) result }
+        ensures form { IfOk result IsItemInForm }
         ensures progress { OnOk result (self.new.budget < self.old.budget) }
         ensures source { result ≡ Err EventError.Source → Rose (S.faults source.old) (S.faults source.new) }
         ensures later { S.faults source.old ≤ S.faults source.new }
@@ -156,6 +165,8 @@ impl Events {
         source: &mut S,
     ) -> Result<Item, EventError>
         ensures exact { Gives self.old (behind self.old.buffered (S.left source.old)) self.new (behind self.new.buffered (S.left source.new)) (S.left source.new) result }
+        // Also where the source doesn't tell what is left of it.
+        ensures form { IfOk result IsItemInForm }
         ensures ended { IfOk result (λ item. self.new.ended ≡ is_end item) }
         ensures progress { IfOk result (λ item. is_end item ≡ false → self.new.budget < self.old.budget) }
         ensures source { result ≡ Err EventError.Source → Rose (S.faults source.old) (S.faults source.new) }

@@ -1,5 +1,5 @@
 -- A life agrees with what its turns lead to.
-use Rattle.std.proofs.Common.{◌≡◌, ◌≤◌, ℕ, ◌+◌, max, Bool, true, false, List, [], ◌∷◌, length, Option, Some, refl, sym, ap, ◌∙◌, if◌then◌else◌, arith, subst}
+use Rattle.std.proofs.Common.{◌≡◌, ◌≤◌, ◌<◌, ℕ, ◌+◌, max, Bool, true, false, List, [], ◌∷◌, length, Option, Some, refl, sym, ap, ◌∙◌, if◌then◌else◌, arith, subst}
 use Rattle.std.specs.List.{list_all}
 use Rattle.std.specs.Prelude.{replicate, fold, nat_le, count_by, slice_get, ◌&&◌, ◌==◌}
 use Rattle.std.specs.Option.{option_map_or}
@@ -23,7 +23,10 @@ use Rattle.q_model.specs.QueueFileBytes.{IsFileMessage, file_bytes, mark_at}
 use Rattle.q_model.specs.Run.{turn}
 use Rattle.q_model.specs.Step.{after_all}
 use Rattle.q_model.specs.Texts.{is_address}
-use Rattle.q_model.specs.Values.{Taken}
+use Rattle.q_model.specs.Values.{Site, Taken}
+use Rattle.q_transport.specs.Routing.{table_of}
+use Rattle.q_top.specs.declared.conf.Conf.{Conf}
+use Rattle.q_top.specs.Worlds.{world_of}
 use Rattle.q_model.proofs.QueueFileLaws.{queue_file_again}
 use Rattle.q_message.specs.NewFile.{new_message}
 use Rattle.q_message.specs.Pending.{taken_at}
@@ -38,28 +41,31 @@ use Rattle.q_top.specs.declared.life.Stage.{Stage}
 use Rattle.q_top.specs.declared.life.Stage.TheVariants.{Awaited, InFlight, Gone}
 use Rattle.q_top.specs.Fits.{fits, is_awaited, is_in_flight}
 use Rattle.q_top.specs.MailSteps.{life_steps, mail_steps, reply_steps}
-use Rattle.q_top.specs.OneMessage.{world, idle, file_message}
+use Rattle.q_top.specs.OneMessage.{idle, file_message, site_of}
 use Rattle.q_top.specs.Reading.{is_one_ok}
 use Rattle.q_top.specs.Spools.{Spool, unopened, empty, holds, first_id, IsSpool}
 use Rattle.q_top.specs.Steps.{entries_of, spool_after, Plays, Halts}
 use Rattle.q_top.proofs.Fitting.{life}
 use Rattle.q_top.proofs.Following.{file_reads, mail_follows, reply_follows}
-use Rattle.q_top.proofs.Turning.{arrive, start, mail_entries, reply_entries, idle_at, flying_at, after_begin, after_mail, after_reply, turn_at_idle, turn_at_flying, turn_mail, turn_reply}
+use Rattle.q_top.proofs.Ledgers.{idle_at, flying_at, after_begin}
+use Rattle.q_top.proofs.Turning.{arrive, start, mail_entries, reply_entries, after_mail, after_reply, turn_at_idle, turn_at_flying, turn_mail, turn_reply}
+use Rattle.q_model.specs.Settings.{World}
+use Rattle.q_params.specs.Ranges.{IsInRange}
 
-pub begun_awaits : IsAwaiting 0 false (after_all world before_life (entries_of life_steps)) (spool_after unopened life_steps)
+pub begun_awaits : (world : World) → IsAwaiting world 0 false (after_all world before_life (entries_of life_steps)) (spool_after unopened life_steps)
 unfolding after_all
-begun_awaits = record { next_run = 0; past = Life 1 Deliver ∷ []; ledger = after_begin; begun = refl; no_arrival = refl; no_start = refl; clock = omega arith; spool = refl }
+begun_awaits world = record { next_run = 0; past = Life 1 Deliver ∷ []; ledger = after_begin world; begun = refl; no_arrival = refl; no_start = refl; clock = omega arith; spool = refl }
 
 -- the clock is there
-pub at_agrees : (stage : Stage) (clock t : ℕ) (timed : Bool) (l : Ledger) (s : Spool) → t ≤ 999990000000 → StageAgrees stage clock timed l s
-    → (turn world l (Heard (events.At t)) ≡ At (max clock t) ∷ []) × StageAgrees stage (max clock t) true (after_all world l (At (max clock t) ∷ [])) s
+pub at_agrees : (world : World) (lawful : IsInRange world.settings) (stage : Stage) (clock t : ℕ) (timed : Bool) (l : Ledger) (s : Spool) → t ≤ 999990000000 → StageAgrees world stage clock timed l s
+    → (turn world l (Heard (events.At t)) ≡ At (max clock t) ∷ []) × StageAgrees world stage (max clock t) true (after_all world l (At (max clock t) ∷ [])) s
 unfolding after_all
-at_agrees Awaited clock t timed l s le a = (
-  rw a.ledger (turn_at_idle clock a.next_run t timed false a.past),
+at_agrees world lawful Awaited clock t timed l s le a = (
+  rw a.ledger (turn_at_idle world clock a.next_run t timed false a.past),
   record {
-    next_run = if nat_le a.next_run (max clock t) then max clock t + 300 else a.next_run;
+    next_run = if nat_le a.next_run (max clock t) then max clock t + world.settings.run_delay else a.next_run;
     past = At (max clock t) ∷ a.past;
-    ledger = rw a.ledger (idle_at clock a.next_run (max clock t) timed false a.past);
+    ledger = rw a.ledger (idle_at world clock a.next_run (max clock t) timed false a.past);
     begun = refl;
     no_arrival = a.no_arrival;
     no_start = a.no_start;
@@ -67,15 +73,15 @@ at_agrees Awaited clock t timed l s le a = (
     spool = a.spool;
   },
 )
-at_agrees (InFlight at) clock t timed l s le a = (
-  rw a.ledger (turn_at_flying clock a.next_run t a.sender a.address a.arrival a.past),
+at_agrees world lawful (InFlight at) clock t timed l s le a = (
+  rw a.ledger (turn_at_flying world lawful clock a.next_run t a.sender a.address a.arrival a.past),
   record {
-    next_run = if nat_le a.next_run (max clock t) then max clock t + 300 else a.next_run;
+    next_run = if nat_le a.next_run (max clock t) then max clock t + world.settings.run_delay else a.next_run;
     sender = a.sender;
     address = a.address;
     arrival = a.arrival;
     past = At (max clock t) ∷ a.past;
-    ledger = rw a.ledger (flying_at clock a.next_run (max clock t) a.sender a.address a.arrival a.past);
+    ledger = rw a.ledger (flying_at world clock a.next_run (max clock t) a.sender a.address a.arrival a.past);
     begun = refl;
     arrived = a.arrived;
     clock = refl;
@@ -84,22 +90,22 @@ at_agrees (InFlight at) clock t timed l s le a = (
     mark = a.mark;
   },
 )
-at_agrees Gone clock t timed l s le a = (
-  rw a.ledger (turn_at_idle clock a.next_run t timed true a.past),
+at_agrees world lawful Gone clock t timed l s le a = (
+  rw a.ledger (turn_at_idle world clock a.next_run t timed true a.past),
   record {
-    next_run = if nat_le a.next_run (max clock t) then max clock t + 300 else a.next_run;
+    next_run = if nat_le a.next_run (max clock t) then max clock t + world.settings.run_delay else a.next_run;
     past = At (max clock t) ∷ a.past;
-    ledger = rw a.ledger (idle_at clock a.next_run (max clock t) timed true a.past);
+    ledger = rw a.ledger (idle_at world clock a.next_run (max clock t) timed true a.past);
     begun = refl;
     arrived = a.arrived;
     spool = a.spool;
   },
 )
 
-pub at_agrees_with : (stage : Stage) (clock t m : ℕ) (timed : Bool) (l : Ledger) (s : Spool) → t ≤ 999990000000 → m ≡ max clock t → StageAgrees stage clock timed l s
-    → (turn world l (Heard (events.At t)) ≡ At m ∷ []) × StageAgrees stage m true (after_all world l (At m ∷ [])) s
-at_agrees_with stage clock t m timed l s le e a =
-    subst (λ x. (turn world l (Heard (events.At t)) ≡ At x ∷ []) × StageAgrees stage x true (after_all world l (At x ∷ [])) s) (sym e) (at_agrees stage clock t timed l s le a)
+pub at_agrees_with : (world : World) (lawful : IsInRange world.settings) (stage : Stage) (clock t m : ℕ) (timed : Bool) (l : Ledger) (s : Spool) → t ≤ 999990000000 → m ≡ max clock t → StageAgrees world stage clock timed l s
+    → (turn world l (Heard (events.At t)) ≡ At m ∷ []) × StageAgrees world stage m true (after_all world l (At m ∷ [])) s
+at_agrees_with world lawful stage clock t m timed l s le e a =
+    subst (λ x. (turn world l (Heard (events.At t)) ≡ At x ∷ []) × StageAgrees world stage x true (after_all world l (At x ∷ [])) s) (sym e) (at_agrees world lawful stage clock t timed l s le a)
 
 -- what a life holds of the files stays
 pub keeps_files : (stage : Stage) (f g : Files) → ((s : Spool) → IsSpool s f → IsSpool s g) → HasFiles stage f → HasFiles stage g
@@ -161,6 +167,16 @@ mail_first old sender (address ∷ to) content h = (address, first_mail old send
 pub address_form : (to : List (List ℕ)) (address : List ℕ) → to ≡ address ∷ [] → list_all is_address to ≡ true → is_address address ≡ true
 address_form to address only h = (and_parts (is_address address) true (subst (λ (xs : List (List ℕ)). list_all is_address xs ≡ true) only h)).0
 
+-- its destination is one that the table gives
+pub routed_by : (conf : Conf) (to : List (List ℕ)) (address got : List ℕ) (site : Site) → to ≡ address ∷ [] → slice_get to 0 ≡ Some got → site ≡ (table_of conf.table).route got → site.transport < length (table_of conf.table).transports
+    → ((site_of (world_of conf) address).transport < length (world_of conf).table.transports) × (site ≡ site_of (world_of conf) address)
+unfolding world_of
+routed_by conf to address got site only first is within =
+    let same : Some address ≡ Some got = sym (ap (λ (xs : List (List ℕ)). slice_get xs 0) only) ∙ first in
+    let at : got ≡ address = cc in
+    let there : site ≡ (table_of conf.table).route address = is ∙ ap (table_of conf.table).route at in
+    (subst (λ (x : Site). x.transport < length (table_of conf.table).transports) there within, there)
+
 -- the sizes of the message are within the limits of a queue file
 pub few_recipients : (to : List (List ℕ)) (address : List ℕ) → to ≡ address ∷ [] → (1 ≤ length to) × (length to ≤ 50000)
 few_recipients to address only = (omega (arith, ap length only), omega (arith, ap length only))
@@ -201,38 +217,38 @@ some_arrivals : (n : ℕ) (past : List Entry) → 1 ≤ n → (fold (λ a x. a +
 some_arrivals n [] h = not_zero n h
 some_arrivals n (e ∷ past) h = some_arrivals (n + (if is_arrive e then 1 else 0)) past (still_some n (if is_arrive e then 1 else 0) h)
 
-first_arrival : (sender : Option (List ℕ)) (address : List ℕ) (past : List Entry) → (count_by is_arrive (start address ∷ Load first_id 0 1 ∷ Admit first_id ∷ arrive sender address ∷ past) == 0) ≡ false
-first_arrival sender address past = some_arrivals 1 past (omega arith)
+first_arrival : (world : World) (sender : Option (List ℕ)) (address : List ℕ) (past : List Entry) → (count_by is_arrive (start world address ∷ Load first_id 0 1 ∷ Admit first_id ∷ arrive sender address ∷ past) == 0) ≡ false
+first_arrival world sender address past = some_arrivals 1 past (omega arith)
 
-module _ (old : LifeOf) (l : Ledger) (s : Spool) (sender : Option (List ℕ)) (to : List (List ℕ)) (content address file : List ℕ)
-    (first : IsFirstMail old to content address) (agrees : Agrees old l s) (from_form : option_map_or is_address sender true ≡ true) (to_form : is_address address ≡ true)
+module _ (world : World) (lawful : IsInRange world.settings) (old : LifeOf) (l : Ledger) (s : Spool) (sender : Option (List ℕ)) (to : List (List ℕ)) (content address file : List ℕ)
+    (first : IsFirstMail old to content address) (agrees : Agrees world old l s) (from_form : option_map_or is_address sender true ≡ true) (to_form : is_address address ≡ true) (routed : (site_of world address).transport < length world.table.transports)
     (is : file ≡ file_bytes (file_message sender old.clock address false) (80 ∷ [])) where
-  awaiting : IsAwaiting old.clock true l s
-  awaiting = subst (λ x. IsAwaiting old.clock x l s) first.timed (subst (λ (x : Stage). StageAgrees x old.clock old.timed l s) first.stage agrees)
+  awaiting : IsAwaiting world old.clock true l s
+  awaiting = subst (λ x. IsAwaiting world old.clock x l s) first.timed (subst (λ (x : Stage). StageAgrees world x old.clock old.timed l s) first.stage agrees)
 
-  lawful : IsFileMessage (file_message sender old.clock address false)
-  lawful = one_message sender address old.clock from_form to_form awaiting.clock
+  form_lawful : IsFileMessage (file_message sender old.clock address false)
+  form_lawful = one_message sender address old.clock from_form to_form awaiting.clock
 
   -- the turn of the message, from a ledger with which the life agrees
-  pub mail_turn : (s ≡ empty) × (turn world l (Heard (events.Mail sender to content)) ≡ entries_of (mail_steps sender address file)) × Follows l (mail_steps sender address file)
+  pub mail_turn : (s ≡ empty) × (turn world l (Heard (events.Mail sender to content)) ≡ entries_of (mail_steps world sender address file)) × Follows world l (mail_steps world sender address file)
   mail_turn = (
     awaiting.spool,
-    rw (first.only, first.no_content, awaiting.ledger) (turn_mail old.clock awaiting.next_run sender address awaiting.past awaiting.no_arrival awaiting.no_start),
-    subst (λ (x : Ledger). Follows x (mail_steps sender address file)) (sym awaiting.ledger) (mail_follows old.clock awaiting.next_run sender address awaiting.past file (file_reads sender address file old.clock is lawful)),
+    rw (first.only, first.no_content, awaiting.ledger) (turn_mail world lawful old.clock awaiting.next_run sender address awaiting.past routed awaiting.no_arrival awaiting.no_start),
+    subst (λ (x : Ledger). Follows world x (mail_steps world sender address file)) (sym awaiting.ledger) (mail_follows world old.clock awaiting.next_run sender address awaiting.past file (file_reads sender address file old.clock is form_lawful)),
   )
 
-  pub mail_agrees : (at : ℕ) → at ≡ mark_at (file_message sender old.clock address false) 0 → Agrees (life old.clock old.timed (InFlight at)) (after_all world l (entries_of (mail_steps sender address file))) (holds Active file)
+  pub mail_agrees : (at : ℕ) → at ≡ mark_at (file_message sender old.clock address false) 0 → Agrees world (life old.clock old.timed (InFlight at)) (after_all world l (entries_of (mail_steps world sender address file))) (holds Active file)
   mail_agrees at mark = record {
     next_run = awaiting.next_run;
     sender = sender;
     address = address;
     arrival = old.clock;
-    past = start address ∷ Load first_id 0 1 ∷ Admit first_id ∷ arrive sender address ∷ awaiting.past;
-    ledger = ap (λ (x : Ledger). after_all world x (mail_entries sender address)) awaiting.ledger ∙ after_mail old.clock awaiting.next_run sender address awaiting.past;
+    past = start world address ∷ Load first_id 0 1 ∷ Admit first_id ∷ arrive sender address ∷ awaiting.past;
+    ledger = ap (λ (x : Ledger). after_all world x (mail_entries world sender address)) awaiting.ledger ∙ after_mail world lawful old.clock awaiting.next_run sender address awaiting.past;
     begun = refl;
-    arrived = first_arrival sender address awaiting.past;
+    arrived = first_arrival world sender address awaiting.past;
     clock = first.timed;
-    message = lawful;
+    message = form_lawful;
     spool = ap (λ (x : List ℕ). holds Active x) is;
     mark = mark;
   }
@@ -258,19 +274,19 @@ first_success old number Up os h =
     record { first = is_one number one.1; up = refl; one = is_success os two.1 }
 first_success old number Down os h = absurd cc
 
-pub reply_agrees : (old : LifeOf) (l : Ledger) (s : Spool) (number at : ℕ) (site : SiteState) (os : List Outcome) → IsSuccess number site os → old.stage ≡ InFlight at → Agrees old l s
-    → (file : List ℕ) × (s ≡ holds Active file) × (turn world l (Heard (events.Reply number site os)) ≡ entries_of (reply_steps at file)) × Follows l (reply_steps at file) × Agrees (life old.clock old.timed Gone) (after_all world l (entries_of (reply_steps at file))) empty
-reply_agrees old l s number at site os success stage agrees =
-    let a : IsFlying old.clock at old.timed l s = subst (λ (x : Stage). StageAgrees x old.clock old.timed l s) stage agrees in (
+pub reply_agrees : (world : World) (lawful : IsInRange world.settings) (old : LifeOf) (l : Ledger) (s : Spool) (number at : ℕ) (site : SiteState) (os : List Outcome) → IsSuccess number site os → old.stage ≡ InFlight at → Agrees world old l s
+    → (file : List ℕ) × (s ≡ holds Active file) × (turn world l (Heard (events.Reply number site os)) ≡ entries_of (reply_steps at file)) × Follows world l (reply_steps at file) × Agrees world (life old.clock old.timed Gone) (after_all world l (entries_of (reply_steps at file))) empty
+reply_agrees world lawful old l s number at site os success stage agrees =
+    let a : IsFlying world old.clock at old.timed l s = subst (λ (x : Stage). StageAgrees world x old.clock old.timed l s) stage agrees in (
       file_bytes (file_message a.sender a.arrival a.address false) (80 ∷ []),
       a.spool,
-      rw (success.first, success.up, success.one, a.ledger) (turn_reply old.clock a.next_run a.sender a.address a.arrival a.past),
-      subst (λ (x : Ledger). Follows x (reply_steps at (file_bytes (file_message a.sender a.arrival a.address false) (80 ∷ [])))) (sym a.ledger) (reply_follows old.clock a.next_run a.sender a.address a.arrival a.past at (file_bytes (file_message a.sender a.arrival a.address false) (80 ∷ [])) a.mark
+      rw (success.first, success.up, success.one, a.ledger) (turn_reply world lawful old.clock a.next_run a.sender a.address a.arrival a.past),
+      subst (λ (x : Ledger). Follows world x (reply_steps at (file_bytes (file_message a.sender a.arrival a.address false) (80 ∷ [])))) (sym a.ledger) (reply_follows world old.clock a.next_run a.sender a.address a.arrival a.past at (file_bytes (file_message a.sender a.arrival a.address false) (80 ∷ [])) a.mark
           (file_reads a.sender a.address (file_bytes (file_message a.sender a.arrival a.address false) (80 ∷ [])) a.arrival refl a.message)),
       record {
         next_run = a.next_run;
         past = Remove first_id ∷ Sync first_id ∷ Mark first_id 0 ∷ Reply 1 Up (outcomes.Ok ∷ []) ∷ a.past;
-        ledger = ap (λ (x : Ledger). after_all world x reply_entries) a.ledger ∙ after_reply old.clock a.next_run a.sender a.address a.arrival a.past ∙ ap (λ b. idle old.clock b a.next_run true (Remove first_id ∷ Sync first_id ∷ Mark first_id 0 ∷ Reply 1 Up (outcomes.Ok ∷ []) ∷ a.past)) (sym a.clock);
+        ledger = ap (λ (x : Ledger). after_all world x reply_entries) a.ledger ∙ after_reply world lawful old.clock a.next_run a.sender a.address a.arrival a.past ∙ ap (λ b. idle world old.clock b a.next_run true (Remove first_id ∷ Sync first_id ∷ Mark first_id 0 ∷ Reply 1 Up (outcomes.Ok ∷ []) ∷ a.past)) (sym a.clock);
         begun = refl;
         arrived = a.arrived;
         spool = refl;
@@ -279,28 +295,28 @@ reply_agrees old l s number at site os success stage agrees =
 
 -- ---- what a turn says
 
-module _ (old : LifeOf) (sender : Option (List ℕ)) (to : List (List ℕ)) (content address : List ℕ) (before after : View)
-    (first : IsFirstMail old to content address) (from_form : option_map_or is_address sender true ≡ true) (to_form : is_address address ≡ true) where
+module _ (world : World) (lawful : IsInRange world.settings) (old : LifeOf) (sender : Option (List ℕ)) (to : List (List ℕ)) (content address : List ℕ) (before after : View)
+    (first : IsFirstMail old to content address) (from_form : option_map_or is_address sender true ≡ true) (to_form : is_address address ≡ true) (routed : (site_of world address).transport < length world.table.transports) where
   pub mail_breaks : (file : List ℕ) (error : HostError) → file ≡ file_bytes (file_message sender old.clock address false) (80 ∷ [])
-      → Halts empty (mail_steps sender address file) error before after → Breaks old (Heard (events.Mail sender to content)) error before after
+      → Halts world empty (mail_steps world sender address file) error before after → Breaks world old (Heard (events.Mail sender to content)) error before after
   mail_breaks file error is h l s agrees =
-      let (spool, entries, follows) = mail_turn old l s sender to content address file first agrees from_form to_form is in
-      (mail_steps sender address file, entries, follows, subst (λ x. Halts x (mail_steps sender address file) error before after) (sym spool) h)
+      let (spool, entries, follows) = mail_turn world lawful old l s sender to content address file first agrees from_form to_form routed is in
+      (mail_steps world sender address file, entries, follows, subst (λ x. Halts world x (mail_steps world sender address file) error before after) (sym spool) h)
 
   pub mail_turns : (file : List ℕ) (at : ℕ) → file ≡ file_bytes (file_message sender old.clock address false) (80 ∷ []) → at ≡ mark_at (file_message sender old.clock address false) 0
-      → Plays empty (mail_steps sender address file) before after → Turns old (life old.clock old.timed (InFlight at)) (Heard (events.Mail sender to content)) before after
+      → Plays world empty (mail_steps world sender address file) before after → Turns world old (life old.clock old.timed (InFlight at)) (Heard (events.Mail sender to content)) before after
   mail_turns file at is mark p l s agrees =
-      let (spool, entries, follows) = mail_turn old l s sender to content address file first agrees from_form to_form is in
-      (mail_steps sender address file, entries, follows, mail_agrees old l s sender to content address file first agrees from_form to_form is at mark, subst (λ x. Plays x (mail_steps sender address file) before after) (sym spool) p)
+      let (spool, entries, follows) = mail_turn world lawful old l s sender to content address file first agrees from_form to_form routed is in
+      (mail_steps world sender address file, entries, follows, mail_agrees world lawful old l s sender to content address file first agrees from_form to_form routed is at mark, subst (λ x. Plays world x (mail_steps world sender address file) before after) (sym spool) p)
 
-pub reply_breaks : (old : LifeOf) (number at : ℕ) (site : SiteState) (os : List Outcome) (error : HostError) (before after : View) → IsSuccess number site os → old.stage ≡ InFlight at
-    → ((file : List ℕ) → Halts (holds Active file) (reply_steps at file) error before after) → Breaks old (Heard (events.Reply number site os)) error before after
-reply_breaks old number at site os error before after success stage h l s agrees =
-    let (file, spool, entries, follows, new) = reply_agrees old l s number at site os success stage agrees in
-    (reply_steps at file, entries, follows, subst (λ x. Halts x (reply_steps at file) error before after) (sym spool) (h file))
+pub reply_breaks : (world : World) (lawful : IsInRange world.settings) (old : LifeOf) (number at : ℕ) (site : SiteState) (os : List Outcome) (error : HostError) (before after : View) → IsSuccess number site os → old.stage ≡ InFlight at
+    → ((file : List ℕ) → Halts world (holds Active file) (reply_steps at file) error before after) → Breaks world old (Heard (events.Reply number site os)) error before after
+reply_breaks world lawful old number at site os error before after success stage h l s agrees =
+    let (file, spool, entries, follows, new) = reply_agrees world lawful old l s number at site os success stage agrees in
+    (reply_steps at file, entries, follows, subst (λ x. Halts world x (reply_steps at file) error before after) (sym spool) (h file))
 
-pub reply_turns : (old : LifeOf) (number at : ℕ) (site : SiteState) (os : List Outcome) (before after : View) → IsSuccess number site os → old.stage ≡ InFlight at
-    → ((file : List ℕ) → Plays (holds Active file) (reply_steps at file) before after) → Turns old (life old.clock old.timed Gone) (Heard (events.Reply number site os)) before after
-reply_turns old number at site os before after success stage p l s agrees =
-    let (file, spool, entries, follows, new) = reply_agrees old l s number at site os success stage agrees in
-    (reply_steps at file, entries, follows, new, subst (λ x. Plays x (reply_steps at file) before after) (sym spool) (p file))
+pub reply_turns : (world : World) (lawful : IsInRange world.settings) (old : LifeOf) (number at : ℕ) (site : SiteState) (os : List Outcome) (before after : View) → IsSuccess number site os → old.stage ≡ InFlight at
+    → ((file : List ℕ) → Plays world (holds Active file) (reply_steps at file) before after) → Turns world old (life old.clock old.timed Gone) (Heard (events.Reply number site os)) before after
+reply_turns world lawful old number at site os before after success stage p l s agrees =
+    let (file, spool, entries, follows, new) = reply_agrees world lawful old l s number at site os success stage agrees in
+    (reply_steps at file, entries, follows, new, subst (λ x. Plays world x (reply_steps at file) before after) (sym spool) (p file))

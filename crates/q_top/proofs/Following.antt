@@ -24,11 +24,13 @@ use Rattle.q_top.specs.Books.{Follows, StandsFor}
 use Rattle.q_top.specs.declared.life.Stage.{Stage}
 use Rattle.q_top.specs.declared.life.Stage.TheVariants.{Awaited, InFlight, Gone}
 use Rattle.q_top.specs.MailSteps.{life_steps, mail_steps, reply_steps}
-use Rattle.q_top.specs.OneMessage.{world, file_message, idle, flying, one_message, only_book}
+use Rattle.q_top.specs.OneMessage.{file_message, idle, flying, one_message, only_book}
 use Rattle.q_top.specs.Spools.{Spool, empty, holds, marking, marked, first_id, IsSpool}
 use Rattle.q_top.specs.Steps.{Steps, entries_of, spool_after}
 use Rattle.q_top.proofs.Books.{stands_empty, stands_incoming, stands_active, stands_marking, stands_marked}
-use Rattle.q_top.proofs.Turning.{after_begin, arrive, start, idle_at, flying_at}
+use Rattle.q_top.proofs.Ledgers.{after_begin, idle_at, flying_at}
+use Rattle.q_top.proofs.Turning.{arrive, start}
+use Rattle.q_model.specs.Settings.{World}
 
 -- the file of the message
 pub file_reads : (sender : Option (List ℕ)) (address file : List ℕ) (arrival : ℕ) → file ≡ file_bytes (file_message sender arrival address false) (80 ∷ []) → IsFileMessage (file_message sender arrival address false) → IsFileOf file (file_message sender arrival address false)
@@ -39,27 +41,27 @@ same_book s a b e h = subst (λ x. StandsFor s x) (sym e) h
 
 -- ---- the beginning
 
-pub begin_follows : Follows before_life life_steps
-begin_follows = (same_book empty (after world before_life (Life 1 Deliver)).book (only_book []) (ap (λ (l : Ledger). l.book) after_begin) stands_empty, tt)
+pub begin_follows : (world : World) → Follows world before_life life_steps
+begin_follows world = (same_book empty (after world before_life (Life 1 Deliver)).book (only_book []) (ap (λ (l : Ledger). l.book) (after_begin world)) stands_empty, tt)
 
 -- ---- a life that agrees
 
-pub agrees_stand : (stage : Stage) (clock : ℕ) (timed : Bool) (l : Ledger) (s : Spool) → StageAgrees stage clock timed l s → StandsFor s l.book
-agrees_stand Awaited clock timed l s a = subst (λ x. StandsFor x l.book) (sym a.spool) (same_book empty l.book (only_book []) (ap (λ (x : Ledger). x.book) a.ledger) stands_empty)
-agrees_stand (InFlight at) clock timed l s a =
+pub agrees_stand : (world : World) (stage : Stage) (clock : ℕ) (timed : Bool) (l : Ledger) (s : Spool) → StageAgrees world stage clock timed l s → StandsFor s l.book
+agrees_stand world Awaited clock timed l s a = subst (λ x. StandsFor x l.book) (sym a.spool) (same_book empty l.book (only_book []) (ap (λ (x : Ledger). x.book) a.ledger) stands_empty)
+agrees_stand world (InFlight at) clock timed l s a =
     let file = file_bytes (file_message a.sender a.arrival a.address false) (80 ∷ []) in
     subst (λ x. StandsFor x l.book) (sym a.spool)
     (same_book (holds Active file) l.book (only_book (one_message a.sender a.address a.arrival marks.Unmarked places.Active ∷ [])) (ap (λ (x : Ledger). x.book) a.ledger)
     (stands_active a.sender a.address a.arrival file (file_reads a.sender a.address file a.arrival refl a.message)))
-agrees_stand Gone clock timed l s a = subst (λ x. StandsFor x l.book) (sym a.spool) (same_book empty l.book (only_book []) (ap (λ (x : Ledger). x.book) a.ledger) stands_empty)
+agrees_stand world Gone clock timed l s a = subst (λ x. StandsFor x l.book) (sym a.spool) (same_book empty l.book (only_book []) (ap (λ (x : Ledger). x.book) a.ledger) stands_empty)
 
-at_book : (stage : Stage) (clock t : ℕ) (timed : Bool) (l : Ledger) (s : Spool) → StageAgrees stage clock timed l s → (after world l (At t)).book ≡ l.book
-at_book Awaited clock t timed l s a = rw a.ledger (ap (λ (x : Ledger). x.book) (idle_at clock a.next_run t timed false a.past))
-at_book (InFlight at) clock t timed l s a = rw a.ledger (ap (λ (x : Ledger). x.book) (flying_at clock a.next_run t a.sender a.address a.arrival a.past))
-at_book Gone clock t timed l s a = rw a.ledger (ap (λ (x : Ledger). x.book) (idle_at clock a.next_run t timed true a.past))
+at_book : (world : World) (stage : Stage) (clock t : ℕ) (timed : Bool) (l : Ledger) (s : Spool) → StageAgrees world stage clock timed l s → (after world l (At t)).book ≡ l.book
+at_book world Awaited clock t timed l s a = rw a.ledger (ap (λ (x : Ledger). x.book) (idle_at world clock a.next_run t timed false a.past))
+at_book world (InFlight at) clock t timed l s a = rw a.ledger (ap (λ (x : Ledger). x.book) (flying_at world clock a.next_run t a.sender a.address a.arrival a.past))
+at_book world Gone clock t timed l s a = rw a.ledger (ap (λ (x : Ledger). x.book) (idle_at world clock a.next_run t timed true a.past))
 
-pub at_follows : (stage : Stage) (clock t : ℕ) (timed : Bool) (l : Ledger) (s : Spool) → StageAgrees stage clock timed l s → Follows l ((At t, s) ∷ [])
-at_follows stage clock t timed l s a = (same_book s (after world l (At t)).book l.book (at_book stage clock t timed l s a) (agrees_stand stage clock timed l s a), tt)
+pub at_follows : (world : World) (stage : Stage) (clock t : ℕ) (timed : Bool) (l : Ledger) (s : Spool) → StageAgrees world stage clock timed l s → Follows world l ((At t, s) ∷ [])
+at_follows world stage clock t timed l s a = (same_book s (after world l (At t)).book l.book (at_book world stage clock t timed l s a) (agrees_stand world stage clock timed l s a), tt)
 
 -- a scan that goes on, ends or begins changes no book
 scan_book : (l : Ledger) → (settle_scan l).book ≡ l.book
@@ -77,18 +79,18 @@ scan_book l = by l.scan
     by None = refl
     by (Some s) = goes_on (scan_next l.book s)
 
-end_book : (l : Ledger) → (after world l End).book ≡ l.book
+end_book : (world : World) (l : Ledger) → (after world l End).book ≡ l.book
 unfolding after
-end_book l = scan_book (noted End l)
+end_book world l = scan_book (noted End l)
 
-pub end_follows : (stage : Stage) (clock : ℕ) (timed : Bool) (l : Ledger) (s : Spool) → StageAgrees stage clock timed l s → Follows l ((End, s) ∷ [])
-end_follows stage clock timed l s a = (same_book s (after world l End).book l.book (end_book l) (agrees_stand stage clock timed l s a), tt)
+pub end_follows : (world : World) (stage : Stage) (clock : ℕ) (timed : Bool) (l : Ledger) (s : Spool) → StageAgrees world stage clock timed l s → Follows world l ((End, s) ∷ [])
+end_follows world stage clock timed l s a = (same_book s (after world l End).book l.book (end_book world l) (agrees_stand world stage clock timed l s a), tt)
 
 -- ---- the message comes
 
-module _ (now next_run : ℕ) (sender : Option (List ℕ)) (address : List ℕ) (past : List Entry) where
+module _ (world : World) (now next_run : ℕ) (sender : Option (List ℕ)) (address : List ℕ) (past : List Entry) where
   abbrev arrived : Ledger
-  arrived = after world (idle now true next_run false past) (arrive sender address)
+  arrived = after world (idle world now true next_run false past) (arrive sender address)
 
   abbrev admitted : Ledger
   admitted = after world arrived (Admit first_id)
@@ -108,11 +110,11 @@ module _ (now next_run : ℕ) (sender : Option (List ℕ)) (address : List ℕ) 
   unfolding after
   loaded_book = refl
 
-  started_book : (after world loaded (start address)).book ≡ only_book (one_message sender address now marks.Unmarked places.Active ∷ [])
+  started_book : (after world loaded (start world address)).book ≡ only_book (one_message sender address now marks.Unmarked places.Active ∷ [])
   unfolding after
   started_book = refl
 
-  pub mail_follows : (file : List ℕ) → IsFileOf file (file_message sender now address false) → Follows (idle now true next_run false past) (mail_steps sender address file)
+  pub mail_follows : (file : List ℕ) → IsFileOf file (file_message sender now address false) → Follows world (idle world now true next_run false past) (mail_steps world sender address file)
   mail_follows file reads =
       let active = stands_active sender address now file reads in (
         same_book (holds Incoming file) arrived.book (only_book (one_message sender address now marks.Unmarked places.Incoming ∷ [])) arrived_book (stands_incoming sender address now file reads),
@@ -120,16 +122,16 @@ module _ (now next_run : ℕ) (sender : Option (List ℕ)) (address : List ℕ) 
           same_book (holds Active file) admitted.book (only_book (one_message sender address now marks.Unmarked places.Active ∷ [])) admitted_book active,
           (
             same_book (holds Active file) loaded.book (only_book (one_message sender address now marks.Unmarked places.Active ∷ [])) loaded_book active,
-            (same_book (holds Active file) (after world loaded (start address)).book (only_book (one_message sender address now marks.Unmarked places.Active ∷ [])) started_book active, tt),
+            (same_book (holds Active file) (after world loaded (start world address)).book (only_book (one_message sender address now marks.Unmarked places.Active ∷ [])) started_book active, tt),
           ),
         ),
       )
 
 -- ---- it is delivered
 
-module _ (now next_run : ℕ) (sender : Option (List ℕ)) (address : List ℕ) (arrival : ℕ) (past : List Entry) where
+module _ (world : World) (now next_run : ℕ) (sender : Option (List ℕ)) (address : List ℕ) (arrival : ℕ) (past : List Entry) where
   abbrev replied : Ledger
-  replied = after world (flying now next_run sender address arrival past) (Reply 1 Up (outcomes.Ok ∷ []))
+  replied = after world (flying world now next_run sender address arrival past) (Reply 1 Up (outcomes.Ok ∷ []))
 
   abbrev marked_once : Ledger
   marked_once = after world replied (Mark first_id 0)
@@ -153,7 +155,7 @@ module _ (now next_run : ℕ) (sender : Option (List ℕ)) (address : List ℕ) 
   unfolding after
   removed_book = refl
 
-  pub reply_follows : (at : ℕ) (file : List ℕ) → at ≡ mark_at (file_message sender arrival address false) 0 → IsFileOf file (file_message sender arrival address false) → Follows (flying now next_run sender address arrival past) (reply_steps at file)
+  pub reply_follows : (at : ℕ) (file : List ℕ) → at ≡ mark_at (file_message sender arrival address false) 0 → IsFileOf file (file_message sender arrival address false) → Follows world (flying world now next_run sender address arrival past) (reply_steps at file)
   reply_follows at file here reads = (
     same_book (holds Active file) replied.book (only_book (one_message sender address arrival marks.Unmarked places.Active ∷ [])) replied_book (stands_active sender address arrival file reads),
     (
@@ -167,23 +169,23 @@ module _ (now next_run : ℕ) (sender : Option (List ℕ)) (address : List ℕ) 
 
 -- ---- many steps
 
-pub follows_both : (l : Ledger) (xs ys : Steps) → Follows l xs → Follows (after_all world l (entries_of xs)) ys → Follows l (xs ++ ys)
+pub follows_both : (world : World) (l : Ledger) (xs ys : Steps) → Follows world l xs → Follows world (after_all world l (entries_of xs)) ys → Follows world l (xs ++ ys)
 unfolding after_all
-follows_both l [] ys p q = q
-follows_both l (x ∷ xs) ys p q = (p.0, follows_both (after world l x.0) xs ys p.1 q)
+follows_both world l [] ys p q = q
+follows_both world l (x ∷ xs) ys p q = (p.0, follows_both world (after world l x.0) xs ys p.1 q)
 
 -- the files after the last stand for the book
-pub follows_last : (l : Ledger) (s : Spool) (steps : Steps) (f : Files) → ((g : Files) → IsSpool s g → Stands g l.book) → Follows l steps → IsSpool (spool_after s steps) f → Stands f (after_all world l (entries_of steps)).book
+pub follows_last : (world : World) (l : Ledger) (s : Spool) (steps : Steps) (f : Files) → ((g : Files) → IsSpool s g → Stands g l.book) → Follows world l steps → IsSpool (spool_after s steps) f → Stands f (after_all world l (entries_of steps)).book
 unfolding after_all
-follows_last l s [] f start h is = start f is
-follows_last l s (x ∷ xs) f start h is = follows_last (after world l x.0) x.1 xs f h.0.reads h.1 is
+follows_last world l s [] f start h is = start f is
+follows_last world l s (x ∷ xs) f start h is = follows_last world (after world l x.0) x.1 xs f h.0.reads h.1 is
 
 -- so do those after the first ones
-pub follows_first : (l : Ledger) (xs ys : Steps) → Follows l (xs ++ ys) → Follows l xs
-follows_first l [] ys h = tt
-follows_first l (x ∷ xs) ys h = (h.0, follows_first (after world l x.0) xs ys h.1)
+pub follows_first : (world : World) (l : Ledger) (xs ys : Steps) → Follows world l (xs ++ ys) → Follows world l xs
+follows_first world l [] ys h = tt
+follows_first world l (x ∷ xs) ys h = (h.0, follows_first world (after world l x.0) xs ys h.1)
 
-pub follows_second : (l : Ledger) (xs ys : Steps) → Follows l (xs ++ ys) → Follows (after_all world l (entries_of xs)) ys
+pub follows_second : (world : World) (l : Ledger) (xs ys : Steps) → Follows world l (xs ++ ys) → Follows world (after_all world l (entries_of xs)) ys
 unfolding after_all
-follows_second l [] ys h = h
-follows_second l (x ∷ xs) ys h = follows_second (after world l x.0) xs ys h.1
+follows_second world l [] ys h = h
+follows_second world l (x ∷ xs) ys h = follows_second world (after world l x.0) xs ys h.1

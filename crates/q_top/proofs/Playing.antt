@@ -3,8 +3,7 @@ use Rattle.std.proofs.Common.{◌≡◌, inl, inr, ⊎_elim, ℕ, List, [], ◌�
 use Rattle.std.specs.Prelude.{Result, Ok, Err, IsErrAnd}
 use Rattle.q_model.specs.declared.entry.Entry.{Entry}
 use Rattle.q_model.specs.declared.spot.Area.TheVariants.{Bounce}
-use Rattle.q_model.specs.Routes.{no_table}
-use Rattle.q_model.specs.Settings.{Table}
+use Rattle.q_model.specs.Settings.{World, Table}
 use Rattle.q_model.specs.Text.{line, text}
 use Rattle.q_host.specs.declared.error.HostError.{HostError}
 use Rattle.q_host.specs.Files.{Files}
@@ -48,28 +47,28 @@ same_logs f g h p q n other = q n other ∙ p n other
 -- ---- moments of some steps
 
 -- before the first of some steps
-within_here : (s : Spool) (steps : Steps) (before : List ℕ) (c : Remains) → c.told ≡ before → IsLeft s c.files → WithinSteps s steps before c
-within_here s [] before c told left = (told, left)
-within_here s (p ∷ ps) before c told left = inl (record { part = 0; short = omega arith; told = told ∙ sym (append-nil before); files = inl left; disk_first = λ some. absurd (omega arith) })
+within_here : (world : World) (s : Spool) (steps : Steps) (before : List ℕ) (c : Remains) → c.told ≡ before → IsLeft s c.files → WithinSteps world s steps before c
+within_here world s [] before c told left = (told, left)
+within_here world s (p ∷ ps) before c told left = inl (record { part = 0; short = omega arith; told = told ∙ sym (append-nil before); files = inl left; disk_first = λ some. absurd (omega arith) })
 
-within_first : (s : Spool) (xs ys : Steps) (before : List ℕ) (c : Remains) → WithinSteps s xs before c → WithinSteps s (xs ++ ys) before c
-within_first s [] ys before c w = within_here s ys before c w.0 w.1
-within_first s (x ∷ xs) ys before c (inl w) = inl w
-within_first s (x ∷ xs) ys before c (inr w) = inr (within_first x.1 xs ys (before ++ line no_table x.0) c w)
+within_first : (world : World) (s : Spool) (xs ys : Steps) (before : List ℕ) (c : Remains) → WithinSteps world s xs before c → WithinSteps world s (xs ++ ys) before c
+within_first world s [] ys before c w = within_here world s ys before c w.0 w.1
+within_first world s (x ∷ xs) ys before c (inl w) = inl w
+within_first world s (x ∷ xs) ys before c (inr w) = inr (within_first world x.1 xs ys (before ++ line world.table x.0) c w)
 
-within_second : (s : Spool) (xs ys : Steps) (before told : List ℕ) (c : Remains) → told ≡ before ++ text no_table (entries_of xs) → WithinSteps (spool_after s xs) ys told c → WithinSteps s (xs ++ ys) before c
+within_second : (world : World) (s : Spool) (xs ys : Steps) (before told : List ℕ) (c : Remains) → told ≡ before ++ text world.table (entries_of xs) → WithinSteps world (spool_after s xs) ys told c → WithinSteps world s (xs ++ ys) before c
 unfolding text
-within_second s [] ys before told c same w = subst (λ (b : List ℕ). WithinSteps s ys b c) (same ∙ append-nil before) w
-within_second s (x ∷ xs) ys before told c same w = inr (within_second x.1 xs ys (before ++ line no_table x.0) told c (same ∙ sym (append_assoc before (line no_table x.0) (text no_table (entries_of xs)))) w)
+within_second world s [] ys before told c same w = subst (λ (b : List ℕ). WithinSteps world s ys b c) (same ∙ append-nil before) w
+within_second world s (x ∷ xs) ys before told c same w = inr (within_second world x.1 xs ys (before ++ line world.table x.0) told c (same ∙ sym (append_assoc before (line world.table x.0) (text world.table (entries_of xs)))) w)
 
 -- ---- plays
 
-module _ (s : Spool) (v : View) (lawful : IsLawful v) where
-  at_rest : (steps : Steps) → HoldsSpool s v → LeavesOnly v v (WithinSteps s steps v.told)
-  at_rest steps h = leaves_here (WithinSteps s steps v.told) v lawful.only (λ c m. within_here s steps v.told c (lawful.told c m) (h.crash.left c m))
+module _ (world : World) (s : Spool) (v : View) (lawful : IsLawful v) where
+  at_rest : (steps : Steps) → HoldsSpool s v → LeavesOnly v v (WithinSteps world s steps v.told)
+  at_rest steps h = leaves_here (WithinSteps world s steps v.told) v lawful.only (λ c m. within_here world s steps v.told c (lawful.told c m) (h.crash.left c m))
 
   -- nothing was done
-  pub still_halts : (e : Entry) (t : Spool) (more : Steps) (error : HostError) → Halts s ((e, t) ∷ more) error v v
+  pub still_halts : (e : Entry) (t : Spool) (more : Steps) (error : HostError) → Halts world s ((e, t) ∷ more) error v v
   still_halts e t more error = record {
     done = [];
     e = e;
@@ -77,7 +76,7 @@ module _ (s : Spool) (v : View) (lawful : IsLawful v) where
     more = more;
     all = refl;
     part = 0;
-    told = sym (append-nil (v.told ++ text no_table []) ∙ ap (λ (x : List ℕ). v.told ++ x) (text-none no_table) ∙ append-nil v.told);
+    told = sym (append-nil (v.told ++ text world.table []) ∙ ap (λ (x : List ℕ). v.told ++ x) (text-none world.table) ∙ append-nil v.told);
     only_tell = λ h. refl;
     files = λ h. inl h;
     disk_first = λ some h. absurd (omega arith);
@@ -85,40 +84,40 @@ module _ (s : Spool) (v : View) (lawful : IsLawful v) where
     moments = at_rest ((e, t) ∷ more);
   }
 
-pub plays_holds : (s : Spool) (steps : Steps) (old new : View) → Plays s steps old new → HoldsSpool s old → HoldsSpool (spool_after s steps) new
-plays_holds s steps old new p h = record { reads = p.files h.reads; crash = p.crash h }
+pub plays_holds : (world : World) (s : Spool) (steps : Steps) (old new : View) → Plays world s steps old new → HoldsSpool s old → HoldsSpool (spool_after s steps) new
+plays_holds world s steps old new p h = record { reads = p.files h.reads; crash = p.crash h }
 
-pub plays_one : (s : Spool) (e : Entry) (t : Spool) (old new : View) → Does s e t old new → Plays s ((e, t) ∷ []) old new
-plays_one s e t old new d = record {
-  told = d.told ∙ sym (ap (λ (x : List ℕ). old.told ++ x) (text-one no_table e));
+pub plays_one : (world : World) (s : Spool) (e : Entry) (t : Spool) (old new : View) → Does world s e t old new → Plays world s ((e, t) ∷ []) old new
+plays_one world s e t old new d = record {
+  told = d.told ∙ sym (ap (λ (x : List ℕ). old.told ++ x) (text-one world.table e));
   files = d.files;
   logs = d.logs;
   crash = d.crash;
   moments = λ h. wider (d.moments h);
 }
   where
-    wider : LeavesOnly old new (WithinStep s e t old.told) → LeavesOnly old new (WithinSteps s ((e, t) ∷ []) old.told)
+    wider : LeavesOnly old new (WithinStep world s e t old.told) → LeavesOnly old new (WithinSteps world s ((e, t) ∷ []) old.told)
     wider l = record { later = l.later; each = λ c left. inl (l.each c left); before = λ at c le left. ⊎_elim (λ was. inl was) (λ w. inr (inl w)) (l.before at c le left) }
 
-pub plays_both : (s : Spool) (xs ys : Steps) (old mid new : View) → Plays s xs old mid → Plays (spool_after s xs) ys mid new → Plays s (xs ++ ys) old new
-plays_both s xs ys old mid new p q = record {
-  told = q.told ∙ ap (λ (x : List ℕ). x ++ text no_table (entries_of ys)) p.told ∙ append_assoc old.told (text no_table (entries_of xs)) (text no_table (entries_of ys))
-      ∙ ap (λ (x : List ℕ). old.told ++ x) (sym (text-append no_table (entries_of xs) (entries_of ys)) ∙ ap (text no_table) (sym (entries_of-append xs ys)));
+pub plays_both : (world : World) (s : Spool) (xs ys : Steps) (old mid new : View) → Plays world s xs old mid → Plays world (spool_after s xs) ys mid new → Plays world s (xs ++ ys) old new
+plays_both world s xs ys old mid new p q = record {
+  told = q.told ∙ ap (λ (x : List ℕ). x ++ text world.table (entries_of ys)) p.told ∙ append_assoc old.told (text world.table (entries_of xs)) (text world.table (entries_of ys))
+      ∙ ap (λ (x : List ℕ). old.told ++ x) (sym (text-append world.table (entries_of xs) (entries_of ys)) ∙ ap (text world.table) (sym (entries_of-append xs ys)));
   files = λ h. subst (λ x. IsSpool x new.files) (sym (spool_after-append s xs ys)) (q.files (p.files h));
   logs = same_logs old.files mid.files new.files p.logs q.logs;
-  crash = λ h. subst (λ x. LeavesSpool x new) (sym (spool_after-append s xs ys)) (q.crash (plays_holds s xs old mid p h));
-  moments = λ h. leaves_on (WithinSteps s (xs ++ ys) old.told) (p.moments h) (q.moments (plays_holds s xs old mid p h)) (λ c w. within_first s xs ys old.told c w) (λ c w. within_second s xs ys old.told mid.told c p.told w);
+  crash = λ h. subst (λ x. LeavesSpool x new) (sym (spool_after-append s xs ys)) (q.crash (plays_holds world s xs old mid p h));
+  moments = λ h. leaves_on (WithinSteps world s (xs ++ ys) old.told) (p.moments h) (q.moments (plays_holds world s xs old mid p h)) (λ c w. within_first world s xs ys old.told c w) (λ c w. within_second world s xs ys old.told mid.told c p.told w);
 }
 
-pub halts_first : (s : Spool) (e : Entry) (t : Spool) (more : Steps) (error : HostError) (old new : View) → Stops s e t error old new → Halts s ((e, t) ∷ more) error old new
-halts_first s e t more error old new st = record {
+pub halts_first : (world : World) (s : Spool) (e : Entry) (t : Spool) (more : Steps) (error : HostError) (old new : View) → Stops world s e t error old new → Halts world s ((e, t) ∷ more) error old new
+halts_first world s e t more error old new st = record {
   done = [];
   e = e;
   t = t;
   more = more;
   all = refl;
   part = st.part;
-  told = st.told ∙ ap (λ (x : List ℕ). x ++ take st.part (line no_table e)) (sym (ap (λ (x : List ℕ). old.told ++ x) (text-none no_table) ∙ append-nil old.told));
+  told = st.told ∙ ap (λ (x : List ℕ). x ++ take st.part (line world.table e)) (sym (ap (λ (x : List ℕ). old.told ++ x) (text-none world.table) ∙ append-nil old.told));
   only_tell = st.only_tell;
   files = st.files;
   disk_first = st.disk_first;
@@ -126,30 +125,30 @@ halts_first s e t more error old new st = record {
   moments = λ h. wider (st.moments h);
 }
   where
-    wider : LeavesOnly old new (WithinStep s e t old.told) → LeavesOnly old new (WithinSteps s ((e, t) ∷ more) old.told)
+    wider : LeavesOnly old new (WithinStep world s e t old.told) → LeavesOnly old new (WithinSteps world s ((e, t) ∷ more) old.told)
     wider l = record { later = l.later; each = λ c left. inl (l.each c left); before = λ at c le left. ⊎_elim (λ was. inl was) (λ w. inr (inl w)) (l.before at c le left) }
 
-pub halts_after : (s : Spool) (xs ys : Steps) (error : HostError) (old mid new : View) → Plays s xs old mid → Halts (spool_after s xs) ys error mid new → Halts s (xs ++ ys) error old new
-halts_after s xs ys error old mid new p h = record {
+pub halts_after : (world : World) (s : Spool) (xs ys : Steps) (error : HostError) (old mid new : View) → Plays world s xs old mid → Halts world (spool_after s xs) ys error mid new → Halts world s (xs ++ ys) error old new
+halts_after world s xs ys error old mid new p h = record {
   done = xs ++ h.done;
   e = h.e;
   t = h.t;
   more = h.more;
   all = ap (λ (x : Steps). xs ++ x) h.all ∙ sym (append_assoc xs h.done ((h.e, h.t) ∷ h.more));
   part = h.part;
-  told = h.told ∙ ap (λ (x : List ℕ). x ++ take h.part (line no_table h.e)) (ap (λ (x : List ℕ). x ++ text no_table (entries_of h.done)) p.told ∙ append_assoc old.told (text no_table (entries_of xs)) (text no_table (entries_of h.done))
-      ∙ ap (λ (x : List ℕ). old.told ++ x) (sym (text-append no_table (entries_of xs) (entries_of h.done)) ∙ ap (text no_table) (sym (entries_of-append xs h.done))));
+  told = h.told ∙ ap (λ (x : List ℕ). x ++ take h.part (line world.table h.e)) (ap (λ (x : List ℕ). x ++ text world.table (entries_of h.done)) p.told ∙ append_assoc old.told (text world.table (entries_of xs)) (text world.table (entries_of h.done))
+      ∙ ap (λ (x : List ℕ). old.told ++ x) (sym (text-append world.table (entries_of xs) (entries_of h.done)) ∙ ap (text world.table) (sym (entries_of-append xs h.done))));
   only_tell = h.only_tell;
   files = λ f. ⊎_elim (λ before. inl (subst (λ x. IsSpool x new.files) (sym (spool_after-append s xs h.done)) before)) (λ after. inr after) (h.files (p.files f));
   disk_first = λ some f. h.disk_first some (p.files f);
   logs = same_logs old.files mid.files new.files p.logs h.logs;
-  moments = λ f. leaves_on (WithinSteps s (xs ++ ys) old.told) (p.moments f) (h.moments (plays_holds s xs old mid p f)) (λ c w. within_first s xs ys old.told c w) (λ c w. within_second s xs ys old.told mid.told c p.told w);
+  moments = λ f. leaves_on (WithinSteps world s (xs ++ ys) old.told) (p.moments f) (h.moments (plays_holds world s xs old mid p f)) (λ c w. within_first world s xs ys old.told c w) (λ c w. within_second world s xs ys old.told mid.told c p.told w);
 }
 
 -- ---- no call came behind
 
-pub plays_then_still : (s : Spool) (steps : Steps) (old mid new : View) → IsAsItWas mid new → Plays s steps old mid → Plays s steps old new
-plays_then_still s steps old mid new same p = record {
+pub plays_then_still : (world : World) (s : Spool) (steps : Steps) (old mid new : View) → IsAsItWas mid new → Plays world s steps old mid → Plays world s steps old new
+plays_then_still world s steps old mid new same p = record {
   told = same.told ∙ p.told;
   files = λ h. subst (λ (f : Files). IsSpool (spool_after s steps) f) (sym same.files) (p.files h);
   logs = λ n other. ap (λ (f : Files). f Bounce n) same.files ∙ p.logs n other;
@@ -163,7 +162,7 @@ plays_then_still s steps old mid new same p = record {
 
 -- ---- nothing but a look at the files went before
 
-module _ (s : Spool) (old mid new : View) (lawful : IsLawful old) (st : Stays old mid) where
+module _ (world : World) (s : Spool) (old mid new : View) (lawful : IsLawful old) (st : Stays old mid) where
   holds_still : HoldsSpool s old → HoldsSpool s mid
   holds_still h = record {
     reads = subst (λ (f : Files). IsSpool s f) (sym st.files) h.reads;
@@ -173,11 +172,11 @@ module _ (s : Spool) (old mid new : View) (lawful : IsLawful old) (st : Stays ol
     };
   }
 
-  still_moments : (steps : Steps) → (HoldsSpool s mid → LeavesOnly mid new (WithinSteps s steps mid.told)) → HoldsSpool s old → LeavesOnly old new (WithinSteps s steps old.told)
-  still_moments steps then h = leaves_on (WithinSteps s steps old.told)
-      (leaves_by (λ d. (d.told ≡ old.told) × IsLeft s d.files) (WithinSteps s steps old.told) lawful.only st.goes (λ d m. (lawful.told d m, h.crash.left d m)) (λ d p. within_here s steps old.told d p.0 p.1)
-      (λ d c p same. within_here s steps old.told c (ap (λ (r : Remains). r.told) same ∙ p.0) (subst (λ (r : Remains). IsLeft s r.files) (sym same) p.1)))
-      (then (holds_still h)) (λ c w. w) (λ c w. subst (λ (b : List ℕ). WithinSteps s steps b c) st.told w)
+  still_moments : (steps : Steps) → (HoldsSpool s mid → LeavesOnly mid new (WithinSteps world s steps mid.told)) → HoldsSpool s old → LeavesOnly old new (WithinSteps world s steps old.told)
+  still_moments steps then h = leaves_on (WithinSteps world s steps old.told)
+      (leaves_by (λ d. (d.told ≡ old.told) × IsLeft s d.files) (WithinSteps world s steps old.told) lawful.only st.goes (λ d m. (lawful.told d m, h.crash.left d m)) (λ d p. within_here world s steps old.told d p.0 p.1)
+      (λ d c p same. within_here world s steps old.told c (ap (λ (r : Remains). r.told) same ∙ p.0) (subst (λ (r : Remains). IsLeft s r.files) (sym same) p.1)))
+      (then (holds_still h)) (λ c w. w) (λ c w. subst (λ (b : List ℕ). WithinSteps world s steps b c) st.told w)
 
   still_files : IsSpool s old.files → IsSpool s mid.files
   still_files h = subst (λ (f : Files). IsSpool s f) (sym st.files) h
@@ -185,16 +184,16 @@ module _ (s : Spool) (old mid new : View) (lawful : IsLawful old) (st : Stays ol
   still_logs : SameLogs mid.files new.files → SameLogs old.files new.files
   still_logs p n other = p n other ∙ ap (λ (f : Files). f Bounce n) st.files
 
-  pub plays_before : (steps : Steps) → Plays s steps mid new → Plays s steps old new
+  pub plays_before : (steps : Steps) → Plays world s steps mid new → Plays world s steps old new
   plays_before steps p = record {
-    told = p.told ∙ ap (λ (x : List ℕ). x ++ text no_table (entries_of steps)) st.told;
+    told = p.told ∙ ap (λ (x : List ℕ). x ++ text world.table (entries_of steps)) st.told;
     files = λ h. p.files (still_files h);
     logs = still_logs p.logs;
     crash = λ h. p.crash (holds_still h);
     moments = still_moments steps p.moments;
   }
 
-  pub halts_before : (steps : Steps) (error : HostError) → Halts s steps error mid new → Halts s steps error old new
+  pub halts_before : (steps : Steps) (error : HostError) → Halts world s steps error mid new → Halts world s steps error old new
   halts_before steps error p = record {
     done = p.done;
     e = p.e;
@@ -202,7 +201,7 @@ module _ (s : Spool) (old mid new : View) (lawful : IsLawful old) (st : Stays ol
     more = p.more;
     all = p.all;
     part = p.part;
-    told = p.told ∙ ap (λ (x : List ℕ). (x ++ text no_table (entries_of p.done)) ++ take p.part (line no_table p.e)) st.told;
+    told = p.told ∙ ap (λ (x : List ℕ). (x ++ text world.table (entries_of p.done)) ++ take p.part (line world.table p.e)) st.told;
     only_tell = p.only_tell;
     files = λ h. p.files (still_files h);
     disk_first = λ some h. p.disk_first some (still_files h);

@@ -3,7 +3,6 @@ use Rattle.std.proofs.Common.{◌≡◌, ◌≢◌, ◌⊎◌, inl, inr, ⊎_eli
 use Rattle.std.specs.Prelude.{Result, OnOk, OnErr, IsErrOf, Ok, Err}
 use Rattle.q_model.specs.declared.entry.Entry.{Entry}
 use Rattle.q_model.specs.declared.spot.Area.TheVariants.{Bounce}
-use Rattle.q_model.specs.Routes.{no_table}
 use Rattle.q_model.specs.Text.{line}
 use Rattle.q_host.specs.Calls.{Stays, Changes, Tells, IsAsItWas}
 use Rattle.q_host.specs.declared.error.HostError.{HostError}
@@ -14,6 +13,7 @@ use Rattle.q_host.proofs.Moments.{leaves_by, leaves_on}
 use Rattle.q_top.specs.Spools.{Spool, HoldsSpool, IsLeft, IsSpool, LeavesSpool, SameLogs}
 use Rattle.q_top.specs.Steps.{Does, Stops, WithinStep}
 use Rattle.q_top.proofs.SpoolChanges.{name}
+use Rattle.q_model.specs.Settings.{World}
 
 -- what Ok means, carried over
 pub on_ok : {T E : Type 0} {P Q : Type 0} (r : Result T E) → (P → Q) → OnOk r P → OnOk r Q
@@ -56,8 +56,8 @@ pub changed_holds : (s t : Spool) (old new : View) → Changed s t old new → H
 changed_holds s t old new c h = record { reads = c.files h.reads; crash = c.crash h }
 
 -- nothing of a line was told yet
-before_line : (s t : Spool) (e : Entry) (told : List ℕ) (c : Remains) → Between s t told c → WithinStep s e t told c
-before_line s t e told c b = record {
+before_line : (world : World) (s t : Spool) (e : Entry) (told : List ℕ) (c : Remains) → Between s t told c → WithinStep world s e t told c
+before_line world s t e told c b = record {
   part = 0;
   short = omega arith;
   told = b.told ∙ sym (append-nil told);
@@ -66,11 +66,11 @@ before_line s t e told c b = record {
 }
 
 -- within the line, behind the change
-behind_change : (s t : Spool) (e : Entry) (told told' : List ℕ) (c : Remains) → told' ≡ told → WithinStep t e t told' c → WithinStep s e t told c
-behind_change s t e told told' c same w = record {
+behind_change : (world : World) (s t : Spool) (e : Entry) (told told' : List ℕ) (c : Remains) → told' ≡ told → WithinStep world t e t told' c → WithinStep world s e t told c
+behind_change world s t e told told' c same w = record {
   part = w.part;
   short = w.short;
-  told = w.told ∙ ap (λ (x : List ℕ). x ++ take w.part (line no_table e)) same;
+  told = w.told ∙ ap (λ (x : List ℕ). x ++ take w.part (line world.table e)) same;
   files = inr (both w.files);
   disk_first = w.disk_first;
 }
@@ -79,24 +79,24 @@ behind_change s t e told told' c same w = record {
     both (inl h) = h
     both (inr h) = h
 
-module _ (s t : Spool) (e : Entry) (old mid new : View) (c : Changed s t old mid) where
-  line_moments : (HoldsSpool t mid → LeavesOnly mid new (WithinStep t e t mid.told)) → HoldsSpool s old → LeavesOnly old new (WithinStep s e t old.told)
-  line_moments then h = leaves_on (WithinStep s e t old.told) (c.moments h) (then (changed_holds s t old mid c h)) (λ x b. before_line s t e old.told x b) (λ x w. behind_change s t e old.told mid.told x c.told w)
+module _ (world : World) (s t : Spool) (e : Entry) (old mid new : View) (c : Changed s t old mid) where
+  line_moments : (HoldsSpool t mid → LeavesOnly mid new (WithinStep world t e t mid.told)) → HoldsSpool s old → LeavesOnly old new (WithinStep world s e t old.told)
+  line_moments then h = leaves_on (WithinStep world s e t old.told) (c.moments h) (then (changed_holds s t old mid c h)) (λ x b. before_line world s t e old.told x b) (λ x w. behind_change world s t e old.told mid.told x c.told w)
 
   -- first the disk, then the line
-  pub changed_does : Does t e t mid new → Does s e t old new
+  pub changed_does : Does world t e t mid new → Does world s e t old new
   changed_does d = record {
-    told = d.told ∙ ap (λ (x : List ℕ). x ++ line no_table e) c.told;
+    told = d.told ∙ ap (λ (x : List ℕ). x ++ line world.table e) c.told;
     files = λ h. d.files (c.files h);
     logs = same_logs old.files mid.files new.files c.logs d.logs;
     crash = λ h. d.crash (changed_holds s t old mid c h);
     moments = line_moments d.moments;
   }
 
-  pub changed_stops : (error : HostError) → Stops t e t error mid new → Stops s e t error old new
+  pub changed_stops : (error : HostError) → Stops world t e t error mid new → Stops world s e t error old new
   changed_stops error d = record {
     part = d.part;
-    told = d.told ∙ ap (λ (x : List ℕ). x ++ take d.part (line no_table e)) c.told;
+    told = d.told ∙ ap (λ (x : List ℕ). x ++ take d.part (line world.table e)) c.told;
     only_tell = d.only_tell;
     files = λ h. inr (both (d.files (c.files h)));
     disk_first = λ some h. d.disk_first some (c.files h);
@@ -108,8 +108,8 @@ module _ (s t : Spool) (e : Entry) (old mid new : View) (c : Changed s t old mid
       both (inl h) = h
       both (inr h) = h
 
-pub may_stop : (s t : Spool) (e : Entry) (error : HostError) (old new : View) → MayChange s t old new → Stops s e t error old new
-may_stop s t e error old new m = record {
+pub may_stop : (world : World) (s t : Spool) (e : Entry) (error : HostError) (old new : View) → MayChange s t old new → Stops world s e t error old new
+may_stop world s t e error old new m = record {
   part = 0;
   told = m.told ∙ sym (append-nil old.told);
   only_tell = λ h. refl;
@@ -119,11 +119,11 @@ may_stop s t e error old new m = record {
   moments = λ h. leaves_by-only (m.moments h);
 }
   where
-    leaves_by-only : LeavesOnly old new (Between s t old.told) → LeavesOnly old new (WithinStep s e t old.told)
+    leaves_by-only : LeavesOnly old new (Between s t old.told) → LeavesOnly old new (WithinStep world s e t old.told)
     leaves_by-only l = record {
       later = l.later;
-      each = λ c left. before_line s t e old.told c (l.each c left);
-      before = λ at c le left. ⊎_elim (λ was. inl was) (λ b. inr (before_line s t e old.told c b)) (l.before at c le left);
+      each = λ c left. before_line world s t e old.told c (l.each c left);
+      before = λ at c le left. ⊎_elim (λ was. inl was) (λ b. inr (before_line world s t e old.told c b)) (l.before at c le left);
     }
 
 pub changed_may : (s t : Spool) (old new : View) → Changed s t old new → MayChange s t old new
@@ -163,23 +163,23 @@ module _ (s t : Spool) (v w : View) (lawful : IsLawful v) where
 
 -- ---- telling a line
 
-module _ (s : Spool) (e : Entry) (k : ℕ) (short : k ≤ length (line no_table e)) (v w : View) (lawful : IsLawful v) (told : Tells (line no_table e) k v w) where
+module _ (world : World) (s : Spool) (e : Entry) (k : ℕ) (short : k ≤ length (line world.table e)) (v w : View) (lawful : IsLawful v) (told : Tells (line world.table e) k v w) where
   same_files : IsSpool s v.files → IsSpool s w.files
   same_files h = subst (λ (f : Files). IsSpool s f) (sym told.files) h
 
   same_log : SameLogs v.files w.files
   same_log n other = ap (λ (g : Files). g Bounce n) told.files
 
-  telling : HoldsSpool s v → LeavesOnly v w (WithinStep s e s v.told)
-  telling h = leaves_by (λ d. (d.told ≡ v.told) × IsLeft s d.files) (WithinStep s e s v.told) lawful.only told.goes (λ d m. (lawful.told d m, h.crash.left d m))
+  telling : HoldsSpool s v → LeavesOnly v w (WithinStep world s e s v.told)
+  telling h = leaves_by (λ d. (d.told ≡ v.told) × IsLeft s d.files) (WithinStep world s e s v.told) lawful.only told.goes (λ d m. (lawful.told d m, h.crash.left d m))
       (λ d p. record { part = 0; short = omega arith; told = p.0 ∙ sym (append-nil v.told); files = inl p.1; disk_first = λ some. p.1 })
       (λ d c p a.
       let left : IsLeft s c.files = subst (λ (f : Files). IsLeft s f) (sym a.2.files) p.1 in
-      record { part = a.0; short = a.1; told = a.2.told ∙ ap (λ (x : List ℕ). x ++ take a.0 (line no_table e)) p.0; files = inl left; disk_first = λ some. left })
+      record { part = a.0; short = a.1; told = a.2.told ∙ ap (λ (x : List ℕ). x ++ take a.0 (line world.table e)) p.0; files = inl left; disk_first = λ some. left })
 
-  pub tells_does : k ≡ length (line no_table e) → Does s e s v w
+  pub tells_does : k ≡ length (line world.table e) → Does world s e s v w
   tells_does all = record {
-    told = told.told ∙ ap (λ (x : List ℕ). v.told ++ x) (take_all k (line no_table e) (omega (arith, all)));
+    told = told.told ∙ ap (λ (x : List ℕ). v.told ++ x) (take_all k (line world.table e) (omega (arith, all)));
     files = same_files;
     logs = same_log;
     crash = λ h. record {
@@ -189,7 +189,7 @@ module _ (s : Spool) (e : Entry) (k : ℕ) (short : k ≤ length (line no_table 
     moments = telling;
   }
 
-  pub tells_stops : (error : HostError) → (error ≢ Tell → k ≡ 0) → Stops s e s error v w
+  pub tells_stops : (error : HostError) → (error ≢ Tell → k ≡ 0) → Stops world s e s error v w
   tells_stops error only = record {
     part = k;
     told = told.told;
@@ -201,8 +201,8 @@ module _ (s : Spool) (e : Entry) (k : ℕ) (short : k ≤ length (line no_table 
   }
 
 -- the host is as it was
-pub as_it_was : (s t : Spool) (e : Entry) (error : HostError) (v w : View) → IsLawful v → IsAsItWas v w → Stops s e t error v w
-as_it_was s t e error v w lawful as_before = record {
+pub as_it_was : (world : World) (s t : Spool) (e : Entry) (error : HostError) (v w : View) → IsLawful v → IsAsItWas v w → Stops world s e t error v w
+as_it_was world s t e error v w lawful as_before = record {
   part = 0;
   told = as_before.told ∙ sym (append-nil v.told);
   only_tell = λ h. refl;
@@ -216,7 +216,7 @@ as_it_was s t e error v w lawful as_before = record {
   };
 }
   where
-    still : HoldsSpool s v → (c : Remains) → v.may_leave c → WithinStep s e t v.told c
+    still : HoldsSpool s v → (c : Remains) → v.may_leave c → WithinStep world s e t v.told c
     still h c m = record { part = 0; short = omega arith; told = lawful.told c m ∙ sym (append-nil v.told); files = inl (h.crash.left c m); disk_first = λ some. absurd (omega arith) }
 
 -- no call was made
@@ -224,7 +224,7 @@ pub stands_still : (v : View) → IsAsItWas v v
 stands_still v = record { files = refl; told = refl; moment = refl; may_leave = λ c m. m; left_since = λ at c m. m }
 
 -- a line that was told in part, or not at all
-pub line_stops : (s : Spool) (e : Entry) (error : HostError) (v w : View) → IsLawful v → (k : ℕ) × (k ≤ length (line no_table e)) × Tells (line no_table e) k v w → (error ≡ NoMemory → IsAsItWas v w) → (error ≡ Disk → ⊥) → Stops s e s error v w
-line_stops s e Tell v w lawful (k, short, told) memory disk = tells_stops s e k short v w lawful told Tell (λ other. absurd (other refl))
-line_stops s e NoMemory v w lawful some memory disk = as_it_was s s e NoMemory v w lawful (memory refl)
-line_stops s e Disk v w lawful some memory disk = absurd (disk refl)
+pub line_stops : (world : World) (s : Spool) (e : Entry) (error : HostError) (v w : View) → IsLawful v → (k : ℕ) × (k ≤ length (line world.table e)) × Tells (line world.table e) k v w → (error ≡ NoMemory → IsAsItWas v w) → (error ≡ Disk → ⊥) → Stops world s e s error v w
+line_stops world s e Tell v w lawful (k, short, told) memory disk = tells_stops world s e k short v w lawful told Tell (λ other. absurd (other refl))
+line_stops world s e NoMemory v w lawful some memory disk = as_it_was world s s e NoMemory v w lawful (memory refl)
+line_stops world s e Disk v w lawful some memory disk = absurd (disk refl)

@@ -1,17 +1,18 @@
 -- How a replay ends where nothing fails.
-use Rattle.std.specs.Prelude.{ℕ, ◌+◌, List, length}
+use Rattle.std.specs.Prelude.{ℕ, List}
+use Rattle.q_events.specs.declared.error.Bound.TheVariants.{Input}
 use Rattle.q_top.specs.declared.status.InputFile.TheVariants.{Events}
 use Rattle.q_top.specs.declared.status.Status.{Status}
-use Rattle.q_top.specs.declared.status.Status.TheVariants.{Done, BadInput}
-use Rattle.q_top.specs.EventList.{lines_of}
-use Rattle.q_top.specs.Reading.{Reading, ended, faulty, going}
+use Rattle.q_top.specs.declared.status.Status.TheVariants.{Done, BadInput, Limit}
+use Rattle.q_top.specs.Reading.{Reading, ended, faulty, limited}
 use Rattle.q_top.specs.Replays.{read_text}
+use Rattle.q_model.specs.Settings.{World}
 
--- Done at `end`; else the line that can't be taken is named, or the one behind the last where there is no `end`
-abbrev pub answer_to : Reading → ℕ → Status
-answer_to (ended items) behind_last = Done
-answer_to (faulty items line) behind_last = BadInput Events line
-answer_to (going items) behind_last = BadInput Events behind_last
+-- Done at `end`; else the line that can't be taken is named, or the limit of the list
+abbrev pub answer_to : Reading → Status
+answer_to (ended items) = Done
+answer_to (faulty items line) = BadInput Events line
+answer_to (limited items) = Limit Input
 
-abbrev pub answer_of : List ℕ → Status
-answer_of bytes = answer_to (read_text bytes) (length (lines_of bytes) + 1)
+abbrev pub answer_of : (world : World) → List ℕ → Status
+answer_of world bytes = answer_to (read_text world bytes)

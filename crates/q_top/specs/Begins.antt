@@ -11,22 +11,22 @@ use Rattle.q_host.specs.View.{View}
 use Rattle.q_top.specs.declared.life.Life.{Life}
 use Rattle.q_top.specs.Agrees.{Agrees}
 use Rattle.q_top.specs.Books.{Follows}
-use Rattle.q_top.specs.OneMessage.{world}
 use Rattle.q_top.specs.Spools.{Spool, unopened}
 use Rattle.q_top.specs.Steps.{Steps, entries_of, spool_after, Plays, Halts}
+use Rattle.q_model.specs.Settings.{World}
 
 -- before the first life of an empty spool
 abbrev pub before_life : Ledger
 before_life = opening Deliver empty_book
 
 -- the first turn was carried out and told
-abbrev pub Begins : Life → View → View → Type 0
-Begins new before after = (steps : Steps) × (turn world before_life Begin ≡ entries_of steps) × Follows before_life steps × Agrees new (after_all world before_life (entries_of steps)) (spool_after unopened steps) × Plays unopened steps before after
+abbrev pub Begins : (world : World) → Life → View → View → Type 0
+Begins world new before after = (steps : Steps) × (turn world before_life Begin ≡ entries_of steps) × Follows world before_life steps × Agrees world new (after_all world before_life (entries_of steps)) (spool_after unopened steps) × Plays world unopened steps before after
 
 -- it was given up
-abbrev pub NeverBegins : HostError → View → View → Type 0
-NeverBegins error before after = (steps : Steps) × (turn world before_life Begin ≡ entries_of steps) × Follows before_life steps × Halts unopened steps error before after
+abbrev pub NeverBegins : (world : World) → HostError → View → View → Type 0
+NeverBegins world error before after = (steps : Steps) × (turn world before_life Begin ≡ entries_of steps) × Follows world before_life steps × Halts world unopened steps error before after
 
 -- the last turn was told
-abbrev pub Ends : Life → View → View → Type 0
-Ends old before after = (l : Ledger) (s : Spool) → Agrees old l s → (steps : Steps) × (turn world l Finish ≡ entries_of steps) × Follows l steps × Plays s steps before after
+abbrev pub Ends : (world : World) → Life → View → View → Type 0
+Ends world old before after = (l : Ledger) (s : Spool) → Agrees world old l s → (steps : Steps) × (turn world l Finish ≡ entries_of steps) × Follows world l steps × Plays world s steps before after

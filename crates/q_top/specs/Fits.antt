@@ -1,12 +1,9 @@
 -- Which events a life can take.
-use Rattle.std.specs.List.{list_all}
-use Rattle.std.specs.Option.{option_map_or}
-use Rattle.std.specs.Prelude.{◌≡◌, ◌≤◌, Bool, true, false, ◌&&◌, ◌==◌, length}
+use Rattle.std.specs.Prelude.{Bool, true, false, ◌&&◌, ◌==◌, length}
 use Rattle.q_model.specs.declared.event.Event.{Event}
 use Rattle.q_model.specs.declared.event.Event.TheVariants as events
 use Rattle.q_model.specs.declared.outcome.SiteState.TheVariants.{Up, Down}
 use Rattle.q_model.specs.Lists.{has_none}
-use Rattle.q_model.specs.Texts.{is_address}
 use Rattle.q_top.specs.declared.life.Life.{Life}
 use Rattle.q_top.specs.declared.life.Stage.{Stage}
 use Rattle.q_top.specs.declared.life.Stage.TheVariants.{Awaited, InFlight, Gone}
@@ -31,10 +28,3 @@ fits life (events.Mail sender to content) = life.timed && is_awaited life.stage 
 fits life (events.Reply number Up outcomes) = is_in_flight life.stage && (number == 1) && is_one_ok outcomes
 fits life (events.Reply number Down outcomes) = false
 fits life (events.Trigger kind) = false
-
--- A moment in input is at most 999,990,000,000, and addresses have their form.
-abbrev pub IsInForm : Event → Type 0
-IsInForm (events.At t) = t ≤ 999990000000
-IsInForm (events.Mail sender to content) = (option_map_or is_address sender true ≡ true) × (list_all is_address to ≡ true)
-IsInForm (events.Reply number site outcomes) = Unit {0}
-IsInForm (events.Trigger kind) = Unit {0}

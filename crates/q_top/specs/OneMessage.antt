@@ -1,25 +1,25 @@
 -- The one message of a first life, and the ledgers that it leads to.
-use Rattle.std.specs.Prelude.{ℕ, Bool, true, false, List, [], ◌∷◌, Option, None}
+use Rattle.std.specs.Prelude.{ℕ, Bool, true, false, length, List, [], ◌∷◌, Option, None, replicate}
 use Rattle.q_model.specs.declared.entry.Entry.{Entry}
 use Rattle.q_model.specs.declared.event.Mode.TheVariants.{Deliver}
+use Rattle.q_model.specs.declared.id.Id.{Id}
+use Rattle.q_model.specs.declared.rows.Admitted.{Admitted}
+use Rattle.q_model.specs.declared.rows.Delivery.{Delivery}
 use Rattle.q_model.specs.declared.rows.Mark.{Mark}
 use Rattle.q_model.specs.declared.rows.Place.{Place}
+use Rattle.q_model.specs.declared.rows.Row.{Row}
+use Rattle.q_model.specs.declared.rows.SiteRecord.{SiteRecord}
+use Rattle.q_model.specs.declared.rows.Unsettled.{Unsettled}
 use Rattle.q_model.specs.declared.rows.Mark.TheVariants as marks
 use Rattle.q_model.specs.declared.rows.Place.TheVariants as places
-use Rattle.q_model.specs.declared.rows.Health.TheVariants as healths
 use Rattle.q_model.specs.Book.{Book}
 use Rattle.q_model.specs.Ledger.{Ledger}
 use Rattle.q_model.specs.Message.{Message}
 use Rattle.q_model.specs.QueueFile.{FileMessage}
-use Rattle.q_model.specs.Routes.{world_of}
-use Rattle.q_model.specs.Settings.{World, defaults}
-use Rattle.q_model.specs.Texts.{domain_of}
+use Rattle.q_model.specs.Settings.{World}
+use Rattle.q_model.specs.SiteRecords.{new_record}
 use Rattle.q_model.specs.Values.{Site}
 use Rattle.q_top.specs.Spools.{first_id}
-
--- the defaults, without a table
-abbrev pub world : World
-world = world_of defaults
 
 -- what the file of the message says
 abbrev pub file_message : Option (List ℕ) → ℕ → List ℕ → Bool → FileMessage
@@ -45,13 +45,14 @@ only_message sender address arrival = one_message sender address arrival marks.U
 abbrev pub only_book : List Message → Book
 only_book messages = record { generation = 1; messages = messages; damaged = [] }
 
-abbrev pub site_of : List ℕ → Site
-site_of address = record { transport = 0; hop = domain_of address }
+-- the destination of an address
+abbrev pub site_of : World → List ℕ → Site
+site_of w address = w.table.route address
 
--- nothing is in the book
-abbrev pub idle : ℕ → Bool → ℕ → Bool → List Entry → Ledger
-idle now timed next_run turn past = record {
-  book = record { generation = 1; messages = []; damaged = [] };
+-- a ledger of a first life with at most one message
+abbrev pub known : List Message → ℕ → Bool → ℕ → Bool → List Admitted → List Row → List Delivery → List Unsettled → List (List Id) → List SiteRecord → List Entry → Ledger
+known messages now timed next_run turn admitted waiting flights unsettled lines sites past = record {
+  book = only_book messages;
   mode = Deliver;
   now = now;
   timed = timed;
@@ -60,44 +61,37 @@ idle now timed next_run turn past = record {
   asked = None;
   ignores = false;
   deferred_turn = turn;
-  admitted = [];
-  waiting = [];
-  flights = [];
+  admitted = admitted;
+  waiting = waiting;
+  flights = flights;
   served = [];
-  unsettled = [];
-  lines = [] ∷ [];
-  sites = [];
+  unsettled = unsettled;
+  lines = lines;
+  sites = sites;
   synced = [];
   past = past;
 }
+
+-- the lines of all transports, without a job
+abbrev pub quiet : World → List (List Id)
+quiet w = replicate (length w.table.transports) []
+
+-- nothing is in the book
+abbrev pub idle : World → ℕ → Bool → ℕ → Bool → List Entry → Ledger
+idle w now timed next_run turn past = known [] now timed next_run turn [] [] [] [] (quiet w) [] past
+
+-- the recipient, to this destination
+abbrev pub row_to : Site → Row
+row_to site = record { id = first_id; site = site; positions = 0 ∷ [] }
+
+abbrev pub flight_to : Site → Delivery
+flight_to site = record { number = 1; row = row_to site }
+
+-- the message in memory, read to its end
+abbrev pub read_once : Admitted
+read_once = record { id = first_id; unread = 1 }
 
 -- the message is in flight to its recipient
-abbrev pub flying : ℕ → ℕ → Option (List ℕ) → List ℕ → ℕ → List Entry → Ledger
-flying now next_run sender address arrival past = record {
-  book = record { generation = 1; messages = only_message sender address arrival ∷ []; damaged = [] };
-  mode = Deliver;
-  now = now;
-  timed = true;
-  next_run = next_run;
-  scan = None;
-  asked = None;
-  ignores = false;
-  deferred_turn = true;
-  admitted = record { id = first_id; unread = 1 } ∷ [];
-  waiting = [];
-  flights = record { number = 1; row = record { id = first_id; site = site_of address; positions = 0 ∷ [] } } ∷ [];
-  served = [];
-  unsettled = [];
-  lines = [] ∷ [];
-  sites = record { site = site_of address; window = 5; success = 0; failure = 0; cohorts = 0; health = healths.Alive } ∷ [];
-  synced = [];
-  past = past;
-}
-
--- the message was read, and its delivery hasn't begun
-abbrev pub loaded : ℕ → ℕ → Option (List ℕ) → List ℕ → ℕ → List Entry → Ledger
-loaded now next_run sender address arrival past = record (flying now next_run sender address arrival past) {
-  waiting = record { id = first_id; site = site_of address; positions = 0 ∷ [] } ∷ [];
-  flights = [];
-  lines = (first_id ∷ []) ∷ [];
-}
+abbrev pub flying : World → ℕ → ℕ → Option (List ℕ) → List ℕ → ℕ → List Entry → Ledger
+flying w now next_run sender address arrival past =
+    known (only_message sender address arrival ∷ []) now true next_run true (read_once ∷ []) [] (flight_to (site_of w address) ∷ []) [] (quiet w) (new_record w (site_of w address) ∷ []) past

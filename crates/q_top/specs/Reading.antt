@@ -1,9 +1,9 @@
 -- Which items of an event list are taken, and the first line that can't be.
-use Rattle.std.specs.Prelude.{ℕ, ◌+◌, Bool, true, false, ◌&&◌, ◌==◌, if◌then◌else◌, List, [], ◌∷◌, ◌++◌, length, Option, Some, None, option_and_then}
+use Rattle.std.specs.Prelude.{ℕ, Bool, true, false, ◌&&◌, ◌==◌, if◌then◌else◌, List, [], ◌∷◌, ◌++◌, length}
 use Rattle.q_model.specs.declared.event.Event.{Event}
 use Rattle.q_model.specs.declared.event.Event.TheVariants as events
 use Rattle.q_model.specs.declared.event.Item.{Item}
-use Rattle.q_model.specs.declared.event.Item.TheVariants.{Begin, Heard, Finish}
+use Rattle.q_model.specs.declared.event.Item.TheVariants.{Heard, Finish}
 use Rattle.q_model.specs.declared.outcome.Outcome.{Outcome}
 use Rattle.q_model.specs.declared.outcome.Outcome.TheVariants as outcomes
 use Rattle.q_model.specs.declared.outcome.SiteState.TheVariants.{Up, Down}
@@ -13,13 +13,14 @@ use Rattle.q_model.specs.Past.{arrivals}
 use Rattle.q_model.specs.Run.{entry_of, turn}
 use Rattle.q_model.specs.Settings.{World}
 use Rattle.q_model.specs.Step.{allowed, after_all}
-use Rattle.q_top.specs.EventLines.{line_item}
+use Rattle.q_events.specs.declared.item.Item.TheVariants.{Step, Restart, End}
+use Rattle.q_top.specs.Listings.{Listing, gives, bad, past_limit}
 
--- the items through `end`; those before the line that can't be taken, and its number; or those of all lines, without an `end`
+-- the items through `end`; those before the line that can't be taken, and its number; or those before the end of the bytes that a list may have
 pub data Reading : Type 0 where
   ended : List Item → Reading
   faulty : List Item → ℕ → Reading
-  going : List Item → Reading
+  limited : List Item → Reading
 
 -- the one outcome is a success
 abbrev pub is_one_ok : List Outcome → Bool
@@ -45,17 +46,12 @@ may_hear w l event = is_handled l event && allowed w l (entry_of l (Heard event)
 abbrev pub behind : List Item → Reading → Reading
 behind items (ended more) = ended (items ++ more)
 behind items (faulty more n) = faulty (items ++ more) n
-behind items (going more) = going (items ++ more)
+behind items (limited more) = limited (items ++ more)
 
--- What a line leads to, where `next` reads the lines behind it from a ledger on. No line begins a life so far.
-abbrev pub take_line : World → Ledger → ℕ → Option (Option Item) → (Ledger → Reading) → Reading
-take_line w l n None next = faulty [] n
-take_line w l n (Some None) next = next l
-take_line w l n (Some (Some Begin)) next = faulty [] n
-take_line w l n (Some (Some Finish)) next = ended (Finish ∷ [])
-take_line w l n (Some (Some (Heard event))) next = if may_hear w l event then behind (Heard event ∷ []) (next (after_all w l (turn w l (Heard event)))) else faulty [] n
-
--- the lines from number n on, where the ledger is what the items before them led to
-unfoldable pub read_from : World → Ledger → ℕ → List (Option (List ℕ)) → Reading
-read_from w l n [] = going []
-read_from w l n (line ∷ lines) = take_line w l n (option_and_then line_item line) (λ m. read_from w m (n + 1) lines)
+-- which items of a list are taken, where the ledger is what the items before it led to; no life begins again so far
+unfoldable pub read_items : World → Ledger → Listing → Reading
+read_items w l (gives (Step event line) n more) = if may_hear w l event then behind (Heard event ∷ []) (read_items w (after_all w l (turn w l (Heard event))) more) else faulty [] n
+read_items w l (gives Restart n more) = faulty [] n
+read_items w l (gives End n more) = ended (Finish ∷ [])
+read_items w l (bad n) = faulty [] n
+read_items w l past_limit = limited []

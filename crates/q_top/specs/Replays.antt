@@ -14,61 +14,66 @@ use Rattle.q_host.specs.Files.{Files}
 use Rattle.q_host.specs.View.{View}
 use Rattle.q_top.specs.Begins.{before_life}
 use Rattle.q_top.specs.Books.{Follows}
-use Rattle.q_top.specs.EventList.{lines_of, lines_from}
-use Rattle.q_top.specs.OneMessage.{world}
-use Rattle.q_top.specs.Reading.{Reading, ended, faulty, going, read_from}
-use Rattle.q_top.specs.ReaderState.{is_in_line}
+use Rattle.q_events.specs.Readings.{is_in_line}
+use Rattle.q_events.specs.TextLines.{lines_from, TextLine}
+use Rattle.q_top.specs.Listings.{lines_of, listing, listing_of}
+use Rattle.q_top.specs.Reading.{Reading, ended, faulty, limited, read_items}
 use Rattle.q_top.specs.Spools.{unopened, IsSpool}
 use Rattle.q_top.specs.Steps.{Steps, entries_of, Plays, Halts}
+use Rattle.q_model.specs.Settings.{World}
 
 -- the ledger of the first life when it has begun
-abbrev pub first_ledger : Ledger
-first_ledger = after_all world before_life (turn world before_life Begin)
+abbrev pub first_ledger : (world : World) → Ledger
+first_ledger world = after_all world before_life (turn world before_life Begin)
 
 -- which items of a text are taken
-abbrev pub read_text : List ℕ → Reading
-read_text bytes = read_from world first_ledger 1 (lines_of bytes)
+abbrev pub read_text : (world : World) → List ℕ → Reading
+read_text world bytes = read_items world (first_ledger world) (listing_of bytes)
 
 -- the items that are taken, as far as the text goes
 abbrev pub items_in : Reading → List Item
 items_in (ended items) = items
 items_in (faulty items line) = items
-items_in (going items) = items
+items_in (limited items) = items
 
 -- the files stand for the book after these entries
-abbrev pub StandsAfter : List Entry → Files → Type 0
-StandsAfter entries files = Stands files (after_all world before_life entries).book
+abbrev pub StandsAfter : (world : World) → List Entry → Files → Type 0
+StandsAfter world entries files = Stands files (after_all world before_life entries).book
 
 -- the entries of these items were carried out and told
-pub record IsTold (items : List Item) (before after : View) : Type 0 where
+pub record IsTold (world : World) (items : List Item) (before after : View) : Type 0 where
   pub steps : Steps
   pub run : run_of world Deliver empty_book items ≡ entries_of steps
-  pub follows : Follows before_life steps
-  pub plays : Plays unopened steps before after
-  pub book : IsSpool unopened before.files → StandsAfter (entries_of steps) after.files
+  pub follows : Follows world before_life steps
+  pub plays : Plays world unopened steps before after
+  pub book : IsSpool unopened before.files → StandsAfter world (entries_of steps) after.files
 
 -- They were up to one that was given up. The files stand for the book before it, or after it.
-pub record IsToldInPart (items : List Item) (error : HostError) (before after : View) : Type 0 where
+pub record IsToldInPart (world : World) (items : List Item) (error : HostError) (before after : View) : Type 0 where
   pub steps : Steps
   pub run : run_of world Deliver empty_book items ≡ entries_of steps
-  pub follows : Follows before_life steps
-  pub halts : Halts unopened steps error before after
-  pub book : IsSpool unopened before.files → StandsAfter (entries_of halts.done) after.files ⊎ StandsAfter (entries_of halts.done ++ halts.e ∷ []) after.files
-  pub disk_first : 0 < halts.part → IsSpool unopened before.files → StandsAfter (entries_of halts.done ++ halts.e ∷ []) after.files
+  pub follows : Follows world before_life steps
+  pub halts : Halts world unopened steps error before after
+  pub book : IsSpool unopened before.files → StandsAfter world (entries_of halts.done) after.files ⊎ StandsAfter world (entries_of halts.done ++ halts.e ∷ []) after.files
+  pub disk_first : 0 < halts.part → IsSpool unopened before.files → StandsAfter world (entries_of halts.done ++ halts.e ∷ []) after.files
 
 -- the text is an event list of these items, each of which fits
-abbrev pub IsWhole : Option (List ℕ) → List Item → Type 0
-IsWhole text items = IfSome text (λ bytes. read_text bytes ≡ ended items)
+abbrev pub IsWhole : (world : World) → Option (List ℕ) → List Item → Type 0
+IsWhole world text items = IfSome text (λ bytes. read_text world bytes ≡ ended items)
 
--- these items stand before the line that can't be taken; a text without an `end` lacks the line after its last
-abbrev pub IsFaulty : Option (List ℕ) → List Item → ℕ → Type 0
-IsFaulty text items line = IfSome text (λ bytes. (read_text bytes ≡ faulty items line) ⊎ ((read_text bytes ≡ going items) × (line ≡ length (lines_of bytes) + 1)))
+-- these items stand before the line that can't be taken; a text without an `end` lacks the line behind its last
+abbrev pub IsFaulty : (world : World) → Option (List ℕ) → List Item → ℕ → Type 0
+IsFaulty world text items line = IfSome text (λ bytes. read_text world bytes ≡ faulty items line)
 
--- these items stand in the lines that were taken whole; behind them a part of a line was taken, and the source has the rest
-abbrev pub IsCutOff : Option (List ℕ) → Option (List ℕ) → List Item → Type 0
-IsCutOff text left items = IfSome text (λ bytes. (lines : List (Option (List ℕ))) × (limit : ℕ) × (part : List ℕ) × (rest : List ℕ)
-    × (lines_of bytes ≡ lines ++ lines_from limit [] (part ++ rest)) × (is_in_line part ≡ true) × (left ≡ Some rest) × (read_from world first_ledger 1 lines ≡ going items))
+-- these items stand before the end of the bytes that a list may have, and no `end`
+abbrev pub IsLimited : (world : World) → Option (List ℕ) → List Item → Type 0
+IsLimited world text items = IfSome text (λ bytes. read_text world bytes ≡ limited items)
+
+-- These items stand in the lines that were taken whole, to which only the line behind them is lacking; of that a part was taken, and the source has the rest.
+abbrev pub IsCutOff : (world : World) → Option (List ℕ) → Option (List ℕ) → List Item → Type 0
+IsCutOff world text left items = IfSome text (λ bytes. (lines : List TextLine) × (limit : ℕ) × (part : List ℕ) × (rest : List ℕ)
+    × (lines_of bytes ≡ lines ++ lines_from limit (part ++ rest)) × (is_in_line part ≡ true) × (left ≡ Some rest) × (read_items world (first_ledger world) (listing [] 1 lines) ≡ faulty items (length lines + 1)))
 
 -- these items are the first of those that are taken
-abbrev pub IsFront : Option (List ℕ) → List Item → Type 0
-IsFront text items = IfSome text (λ bytes. (more : List Item) × (items_in (read_text bytes) ≡ items ++ more))
+abbrev pub IsFront : (world : World) → Option (List ℕ) → List Item → Type 0
+IsFront world text items = IfSome text (λ bytes. (more : List Item) × (items_in (read_text world bytes) ≡ items ++ more))

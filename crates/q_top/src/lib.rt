@@ -3,9 +3,8 @@
 #![tactic(auto)]
 
 mod command;
-mod event_line;
+mod conf;
 mod life;
-mod line_reader;
 mod load;
 mod queue_file;
 mod replay;
@@ -15,4 +14,5 @@ mod step;
 mod tell;
 
 pub use command::qmgr;
+pub use q_events::Bound;
 pub use status::{InputFile, Status};

@@ -6,15 +6,19 @@ ghost use Rattle.q_model.specs.declared.event.Item.TheVariants as items;
 ghost use Rattle.q_model.specs.declared.outcome.Outcome.TheVariants as outcomes;
 ghost use Rattle.q_model.specs.declared.outcome.SiteState.TheVariants as states;
 ghost use Rattle.q_model.specs.Lists.{has_none};
+ghost use Rattle.q_params.specs.Ranges.{IsInRange};
 ghost use Rattle.q_top.specs.Agrees.{Breaks, HasFiles, Turns};
 ghost use Rattle.q_top.specs.Begins.{Begins, NeverBegins, Ends};
 ghost use Rattle.q_top.specs.Causes.{HasCause};
-ghost use Rattle.q_top.specs.Fits.{fits, is_awaited, is_in_flight, IsInForm};
+ghost use Rattle.q_events.specs.Forms.{IsInForm};
+ghost use Rattle.q_top.specs.Fits.{fits, is_awaited, is_in_flight};
 ghost use Rattle.q_top.specs.Reading.{is_one_ok};
 ghost use Rattle.q_top.specs.MailSteps.{sent};
 ghost use Rattle.q_top.specs.Spools.{IsSpool, Spool, unopened};
+ghost use Rattle.q_top.specs.Worlds.{world_of};
 ghost use Rattle.q_top.specs.Steps.{Halts, Plays};
 
+use crate::conf::Conf;
 use crate::load;
 use crate::queue_file::queue_file;
 use crate::step::{self, FIRST};
@@ -22,7 +26,7 @@ use crate::tell::tell;
 use q_host::{Host, HostError};
 use q_model::{
     Address, Addresses, Bytes, Entry, Event, Moment, Name, NoMemory, Outcome, Outcomes, Positions,
-    Site, SiteState, split_domain,
+    Site, SiteState,
 };
 use std::alloc::Global;
 
@@ -99,16 +103,17 @@ impl Life {
     pub(crate) fn begin<H: Host>(
         alloc: Global,
         host: &mut H,
+        conf: &Conf,
         generation: Name,
     ) -> Result<Life, HostError>
         requires { generation ≡ codes "00000001" }
-        ensures ok { IfOk result (λ life. IsTrue H.tells → Begins life (H.view host.old) (H.view host.new)) }
+        ensures ok { IfOk result (λ life. IsTrue H.tells → Begins (world_of conf.now) life (H.view host.old) (H.view host.new)) }
         ensures clock { IfOk result (λ life. life.clock ≤ 999990000000) }
         ensures files { IfOk result (λ life. IsTrue H.tells → IsSpool unopened (H.view host.old).files → HasFiles life.stage (H.view host.new).files) }
-        ensures err { (error : HostError) → IsErrOf result error → IsTrue H.tells → NeverBegins error (H.view host.old) (H.view host.new) }
+        ensures err { (error : HostError) → IsErrOf result error → IsTrue H.tells → NeverBegins (world_of conf.now) error (H.view host.old) (H.view host.new) }
         ensures cause { HasCause (H.faults host.old) (H.faults host.new) result }
     {
-        step::begin(alloc, host, generation)?;
+        step::begin(alloc, host, conf, generation)?;
         Ok(Life {
             clock: 0,
             timed: false,
@@ -117,18 +122,25 @@ impl Life {
     }
 
     /// The clock is there.
-    fn at<H: Host>(&mut self, alloc: Global, host: &mut H, moment: Moment) -> Result<(), HostError>
+    fn at<H: Host>(
+        &mut self,
+        alloc: Global,
+        host: &mut H,
+        conf: &Conf,
+        moment: Moment,
+    ) -> Result<(), HostError>
         requires timely { moment ≤ 999990000000 }
+        requires range { IsInRange (world_of conf.now).settings }
         requires clock { self.old.clock ≤ 999990000000 }
         requires there { IsTrue H.tells → HasFiles self.old.stage (H.view host.old).files }
-        ensures ok { OnOk result (IsTrue H.tells → Turns self.old self.new (items.Heard (events.At moment)) (H.view host.old) (H.view host.new)) }
+        ensures ok { OnOk result (IsTrue H.tells → Turns (world_of conf.now) self.old self.new (items.Heard (events.At moment)) (H.view host.old) (H.view host.new)) }
         ensures files { OnOk result (IsTrue H.tells → HasFiles self.new.stage (H.view host.new).files) }
         ensures clock { self.new.clock ≤ 999990000000 }
-        ensures err { (error : HostError) → IsErrOf result error → IsTrue H.tells → Breaks self.old (items.Heard (events.At moment)) error (H.view host.old) (H.view host.new) }
+        ensures err { (error : HostError) → IsErrOf result error → IsTrue H.tells → Breaks (world_of conf.now) self.old (items.Heard (events.At moment)) error (H.view host.old) (H.view host.new) }
         ensures cause { HasCause (H.faults host.old) (H.faults host.new) result }
     {
         let clock = self.clock.max(moment);
-        tell(alloc, host, &Entry::At { moment: clock })?;
+        tell(alloc, host, conf, &Entry::At { moment: clock })?;
         self.clock = clock;
         self.timed = true;
         Ok(())
@@ -139,28 +151,31 @@ impl Life {
         &mut self,
         alloc: Global,
         host: &mut H,
+        conf: &Conf,
         sender: Option<Address>,
         to: Addresses,
         content: Bytes,
     ) -> Result<Stepped, HostError>
         requires fits { fits self.old (events.Mail sender to content) ≡ true }
+        requires range { IsInRange (world_of conf.now).settings }
         requires form { IsInForm (events.Mail sender to content) }
         requires clock { self.old.clock ≤ 999990000000 }
         requires there { IsTrue H.tells → HasFiles self.old.stage (H.view host.old).files }
-        ensures ok { IfOk result (λ stepped. IsTrue H.tells → (stepped ≡ Stepped.Done) × Turns self.old self.new (items.Heard (events.Mail sender to content)) (H.view host.old) (H.view host.new)) }
+        ensures ok { IfOk result (λ stepped. IsTrue H.tells → (stepped ≡ Stepped.Done) × Turns (world_of conf.now) self.old self.new (items.Heard (events.Mail sender to content)) (H.view host.old) (H.view host.new)) }
         ensures files { OnOk result (IsTrue H.tells → HasFiles self.new.stage (H.view host.new).files) }
         ensures clock { self.new.clock ≡ self.old.clock }
-        ensures err { (error : HostError) → IsErrOf result error → IsTrue H.tells → Breaks self.old (items.Heard (events.Mail sender to content)) error (H.view host.old) (H.view host.new) }
+        ensures err { (error : HostError) → IsErrOf result error → IsTrue H.tells → Breaks (world_of conf.now) self.old (items.Heard (events.Mail sender to content)) error (H.view host.old) (H.view host.new) }
         ensures cause { HasCause (H.faults host.old) (H.faults host.new) result }
     {
+        let site = conf.table.route(&to.get(0));
         let file = queue_file(alloc, &sender, self.clock, &to, content.as_slice())?;
         let positions = first_position(alloc)?;
-        step::arrive(alloc, host, file.as_slice(), sender, to, content)?;
-        step::admit(alloc, host)?;
+        step::arrive(alloc, host, conf, file.as_slice(), sender, to, content)?;
+        step::admit(alloc, host, conf)?;
         let Some(taken) = load::recipient(alloc, host)? else {
             return Ok(Stepped::Unreadable);
         };
-        send(alloc, host, &taken.address, positions)?;
+        send(alloc, host, conf, site, positions)?;
         self.stage = Stage::InFlight {
             mark_at: taken.mark_at,
         };
@@ -172,16 +187,18 @@ impl Life {
         &mut self,
         alloc: Global,
         host: &mut H,
+        conf: &Conf,
         number: u64,
         site: SiteState,
         outcomes: Outcomes,
     ) -> Result<(), HostError>
         requires fits { fits self.old (events.Reply number site outcomes) ≡ true }
+        requires range { IsInRange (world_of conf.now).settings }
         requires there { IsTrue H.tells → HasFiles self.old.stage (H.view host.old).files }
-        ensures ok { OnOk result (IsTrue H.tells → Turns self.old self.new (items.Heard (events.Reply number site outcomes)) (H.view host.old) (H.view host.new)) }
+        ensures ok { OnOk result (IsTrue H.tells → Turns (world_of conf.now) self.old self.new (items.Heard (events.Reply number site outcomes)) (H.view host.old) (H.view host.new)) }
         ensures files { OnOk result (IsTrue H.tells → HasFiles self.new.stage (H.view host.new).files) }
         ensures clock { self.new.clock ≡ self.old.clock }
-        ensures err { (error : HostError) → IsErrOf result error → IsTrue H.tells → Breaks self.old (items.Heard (events.Reply number site outcomes)) error (H.view host.old) (H.view host.new) }
+        ensures err { (error : HostError) → IsErrOf result error → IsTrue H.tells → Breaks (world_of conf.now) self.old (items.Heard (events.Reply number site outcomes)) error (H.view host.old) (H.view host.new) }
         ensures cause { HasCause (H.faults host.old) (H.faults host.new) result }
     {
         let Stage::InFlight { mark_at } = self.stage else {
@@ -192,10 +209,10 @@ impl Life {
             site,
             outcomes,
         };
-        tell(alloc, host, &entry)?;
-        step::mark(alloc, host, mark_at)?;
-        step::sync(alloc, host)?;
-        step::remove(alloc, host)?;
+        tell(alloc, host, conf, &entry)?;
+        step::mark(alloc, host, conf, mark_at)?;
+        step::sync(alloc, host, conf)?;
+        step::remove(alloc, host, conf)?;
         self.stage = Stage::Gone;
         Ok(())
     }
@@ -205,34 +222,36 @@ impl Life {
         &mut self,
         alloc: Global,
         host: &mut H,
+        conf: &Conf,
         event: Event,
     ) -> Result<Stepped, HostError>
         requires fits { fits self.old event ≡ true }
+        requires range { IsInRange (world_of conf.now).settings }
         requires form { IsInForm event }
         requires clock { self.old.clock ≤ 999990000000 }
         requires there { IsTrue H.tells → HasFiles self.old.stage (H.view host.old).files }
-        ensures ok { IfOk result (λ stepped. IsTrue H.tells → (stepped ≡ Stepped.Done) × Turns self.old self.new (items.Heard event) (H.view host.old) (H.view host.new)) }
+        ensures ok { IfOk result (λ stepped. IsTrue H.tells → (stepped ≡ Stepped.Done) × Turns (world_of conf.now) self.old self.new (items.Heard event) (H.view host.old) (H.view host.new)) }
         ensures files { OnOk result (IsTrue H.tells → HasFiles self.new.stage (H.view host.new).files) }
         ensures clock { self.new.clock ≤ 999990000000 }
-        ensures err { (error : HostError) → IsErrOf result error → IsTrue H.tells → Breaks self.old (items.Heard event) error (H.view host.old) (H.view host.new) }
+        ensures err { (error : HostError) → IsErrOf result error → IsTrue H.tells → Breaks (world_of conf.now) self.old (items.Heard event) error (H.view host.old) (H.view host.new) }
         ensures cause { HasCause (H.faults host.old) (H.faults host.new) result }
     {
         match event {
             Event::At { moment } => {
-                self.at(alloc, host, moment)?;
+                self.at(alloc, host, conf, moment)?;
                 Ok(Stepped::Done)
             }
             Event::Mail {
                 sender,
                 to,
                 content,
-            } => self.mail(alloc, host, sender, to, content),
+            } => self.mail(alloc, host, conf, sender, to, content),
             Event::Reply {
                 number,
                 site,
                 outcomes,
             } => {
-                self.reply(alloc, host, number, site, outcomes)?;
+                self.reply(alloc, host, conf, number, site, outcomes)?;
                 Ok(Stepped::Done)
             }
             Event::Trigger { .. } => unreachable!(),
@@ -240,12 +259,17 @@ impl Life {
     }
 
     /// The life ends as asked.
-    pub(crate) fn finish<H: Host>(self, alloc: Global, host: &mut H) -> Result<(), HostError>
-        ensures ok { OnOk result (IsTrue H.tells → Ends self (H.view host.old) (H.view host.new)) }
-        ensures err { (error : HostError) → IsErrOf result error → IsTrue H.tells → Breaks self items.Finish error (H.view host.old) (H.view host.new) }
+    pub(crate) fn finish<H: Host>(
+        self,
+        alloc: Global,
+        host: &mut H,
+        conf: &Conf,
+    ) -> Result<(), HostError>
+        ensures ok { OnOk result (IsTrue H.tells → Ends (world_of conf.now) self (H.view host.old) (H.view host.new)) }
+        ensures err { (error : HostError) → IsErrOf result error → IsTrue H.tells → Breaks (world_of conf.now) self items.Finish error (H.view host.old) (H.view host.new) }
         ensures cause { HasCause (H.faults host.old) (H.faults host.new) result }
     {
-        tell(alloc, host, &Entry::End)
+        tell(alloc, host, conf, &Entry::End)
     }
 }
 
@@ -253,12 +277,13 @@ impl Life {
 fn send<H: Host>(
     alloc: Global,
     host: &mut H,
-    address: &Address,
+    conf: &Conf,
+    site: Site,
     positions: Positions,
 ) -> Result<(), HostError>
     requires { positions ≡ 0 ∷ [] }
-    ensures ok { OnOk result (IsTrue H.tells → (s : Spool) → Plays s (sent s address.now) (H.view host.old) (H.view host.new)) }
-    ensures err { (error : HostError) → IsErrOf result error → IsTrue H.tells → (s : Spool) → Halts s (sent s address.now) error (H.view host.old) (H.view host.new) }
+    ensures ok { OnOk result (IsTrue H.tells → (s : Spool) → Plays (world_of conf.now) s (sent s site) (H.view host.old) (H.view host.new)) }
+    ensures err { (error : HostError) → IsErrOf result error → IsTrue H.tells → (s : Spool) → Halts (world_of conf.now) s (sent s site) error (H.view host.old) (H.view host.new) }
     ensures cause { HasCause (H.faults host.old) (H.faults host.new) result }
 {
     let load = Entry::Load {
@@ -266,16 +291,12 @@ fn send<H: Host>(
         from: 0,
         to: 1,
     };
-    tell(alloc, host, &load)?;
-    let site = Site {
-        transport: 0,
-        hop: split_domain(address),
-    };
+    tell(alloc, host, conf, &load)?;
     let start = Entry::Start {
         number: 1,
         id: FIRST,
         site,
         positions,
     };
-    tell(alloc, host, &start)
+    tell(alloc, host, conf, &start)
 }

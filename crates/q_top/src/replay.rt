@@ -1,78 +1,76 @@
 //! Replaying an event list.
 ghost use Rattle.std.specs.Prelude.{◌≡◌, ◌≢◌, ◌≤◌, IfErr, IfOk, IsTrue, codes};
+ghost use Rattle.q_events.specs.Forms.{IsItemInForm};
 ghost use Rattle.q_model.specs.declared.spot.Area.TheVariants as areas;
 ghost use Rattle.q_model.specs.IdTexts.{id_text};
 ghost use Rattle.q_host.specs.Faults.{Rose};
 ghost use Rattle.q_stream.specs.Takes.{Rose as SourceRose};
+ghost use Rattle.q_params.specs.Ranges.{IsInRange};
 ghost use Rattle.q_top.specs.Agrees.{HasFiles};
 ghost use Rattle.q_top.specs.ReplayEnds.{Finishes, ReplayEnds};
 ghost use Rattle.q_top.specs.Spools.{IsSpool, first_id, unopened};
-ghost use Rattle.q_top.specs.TakenLine.{GivesUp, Takes};
+ghost use Rattle.q_top.specs.Worlds.{world_of};
+ghost use Rattle.q_top.specs.TakenItem.{GivesUp, Takes};
 
-use crate::event_line::line_item;
+use crate::conf::Conf;
 use crate::life::{Life, Stepped};
-use crate::line_reader::{Line, LineError, LineReader};
-use crate::status::{InputFile, Status, status_of};
+use crate::status::{InputFile, Status, status_of, unread};
 use crate::step::FIRST;
+use q_events::{Events, Item};
 use q_host::{Host, HostError};
-use q_model::{Area, Item, Name, id_name};
+use q_model::{Area, Name, id_name};
 use q_stream::Source;
 use std::alloc::Global;
 
-/// What a line of the list led to.
+/// What an item of the list led to.
 #[derive(Clone, Copy, Debug, PartialEq, Eq)]
 pub(crate) enum Taken {
-    /// It is passed over.
-    Passed,
     /// Its event was heard.
     Heard,
     /// It is the `end`.
     Ended,
 }
 
-/// Why a line wasn't taken.
+/// Why an item wasn't taken.
 #[derive(Clone, Copy, Debug, PartialEq, Eq)]
 pub(crate) enum Refusal {
-    /// It is none of an event list, or its event doesn't fit.
-    BadLine,
+    /// It begins a life again, or its event doesn't fit.
+    NotTaken,
     /// The host refused a call.
     Host(HostError),
     /// The message can't be read.
     Unreadable,
-    NoMemory,
 }
 
-/// Takes a line of the list.
+/// Takes an item of the list.
 fn take<H: Host>(
     alloc: Global,
     host: &mut H,
+    conf: &Conf,
     life: &mut Life,
-    text: &[u8],
+    item: Item,
 ) -> Result<Taken, Refusal>
     requires there { IsTrue H.tells → HasFiles life.old.stage (H.view host.old).files }
     requires clock { life.old.clock ≤ 999990000000 }
+    requires range { IsInRange (world_of conf.now).settings }
+    requires form { IsItemInForm item }
     ensures clock { life.new.clock ≤ 999990000000 }
-    ensures ok { IfOk result (λ taken. Takes H.tells life.old life.new text.now (H.view host.old) (H.view host.new) taken) }
+    ensures ok { IfOk result (λ taken. Takes (world_of conf.now) H.tells life.old life.new item (H.view host.old) (H.view host.new) taken) }
     ensures files { IfOk result (λ taken. IsTrue H.tells → HasFiles life.new.stage (H.view host.new).files) }
-    ensures err { IfErr result (λ refusal. GivesUp H.tells life.old text.now (H.view host.old) (H.view host.new) refusal) }
+    ensures err { IfErr result (λ refusal. GivesUp (world_of conf.now) H.tells life.old item (H.view host.old) (H.view host.new) refusal) }
     ensures disk_later { (H.faults host.old).disk ≤ (H.faults host.new).disk }
     ensures tell_later { (H.faults host.old).tell ≤ (H.faults host.new).tell }
     ensures disk { IfErr result (λ refusal. refusal ≡ Refusal.Host HostError.Disk → Rose (H.faults host.old).disk (H.faults host.new).disk) }
     ensures tell { IfErr result (λ refusal. refusal ≡ Refusal.Host HostError.Tell → Rose (H.faults host.old).tell (H.faults host.new).tell) }
 {
-    let Ok(read) = line_item(alloc, text) else {
-        return Err(Refusal::NoMemory);
-    };
-    match read {
-        None => Err(Refusal::BadLine),
-        Some(None) => Ok(Taken::Passed),
-        Some(Some(Item::Begin)) => Err(Refusal::BadLine),
-        Some(Some(Item::Finish)) => Ok(Taken::Ended),
-        Some(Some(Item::Heard { event })) => {
+    match item {
+        Item::Restart => Err(Refusal::NotTaken),
+        Item::End => Ok(Taken::Ended),
+        Item::Step { event, .. } => {
             if !life.fits(&event) {
-                return Err(Refusal::BadLine);
+                return Err(Refusal::NotTaken);
             }
-            match life.step(alloc, host, event) {
+            match life.step(alloc, host, conf, event) {
                 Ok(Stepped::Done) => Ok(Taken::Heard),
                 Ok(Stepped::Unreadable) => Err(Refusal::Unreadable),
                 Err(error) => Err(Refusal::Host(error)),
@@ -101,14 +99,14 @@ fn unreadable() -> Status
 }
 
 /// Ends the life.
-fn finish<H: Host>(alloc: Global, host: &mut H, life: Life) -> Status
-    ensures ends { IsTrue H.tells → Finishes life (H.view host.old) (H.view host.new) result }
+fn finish<H: Host>(alloc: Global, host: &mut H, conf: &Conf, life: Life) -> Status
+    ensures ends { IsTrue H.tells → Finishes (world_of conf.now) life (H.view host.old) (H.view host.new) result }
     ensures disk { result ≡ Status.Disk → Rose (H.faults host.old).disk (H.faults host.new).disk }
     ensures tell { result ≡ Status.Tell → Rose (H.faults host.old).tell (H.faults host.new).tell }
     ensures no_source { result ≢ Status.Source }
     ensures no_usage { result ≢ Status.Usage }
 {
-    match life.finish(alloc, host) {
+    match life.finish(alloc, host, conf) {
         Ok(()) => Status::Done,
         Err(error) => status_of(error),
     }
@@ -125,42 +123,38 @@ fn first_generation() -> Name
 }
 
 /// Replays an event list on an empty spool.
-pub(crate) fn replay<H: Host, S: Source>(alloc: Global, source: &mut S, host: &mut H) -> Status
-    requires { IsTrue H.tells → IsSpool unopened (H.view host.old).files }
-    ensures ends { IsTrue H.tells → ReplayEnds (S.left source.old) (S.left source.new) (H.view host.old) (H.view host.new) result }
+pub(crate) fn replay<H: Host, S: Source>(
+    alloc: Global,
+    source: &mut S,
+    host: &mut H,
+    conf: &Conf,
+) -> Status
+    requires range { IsInRange (world_of conf.now).settings }
+    requires unopened { IsTrue H.tells → IsSpool unopened (H.view host.old).files }
+    ensures ends { IsTrue H.tells → ReplayEnds (world_of conf.now) (S.left source.old) (S.left source.new) (H.view host.old) (H.view host.new) result }
     ensures disk { result ≡ Status.Disk → Rose (H.faults host.old).disk (H.faults host.new).disk }
     ensures tell { result ≡ Status.Tell → Rose (H.faults host.old).tell (H.faults host.new).tell }
     ensures source { result ≡ Status.Source → SourceRose (S.faults source.old) (S.faults source.new) }
     ensures no_usage { result ≢ Status.Usage }
 {
-    let mut life = match Life::begin(alloc, host, first_generation()) {
+    let mut life = match Life::begin(alloc, host, conf, first_generation()) {
         Ok(life) => life,
         Err(error) => return status_of(error),
     };
-    let mut reader = LineReader::new();
-    let mut line = 1;
+    let Ok(mut events) = Events::new(alloc) else {
+        return Status::NoMemory;
+    };
     loop {
-        let text = match reader.read_line(alloc, source) {
-            Ok(Line::Text(text)) => text,
-            Ok(Line::TooLong) => return bad_line(line),
-            Ok(Line::End) => return bad_line(line),
-            Err(LineError::Source) => return Status::Source,
-            Err(LineError::NoMemory) => return Status::NoMemory,
+        let item = match events.read_event(alloc, source) {
+            Ok(item) => item,
+            Err(error) => return unread(error),
         };
-        match take(alloc, host, &mut life, &text) {
-            Ok(Taken::Passed) => {
-                line += 1;
-                continue;
-            }
-            Ok(Taken::Heard) => {
-                line += 1;
-                continue;
-            }
-            Ok(Taken::Ended) => return finish(alloc, host, life),
-            Err(Refusal::BadLine) => return bad_line(line),
+        match take(alloc, host, conf, &mut life, item) {
+            Ok(Taken::Heard) => continue,
+            Ok(Taken::Ended) => return finish(alloc, host, conf, life),
+            Err(Refusal::NotTaken) => return bad_line(events.lines()),
             Err(Refusal::Host(error)) => return status_of(error),
             Err(Refusal::Unreadable) => return unreadable(),
-            Err(Refusal::NoMemory) => return Status::NoMemory,
         }
     }
 }

@@ -1,7 +1,8 @@
 //! How a command ended.
 ghost use Rattle.std.specs.Prelude.{◌≡◌};
-ghost use Rattle.q_top.specs.Statuses.{number_of, status_of};
+ghost use Rattle.q_top.specs.Statuses.{number_of, status_of, unread};
 
+use q_events::{Bound, EventError};
 use q_host::HostError;
 use q_model::{Area, Name};
 use std::fmt;
@@ -10,6 +11,8 @@ use std::fmt;
 #[derive(Clone, Copy, Debug, PartialEq, Eq)]
 pub enum InputFile {
     Events,
+    Parameters,
+    Table,
 }
 
 /// How a command ended. Everything but `Done` is a refusal.
@@ -31,6 +34,8 @@ pub enum Status {
     /// The spool isn't one that this program can open. This is the first file that stands in the
     /// way.
     Damaged { area: Area, name: Name },
+    /// This limit was reached: the list has more than 2^40 bytes, and no `end` in them.
+    Limit { bound: Bound },
     /// Memory ran out.
     NoMemory,
 }
@@ -48,6 +53,7 @@ impl Status {
             Status::Tell => 4,
             Status::Source => 5,
             Status::Damaged { .. } => 6,
+            Status::Limit { .. } => 8,
             Status::NoMemory => 9,
         }
     }
@@ -64,6 +70,21 @@ pub(crate) fn status_of(error: HostError) -> Status
     }
 }
 
+/// The status where a list has no next item.
+pub(crate) fn unread(error: EventError) -> Status
+    ensures { result ≡ unread error }
+{
+    match error {
+        EventError::NoMemory => Status::NoMemory,
+        EventError::Source => Status::Source,
+        EventError::BadEvent { line } => Status::BadInput {
+            file: InputFile::Events,
+            line,
+        },
+        EventError::Limit { bound } => Status::Limit { bound },
+    }
+}
+
 /// The text of the fault line that a program prints for this status.
 impl fmt::Display for Status {
     fn fmt<W: fmt::Write>(&self, f: &mut fmt::Formatter<W>) -> fmt::Result {
@@ -72,6 +93,8 @@ impl fmt::Display for Status {
             Status::Usage => write!(f, "wrong words"),
             Status::BadInput { file, line } => match file {
                 InputFile::Events => write!(f, "bad input: events line {line}"),
+                InputFile::Parameters => write!(f, "bad input: parameters line {line}"),
+                InputFile::Table => write!(f, "bad input: table line {line}"),
             },
             Status::Disk => write!(f, "disk fault"),
             Status::Tell => write!(f, "output fault"),
@@ -80,6 +103,7 @@ impl fmt::Display for Status {
                 let folder = area.folder();
                 write!(f, "damaged spool: {folder}/{name}")
             }
+            Status::Limit { bound } => write!(f, "limit reached: {bound}"),
             Status::NoMemory => write!(f, "no memory"),
         }
     }

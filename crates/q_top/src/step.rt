@@ -8,8 +8,10 @@ ghost use Rattle.q_host.specs.Faults.{DiskCause};
 ghost use Rattle.q_top.specs.Causes.{HasCause};
 ghost use Rattle.q_top.specs.Forgets.{Forgets, LogGone};
 ghost use Rattle.q_top.specs.Spools.{unopened, empty, holds, marking, marked, first_id};
+ghost use Rattle.q_top.specs.Worlds.{world_of};
 ghost use Rattle.q_top.specs.Steps.{Does, Stops};
 
+use crate::conf::Conf;
 use crate::tell::tell;
 use q_host::{Host, HostError};
 use q_model::{Address, Addresses, Area, Bytes, Entry, Id, Mode, Name, Spot, id_name};
@@ -38,10 +40,15 @@ fn forget_log<H: Host>(host: &mut H) -> Result<(), HostError>
 }
 
 /// The life begins: boot has its generation from now on.
-pub(crate) fn begin<H: Host>(alloc: Global, host: &mut H, generation: Name) -> Result<(), HostError>
+pub(crate) fn begin<H: Host>(
+    alloc: Global,
+    host: &mut H,
+    conf: &Conf,
+    generation: Name,
+) -> Result<(), HostError>
     requires { generation ≡ codes "00000001" }
-    ensures ok { OnOk result (IsTrue H.tells → Does unopened (entries.Life 1 modes.Deliver) empty (H.view host.old) (H.view host.new)) }
-    ensures err { (error : HostError) → IsErrOf result error → IsTrue H.tells → Stops unopened (entries.Life 1 modes.Deliver) empty error (H.view host.old) (H.view host.new) }
+    ensures ok { OnOk result (IsTrue H.tells → Does (world_of conf.now) unopened (entries.Life 1 modes.Deliver) empty (H.view host.old) (H.view host.new)) }
+    ensures err { (error : HostError) → IsErrOf result error → IsTrue H.tells → Stops (world_of conf.now) unopened (entries.Life 1 modes.Deliver) empty error (H.view host.old) (H.view host.new) }
     ensures cause { HasCause (H.faults host.old) (H.faults host.new) result }
 {
     forget_log(host)?;
@@ -50,20 +57,21 @@ pub(crate) fn begin<H: Host>(alloc: Global, host: &mut H, generation: Name) -> R
         generation: 1,
         mode: Mode::Deliver,
     };
-    tell(alloc, host, &entry)
+    tell(alloc, host, conf, &entry)
 }
 
 /// The message stands in incoming.
 pub(crate) fn arrive<H: Host>(
     alloc: Global,
     host: &mut H,
+    conf: &Conf,
     file: &[u8],
     sender: Option<Address>,
     to: Addresses,
     content: Bytes,
 ) -> Result<(), HostError>
-    ensures ok { OnOk result (IsTrue H.tells → Does empty (entries.Arrive first_id sender to content) (holds areas.Incoming file.now) (H.view host.old) (H.view host.new)) }
-    ensures err { (error : HostError) → IsErrOf result error → IsTrue H.tells → Stops empty (entries.Arrive first_id sender to content) (holds areas.Incoming file.now) error (H.view host.old) (H.view host.new) }
+    ensures ok { OnOk result (IsTrue H.tells → Does (world_of conf.now) empty (entries.Arrive first_id sender to content) (holds areas.Incoming file.now) (H.view host.old) (H.view host.new)) }
+    ensures err { (error : HostError) → IsErrOf result error → IsTrue H.tells → Stops (world_of conf.now) empty (entries.Arrive first_id sender to content) (holds areas.Incoming file.now) error (H.view host.old) (H.view host.new) }
     ensures cause { HasCause (H.faults host.old) (H.faults host.new) result }
 {
     let name = id_name(FIRST);
@@ -78,26 +86,31 @@ pub(crate) fn arrive<H: Host>(
         to,
         content,
     };
-    tell(alloc, host, &arrival)
+    tell(alloc, host, conf, &arrival)
 }
 
 /// The message moves to active.
-pub(crate) fn admit<H: Host>(alloc: Global, host: &mut H) -> Result<(), HostError>
+pub(crate) fn admit<H: Host>(alloc: Global, host: &mut H, conf: &Conf) -> Result<(), HostError>
     requires { IsTrue H.tells → IsSome ((H.view host.old).files areas.Incoming (id_text first_id)) }
-    ensures ok { OnOk result (IsTrue H.tells → (file : List ℕ) → Does (holds areas.Incoming file) (entries.Admit first_id) (holds areas.Active file) (H.view host.old) (H.view host.new)) }
-    ensures err { (error : HostError) → IsErrOf result error → IsTrue H.tells → (file : List ℕ) → Stops (holds areas.Incoming file) (entries.Admit first_id) (holds areas.Active file) error (H.view host.old) (H.view host.new) }
+    ensures ok { OnOk result (IsTrue H.tells → (file : List ℕ) → Does (world_of conf.now) (holds areas.Incoming file) (entries.Admit first_id) (holds areas.Active file) (H.view host.old) (H.view host.new)) }
+    ensures err { (error : HostError) → IsErrOf result error → IsTrue H.tells → (file : List ℕ) → Stops (world_of conf.now) (holds areas.Incoming file) (entries.Admit first_id) (holds areas.Active file) error (H.view host.old) (H.view host.new) }
     ensures cause { HasCause (H.faults host.old) (H.faults host.new) result }
 {
     let name = id_name(FIRST);
     host.rename(Area::Incoming, name, Area::Active, name)?;
-    tell(alloc, host, &Entry::Admit { id: FIRST })
+    tell(alloc, host, conf, &Entry::Admit { id: FIRST })
 }
 
 /// The recipient's mark byte is written, at this offset of the file.
-pub(crate) fn mark<H: Host>(alloc: Global, host: &mut H, mark_at: u64) -> Result<(), HostError>
+pub(crate) fn mark<H: Host>(
+    alloc: Global,
+    host: &mut H,
+    conf: &Conf,
+    mark_at: u64,
+) -> Result<(), HostError>
     requires { IsTrue H.tells → IsSomeAnd ((H.view host.old).files areas.Active (id_text first_id)) (λ file. mark_at < length file) }
-    ensures ok { OnOk result (IsTrue H.tells → (file : List ℕ) → Does (holds areas.Active file) (entries.Mark first_id 0) (marking mark_at file) (H.view host.old) (H.view host.new)) }
-    ensures err { (error : HostError) → IsErrOf result error → IsTrue H.tells → (file : List ℕ) → Stops (holds areas.Active file) (entries.Mark first_id 0) (marking mark_at file) error (H.view host.old) (H.view host.new) }
+    ensures ok { OnOk result (IsTrue H.tells → (file : List ℕ) → Does (world_of conf.now) (holds areas.Active file) (entries.Mark first_id 0) (marking mark_at file) (H.view host.old) (H.view host.new)) }
+    ensures err { (error : HostError) → IsErrOf result error → IsTrue H.tells → (file : List ℕ) → Stops (world_of conf.now) (holds areas.Active file) (entries.Mark first_id 0) (marking mark_at file) error (H.view host.old) (H.view host.new) }
     ensures cause { HasCause (H.faults host.old) (H.faults host.new) result }
 {
     host.write_at(Area::Active, id_name(FIRST), mark_at, b"D")?;
@@ -105,27 +118,27 @@ pub(crate) fn mark<H: Host>(alloc: Global, host: &mut H, mark_at: u64) -> Result
         id: FIRST,
         position: 0,
     };
-    tell(alloc, host, &entry)
+    tell(alloc, host, conf, &entry)
 }
 
 /// The mark at this offset of the file outlives a crash from now on.
-pub(crate) fn sync<H: Host>(alloc: Global, host: &mut H) -> Result<(), HostError>
+pub(crate) fn sync<H: Host>(alloc: Global, host: &mut H, conf: &Conf) -> Result<(), HostError>
     requires { IsTrue H.tells → IsSome ((H.view host.old).files areas.Active (id_text first_id)) }
-    ensures ok { OnOk result (IsTrue H.tells → (at : ℕ) (file : List ℕ) → Does (marking at file) (entries.Sync first_id) (holds areas.Active (marked at file)) (H.view host.old) (H.view host.new)) }
-    ensures err { (error : HostError) → IsErrOf result error → IsTrue H.tells → (at : ℕ) (file : List ℕ) → Stops (marking at file) (entries.Sync first_id) (holds areas.Active (marked at file)) error (H.view host.old) (H.view host.new) }
+    ensures ok { OnOk result (IsTrue H.tells → (at : ℕ) (file : List ℕ) → Does (world_of conf.now) (marking at file) (entries.Sync first_id) (holds areas.Active (marked at file)) (H.view host.old) (H.view host.new)) }
+    ensures err { (error : HostError) → IsErrOf result error → IsTrue H.tells → (at : ℕ) (file : List ℕ) → Stops (world_of conf.now) (marking at file) (entries.Sync first_id) (holds areas.Active (marked at file)) error (H.view host.old) (H.view host.new) }
     ensures cause { HasCause (H.faults host.old) (H.faults host.new) result }
 {
     host.sync(Area::Active, id_name(FIRST))?;
-    tell(alloc, host, &Entry::Sync { id: FIRST })
+    tell(alloc, host, conf, &Entry::Sync { id: FIRST })
 }
 
 /// The message is gone.
-pub(crate) fn remove<H: Host>(alloc: Global, host: &mut H) -> Result<(), HostError>
+pub(crate) fn remove<H: Host>(alloc: Global, host: &mut H, conf: &Conf) -> Result<(), HostError>
     requires { IsTrue H.tells → IsSome ((H.view host.old).files areas.Active (id_text first_id)) }
-    ensures ok { OnOk result (IsTrue H.tells → (file : List ℕ) → Does (holds areas.Active file) (entries.Remove first_id) empty (H.view host.old) (H.view host.new)) }
-    ensures err { (error : HostError) → IsErrOf result error → IsTrue H.tells → (file : List ℕ) → Stops (holds areas.Active file) (entries.Remove first_id) empty error (H.view host.old) (H.view host.new) }
+    ensures ok { OnOk result (IsTrue H.tells → (file : List ℕ) → Does (world_of conf.now) (holds areas.Active file) (entries.Remove first_id) empty (H.view host.old) (H.view host.new)) }
+    ensures err { (error : HostError) → IsErrOf result error → IsTrue H.tells → (file : List ℕ) → Stops (world_of conf.now) (holds areas.Active file) (entries.Remove first_id) empty error (H.view host.old) (H.view host.new) }
     ensures cause { HasCause (H.faults host.old) (H.faults host.new) result }
 {
     host.remove(Area::Active, id_name(FIRST))?;
-    tell(alloc, host, &Entry::Remove { id: FIRST })
+    tell(alloc, host, conf, &Entry::Remove { id: FIRST })
 }

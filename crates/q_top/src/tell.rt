@@ -2,23 +2,27 @@
 ghost use Rattle.std.specs.Prelude.{◌≡◌, OnOk, IsErrOf, IsTrue};
 ghost use Rattle.q_host.specs.Faults.{TellCause};
 ghost use Rattle.q_top.specs.Spools.{Spool};
+ghost use Rattle.q_top.specs.Worlds.{world_of};
 ghost use Rattle.q_top.specs.Steps.{Does, Stops};
 
+use crate::conf::Conf;
 use q_host::{Host, HostError};
 use q_model::Entry;
 use q_trace::entry_text;
-use q_transport::Table;
 use std::alloc::Global;
 
 /// Tells the line of an entry that the disk has, or that changes nothing there.
-pub(crate) fn tell<H: Host>(alloc: Global, host: &mut H, entry: &Entry) -> Result<(), HostError>
-    ensures ok { OnOk result (IsTrue H.tells → (s : Spool) → Does s entry.now s (H.view host.old) (H.view host.new)) }
-    ensures err { (error : HostError) → IsErrOf result error → IsTrue H.tells → (s : Spool) → Stops s entry.now s error (H.view host.old) (H.view host.new) }
+pub(crate) fn tell<H: Host>(
+    alloc: Global,
+    host: &mut H,
+    conf: &Conf,
+    entry: &Entry,
+) -> Result<(), HostError>
+    ensures ok { OnOk result (IsTrue H.tells → (s : Spool) → Does (world_of conf.now) s entry.now s (H.view host.old) (H.view host.new)) }
+    ensures err { (error : HostError) → IsErrOf result error → IsTrue H.tells → (s : Spool) → Stops (world_of conf.now) s entry.now s error (H.view host.old) (H.view host.new) }
     ensures cause { TellCause (H.faults host.old) (H.faults host.new) result }
 {
-    // No table of transports is read so far.
-    let table = Table::empty(alloc);
-    let Ok(text) = entry_text(alloc, entry, &table) else {
+    let Ok(text) = entry_text(alloc, entry, &conf.table) else {
         return Err(HostError::NoMemory);
     };
     host.tell(text.as_slice())

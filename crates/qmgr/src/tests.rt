@@ -2,7 +2,7 @@
 use q_mem_host::{MemHost, Rot};
 use q_model::{Area, Name};
 use q_stream::MemSource;
-use q_top::qmgr;
+use q_top::{Bound, Status, qmgr};
 use std::alloc::Global;
 use std::process::Abort;
 use std::test::Fail;
@@ -53,7 +53,7 @@ fn one_message(rt: HostRuntime) -> Result<(), Fail> {
 #[test]
 fn lists(rt: HostRuntime) -> Result<(), Fail> {
     let timed: &[u8] = b"life 1\nat 7\n";
-    let rows: [(&[u8], &str, &[u8]); 14] = [
+    let rows: [(&[u8], &str, &[u8]); 18] = [
         (b"end", "done", b"life 1\nend\n"),
         (b"# x\n\nend\nmore", "done", b"life 1\nend\n"),
         (b"at 7\nat 3\nend\n", "done", b"life 1\nat 7\nat 7\nend\n"),
@@ -80,6 +80,22 @@ fn lists(rt: HostRuntime) -> Result<(), Fail> {
         ),
         (b"at 7\n\nreplay\n", "bad input: events line 3", timed),
         (b"END\n", "bad input: events line 1", b"life 1\n"),
+        (b"body x\nend\n", "bad input: events line 2", b"life 1\n"),
+        (
+            b"at 7\n#\nrestart\nend\n",
+            "bad input: events line 3",
+            timed,
+        ),
+        (
+            b"at 7\nbody\n\nmail a@b c@d\nend\n",
+            "bad input: events line 4",
+            timed,
+        ),
+        (
+            b"at 7\nmail a@b c@d e@f\nend\n",
+            "bad input: events line 2",
+            timed,
+        ),
     ];
     for (text, answer, told) in rows {
         row(&rt, rt.alloc(), text, 3, &[], answer, told)?;
@@ -120,6 +136,18 @@ mark 00000001-00000001 0\nsync 00000001-00000001\nremove 00000001-00000001\n";
     Ok(())
 }
 
+// A limit has its number, and a fault line that names it.
+#[test]
+fn limits(rt: HostRuntime) -> Result<(), Fail> {
+    let status = Status::Limit {
+        bound: Bound::Input,
+    };
+    assert_eq!(rt; status.number(), 8);
+    let shown = format!(in rt.alloc(); "{status}")?;
+    assert_eq!(rt; shown.as_str(), "limit reached: input");
+    Ok(())
+}
+
 #[test]
 fn refusals(rt: HostRuntime) -> Result<(), Fail> {
     let alloc = rt.alloc();
@@ -143,7 +171,7 @@ fn refusals(rt: HostRuntime) -> Result<(), Fail> {
         (&["replay", "now"], Area::Tmp, 0, "wrong words"),
         (&["run"], Area::Active, 0, "wrong words"),
         (&["replay"], Area::Tmp, 3, "disk fault"),
-        (&["replay"], Area::Tmp, 9, "output fault"),
+        (&["replay"], Area::Tmp, 11, "output fault"),
     ];
     for (texts, area, failing, answer) in rows {
         let mut source = MemSource::new(alloc, FIRST, 9, &[])?;
@@ -166,14 +194,14 @@ fn faults(rt: HostRuntime) -> Result<(), Fail> {
     let name = Name::new(b"00000001-00000001").ok_or("no name")?;
     let rows: [(u64, &str, &[u8], bool); 4] = [
         // the sync of the file
-        (13, "disk fault", b"life 1\nat 1000\n", false),
+        (15, "disk fault", b"life 1\nat 1000\n", false),
         // the rename
-        (14, "disk fault", b"life 1\nat 1000\n", false),
+        (16, "disk fault", b"life 1\nat 1000\n", false),
         // the line of the arrival
-        (15, "output fault", b"life 1\nat 1000\n", true),
+        (17, "output fault", b"life 1\nat 1000\n", true),
         // the move to active
         (
-            16,
+            18,
             "disk fault",
             b"life 1\nat 1000\narrive 00000001-00000001 a@x.example 0 b@y.example\n",
             true,
@@ -189,6 +217,76 @@ fn faults(rt: HostRuntime) -> Result<(), Fail> {
         assert_eq!(rt; shown.as_str(), answer);
         assert_eq!(rt; host.told(), told);
         assert_eq!(rt; host.file(Area::Incoming, name).is_some(), stands);
+    }
+    Ok(())
+}
+
+const ROUTED: &[u8] = b"life 1\nat 1000\narrive 00000001-00000001 a@x.example 0 b@y.example\n\
+admit 00000001-00000001\nload 00000001-00000001 0 1\n\
+start 1 00000001-00000001 relay [127.0.0.1]:25 0\nreply 1 up ok\nmark 00000001-00000001 0\n\
+sync 00000001-00000001\nremove 00000001-00000001\nend\n";
+
+// The files `params` and `transport` of conf, and what they lead to. The spool isn't empty where
+// a row says so.
+#[test]
+fn confs(rt: HostRuntime) -> Result<(), Fail> {
+    let alloc = rt.alloc();
+    let params = Name::new(b"params").ok_or("no name")?;
+    let transport = Name::new(b"transport").ok_or("no name")?;
+    let damaged: &[u8] = b"y.example :[127.0.0.1]:25\n";
+    let rows: [(&[u8], &[u8], bool, &str, &[u8]); 8] = [
+        (b"", b"", false, "done", FIRST_TRACE),
+        (
+            b"default_delivery_slot_cost = 1\n",
+            damaged,
+            false,
+            "bad input: parameters line 1",
+            b"",
+        ),
+        (
+            b"queue_run_delay = 60\nqueue_run_delay = 60\n",
+            b"",
+            true,
+            "bad input: parameters line 2",
+            b"",
+        ),
+        (
+            b"qmgr_message_recipient_limit = 5\n",
+            b"",
+            false,
+            "bad input: parameters line 1",
+            b"",
+        ),
+        (b"", damaged, true, "bad input: table line 1", b""),
+        (b"", b"", true, "damaged spool: hold/params", b""),
+        (
+            b"# none\n",
+            b"* relay:[127.0.0.1]:25\n",
+            false,
+            "done",
+            ROUTED,
+        ),
+        (
+            b"initial_destination_concurrency = 1\ndefault_process_limit = 1\n",
+            b"b@y.example relay:[127.0.0.1]:25\ny.example smtp:\n",
+            false,
+            "done",
+            ROUTED,
+        ),
+    ];
+    for (set, table, held, answer, told) in rows {
+        let mut source = MemSource::new(alloc, FIRST, 9, &[])?;
+        let mut host = MemHost::new(alloc);
+        host.put_file(Area::Conf, params, set)?;
+        host.put_file(Area::Conf, transport, table)?;
+        if held {
+            host.put_file(Area::Hold, params, b"x")?;
+        }
+        let words = words_of(alloc, &["replay"])?;
+        let status = qmgr(alloc, &words, &mut source, &mut host);
+        let shown = format!(in alloc; "{status}")?;
+        assert_eq!(rt; shown.as_str(), answer);
+        assert_eq!(rt; host.told(), told);
     }
     Ok(())
 }
@@ -213,7 +311,7 @@ fn crashes(rt: HostRuntime) -> Result<(), Fail> {
         for calls in 0..6 {
             let mut source = MemSource::new(alloc, FIRST, 9, &[])?;
             let mut host = MemHost::new(alloc);
-            host.stop_after(10 + calls);
+            host.stop_after(12 + calls);
             let words = words_of(alloc, &["replay"])?;
             qmgr(alloc, &words, &mut source, &mut host);
             let left = host.crash(choice);

@@ -1,69 +1,216 @@
-use Rattle.std.proofs.Common.{subst, Option}
+use Rattle.std.proofs.Common.{◌≤◌, subst, Option, Some, Err, ap, refl, arith}
 use Rattle.q_model.specs.Values.{Spot}
+use Rattle.q_top.specs.Confs.{conf_of}
 use Rattle.q_top.specs.FirstFile.{IsFirstFile, areas_in_order}
-use Rattle.q_top.proofs.EventLists.{answers, done_told, rose_before}
-use Rattle.q_top.proofs.FirstFiles.{not_unopened}
 use Rattle.q_top.specs.Statuses.{status_of}
+use Rattle.q_top.specs.Worlds.{world_of}
+use Rattle.q_top.proofs.ConfEnds.{first_before, names_fault, not_both, refused_answers, refused_ends, replay_ends, turned_away}
+use Rattle.q_top.proofs.EventLists.{answers, done_told, rose_before}
+use Rattle.q_top.proofs.FirstFiles.{not_unopened, same_host, stays_both}
 use Rattle.q_top.proofs.Reaching.{exit_reached, moments_reached}
-use Rattle.q_top.proofs.Replaying.{ends_before, never_opens}
+use Rattle.q_top.proofs.Replaying.{never_opens}
+use Rattle.q_top.proofs.Stepping.{IsLawful}
 use Rattle.q_top.proofs.command.qmgr.Goals as goal
 
-pub returns-in-Ok-None-clause-ends : goal.returns-in-Ok-None-clause-ends
-returns-in-Ok-None-clause-ends g c t empty_one is =
-    ends_before (g.S.Source.left c.args.source.now) (g.S.Source.left c.replay.new.source) (g.H.Host.view c.args.host.now) (g.H.Host.view c.first_file.new.host) (g.H.Host.view c.replay.new.host) c.replay.result
-    (record { only = g.met.H.Host.only_now c.args.host.now; told = g.met.H.Host.told_stays c.args.host.now }) (c.in-Ok-None.ensures.stays t) (c.replay.ensures.ends t)
+pub returns-in-Err-clause-conf : goal.returns-in-Err-clause-conf
+returns-in-Err-clause-conf g c file line t words is =
+    (names_fault g.H.Host.tells t (conf_of (g.H.Host.view c.args.host.now).files) file line c.in-Err.status is c.in-Err.ensures.fault, refl, c.in-Err.ensures.stays t)
 
-pub returns-in-Ok-None-clause-done : goal.returns-in-Ok-None-clause-done
-returns-in-Ok-None-clause-done g c t empty_one done =
-    done_told (g.S.Source.left c.args.source.now) (g.S.Source.left c.replay.new.source) (g.H.Host.view c.args.host.now) (g.H.Host.view c.replay.new.host) c.replay.result done
-    (ends_before (g.S.Source.left c.args.source.now) (g.S.Source.left c.replay.new.source) (g.H.Host.view c.args.host.now) (g.H.Host.view c.first_file.new.host) (g.H.Host.view c.replay.new.host) c.replay.result
-    (record { only = g.met.H.Host.only_now c.args.host.now; told = g.met.H.Host.told_stays c.args.host.now }) (c.in-Ok-None.ensures.stays t) (c.replay.ensures.ends t))
+pub returns-in-Ok-None-clause-conf : goal.returns-in-Ok-None-clause-conf
+returns-in-Ok-None-clause-conf g c file line t words is =
+    absurd (not_both (conf_of (g.H.Host.view c.args.host.now).files) (world_of c.in-Ok.conf) file line (c.in-Ok.ensures.exact t) is)
 
-pub returns-in-Ok-Some-clause-ends : goal.returns-in-Ok-Some-clause-ends
-returns-in-Ok-Some-clause-ends g c t empty_one is = not_unopened (g.H.Host.view c.args.host.now).files c.in-Ok-Some.spot (subst (λ (o : Option Spot). IsFirstFile areas_in_order (g.H.Host.view c.args.host.now).files o) c.in-Ok-Some.field-0-is (c.in-Ok-Some.ensures.first t)) empty_one
+pub returns-in-Ok-Some-clause-conf : goal.returns-in-Ok-Some-clause-conf
+returns-in-Ok-Some-clause-conf g c file line t words is =
+    absurd (not_both (conf_of (g.H.Host.view c.args.host.now).files) (world_of c.in-Ok.conf) file line (c.in-Ok.ensures.exact t) is)
+
+pub returns-clause-conf : goal.returns-clause-conf
+returns-clause-conf g c file line t words is =
+    absurd (not_both (conf_of (g.H.Host.view c.args.host.now).files) (world_of c.in-Ok.conf) file line (c.in-Ok.ensures.exact t) is)
 
 pub returns-in-Err-clause-ends : goal.returns-in-Err-clause-ends
-returns-in-Err-clause-ends g c t empty_one is =
-    rw c.status_of.ensures (never_opens (g.S.Source.left c.args.source.now) (g.S.Source.left c.args.source.now) (g.H.Host.view c.args.host.now) (g.H.Host.view c.first_file.new.host) c.in-Err.error
-    (record { only = g.met.H.Host.only_now c.args.host.now; told = g.met.H.Host.told_stays c.args.host.now }) (record { only = g.met.H.Host.only_now c.first_file.new.host; told = g.met.H.Host.told_stays c.first_file.new.host }) (c.in-Err.ensures.stays t))
+returns-in-Err-clause-ends g c w t is empty_one words =
+    let view = g.H.Host.view in
+    let text = g.S.Source.left c.args.source.now in
+    let before = view c.args.host.now in
+    let mid = view c.read_conf.new.host in
+    let lawful : IsLawful before = record { only = g.met.H.Host.only_now c.args.host.now; told = g.met.H.Host.told_stays c.args.host.now } in
+    let then_lawful : IsLawful mid = record { only = g.met.H.Host.only_now c.read_conf.new.host; told = g.met.H.Host.told_stays c.read_conf.new.host } in
+    let ends = refused_ends g.H.Host.tells t (conf_of before.files) w is text before mid c.in-Err.status c.in-Err.ensures.fault lawful then_lawful (c.in-Err.ensures.stays t) in
+    ends
+
+pub returns-in-Ok-None-clause-ends : goal.returns-in-Ok-None-clause-ends
+returns-in-Ok-None-clause-ends g c w t is empty_one words =
+    let view = g.H.Host.view in
+    let text = g.S.Source.left c.args.source.now in
+    let before = view c.args.host.now in
+    let mid = view c.read_conf.new.host in
+    let lawful : IsLawful before = record { only = g.met.H.Host.only_now c.args.host.now; told = g.met.H.Host.told_stays c.args.host.now } in
+    let looked = view c.first_file.new.host in
+    let left = g.S.Source.left c.replay.new.source in
+    let after = view c.replay.new.host in
+    let ends = replay_ends (conf_of before.files) (world_of c.in-Ok.conf) w text left before mid looked after c.replay.result (c.in-Ok.ensures.exact t) is lawful (c.in-Ok.ensures.stays t) (c.in-Ok-None.ensures.stays t) (c.replay.ensures.ends t) in
+    ends
+
+pub returns-in-Ok-Some-clause-ends : goal.returns-in-Ok-Some-clause-ends
+returns-in-Ok-Some-clause-ends g c w t is empty_one words =
+    let view = g.H.Host.view in
+    let text = g.S.Source.left c.args.source.now in
+    let before = view c.args.host.now in
+    let mid = view c.read_conf.new.host in
+    let lawful : IsLawful before = record { only = g.met.H.Host.only_now c.args.host.now; told = g.met.H.Host.told_stays c.args.host.now } in
+    let first = first_before before mid (Some c.in-Ok-Some.spot) (c.in-Ok.ensures.stays t) (subst (λ (o : Option Spot). IsFirstFile areas_in_order mid.files o) c.in-Ok-Some.field-0-is (c.in-Ok-Some.ensures.first t)) in
+    not_unopened before.files c.in-Ok-Some.spot first empty_one
+
+pub returns-clause-ends : goal.returns-clause-ends
+returns-clause-ends g c w t is empty_one words =
+    let view = g.H.Host.view in
+    let text = g.S.Source.left c.args.source.now in
+    let before = view c.args.host.now in
+    let mid = view c.read_conf.new.host in
+    let lawful : IsLawful before = record { only = g.met.H.Host.only_now c.args.host.now; told = g.met.H.Host.told_stays c.args.host.now } in
+    let looked = view c.first_file.new.host in
+    let last_lawful : IsLawful looked = record { only = g.met.H.Host.only_now c.first_file.new.host; told = g.met.H.Host.told_stays c.first_file.new.host } in
+    let ends = never_opens w text text before looked c.in-Err-first_file.error lawful last_lawful (stays_both before mid looked (c.in-Ok.ensures.stays t) (c.in-Err-first_file.ensures.stays t)) in
+    rw c.status_of.ensures ends
+
+pub returns-in-Ok-None-clause-done : goal.returns-in-Ok-None-clause-done
+returns-in-Ok-None-clause-done g c w t is empty_one done =
+    let view = g.H.Host.view in
+    let text = g.S.Source.left c.args.source.now in
+    let before = view c.args.host.now in
+    let mid = view c.read_conf.new.host in
+    let lawful : IsLawful before = record { only = g.met.H.Host.only_now c.args.host.now; told = g.met.H.Host.told_stays c.args.host.now } in
+    let looked = view c.first_file.new.host in
+    let left = g.S.Source.left c.replay.new.source in
+    let after = view c.replay.new.host in
+    let ends = replay_ends (conf_of before.files) (world_of c.in-Ok.conf) w text left before mid looked after c.replay.result (c.in-Ok.ensures.exact t) is lawful (c.in-Ok.ensures.stays t) (c.in-Ok-None.ensures.stays t) (c.replay.ensures.ends t) in
+    done_told w text left before after c.replay.result done ends
+
+pub returns-in-Err-clause-book : goal.returns-in-Err-clause-book
+returns-in-Err-clause-book g c w t is empty_one words =
+    let view = g.H.Host.view in
+    let text = g.S.Source.left c.args.source.now in
+    let before = view c.args.host.now in
+    let mid = view c.read_conf.new.host in
+    let lawful : IsLawful before = record { only = g.met.H.Host.only_now c.args.host.now; told = g.met.H.Host.told_stays c.args.host.now } in
+    let then_lawful : IsLawful mid = record { only = g.met.H.Host.only_now c.read_conf.new.host; told = g.met.H.Host.told_stays c.read_conf.new.host } in
+    let ends = refused_ends g.H.Host.tells t (conf_of before.files) w is text before mid c.in-Err.status c.in-Err.ensures.fault lawful then_lawful (c.in-Err.ensures.stays t) in
+    exit_reached w text text before mid c.in-Err.status empty_one ends
+
+pub returns-in-Ok-None-clause-book : goal.returns-in-Ok-None-clause-book
+returns-in-Ok-None-clause-book g c w t is empty_one words =
+    let view = g.H.Host.view in
+    let text = g.S.Source.left c.args.source.now in
+    let before = view c.args.host.now in
+    let mid = view c.read_conf.new.host in
+    let lawful : IsLawful before = record { only = g.met.H.Host.only_now c.args.host.now; told = g.met.H.Host.told_stays c.args.host.now } in
+    let looked = view c.first_file.new.host in
+    let left = g.S.Source.left c.replay.new.source in
+    let after = view c.replay.new.host in
+    let ends = replay_ends (conf_of before.files) (world_of c.in-Ok.conf) w text left before mid looked after c.replay.result (c.in-Ok.ensures.exact t) is lawful (c.in-Ok.ensures.stays t) (c.in-Ok-None.ensures.stays t) (c.replay.ensures.ends t) in
+    exit_reached w text left before after c.replay.result empty_one ends
+
+pub returns-in-Ok-Some-clause-book : goal.returns-in-Ok-Some-clause-book
+returns-in-Ok-Some-clause-book g c w t is empty_one words =
+    let view = g.H.Host.view in
+    let text = g.S.Source.left c.args.source.now in
+    let before = view c.args.host.now in
+    let mid = view c.read_conf.new.host in
+    let lawful : IsLawful before = record { only = g.met.H.Host.only_now c.args.host.now; told = g.met.H.Host.told_stays c.args.host.now } in
+    let first = first_before before mid (Some c.in-Ok-Some.spot) (c.in-Ok.ensures.stays t) (subst (λ (o : Option Spot). IsFirstFile areas_in_order mid.files o) c.in-Ok-Some.field-0-is (c.in-Ok-Some.ensures.first t)) in
+    absurd (not_unopened before.files c.in-Ok-Some.spot first empty_one)
+
+pub returns-clause-book : goal.returns-clause-book
+returns-clause-book g c w t is empty_one words =
+    let view = g.H.Host.view in
+    let text = g.S.Source.left c.args.source.now in
+    let before = view c.args.host.now in
+    let mid = view c.read_conf.new.host in
+    let lawful : IsLawful before = record { only = g.met.H.Host.only_now c.args.host.now; told = g.met.H.Host.told_stays c.args.host.now } in
+    let looked = view c.first_file.new.host in
+    let last_lawful : IsLawful looked = record { only = g.met.H.Host.only_now c.first_file.new.host; told = g.met.H.Host.told_stays c.first_file.new.host } in
+    let ends = never_opens w text text before looked c.in-Err-first_file.error lawful last_lawful (stays_both before mid looked (c.in-Ok.ensures.stays t) (c.in-Err-first_file.ensures.stays t)) in
+    exit_reached w text text before looked (status_of c.in-Err-first_file.error) empty_one ends
+
+pub returns-in-Err-clause-any_moment : goal.returns-in-Err-clause-any_moment
+returns-in-Err-clause-any_moment g c w t is held words =
+    let view = g.H.Host.view in
+    let text = g.S.Source.left c.args.source.now in
+    let before = view c.args.host.now in
+    let mid = view c.read_conf.new.host in
+    let lawful : IsLawful before = record { only = g.met.H.Host.only_now c.args.host.now; told = g.met.H.Host.told_stays c.args.host.now } in
+    let then_lawful : IsLawful mid = record { only = g.met.H.Host.only_now c.read_conf.new.host; told = g.met.H.Host.told_stays c.read_conf.new.host } in
+    let ends = refused_ends g.H.Host.tells t (conf_of before.files) w is text before mid c.in-Err.status c.in-Err.ensures.fault lawful then_lawful (c.in-Err.ensures.stays t) in
+    moments_reached w text text before mid held c.in-Err.status ends
+
+pub returns-in-Ok-None-clause-any_moment : goal.returns-in-Ok-None-clause-any_moment
+returns-in-Ok-None-clause-any_moment g c w t is held words =
+    let view = g.H.Host.view in
+    let text = g.S.Source.left c.args.source.now in
+    let before = view c.args.host.now in
+    let mid = view c.read_conf.new.host in
+    let lawful : IsLawful before = record { only = g.met.H.Host.only_now c.args.host.now; told = g.met.H.Host.told_stays c.args.host.now } in
+    let looked = view c.first_file.new.host in
+    let left = g.S.Source.left c.replay.new.source in
+    let after = view c.replay.new.host in
+    let ends = replay_ends (conf_of before.files) (world_of c.in-Ok.conf) w text left before mid looked after c.replay.result (c.in-Ok.ensures.exact t) is lawful (c.in-Ok.ensures.stays t) (c.in-Ok-None.ensures.stays t) (c.replay.ensures.ends t) in
+    moments_reached w text left before after held c.replay.result ends
+
+pub returns-in-Ok-Some-clause-any_moment : goal.returns-in-Ok-Some-clause-any_moment
+returns-in-Ok-Some-clause-any_moment g c w t is held words =
+    let view = g.H.Host.view in
+    let text = g.S.Source.left c.args.source.now in
+    let before = view c.args.host.now in
+    let mid = view c.read_conf.new.host in
+    let lawful : IsLawful before = record { only = g.met.H.Host.only_now c.args.host.now; told = g.met.H.Host.told_stays c.args.host.now } in
+    let first = first_before before mid (Some c.in-Ok-Some.spot) (c.in-Ok.ensures.stays t) (subst (λ (o : Option Spot). IsFirstFile areas_in_order mid.files o) c.in-Ok-Some.field-0-is (c.in-Ok-Some.ensures.first t)) in
+    absurd (not_unopened before.files c.in-Ok-Some.spot first held.reads)
+
+pub returns-clause-any_moment : goal.returns-clause-any_moment
+returns-clause-any_moment g c w t is held words =
+    let view = g.H.Host.view in
+    let text = g.S.Source.left c.args.source.now in
+    let before = view c.args.host.now in
+    let mid = view c.read_conf.new.host in
+    let lawful : IsLawful before = record { only = g.met.H.Host.only_now c.args.host.now; told = g.met.H.Host.told_stays c.args.host.now } in
+    let looked = view c.first_file.new.host in
+    let last_lawful : IsLawful looked = record { only = g.met.H.Host.only_now c.first_file.new.host; told = g.met.H.Host.told_stays c.first_file.new.host } in
+    let ends = never_opens w text text before looked c.in-Err-first_file.error lawful last_lawful (stays_both before mid looked (c.in-Ok.ensures.stays t) (c.in-Err-first_file.ensures.stays t)) in
+    moments_reached w text text before looked held (status_of c.in-Err-first_file.error) ends
+
+pub returns-in-Err-clause-answers : goal.returns-in-Err-clause-answers
+returns-in-Err-clause-answers g c w bytes t is empty_one words there quiet calm =
+    refused_answers g.H.Host.tells t (conf_of (g.H.Host.view c.args.host.now).files) w is bytes c.in-Err.status c.in-Err.ensures.fault (λ d. quiet.disk (c.in-Err.ensures.disk (ap Err d)))
 
 pub returns-in-Ok-None-clause-answers : goal.returns-in-Ok-None-clause-answers
-returns-in-Ok-None-clause-answers g c bytes t empty_one words there quiet calm =
-    answers (g.S.Source.left c.replay.new.source) (g.H.Host.view c.first_file.new.host) (g.H.Host.view c.replay.new.host) (g.S.Source.left c.args.source.now) bytes c.replay.result (c.replay.ensures.ends t) there
-    (λ d. quiet.disk (rose_before _ _ _ c.in-Ok-None.ensures.cause.disk_later (c.replay.ensures.disk d)))
-    (λ d. quiet.tell (rose_before _ _ _ c.in-Ok-None.ensures.cause.tell_later (c.replay.ensures.tell d)))
+returns-in-Ok-None-clause-answers g c w bytes t is empty_one words there quiet calm =
+    let view = g.H.Host.view in
+    let text = g.S.Source.left c.args.source.now in
+    let before = view c.args.host.now in
+    let mid = view c.read_conf.new.host in
+    let lawful : IsLawful before = record { only = g.met.H.Host.only_now c.args.host.now; told = g.met.H.Host.told_stays c.args.host.now } in
+    let looked = view c.first_file.new.host in
+    let left = g.S.Source.left c.replay.new.source in
+    let after = view c.replay.new.host in
+    let ends = replay_ends (conf_of before.files) (world_of c.in-Ok.conf) w text left before mid looked after c.replay.result (c.in-Ok.ensures.exact t) is lawful (c.in-Ok.ensures.stays t) (c.in-Ok-None.ensures.stays t) (c.replay.ensures.ends t) in
+    let disk_later : (g.H.Host.faults c.args.host.now).disk ≤ (g.H.Host.faults c.first_file.new.host).disk = omega (arith, c.read_conf.ensures.disk_later, c.in-Ok-None.ensures.cause.disk_later) in
+    let tell_later : (g.H.Host.faults c.args.host.now).tell ≤ (g.H.Host.faults c.first_file.new.host).tell = omega (arith, c.read_conf.ensures.tell_later, c.in-Ok-None.ensures.cause.tell_later) in
+    answers w left before after text bytes c.replay.result ends there
+    (λ d. quiet.disk (rose_before _ _ _ disk_later (c.replay.ensures.disk d)))
+    (λ d. quiet.tell (rose_before _ _ _ tell_later (c.replay.ensures.tell d)))
     (λ d. calm (c.replay.ensures.source d))
 
 pub returns-in-Ok-Some-clause-answers : goal.returns-in-Ok-Some-clause-answers
-returns-in-Ok-Some-clause-answers g c bytes t empty_one words there quiet calm =
-    absurd (not_unopened (g.H.Host.view c.args.host.now).files c.in-Ok-Some.spot (subst (λ (o : Option Spot). IsFirstFile areas_in_order (g.H.Host.view c.args.host.now).files o) c.in-Ok-Some.field-0-is (c.in-Ok-Some.ensures.first t)) empty_one)
+returns-in-Ok-Some-clause-answers g c w bytes t is empty_one words there quiet calm =
+    let view = g.H.Host.view in
+    let text = g.S.Source.left c.args.source.now in
+    let before = view c.args.host.now in
+    let mid = view c.read_conf.new.host in
+    let lawful : IsLawful before = record { only = g.met.H.Host.only_now c.args.host.now; told = g.met.H.Host.told_stays c.args.host.now } in
+    let first = first_before before mid (Some c.in-Ok-Some.spot) (c.in-Ok.ensures.stays t) (subst (λ (o : Option Spot). IsFirstFile areas_in_order mid.files o) c.in-Ok-Some.field-0-is (c.in-Ok-Some.ensures.first t)) in
+    absurd (not_unopened before.files c.in-Ok-Some.spot first empty_one)
 
-pub returns-in-Ok-None-clause-book : goal.returns-in-Ok-None-clause-book
-returns-in-Ok-None-clause-book g c t empty_one is =
-    exit_reached (g.S.Source.left c.args.source.now) (g.S.Source.left c.replay.new.source) (g.H.Host.view c.args.host.now) (g.H.Host.view c.replay.new.host) c.replay.result empty_one
-    (ends_before (g.S.Source.left c.args.source.now) (g.S.Source.left c.replay.new.source) (g.H.Host.view c.args.host.now) (g.H.Host.view c.first_file.new.host) (g.H.Host.view c.replay.new.host) c.replay.result
-    (record { only = g.met.H.Host.only_now c.args.host.now; told = g.met.H.Host.told_stays c.args.host.now }) (c.in-Ok-None.ensures.stays t) (c.replay.ensures.ends t))
-
-pub returns-in-Ok-Some-clause-book : goal.returns-in-Ok-Some-clause-book
-returns-in-Ok-Some-clause-book g c t empty_one is = absurd (not_unopened (g.H.Host.view c.args.host.now).files c.in-Ok-Some.spot (subst (λ (o : Option Spot). IsFirstFile areas_in_order (g.H.Host.view c.args.host.now).files o) c.in-Ok-Some.field-0-is (c.in-Ok-Some.ensures.first t)) empty_one)
-
-pub returns-in-Err-clause-book : goal.returns-in-Err-clause-book
-returns-in-Err-clause-book g c t empty_one is =
-    exit_reached (g.S.Source.left c.args.source.now) (g.S.Source.left c.args.source.now) (g.H.Host.view c.args.host.now) (g.H.Host.view c.first_file.new.host) (status_of c.in-Err.error) empty_one
-    (never_opens (g.S.Source.left c.args.source.now) (g.S.Source.left c.args.source.now) (g.H.Host.view c.args.host.now) (g.H.Host.view c.first_file.new.host) c.in-Err.error
-    (record { only = g.met.H.Host.only_now c.args.host.now; told = g.met.H.Host.told_stays c.args.host.now }) (record { only = g.met.H.Host.only_now c.first_file.new.host; told = g.met.H.Host.told_stays c.first_file.new.host }) (c.in-Err.ensures.stays t))
-
-pub returns-in-Ok-None-clause-any_moment : goal.returns-in-Ok-None-clause-any_moment
-returns-in-Ok-None-clause-any_moment g c t held is =
-    moments_reached (g.S.Source.left c.args.source.now) (g.S.Source.left c.replay.new.source) (g.H.Host.view c.args.host.now) (g.H.Host.view c.replay.new.host) held c.replay.result
-    (ends_before (g.S.Source.left c.args.source.now) (g.S.Source.left c.replay.new.source) (g.H.Host.view c.args.host.now) (g.H.Host.view c.first_file.new.host) (g.H.Host.view c.replay.new.host) c.replay.result
-    (record { only = g.met.H.Host.only_now c.args.host.now; told = g.met.H.Host.told_stays c.args.host.now }) (c.in-Ok-None.ensures.stays t) (c.replay.ensures.ends t))
-
-pub returns-in-Ok-Some-clause-any_moment : goal.returns-in-Ok-Some-clause-any_moment
-returns-in-Ok-Some-clause-any_moment g c t held is = absurd (not_unopened (g.H.Host.view c.args.host.now).files c.in-Ok-Some.spot (subst (λ (o : Option Spot). IsFirstFile areas_in_order (g.H.Host.view c.args.host.now).files o) c.in-Ok-Some.field-0-is (c.in-Ok-Some.ensures.first t)) held.reads)
-
-pub returns-in-Err-clause-any_moment : goal.returns-in-Err-clause-any_moment
-returns-in-Err-clause-any_moment g c t held is =
-    moments_reached (g.S.Source.left c.args.source.now) (g.S.Source.left c.args.source.now) (g.H.Host.view c.args.host.now) (g.H.Host.view c.first_file.new.host) held (status_of c.in-Err.error)
-    (never_opens (g.S.Source.left c.args.source.now) (g.S.Source.left c.args.source.now) (g.H.Host.view c.args.host.now) (g.H.Host.view c.first_file.new.host) c.in-Err.error
-    (record { only = g.met.H.Host.only_now c.args.host.now; told = g.met.H.Host.told_stays c.args.host.now }) (record { only = g.met.H.Host.only_now c.first_file.new.host; told = g.met.H.Host.told_stays c.first_file.new.host }) (c.in-Err.ensures.stays t))
+pub returns-in-Err-clause-in_the_way : goal.returns-in-Err-clause-in_the_way
+returns-in-Err-clause-in_the_way g c w a n t is words looked there =
+    (turned_away g.H.Host.tells t (conf_of (g.H.Host.view c.args.host.now).files) w is c.in-Err.status c.in-Err.ensures.fault, refl, same_host (g.H.Host.view c.args.host.now) (g.H.Host.view c.read_conf.new.host) (c.in-Err.ensures.stays t))

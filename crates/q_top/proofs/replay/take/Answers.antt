@@ -1,7 +1,8 @@
-use Rattle.std.proofs.Common.{ap, sym, ◌∙◌, Option, Some}
-use Rattle.q_model.specs.declared.event.Item.{Item}
-use Rattle.q_top.proofs.Forms.{line_in_form}
+use Rattle.std.proofs.Common.{rules, ◌≡◌, true}
+use Rattle.q_top.specs.Fits.{fits}
 use Rattle.q_top.proofs.replay.take.Goals as goal
 
-pub step-requires-clause-form : goal.step-requires-clause-form
-step-requires-clause-form g c = line_in_form c.args.text.now c.in-Some-Some-Heard.event (sym c.in-Ok.ensures ∙ c.in-Some-Some-Heard.is ∙ ap (λ (i : Option Item). Some i) c.in-Some-Some-Heard.field-0-is ∙ ap (λ (i : Item). Some (Some i)) c.in-Some-Some-Heard.field-0-0-is)
+pub returns-in-Ok-Done-clause-ok : goal.returns-in-Ok-Done-clause-ok
+returns-in-Ok-Done-clause-ok g c =
+    let fit : fits c.args.life.now c.in-Step.event ≡ true = search rules in
+    (c.in-Step.event, c.in-Step.line, c.in-Step.is, fit, λ t. (c.in-Ok-Done.ensures.ok t).1)

@@ -3,7 +3,8 @@ use Rattle.std.proofs.lemmas.Result.{err_from_is_err_and}
 use Rattle.q_events.specs.EventLines.{line_of}
 use Rattle.q_events.specs.EventList.{content_by}
 use Rattle.q_events.specs.States.{behind, EventsState}
-use Rattle.q_events.proofs.Leading.{bad_line, line_fails, line_led, told_gives}
+use Rattle.q_events.proofs.ItemForms.{item_in_form}
+use Rattle.q_events.proofs.Leading.{bad_line, is_told, line_fails, line_led, told_gives}
 use Rattle.q_events.proofs.events.Events.read_item.Goals as goal
 
 pub returns-in_err-text-clause-exact : goal.returns-in_err-text-clause-exact
@@ -34,6 +35,12 @@ returns-in-Some-2-clause-exact g c =
     (told_gives c.args.self.now c.loop-content.self c.next_line.new.self (behind c.args.self.now.buffered (left c.args.source.now)) (behind c.loop-content.self.buffered (left c.loop-content.source))
     (behind c.next_line.new.self.buffered (left c.next_line.new.source)) (left c.next_line.new.source) c.loop-content.content.items c.take.new.content.items c.in_ok-text.text.items c.in-Some.said c.in-Some-2.command
     c.item.result c.loop-content.invariant.led c.in_ok-text.ensures.line.1 c.in_ok-text.ensures.line.0 said (sym c.in_ok-command.ensures.command ∙ c.in-Some-2.is) content (rw lines at c.item.ensures) c.in_ok-text.ensures.count)
+
+pub returns-in-Some-2-clause-form : goal.returns-in-Some-2-clause-form
+returns-in-Some-2-clause-form g c =
+    let said = sym (ap line_of c.as_slice.ensures.value) ∙ sym c.in_ok-said.ensures ∙ c.in-Some.is in
+    rw c.ok_or.ensures.value
+    (item_in_form c.in_ok-text.text.items c.take.new.content.items _ c.in-Some.said c.in-Some-2.command c.item.result _ said (is_told c.in-Some.said c.in-Some-2.command (sym c.in_ok-command.ensures.command ∙ c.in-Some-2.is)) c.item.ensures)
 
 pub loop-content-preserved : goal.loop-content-preserved
 loop-content-preserved g c =
