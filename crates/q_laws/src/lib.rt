@@ -1,0 +1,2 @@
+//! What holds of every ledger of a life, over the definitions alone.
+#![tactic(auto)]
