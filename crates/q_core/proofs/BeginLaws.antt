@@ -3,8 +3,7 @@ use Rattle.std.proofs.Common.{◌≡◌, ℕ, zero, suc, ◌+◌, Bool, true, fa
 use Rattle.std.specs.Prelude.{if◌then◌else◌, nat_lt}
 use Rattle.std.specs.List.{enumerate_from}
 use Rattle.q_core.proofs.ListLaws.{length-numbered}
-use Rattle.q_core.specs.Agrees.{Agrees, jobs_of}
-use Rattle.q_core.specs.Fitting.{IsFit}
+use Rattle.q_core.specs.Agrees.{Matches, jobs_of}
 use Rattle.q_core.specs.declared.line.Job.{Job}
 use Rattle.q_core.specs.declared.state.Core.{Core}
 use Rattle.q_core.specs.declared.state.Seen.TheVariants.{Unknown}
@@ -57,9 +56,9 @@ no_sites true = refl
 no_sites false = refl
 
 pub begin_law : (w : World) (mode : Mode) (book : Book) (c : Core) (t : ℕ) → c.params ≡ w.settings → c.transports ≡ t → t ≡ length w.table.transports → IsEmptyCore c mode t →
-    IsFit (begun w mode book) → Agrees w (blank c) (begun w mode book)
+    Matches w (blank c) (begun w mode book)
 unfolding after
-begin_law w mode book c t settings given count e fit = record {
+begin_law w mode book c t settings given count e = record {
   parts = record {
     settings = settings;
     count = given ∙ count ∙ sym (length-numbered (settle_line (raw w mode book)) 0 (replicate (length w.table.transports) []) ∙ same_length (length w.table.transports));
@@ -71,27 +70,17 @@ begin_law w mode book c t settings given count e fit = record {
     ignores = refl;
     deferred_turn = refl;
     admitted = e.admitted;
-    present = refl;
     waiting = e.waiting;
     flights = e.flights;
     memory = refl;
     served = e.served;
     unsettled = e.unsettled;
     lines = e.lines ∙ ap (λ n. replicate n []) count ∙ sym (lines_begin (begun w mode book) (raw w mode book) 0 (length w.table.transports));
-    fresh = λ id transport some gone. cc;
     sites = e.sites ∙ no_sites (nat_lt w.settings.recipient_limit 0);
     synced = e.synced;
     starts = refl;
     active = tt;
     incoming = tt;
-    leftovers_stand = fit.leftovers_stand;
-    synced_well = refl;
-    orderly = fit.orderly;
   };
   scan = record { settles = refl; seen = tt };
 }
-
--- on an empty book a new core agrees without a premise
-pub empty_fits : (w : World) (mode : Mode) (generation : ℕ) → IsFit (begun w mode (record { generation = generation; messages = []; damaged = [] }))
-unfolding after
-empty_fits w mode generation = record { leftovers_stand = λ id m left there. cc; orderly = refl }

@@ -4,6 +4,7 @@ pub mod AgreesLaws
 pub mod RuleLaws
 pub mod ChoiceLaws
 pub mod StartLaws
+pub mod StandingLaws
 pub mod LeftLaws
 pub mod TakeLaws
 pub mod BeginLaws
@@ -15,4 +16,3 @@ pub mod NoteLaws
 pub mod SettleLaws
 pub mod BookLaws
 pub mod MarksLaws
-pub mod FitLaws

@@ -6,9 +6,9 @@ use Rattle.std.specs.Option.{option_map_or}
 use Rattle.std.proofs.lemmas.List.{length-map}
 use Rattle.std.proofs.lemmas.List.Folds.{list_all-map}
 use Rattle.q_core.proofs.BookLaws.{KeepsPlace, changed, deferred_names-change, ids_at-change, map-twice, message_of-change, pending-sync, stands-change, stands_in-change, unmarked_logged-sync, written_marks-sync}
-use Rattle.q_core.proofs.LeftLaws.{and_true_parts, in_all}
+use Rattle.q_core.proofs.LeftLaws.{in_all}
 use Rattle.q_core.proofs.ListLaws.{find-passes, map-same}
-use Rattle.q_core.proofs.NameLaws.{id_eq-true}
+use Rattle.q_core.proofs.NameLaws.{and_true_parts, id_eq-true}
 use Rattle.q_core.proofs.StepLaws.{HoldsRaw, IsStillSeen}
 use Rattle.q_core.proofs.TakeLaws.{found_on, next_of}
 use Rattle.q_core.specs.Agrees.{Holds, IsSeen, file_of, found_active, found_at, found_deferred, found_incoming, found_next, is_orderly, is_present, is_synced_well, slot_from, slot_of}
@@ -219,16 +219,6 @@ or_implies : (n x y : Bool) → (x ≡ true → y ≡ true) → (n || x) ≡ tru
 or_implies true x y h e = refl
 or_implies false x y h e = h e
 
-well_sync : (l : Ledger) (id k : Id) → is_synced_well l k ≡ true → is_synced_well (synced_ledger l id) k ≡ true
-well_sync l id k h =
-    ap (λ ks. not (list_any (id_eq k) ks) || option_map_or (λ m. is_clean m && has_none (unmarked_logged m)) (message_of (synced_book l.book id) k) true) (leftovers_sync l id)
-    ∙ or_implies (not (is_leftover l k)) (option_map_or (λ m. is_clean m && has_none (unmarked_logged m)) (message_of l.book k) true) (option_map_or (λ m. is_clean m && has_none (unmarked_logged m)) (message_of (synced_book l.book id) k) true)
-    (λ g. ap (λ o. option_map_or (λ m. is_clean m && has_none (unmarked_logged m)) o true) (message_of-change l.book id k sync_all keeps_sync) ∙ well_map id (message_of l.book k) g) h
-
-orderly_one : (b : Bool) (m : Message) → is_orderly m ≡ true → is_orderly (if b then sync_all m else m) ≡ true
-orderly_one false m h = h
-orderly_one true m h = or_implies (is_active m.place) (is_clean m && has_none (unmarked_logged m)) (is_clean (sync_all m) && has_none (unmarked_logged (sync_all m))) (well_one true m) h
-
 synced_is : (l : Ledger) (id : Id) → is_admitted l id ≡ true → after_sync l id ≡ synced_ledger l id
 synced_is l id adm = ap (λ b. record l { book = synced_book l.book id; synced = if b then id ∷ l.synced else l.synced }) (not_left l id adm (is_leftover l id) refl)
 
@@ -247,22 +237,17 @@ marks_law {w = w} {c = c} {d = d} {l = l} id r adm s =
       ignores = h.ignores;
       deferred_turn = h.deferred_turn;
       admitted = (s.admitted ∙ ap (map (without_marks id)) h.admitted ∙ map-twice (without_marks id) (slot_of l) l.admitted ∙ map-same (λ a. without_marks id (slot_of l a)) (slot_of next) (λ a. sym (slot_sync l id a)) l.admitted);
-      present = (list_all-implies (is_present l) (is_present next) (λ a e. on_sync false (λ m. is_active m.place) (λ m. refl) l.book id a.id ∙ e) l.admitted h.present);
       waiting = h.waiting;
       flights = h.flights;
       memory = h.memory;
       served = h.served;
       unsettled = h.unsettled;
       lines = h.lines;
-      fresh = (λ k t some gone. h.fresh k t (sym (ap (λ n. n == 0) (unread_sync l id k)) ∙ some) gone);
       sites = h.sites;
       synced = h.synced;
       starts = h.starts;
       active = (seen_same c.active (found_active next) (found_active l) (active_sync l id) h.active);
       incoming = (seen_same c.incoming (found_incoming next) (found_incoming l) (incoming_sync l id) h.incoming);
-      leftovers_stand = (λ k m left e. stand_map l id k m (λ x f. h.leftovers_stand k x (sym (ap (list_any (id_eq k)) (leftovers_sync l id)) ∙ left) f) (message_of l.book k) refl (sym (message_of-change l.book id k sync_all keeps_sync) ∙ e));
-      synced_well = (list_all-implies (is_synced_well l) (is_synced_well next) (well_sync l id) l.synced h.synced_well);
-      orderly = (list_all-map is_orderly (changed id sync_all) l.book.messages ∙ list_all-implies is_orderly (λ m. is_orderly (changed id sync_all m)) (λ m e. orderly_one (id_eq m.id id) m e) l.book.messages h.orderly);
     } in
     let raw : HoldsRaw w (record c { admitted = d.admitted }) next = record { parts = kept; scan = r.scan; asked = r.asked; seen = still_synced c.deferred l id r.seen } in
     subst (λ k. HoldsRaw w d k) (sym (synced_is l id adm)) (subst (λ k. HoldsRaw w k next) (sym s.rest) raw)

@@ -5,7 +5,6 @@ pub mod Destinations
 pub mod Held
 pub mod Scanning
 pub mod Agrees
-pub mod Fitting
 pub mod Rules
 pub mod Starting
 pub mod Choosing

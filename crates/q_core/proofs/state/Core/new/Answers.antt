@@ -1,12 +1,11 @@
 use Rattle.std.proofs.Common.{false, None, refl}
 use Rattle.q_core.proofs.BeginLaws.{begin_law}
-use Rattle.q_core.proofs.FitLaws.{fit_law}
 use Rattle.q_core.specs.declared.state.Core.{Core}
 use Rattle.q_core.specs.declared.state.Seen.TheVariants.{Unknown}
 use Rattle.q_core.proofs.state.Core.new.Goals as goal
 
-pub returns-clause-fit : goal.returns-clause-fit
-returns-clause-fit c = λ w book settings count fit.
+pub returns : goal.returns
+returns c = λ w book settings count k.
     let core : Core = record {
       params = c.args.params;
       transports = c.args.transports;
@@ -32,7 +31,7 @@ returns-clause-fit c = λ w book settings count fit.
       incoming = Unknown;
       deferred = Unknown;
     } in
-    begin_law w c.args.mode book core c.args.transports settings refl count
+    let matches = begin_law w c.args.mode book core c.args.transports settings refl count
     (record {
       mode_is = refl;
       clock = c.new.ensures;
@@ -44,7 +43,6 @@ returns-clause-fit c = λ w book settings count fit.
       lines = c.in_ok-lines.ensures;
       sites = c.new-7.ensures.items;
       synced = c.new-8.ensures.items;
-    }) fit
+    }) in
+    record { matches = matches; consistent = k }
 
-pub returns-clause-orderly : goal.returns-clause-orderly
-returns-clause-orderly c = λ w book settings count distinct orderly. returns-clause-fit c w book settings count (fit_law w c.args.mode book distinct orderly)

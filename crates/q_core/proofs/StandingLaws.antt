@@ -1,20 +1,17 @@
--- A life may begin on each orderly book.
+-- A message that an earlier life left stands in active.
 use Rattle.std.proofs.Common.{◌≡◌, ℕ, ◌+◌, Bool, true, false, cond, List, [], ◌∷◌, ◌++◌, map, refl, sym, ap, ◌∙◌, subst, Option, Some, None, option_map}
 use Rattle.std.proofs.lemmas.List.Folds.{list_all-map}
 use Rattle.std.specs.List.{list_all, list_any}
 use Rattle.std.specs.Prelude.{◌&&◌, ◌==◌, filter, find, nat_le, not, ◌||◌}
-use Rattle.q_core.proofs.BeginLaws.{begun}
-use Rattle.q_core.proofs.BookLaws.{map-twice, place_step}
-use Rattle.q_core.proofs.LeftLaws.{and_true_parts, or_right}
 use Rattle.q_core.proofs.ListLaws.{filter-map, filter_each, find-map, list_any-map}
-use Rattle.q_core.proofs.MarksLaws.{list_all-implies}
-use Rattle.q_core.proofs.NameLaws.{id_eq-same, id_eq-true}
-use Rattle.q_core.specs.Agrees.{is_orderly}
-use Rattle.q_core.specs.Fitting.{IsFit}
+use Rattle.q_core.proofs.NameLaws.{and_true_parts, id_eq-same, id_eq-true, or_right}
 use Rattle.q_model.specs.Book.{Book, ids_at, message_of, Damaged}
 use Rattle.q_model.specs.Finishing.{is_clean}
 use Rattle.q_model.specs.FilesStand.{all_ids, are_distinct}
 use Rattle.q_model.specs.Ids.{id_eq}
+use Rattle.q_model.specs.Leftovers.{is_leftover}
+use Rattle.q_model.specs.Ledger.{Ledger}
+use Rattle.q_model.specs.Memory.{is_admitted}
 use Rattle.q_model.specs.Lists.{has_none, places_from}
 use Rattle.q_model.specs.Lives.{firm_failures}
 use Rattle.q_model.specs.Marks.{is_marked}
@@ -50,6 +47,10 @@ kept_step : {X : Type 0} (name : X → Id) (id : Id) (x : X) (ys xs : List X) �
 kept_step name id x ys xs h true e = any_step (id_eq id (name x)) (id_eq id (name x)) (list_any (id_eq id) (map name ys)) (list_any (id_eq id) (map name xs)) (λ g. g) h e
 kept_step name id x ys xs h false e = or_right (id_eq id (name x)) (list_any (id_eq id) (map name xs)) (h e)
 
+kept_id : (id x : Id) (ys xs : List Id) → (list_any (id_eq id) ys ≡ true → list_any (id_eq id) xs ≡ true) → (b : Bool) → list_any (id_eq id) (cond b (x ∷ ys) ys) ≡ true → (id_eq id x || list_any (id_eq id) xs) ≡ true
+kept_id id x ys xs h true e = any_step (id_eq id x) (id_eq id x) (list_any (id_eq id) ys) (list_any (id_eq id) xs) (λ g. g) h e
+kept_id id x ys xs h false e = or_right (id_eq id x) (list_any (id_eq id) xs) (h e)
+
 -- the names of those that pass are among all names
 kept_among : {X : Type 0} (name : X → Id) (p : X → Bool) (id : Id) (xs : List X) → list_any (id_eq id) (map name (filter p xs)) ≡ true → list_any (id_eq id) (map name xs) ≡ true
 kept_among name p id [] h = h
@@ -60,6 +61,11 @@ among_both : (id : Id) (xs ys few all : List Id) → (list_any (id_eq id) xs ≡
 among_both id xs ys few all h k e =
     any_append (id_eq id) ys all
     ∙ any_step (list_any (id_eq id) xs) (list_any (id_eq id) ys) (list_any (id_eq id) few) (list_any (id_eq id) all) h k (sym (any_append (id_eq id) xs few) ∙ e)
+
+-- what passes is in the list
+kept_there : (id : Id) (p : Id → Bool) (xs : List Id) → list_any (id_eq id) (filter p xs) ≡ true → list_any (id_eq id) xs ≡ true
+kept_there id p [] h = h
+kept_there id p (x ∷ xs) h = kept_id id x (filter p xs) xs (kept_there id p xs) (p x) h
 
 not_head : (c r : Bool) → (c ≡ true → false ≡ true) → (c || r) ≡ true → r ≡ true
 not_head true r h e = let bad : false ≡ true = h refl in cc
@@ -95,54 +101,9 @@ first_active id m few all inside (x ∷ xs) distinct any f =
     let parts = and_true_parts (not (list_any (λ i. id_eq i x.id) (names xs ++ all))) (are_distinct (names xs ++ all)) distinct in
     active_step id m few all inside x xs parts.0 (first_active id m few all inside xs parts.1) (id_eq x.id id) refl (is_active x.place) refl any f
 
-firmed : (m : Message) (o : Option Message) → ((x : Message) → o ≡ Some x → is_active x.place ≡ true) → option_map firm_failures o ≡ Some m → is_active m.place ≡ true
-firmed m None h e = cc
-firmed m (Some x) h e = let same : firm_failures x ≡ m = cc in ap (λ (y : Message). is_active y.place) (sym same) ∙ h x refl
-
--- the book as the life begins
-abbrev opened : Book → Book
-opened b = record b { generation = b.generation + 1; messages = map firm_failures b.messages }
-
-ids_opened : (b : Book) → ids_at is_active (opened b) ≡ ids_at is_active b
-ids_opened b =
-    ap (λ ids. ids ++ map (λ (d : Damaged). d.id) (filter (λ (d : Damaged). is_active d.place) b.damaged))
-    (ap names (filter-map (λ (m : Message). is_active m.place) firm_failures b.messages) ∙ map-twice (λ (m : Message). m.id) firm_failures (active_ones b.messages))
-
-opened_stand : (b : Book) → are_distinct (all_ids b) ≡ true → (id : Id) (m : Message) → list_any (id_eq id) (ids_at is_active (opened b)) ≡ true → message_of (opened b) id ≡ Some m → is_active m.place ≡ true
-opened_stand b distinct id m left e =
-    firmed m (message_of b id)
-    (λ x f. first_active id x (map (λ (d : Damaged). d.id) (filter (λ (d : Damaged). is_active d.place) b.damaged)) (map (λ (d : Damaged). d.id) b.damaged)
-    (kept_among (λ (d : Damaged). d.id) (λ (d : Damaged). is_active d.place) id b.damaged) b.messages distinct (ap (list_any (id_eq id)) (sym (ids_opened b)) ∙ left) f)
-    (sym (find-map (λ (y : Message). id_eq y.id id) firm_failures b.messages) ∙ e)
-
-places-same : {A : Type 0} (p q : ℕ → A → Bool) → ((i : ℕ) (x : A) → p i x ≡ q i x) → (n : ℕ) (xs : List A) → places_from n p xs ≡ places_from n q xs
-places-same p q h n [] = refl
-places-same p q h n (x ∷ xs) = place_step (p n x) (q n x) n (places_from (n + 1) p xs) (places_from (n + 1) q xs) (h n x) (places-same p q h (n + 1) xs)
-
-logged_firm : (m : Message) (i : ℕ) → is_logged (firm_failures m) i ≡ is_logged m i
-logged_firm m i = list_any-map (λ (f : Logged). f.failure.position == i) (λ (f : Logged). record f { firm = true }) m.failures
-
-unmarked_firm : (m : Message) → unmarked_logged (firm_failures m) ≡ unmarked_logged m
-unmarked_firm m = places-same (λ i (r : Recipient). not (is_marked r.mark) && is_logged (firm_failures m) i) (λ i (r : Recipient). not (is_marked r.mark) && is_logged m i)
-    (λ i r. ap (λ z. not (is_marked r.mark) && z) (logged_firm m i)) 0 m.recipients
-
-orderly_from : (a u c f : Bool) → (a || (u && c && f)) ≡ true → (a || (c && u)) ≡ true
-orderly_from true u c f e = refl
-orderly_from false true true f e = refl
-orderly_from false true false f e = cc
-orderly_from false false c f e = cc
-
-orderly_firm : (m : Message) → (is_active m.place || is_settled m) ≡ true → is_orderly (firm_failures m) ≡ true
-orderly_firm m e =
-    ap (λ ps. is_active m.place || (is_clean m && has_none ps)) (unmarked_firm m)
-    ∙ orderly_from (is_active m.place) (has_none (unmarked_logged m)) (has_none (written_marks m)) (has_firm_failures m) e
-
--- an orderly book with distinct ids is fit
-pub fit_law : (w : World) (mode : Mode) (b : Book) → are_distinct (all_ids b) ≡ true → is_orderly_book b ≡ true → IsFit (begun w mode b)
-unfolding after
-fit_law w mode b distinct orderly = record {
-  leftovers_stand = λ id m left e. opened_stand b distinct id m (ap (list_any (id_eq id)) (sym (filter_each (λ (k : Id). not false) (λ k. refl) (ids_at is_active (opened b)))) ∙ left) e;
-  orderly = list_all-map is_orderly firm_failures b.messages
-      ∙ list_all-implies (λ (m : Message). is_active m.place || is_settled m) (λ (m : Message). is_orderly (firm_failures m)) orderly_firm b.messages
-      (and_true_parts (list_all (λ id. nat_le id.generation b.generation && is_paired b id) (all_ids b)) (list_all (λ (m : Message). is_active m.place || is_settled m) b.messages) orderly).1;
-}
+-- a message of an earlier life stands in active
+pub leftover_active : (l : Ledger) → are_distinct (all_ids l.book) ≡ true → (id : Id) (m : Message) → is_leftover l id ≡ true → message_of l.book id ≡ Some m → is_active m.place ≡ true
+leftover_active l distinct id m left e =
+    first_active id m (map (λ (d : Damaged). d.id) (filter (λ (d : Damaged). is_active d.place) l.book.damaged)) (map (λ (d : Damaged). d.id) l.book.damaged)
+    (kept_among (λ (d : Damaged). d.id) (λ (d : Damaged). is_active d.place) id l.book.damaged) l.book.messages distinct
+    (kept_there id (λ k. not (is_admitted l k)) (ids_at is_active l.book) left) e
