@@ -229,7 +229,7 @@ left_none {c = c} {l = l} h k id m true s e name left none =
 
 left_list : {w : World} {c : Core} {l : Ledger} → Holds w c l → IsConsistent w l → (id : Id) (m : Message) → message_of l.book id ≡ Some m → m.id ≡ id → is_leftover l id ≡ true →
     (xs : List ℕ) → unmarked_logged m ≡ xs → IsRule c (Some (option_map_or (λ position. decisions.Mark id position) (slice_get xs 0) (clear_marked (was_synced l id) id (file_of l id m)))) (option_or (mark_of id xs) (clear_tests l id))
-left_list h id m e name left [] none = left_none h k id m _ refl e name left none
+left_list h k id m e name left [] none = left_none h k id m _ refl e name left none
 left_list {c = c} h k id m e name left (p ∷ ps) some = (entries.Mark id p, refl, refl)
 
 left_whole : {w : World} {c : Core} {l : Ledger} → Holds w c l → IsConsistent w l → (id : Id) (m : Message) → message_of l.book id ≡ Some m → is_leftover l id ≡ true →

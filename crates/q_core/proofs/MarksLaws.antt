@@ -11,7 +11,7 @@ use Rattle.q_core.proofs.ListLaws.{find-passes, map-same}
 use Rattle.q_core.proofs.NameLaws.{and_true_parts, id_eq-true}
 use Rattle.q_core.proofs.StepLaws.{HoldsRaw, IsStillSeen}
 use Rattle.q_core.proofs.TakeLaws.{found_on, next_of}
-use Rattle.q_core.specs.Agrees.{Holds, IsSeen, file_of, found_active, found_at, found_deferred, found_incoming, found_next, is_orderly, is_present, is_synced_well, slot_from, slot_of}
+use Rattle.q_core.specs.Agrees.{Holds, IsSeen, file_of, found_active, found_at, found_deferred, found_incoming, found_next, slot_from, slot_of}
 use Rattle.q_core.specs.Changes.{IsSyncedCore}
 use Rattle.q_core.specs.Scanning.{scan_after}
 use Rattle.q_core.specs.Slots.{without_marks}

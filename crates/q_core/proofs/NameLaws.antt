@@ -1,6 +1,6 @@
 -- Ids and sites that pass for equal are equal.
 use Rattle.std.proofs.Common.{◌≡◌, ℕ, Bool, true, false, refl, sym, ap, ◌∙◌, arith}
-use Rattle.std.specs.Prelude.{◌&&◌, ◌==◌}
+use Rattle.std.specs.Prelude.{◌&&◌, ◌==◌, ◌||◌}
 use Rattle.std.proofs.lemmas.Grind.{common_steps}
 use Rattle.q_model.specs.Ids.{bool_eq, id_eq}
 use Rattle.q_model.specs.declared.id.Id.{Id}

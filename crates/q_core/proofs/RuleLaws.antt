@@ -1,5 +1,6 @@
 -- The rules by what the core holds are those of the ledger.
-use Rattle.std.proofs.Common.{◌≡◌, ℕ, ◌-◌, Bool, true, false, List, [], ◌∷◌, length, refl, sym, ap, ◌∙◌, subst, arith, Option, Some, None, option_map, inl, inr}
+use Rattle.std.proofs.Common.{◌≡◌, ℕ, ◌-◌, Bool, true, false, List, [], ◌∷◌, length, refl, sym, ap, ◌∙◌, subst, arith, Option, Some, None, option_map, inl, inr, IsTrue}
+use Rattle.std.specs.List.{list_all}
 use Rattle.std.specs.Option.{option_map_or}
 use Rattle.std.specs.Prelude.{find, not, ◌&&◌, ◌||◌, ◌==◌, ◌+◌, min, max, is_none, nat_lt, nat_le, option_and_then, if◌then◌else◌, slice_get}
 use Rattle.q_core.proofs.AgreesLaws.{recipients_on, same_dead, same_idle, same_waiting, unread_same}

@@ -7,7 +7,7 @@ use Rattle.q_core.proofs.AgreesLaws.{same_unread}
 use Rattle.q_core.proofs.ListLaws.{filter-map, filter-same, filter_each, filter_none, length-numbered, slice_get-numbered}
 use Rattle.q_core.proofs.NameLaws.{id_eq-true}
 use Rattle.q_core.proofs.StepLaws.{HoldsRaw, IsStillSeen}
-use Rattle.q_core.specs.Agrees.{Matches, Holds, IsFresh, IsScan, IsSeenScan, found_deferred, job_of, jobs_of}
+use Rattle.q_core.specs.Agrees.{Matches, Holds, IsScan, IsSeenScan, found_deferred, job_of, jobs_of}
 use Rattle.q_core.specs.Changes.{IsSettled}
 use Rattle.q_core.specs.Destinations.{forget_in, is_kept_in, is_unused_in, used_in}
 use Rattle.q_core.specs.Scanning.{scan_after, scan_at}

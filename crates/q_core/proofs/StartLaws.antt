@@ -1,5 +1,5 @@
 -- The choice by what the core holds is the ledger's.
-use Rattle.std.proofs.Common.{◌≡◌, ℕ, ◌+◌, ◌-◌, ◌*◌, ◌^◌, Bool, true, false, List, [], ◌∷◌, length, map, refl, suc, sym, ap, ◌∙◌, subst, arith, Option, Some, None, option_map}
+use Rattle.std.proofs.Common.{◌≡◌, ℕ, ◌+◌, ◌-◌, ◌*◌, ◌^◌, Bool, true, false, List, [], ◌∷◌, length, map, refl, suc, sym, ap, ◌∙◌, subst, arith, Option, Some, None, option_map, IsTrue}
 use Rattle.std.specs.Prelude.{find, filter, not, ◌&&◌, ◌||◌, ◌==◌, nat_lt, nat_le, count_by, option_and_then, if◌then◌else◌, slice_get, filter_map}
 use Rattle.std.specs.List.{list_any, list_all, enumerate_from, cons_option}
 use Rattle.std.specs.Option.{option_map_or, option_or}
