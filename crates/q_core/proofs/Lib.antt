@@ -16,4 +16,10 @@ pub mod StepLaws
 pub mod NoteLaws
 pub mod SettleLaws
 pub mod BookLaws
+pub mod ChangeLaws
+pub mod HeldLaws
 pub mod MarksLaws
+pub mod PlaceLaws
+pub mod FirstLaws
+pub mod LogLaws
+pub mod MarkLaws

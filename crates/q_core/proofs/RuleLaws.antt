@@ -166,11 +166,10 @@ kept_is : {w : World} {c : Core} {l : Ledger} → Holds w c l → (x : Admitted)
     finish_in c (slot_of l x) ≡ finish_kept x.id (due w l.now m) (not (is_clean m)) (not (has_none (pending m))) (not (has_none (unmarked_logged m))) (wants_bounce m) (has_bounce l x.id)
 kept_is {w = w} {c = c} {l = l} a x m e same =
     ap (λ o. finish_in c (slot_from x (has_bounce l x.id) o)) e
-    ∙ ap (λ t. finish_kept x.id t (nat_lt 0 (length (written_marks m))) (nat_lt 0 (length (pending m))) (nat_lt 0 (length (unmarked_logged m))) (nat_lt 0 (length m.failures) && not (is_none m.sender) && not x.id.bounce) (has_bounce l x.id)) (same_due a m)
-    ∙ ap (λ b. finish_kept x.id (due w l.now m) b (nat_lt 0 (length (pending m))) (nat_lt 0 (length (unmarked_logged m))) (nat_lt 0 (length m.failures) && not (is_none m.sender) && not x.id.bounce) (has_bounce l x.id)) (no_length (written_marks m))
-    ∙ ap (λ b. finish_kept x.id (due w l.now m) (not (is_clean m)) b (nat_lt 0 (length (unmarked_logged m))) (nat_lt 0 (length m.failures) && not (is_none m.sender) && not x.id.bounce) (has_bounce l x.id)) (no_length (pending m))
-    ∙ ap (λ b. finish_kept x.id (due w l.now m) (not (is_clean m)) (not (has_none (pending m))) b (nat_lt 0 (length m.failures) && not (is_none m.sender) && not x.id.bounce) (has_bounce l x.id)) (no_length (unmarked_logged m))
-    ∙ ap (λ b. finish_kept x.id (due w l.now m) (not (is_clean m)) (not (has_none (pending m))) (not (has_none (unmarked_logged m))) b (has_bounce l x.id)) (kept_wants m x.id same)
+    ∙ ap (λ t. finish_kept x.id t (nat_lt 0 (length (written_marks m))) (nat_lt 0 (length (pending m))) (not (has_none (unmarked_logged m))) (not (has_none m.failures) && not (is_none m.sender) && not x.id.bounce) (has_bounce l x.id)) (same_due a m)
+    ∙ ap (λ b. finish_kept x.id (due w l.now m) b (nat_lt 0 (length (pending m))) (not (has_none (unmarked_logged m))) (not (has_none m.failures) && not (is_none m.sender) && not x.id.bounce) (has_bounce l x.id)) (no_length (written_marks m))
+    ∙ ap (λ b. finish_kept x.id (due w l.now m) (not (is_clean m)) b (not (has_none (unmarked_logged m))) (not (has_none m.failures) && not (is_none m.sender) && not x.id.bounce) (has_bounce l x.id)) (no_length (pending m))
+    ∙ ap (λ b. finish_kept x.id (due w l.now m) (not (is_clean m)) (not (has_none (pending m))) (not (has_none (unmarked_logged m))) b (has_bounce l x.id)) (ap (λ (i : Id). not (has_none m.failures) && not (is_none m.sender) && not i.bounce) (sym same))
 
 finish_same : {w : World} {c : Core} {l : Ledger} → Holds w c l → (x : Admitted) (m : Message) → message_of l.book x.id ≡ Some m → m.id ≡ x.id → is_idle l x.id ≡ true → is_active m.place ≡ true → IsRule c (finish_in c (slot_of l x)) (finish w l x.id)
 finish_same {w = w} {c = c} {l = l} a x m e same idle active =

@@ -43,8 +43,8 @@ slot_from a bounced o = record {
   unread = a.unread;
   marks = option_map_or (λ m. length (written_marks m)) o 0;
   pending = option_map_or (λ m. length (pending m)) o 0;
-  unmarked = option_map_or (λ m. length (unmarked_logged m)) o 0;
-  failures = option_map_or (λ m. length m.failures) o 0;
+  logged = option_map_or (λ m. not (has_none (unmarked_logged m))) o false;
+  failed = option_map_or (λ m. not (has_none m.failures)) o false;
   bounced = bounced;
 }
 

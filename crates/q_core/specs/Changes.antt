@@ -1,15 +1,17 @@
 -- How the core changes.
 use Rattle.std.specs.List.{enumerate_from}
 use Rattle.std.specs.Option.{option_map_or}
-use Rattle.std.specs.Prelude.{◌+◌, ◌≡◌, Bool, false, if◌then◌else◌, is_none, map, nat_le, None, Option, Some, true, ◌||◌, ℕ}
+use Rattle.std.specs.Prelude.{◌+◌, ◌≡◌, Bool, List, false, if◌then◌else◌, is_none, map, nat_le, None, Option, Some, true, ◌||◌, ℕ}
 use Rattle.q_model.specs.declared.id.Id.{Id}
 use Rattle.q_model.specs.declared.rows.Request.{Request}
+use Rattle.q_model.specs.declared.rows.Unsettled.{Unsettled}
 use Rattle.q_model.specs.Scans.{joined_request, new_scan}
 use Rattle.q_model.specs.declared.rows.Request.TheVariants as requests
 use Rattle.q_core.specs.Destinations.{forget_in, revive_dead_in, revive_due_in, used_in}
 use Rattle.q_core.specs.Files.{is_nothing}
 use Rattle.q_core.specs.Settled.{settled_line, settled_served}
-use Rattle.q_core.specs.Slots.{without_marks}
+use Rattle.q_core.specs.Slots.{changed_at}
+use Rattle.q_core.specs.declared.slot.Slot.{Slot}
 use Rattle.q_core.specs.declared.decision.Found.{Found}
 use Rattle.q_core.specs.declared.state.Core.{Core}
 use Rattle.q_core.specs.declared.state.Seen.{Seen}
@@ -64,7 +66,12 @@ pub record IsRevived (old new : Core) : Type 0 where
   pub rest : new ≡ record old { sites = new.sites }
   pub sites : new.sites.items ≡ map (revive_dead_in old.params old.flights.items) old.sites.items
 
--- no mark of the message may be lost any more
-pub record IsSyncedCore (old new : Core) (id : Id) : Type 0 where
+-- the slot of this id is changed
+pub record IsSlotChange (old new : Core) (id : Id) (change : Slot → Slot) : Type 0 where
   pub rest : new ≡ record old { admitted = new.admitted }
-  pub admitted : new.admitted.items ≡ map (without_marks id) old.admitted.items
+  pub admitted : new.admitted.items ≡ map (changed_at id change) old.admitted.items
+
+-- these outcomes are to be settled
+pub record IsUnsettledChange (old new : Core) (us : List Unsettled) : Type 0 where
+  pub rest : new ≡ record old { unsettled = new.unsettled; in_memory = new.in_memory }
+  pub unsettled : new.unsettled.items ≡ us

@@ -14,6 +14,7 @@ mod idle;
 pub mod laws;
 mod leftover;
 mod line;
+mod marking;
 mod names;
 mod next;
 mod queries;
