@@ -17,3 +17,4 @@ pub mod NoteLaws
 pub mod SettleLaws
 pub mod BookLaws
 pub mod MarksLaws
+pub mod WindowLaws

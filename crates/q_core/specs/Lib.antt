@@ -2,6 +2,7 @@ pub mod Slots
 pub mod Files
 pub mod Lists
 pub mod Destinations
+pub mod Windows
 pub mod Held
 pub mod Scanning
 pub mod Agrees

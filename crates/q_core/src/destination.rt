@@ -16,12 +16,12 @@ use std::marker::Model;
 /// the ledger's record.
 #[derive(Debug, Drop)]
 pub struct Destination {
-    site: Site,
-    window: u64,
-    success: u128,
-    failure: u128,
-    cohorts: u128,
-    health: Health,
+    pub(crate) site: Site,
+    pub(crate) window: u64,
+    pub(crate) success: u128,
+    pub(crate) failure: u128,
+    pub(crate) cohorts: u128,
+    pub(crate) health: Health,
 }
 
 impl Model for Destination {
@@ -29,7 +29,12 @@ impl Model for Destination {
 
     ghost Value = { SiteRecord };
 
+    ghost use Rattle.std.specs.Prelude.{◌≡◌, ◌≤◌, ◌^◌, true};
+    ghost use Rattle.q_model.specs.SiteRecords.{is_alive};
+
     ghost view = { λ d. record { site = d.site; window = d.window; success = d.success; failure = d.failure; cohorts = d.cohorts; health = d.health } };
+
+    ghost invariant = { λ d. (d.success ≤ 2 ^ 64) × (d.failure ≤ 2 ^ 64) × (d.cohorts ≤ 2 ^ 64) × (is_alive d.health ≡ true → d.cohorts ≤ 2 ^ 63) };
 }
 
 impl Destination {
@@ -66,7 +71,7 @@ impl Destination {
     }
 
     /// Makes it alive again, with so many deliveries in flight.
-    fn revive(&mut self, params: &Params, busy: u64)
+    pub(crate) fn revive(&mut self, params: &Params, busy: u64)
         ensures { self.new ≡ revived (world_of params.now) busy self.old }
     {
         let initial = params

@@ -27,6 +27,7 @@ mod sync;
 #[cfg(test)]
 mod tests;
 mod unsettled;
+mod window;
 
 pub use decision::{Decision, FileFacts, Found};
 pub use queries::Flight;
