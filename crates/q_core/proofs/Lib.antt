@@ -18,3 +18,5 @@ pub mod SettleLaws
 pub mod BookLaws
 pub mod MarksLaws
 pub mod WindowLaws
+pub mod MovedLaws
+pub mod SiteLaws
