@@ -17,9 +17,9 @@ pub moved_back-Some : {X : Type 0} (p : X → Bool) (xs ys : List X) (i : ℕ) �
 moved_back-Some p xs ys i h k = elim (position-find p xs) [
   | inl n ↦ let bad : None ≡ Some i = sym n.0 ∙ h in cc
   | inr f ↦ let same : Some f.0 ≡ Some i = sym f.2.place ∙ h in
-    let place : f.0 ≡ i = cc in
-    let there : slice_get xs i ≡ Some f.1 = subst (λ n. slice_get xs n ≡ Some f.1) place f.2.there in
-    k f.1 there ∙ ap (λ zs. zs ++ f.1 ∷ []) (drop_first-Some p xs i h) ∙ sym (ap (λ o. option_map_or (λ y. drop_first p xs ++ y ∷ []) o xs) f.2.found)
+      let place : f.0 ≡ i = cc in
+      let there : slice_get xs i ≡ Some f.1 = subst (λ n. slice_get xs n ≡ Some f.1) place f.2.there in
+      k f.1 there ∙ ap (λ zs. zs ++ f.1 ∷ []) (drop_first-Some p xs i h) ∙ sym (ap (λ o. option_map_or (λ y. drop_first p xs ++ y ∷ []) o xs) f.2.found)
 ]
 
 pub moved_back-None : {X : Type 0} (p : X → Bool) (xs : List X) → position p xs ≡ None → xs ≡ moved_back p xs
@@ -47,8 +47,7 @@ none_passes site p only [] h = (refl, refl)
 none_passes site p only (r ∷ rs) h =
     let parts = or_false_parts (site_eq r.site site) (list_any (λ s. site_eq s.site site) rs) h in
     let fails = fails_elsewhere site p only r parts.0 (p r) refl in
-    let rest = none_passes site p only rs parts.1 in
-    (
+    let rest = none_passes site p only rs parts.1 in (
       ap (λ b. cond b (r ∷ filter p rs) (filter p rs)) fails ∙ rest.0,
       ap (λ b. cond (not b) (r ∷ filter (λ x. not (p x)) rs) (filter (λ x. not (p x)) rs)) fails ∙ ap (λ xs. r ∷ xs) rest.1,
     )
