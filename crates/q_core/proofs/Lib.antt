@@ -20,3 +20,7 @@ pub mod MarksLaws
 pub mod WindowLaws
 pub mod MovedLaws
 pub mod SiteLaws
+pub mod NeedsLaws
+pub mod DroppedLaws
+pub mod RowsLaws
+pub mod SkipLaws

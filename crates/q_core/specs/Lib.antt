@@ -13,4 +13,6 @@ pub mod Decisions
 pub mod Queries
 pub mod Deciding
 pub mod Settled
+pub mod Needs
+pub mod Leaving
 pub mod Changes
