@@ -23,3 +23,10 @@ pub mod PlaceLaws
 pub mod FirstLaws
 pub mod LogLaws
 pub mod MarkLaws
+pub mod WindowLaws
+pub mod MovedLaws
+pub mod SiteLaws
+pub mod NeedsLaws
+pub mod DroppedLaws
+pub mod RowsLaws
+pub mod SkipLaws

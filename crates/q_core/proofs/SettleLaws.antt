@@ -119,7 +119,7 @@ ordered_same l =
     ∙ ap (λ xs. l.sites ++ xs) (filter_none (λ r. is_unused l r && not (is_unused l r)) (λ r. not_newly (is_unused l r)) l.sites)
     ∙ append-nil l.sites
 
-abbrev kept_alive : Ledger → List SiteRecord → List SiteRecord
+abbrev pub kept_alive : Ledger → List SiteRecord → List SiteRecord
 kept_alive l rs = filter (λ r. not (is_unused l r && is_alive r.health)) rs
 
 sites_settled : {w : World} {c : Core} {l : Ledger} → Holds w c l →
@@ -133,7 +133,7 @@ sites_settled {w = w} {c = c} {l = l} h =
     (filter-same (is_kept_in l.waiting l.flights) (λ r. not (is_unused l r && is_alive r.health)) (λ r. twice_not (is_unused l r) (is_alive r.health)) l.sites)
 
 -- the ledger after its scan, lines, served rows and sites are settled, where no row left its site
-abbrev settled_by : World → Ledger → List SiteRecord → Ledger
+abbrev pub settled_by : World → Ledger → List SiteRecord → Ledger
 settled_by w l sites = record l {
   scan = (scan_after l.book l.now l.scan l.asked).0;
   asked = (scan_after l.book l.now l.scan l.asked).1;
@@ -153,13 +153,17 @@ abbrev sites_since : World → Ledger → List Row → List Delivery → List Si
 sites_since w l rows flights = forget_oldest w l (kept_alive l
     (filter (λ r. not (is_unused l r && not (is_unused_in rows flights r.site))) l.sites ++ filter (λ r. is_unused l r && not (is_unused_in rows flights r.site)) l.sites))
 
-settled_is : (w : World) (before l : Ledger) → before.waiting ≡ l.waiting → before.flights ≡ l.flights → settled w before l ≡ settled_by w l (forget_oldest w l (kept_alive l l.sites))
-settled_is w before l rows flights =
+pub settled_as : (w : World) (before l : Ledger) → settled w before l ≡ settled_by w l (settled_sites w before l)
+settled_as w before l =
     ap (λ (k : Ledger). record k {
       lines = map (settle_line l) (enumerate_from 0 l.lines);
       served = filter (λ (s : Served). list_any (λ (r : Row). id_eq r.id s.id && site_eq r.site s.site) l.waiting) l.served;
       sites = settled_sites w before l;
     }) (settle_scan_is l)
+
+settled_is : (w : World) (before l : Ledger) → before.waiting ≡ l.waiting → before.flights ≡ l.flights → settled w before l ≡ settled_by w l (forget_oldest w l (kept_alive l l.sites))
+settled_is w before l rows flights =
+    settled_as w before l
     ∙ ap (settled_by w l)
     (ap (λ rs. sites_since w l rs before.flights) rows ∙ ap (sites_since w l l.waiting) flights ∙ ap (λ xs. forget_oldest w l (kept_alive l xs)) (ordered_same l))
 

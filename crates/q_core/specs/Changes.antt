@@ -6,9 +6,11 @@ use Rattle.q_model.specs.declared.id.Id.{Id}
 use Rattle.q_model.specs.declared.rows.Request.{Request}
 use Rattle.q_model.specs.declared.rows.Unsettled.{Unsettled}
 use Rattle.q_model.specs.Scans.{joined_request, new_scan}
+use Rattle.q_model.specs.Values.{Site}
 use Rattle.q_model.specs.declared.rows.Request.TheVariants as requests
-use Rattle.q_core.specs.Destinations.{forget_in, revive_dead_in, revive_due_in, used_in}
+use Rattle.q_core.specs.Destinations.{forget_in, is_left_in, revive_dead_in, revive_due_in, used_in}
 use Rattle.q_core.specs.Files.{is_nothing}
+use Rattle.q_core.specs.Lists.{moved_back}
 use Rattle.q_core.specs.Settled.{settled_line, settled_served}
 use Rattle.q_core.specs.Slots.{changed_at}
 use Rattle.q_core.specs.declared.slot.Slot.{Slot}
@@ -54,6 +56,11 @@ pub record IsSettled (old new : Core) : Type 0 where
   pub lines : new.lines.items ≡ map (settled_line old.admitted.items old.waiting.items) (enumerate_from 0 old.lines.items)
   pub served : new.served.items ≡ settled_served old.waiting.items old.served.items
   pub sites : new.sites.items ≡ forget_in old.waiting.items old.flights.items old.params.recipient_limit (used_in old.waiting.items old.flights.items old.sites.items)
+
+-- The record of a site that a row left goes to the end, where the site is unused now.
+pub record IsLeft (old new : Core) (site : Site) : Type 0 where
+  pub rest : new ≡ record old { sites = new.sites }
+  pub sites : new.sites.items ≡ moved_back (is_left_in old.waiting.items old.flights.items site) old.sites.items
 
 -- the time is set, and the sites whose time has come are alive
 pub record IsWoken (old new : Core) (moment : ℕ) : Type 0 where

@@ -2,6 +2,7 @@ pub mod Slots
 pub mod Files
 pub mod Lists
 pub mod Destinations
+pub mod Windows
 pub mod Held
 pub mod Scanning
 pub mod Agrees
@@ -12,4 +13,6 @@ pub mod Decisions
 pub mod Queries
 pub mod Deciding
 pub mod Settled
+pub mod Needs
+pub mod Leaving
 pub mod Changes

@@ -16,11 +16,13 @@ mod leftover;
 mod line;
 mod marking;
 mod names;
+mod needs;
 mod next;
 mod queries;
 mod reading;
 mod scan;
 mod settle;
+mod skip;
 mod slot;
 mod start;
 mod state;
@@ -28,6 +30,7 @@ mod sync;
 #[cfg(test)]
 mod tests;
 mod unsettled;
+mod window;
 
 pub use decision::{Decision, FileFacts, Found};
 pub use queries::Flight;

@@ -51,7 +51,7 @@ impl Core {
         self.starts
     }
 
-    fn delivery(&self, number: u64) -> Option<&Delivery>
+    pub(crate) fn delivery(&self, number: u64) -> Option<&Delivery>
         ensures { option_copied result ≡ flight_in self.now number }
     {
         self.flights.iter().find(|flight| flight.number == number)
@@ -99,7 +99,7 @@ impl Core {
         )
     }
 
-    fn id_expired(&self, id: Id) -> bool
+    pub(crate) fn id_expired(&self, id: Id) -> bool
         ensures { result ≡ expired_in self.now id }
     {
         match self.slot(id) {
