@@ -7,6 +7,7 @@ use Rattle.q_core.specs.Agrees.{Matches, jobs_of}
 use Rattle.q_core.specs.declared.line.Job.{Job}
 use Rattle.q_core.specs.declared.state.Core.{Core}
 use Rattle.q_core.specs.declared.state.Seen.TheVariants.{Unknown}
+use Rattle.q_core.specs.declared.state.Question.TheVariants.{Nothing}
 use Rattle.q_model.specs.Book.{Book}
 use Rattle.q_model.specs.Ledger.{Ledger, opening}
 use Rattle.q_model.specs.Settings.{World}
@@ -31,7 +32,7 @@ pub record IsEmptyCore (c : Core) (mode : Mode) (transports : ℕ) : Type 0 wher
 
 -- so is nothing of the plain fields
 abbrev pub blank : Core → Core
-blank c = record c { timed = false; next_run = 0; scan = None; asked = None; ignores = false; deferred_turn = false; in_memory = 0; starts = 0; active = Unknown; incoming = Unknown; deferred = Unknown }
+blank c = record c { timed = false; next_run = 0; scan = None; asked = None; ignores = false; deferred_turn = false; in_memory = 0; starts = 0; active = Unknown; incoming = Unknown; deferred = Unknown; question = Nothing }
 
 abbrev pub begun : World → Mode → Book → Ledger
 begun w mode book = after w (opening mode book) (entries.Life (book.generation + 1) mode)

@@ -1,7 +1,7 @@
 -- How the core changes.
 use Rattle.std.specs.List.{enumerate_from}
 use Rattle.std.specs.Option.{option_map_or}
-use Rattle.std.specs.Prelude.{◌+◌, ◌≡◌, Bool, List, false, if◌then◌else◌, is_none, map, nat_le, None, Option, Some, true, ◌||◌, ℕ}
+use Rattle.std.specs.Prelude.{◌+◌, ◌≡◌, ◌∷◌, Bool, List, false, if◌then◌else◌, is_none, map, nat_le, None, Option, Some, true, ◌||◌, ℕ}
 use Rattle.q_model.specs.declared.id.Id.{Id}
 use Rattle.q_model.specs.declared.rows.Request.{Request}
 use Rattle.q_model.specs.declared.rows.Unsettled.{Unsettled}
@@ -82,3 +82,21 @@ pub record IsSlotChange (old new : Core) (id : Id) (change : Slot → Slot) : Ty
 pub record IsUnsettledChange (old new : Core) (us : List Unsettled) : Type 0 where
   pub rest : new ≡ record old { unsettled = new.unsettled; in_memory = new.in_memory }
   pub unsettled : new.unsettled.items ≡ us
+
+-- the core is as it was, but for the room of its lists
+pub record IsAsBefore (old new : Core) : Type 0 where
+  pub rest : new ≡ record old { admitted = new.admitted; waiting = new.waiting; flights = new.flights; unsettled = new.unsettled; served = new.served; lines = new.lines; sites = new.sites; synced = new.synced; named = new.named }
+  pub admitted : new.admitted.items ≡ old.admitted.items
+  pub waiting : new.waiting.items ≡ old.waiting.items
+  pub flights : new.flights.items ≡ old.flights.items
+  pub unsettled : new.unsettled.items ≡ old.unsettled.items
+  pub served : new.served.items ≡ old.served.items
+  pub lines : new.lines.items ≡ old.lines.items
+  pub sites : new.sites.items ≡ old.sites.items
+  pub synced : new.synced.items ≡ old.synced.items
+  pub named : new.named.items ≡ old.named.items
+
+-- the message was synced in this life, and active is to be looked at anew
+pub record IsNoted (old new : Core) (id : Id) : Type 0 where
+  pub rest : new ≡ record old { synced = new.synced; active = Unknown }
+  pub synced : new.synced.items ≡ id ∷ old.synced.items

@@ -5,6 +5,7 @@
 
 mod admission;
 mod choice;
+mod clearing;
 mod clock;
 mod decision;
 mod destination;

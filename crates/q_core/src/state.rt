@@ -30,6 +30,21 @@ pub enum Seen {
     Known { found: Found },
 }
 
+/// What the last decision asks for, until it is answered.
+#[derive(Clone, Copy, Debug)]
+pub enum Question {
+    Nothing,
+    Active,
+    Incoming,
+    Deferred,
+    /// At most `max` recipients of the message from the position `from` on.
+    Recipients {
+        id: Id,
+        from: u32,
+        max: u32,
+    },
+}
+
 /// What is known in one life of a queue manager, without names on disk and without texts.
 #[derive(Debug, Drop)]
 pub struct Core {
@@ -57,6 +72,9 @@ pub struct Core {
     pub(crate) active: Seen,
     pub(crate) incoming: Seen,
     pub(crate) deferred: Seen,
+    pub(crate) question: Question,
+    /// The destinations of the recipients that were read since the last `Read`, in order.
+    pub(crate) named: Vec<Site>,
 }
 
 impl Core {
@@ -90,6 +108,8 @@ impl Core {
             active: Seen::Unknown,
             incoming: Seen::Unknown,
             deferred: Seen::Unknown,
+            question: Question::Nothing,
+            named: Vec::new(alloc),
         })
     }
 

@@ -2,6 +2,7 @@ use Rattle.std.proofs.Common.{false, None, refl}
 use Rattle.q_core.proofs.BeginLaws.{begin_law}
 use Rattle.q_core.specs.declared.state.Core.{Core}
 use Rattle.q_core.specs.declared.state.Seen.TheVariants.{Unknown}
+use Rattle.q_core.specs.declared.state.Question.TheVariants.{Nothing}
 use Rattle.q_core.proofs.state.Core.new.Goals as goal
 
 pub returns : goal.returns
@@ -30,6 +31,8 @@ returns c = λ w book settings count k.
       active = Unknown;
       incoming = Unknown;
       deferred = Unknown;
+      question = Nothing;
+      named = c.new-9.result;
     } in
     let matches = begin_law w c.args.mode book core c.args.transports settings refl count
     (record {
