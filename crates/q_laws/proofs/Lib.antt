@@ -1,2 +1,3 @@
 pub mod Members
 pub mod Distinct
+pub mod Settled
