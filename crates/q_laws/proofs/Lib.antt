@@ -1,3 +1,4 @@
 pub mod Members
 pub mod Distinct
 pub mod Settled
+pub mod Mapped
