@@ -5,3 +5,6 @@ pub mod Mapped
 pub mod Places
 pub mod Messages
 pub mod Begins
+pub mod Books
+pub mod Decided
+pub mod Decisions
