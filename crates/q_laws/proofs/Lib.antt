@@ -8,3 +8,6 @@ pub mod Begins
 pub mod Books
 pub mod Decided
 pub mod Decisions
+pub mod Quiet
+pub mod Clock
+pub mod Counts
