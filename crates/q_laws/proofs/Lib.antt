@@ -11,3 +11,4 @@ pub mod Decisions
 pub mod Quiet
 pub mod Clock
 pub mod Counts
+pub mod InPlace
