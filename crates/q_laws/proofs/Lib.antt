@@ -12,3 +12,8 @@ pub mod Quiet
 pub mod Clock
 pub mod Counts
 pub mod InPlace
+pub mod Unmarked
+pub mod Synced
+pub mod First
+pub mod Stored
+pub mod Marked

@@ -87,3 +87,38 @@ places_same p q h n (x ∷ xs) = place_same n (p n x) (q n x) (places_from (n + 
 pub places_mapped : {A B : Type 0} (p : ℕ → B → Bool) (f : A → B) (n : ℕ) (xs : List A) → places_from n p (map f xs) ≡ places_from n (λ i x. p i (f x)) xs
 places_mapped p f n [] = refl
 places_mapped p f n (x ∷ xs) = ap (λ ys. if p n (f x) then n ∷ ys else ys) (places_mapped p f (n + 1) xs)
+
+pub got_mapped : {A B : Type 0} (f : A → B) (xs : List A) (i : ℕ) → slice_get (map f xs) i ≡ option_map f (slice_get xs i)
+got_mapped f [] i = refl
+got_mapped f (x ∷ xs) zero = refl
+got_mapped f (x ∷ xs) (suc i) = got_mapped f xs i
+
+pub got_numbered : {A B : Type 0} (f : (ℕ × A) → B) (n i j : ℕ) (xs : List A) → j ≡ n + i → slice_get (map f (enumerate_from n xs)) i ≡ option_map (λ x. f (j, x)) (slice_get xs i)
+got_numbered f n i j [] e = refl
+got_numbered f n zero j (x ∷ xs) e = let same : n ≡ j = omega (arith, e) in ap (λ k. Some (f (k, x))) same
+got_numbered f n (suc i) j (x ∷ xs) e = got_numbered f (n + 1) i j xs (omega (arith, e))
+
+place_from : {A : Type 0} (n : ℕ) (test : ℕ → A → Bool) (xs : List A) (p : ℕ) → IsIn p (places_from n test xs) → n ≤ p
+place_from n test xs p h = let one = place_is n test xs p h in omega (arith, one.is)
+
+one_place : {A : Type 0} (n p : ℕ) (test : ℕ → A → Bool) (xs : List A) (b : Bool) → IsIn p (if b then n ∷ places_from (n + 1) test xs else places_from (n + 1) test xs) →
+    ((q : ℕ) → IsIn q (if b then n ∷ places_from (n + 1) test xs else places_from (n + 1) test xs) → q ≡ p) →
+    (IsIn p (places_from (n + 1) test xs) → ((q : ℕ) → IsIn q (places_from (n + 1) test xs) → q ≡ p) → places_from (n + 1) test xs ≡ p ∷ []) →
+    (if b then n ∷ places_from (n + 1) test xs else places_from (n + 1) test xs) ≡ p ∷ []
+one_place n p test xs false there only rest = rest there only
+one_place n p test xs true there only rest =
+    let first : n ≡ p = only n (inl refl) in
+    let none : places_from (n + 1) test xs ≡ [] = nothing_in (places_from (n + 1) test xs) (λ q k.
+      let same : q ≡ p = only q (inr k) in
+      let past : n + 1 ≤ q = place_from (n + 1) test xs q k in
+      absurd (omega (arith, first, same, past))) in
+    ap (λ (ps : List ℕ). n ∷ ps) none ∙ ap (λ k. k ∷ []) first
+
+-- the only place is the whole list of places
+pub only_place : {A : Type 0} (n p : ℕ) (test : ℕ → A → Bool) (xs : List A) → IsIn p (places_from n test xs) → ((q : ℕ) → IsIn q (places_from n test xs) → q ≡ p) → places_from n test xs ≡ p ∷ []
+only_place n p test [] there only = absurd there
+only_place n p test (x ∷ xs) there only = one_place n p test xs (test n x) there only (only_place (n + 1) p test xs)
+
+pub length-numbered : {A B : Type 0} (f : (ℕ × A) → B) (n : ℕ) (xs : List A) → length (map f (enumerate_from n xs)) ≡ length xs
+length-numbered f n [] = refl
+length-numbered f n (x ∷ xs) = ap suc (length-numbered f (n + 1) xs)
