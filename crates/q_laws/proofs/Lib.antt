@@ -13,7 +13,10 @@ pub mod Clock
 pub mod Counts
 pub mod InPlace
 pub mod Unmarked
+pub mod RowCounts
 pub mod Synced
 pub mod First
 pub mod Stored
 pub mod Marked
+pub mod Rows
+pub mod Delivered

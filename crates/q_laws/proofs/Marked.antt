@@ -14,6 +14,7 @@ use Rattle.q_laws.proofs.InPlace.{KeepsShape, admitted_not_left, change_ready, c
 use Rattle.q_laws.proofs.Places.{got_in, length-numbered, none_in}
 use Rattle.q_laws.proofs.Members.{find_in, IsIn, all_at, all_from, all_weaker, any_from, any_in, in_left, in_right}
 use Rattle.q_laws.proofs.Messages.{sealed_sync, unmarked_sync, written_sync}
+use Rattle.q_laws.proofs.RowCounts.{unsettled_held}
 use Rattle.q_laws.proofs.Settled.{IsReady, after_consistent}
 use Rattle.q_laws.proofs.Unmarked.{bare_logged, bare_mark, bare_not_sealed, bare_sync, firm_more, logged_alone, logged_bare, logged_itself, none_logged, none_more, sealed_more}
 use Rattle.q_laws.specs.Consistency.{IsConsistent, IsHeld, flight_positions, held_positions, is_present, is_synced_well, logged_of, unsettled_positions, waiting_positions}
@@ -106,13 +107,7 @@ mark_held l id p u rest a m e mine at need name h =
         let s = fewer_held l u rest a.id e q in
         absurd (omega (arith, more, first, all, s))
     behind : (v : Unsettled) → slice_get rest 0 ≡ Some v → v.id ≡ a.id → IsIn v.position (waiting_positions a.id l.waiting ++ flight_positions a.id l.flights ++ unsettled_positions a.id rest)
-    behind v f s = in_right v.position (waiting_positions a.id l.waiting ++ flight_positions a.id l.flights) (unsettled_positions a.id rest) (listed rest (got_in v rest 0 f))
-      where
-        listed : (us : List Unsettled) → IsIn v us → IsIn v.position (unsettled_positions a.id us)
-        listed [] k = absurd k
-        listed (x ∷ us) (inl k) = in_left v.position (if id_eq x.id a.id then x.position ∷ [] else []) (unsettled_positions a.id us)
-            (subst (λ b. IsIn v.position (if b then x.position ∷ [] else [])) (sym (id_same x.id a.id (ap (λ (y : Unsettled). y.id) k ∙ s))) (inl (ap (λ (y : Unsettled). y.position) k)))
-        listed (x ∷ us) (inr k) = in_right v.position (if id_eq x.id a.id then x.position ∷ [] else []) (unsettled_positions a.id us) (listed us k)
+    behind v f s = in_right v.position (waiting_positions a.id l.waiting ++ flight_positions a.id l.flights) (unsettled_positions a.id rest) (unsettled_held a.id v rest (got_in v rest 0 f) s)
 
 marked_ready : (w : World) (l : Ledger) (id : Id) (p : ℕ) → IsConsistent w l → marks_first l id p ≡ true → IsReady w (changed_ledger l id (with_mark p) (drop 1 l.unsettled) l.synced (entries.Mark id p))
 marked_ready w l id p c first =
