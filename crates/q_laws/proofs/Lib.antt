@@ -20,3 +20,5 @@ pub mod Stored
 pub mod Marked
 pub mod Rows
 pub mod Delivered
+pub mod Started
+pub mod Preempted
