@@ -22,3 +22,6 @@ pub mod Rows
 pub mod Delivered
 pub mod Started
 pub mod Preempted
+pub mod Batched
+pub mod Loaded
+pub mod Reading

@@ -156,3 +156,8 @@ dropped_one x y few ys false rest (inr h) = inr (rest h)
 pub in_dropped : {A : Type 0} (p : A → Bool) (x : A) (xs : List A) → IsIn x (drop_first p xs) → IsIn x xs
 in_dropped p x [] h = h
 in_dropped p x (y ∷ ys) h = dropped_one x y (drop_first p ys) ys (p y) (in_dropped p x ys) h
+
+-- tests that answer alike keep the same
+pub filter_same : {A : Type 0} (p q : A → Bool) → ((x : A) → p x ≡ q x) → (xs : List A) → filter p xs ≡ filter q xs
+filter_same p q h [] = refl
+filter_same p q h (x ∷ xs) = ap (λ b. cond b (x ∷ filter p xs) (filter p xs)) (h x) ∙ ap (λ ys. cond (q x) (x ∷ ys) ys) (filter_same p q h xs)
