@@ -11,9 +11,10 @@ use Rattle.q_model.specs.Ledger.{Ledger}
 use Rattle.q_model.specs.Leftovers.{is_leftover, leftovers}
 use Rattle.q_model.specs.Memory.{is_admitted}
 use Rattle.q_model.specs.Message.{Message}
-use Rattle.q_model.specs.Places.{is_active}
+use Rattle.q_model.specs.Places.{is_active, is_incoming}
 use Rattle.q_model.specs.declared.id.Id.{Id}
 use Rattle.q_model.specs.declared.rows.Place.{Place}
+use Rattle.q_model.specs.declared.rows.Place.TheVariants as places
 
 abbrev pub message_names : Book → List Id
 message_names b = map (λ (m : Message). m.id) b.messages
@@ -71,3 +72,32 @@ left_from l id h k = in_listed id (leftovers l) (in_filter (λ x. not (is_admitt
 
 pub left_active : (l : Ledger) → are_distinct (all_ids l.book) ≡ true → (id : Id) (m : Message) → is_leftover l id ≡ true → message_of l.book id ≡ Some m → is_active m.place ≡ true
 left_active l h id m left e = message_at is_active l.book h id m (left_parts l id left).0 e
+
+-- ---- who stands at a place
+
+pub in_ids_at : (place : Place → Bool) (b : Book) (id : Id) → IsIn id (ids_at place b) →
+    ((m : Message) × IsIn m b.messages × (m.id ≡ id) × (place m.place ≡ true)) ⊎ ((d : Damaged) × IsIn d b.damaged × (d.id ≡ id) × (place d.place ≡ true))
+in_ids_at place b id h =
+    elim (in_either id (map (λ (x : Message). x.id) (filter (λ (x : Message). place x.place) b.messages)) (map (λ (d : Damaged). d.id) (filter (λ (d : Damaged). place d.place) b.damaged)) h) [
+      | inl whole ↦
+        let one = in_unmap (λ (x : Message). x.id) id (filter (λ (x : Message). place x.place) b.messages) whole in
+        let two = in_filtered (λ (x : Message). place x.place) one.0 b.messages one.1 in
+        inl (one.0, two.0, one.2, two.1)
+      | inr broken ↦
+        let one = in_unmap (λ (d : Damaged). d.id) id (filter (λ (d : Damaged). place d.place) b.damaged) broken in
+        let two = in_filtered (λ (d : Damaged). place d.place) one.0 b.damaged one.1 in
+        inr (one.0, two.0, one.2, two.1)
+    ]
+
+pub damaged_at : (place : Place → Bool) (b : Book) (d : Damaged) → IsIn d b.damaged → place d.place ≡ true → IsIn d.id (ids_at place b)
+damaged_at place b d h e =
+    in_right d.id (map (λ (x : Message). x.id) (filter (λ (x : Message). place x.place) b.messages)) (map (λ (x : Damaged). x.id) (filter (λ (x : Damaged). place x.place) b.damaged))
+    (in_map (λ (x : Damaged). x.id) d (filter (λ (x : Damaged). place x.place) b.damaged) (in_filter (λ (x : Damaged). place x.place) d b.damaged h e))
+
+-- a place in active isn't in incoming
+pub active_not_incoming : (p : Place) → is_active p ≡ true → is_incoming p ≡ true → ⊥
+active_not_incoming places.Incoming h k = absurd cc
+active_not_incoming places.Active h k = absurd cc
+active_not_incoming (places.Deferred due) h k = absurd cc
+active_not_incoming places.Hold h k = absurd cc
+active_not_incoming places.Corrupt h k = absurd cc

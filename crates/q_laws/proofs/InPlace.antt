@@ -139,7 +139,8 @@ unread_change l id f us ss e s i = unread_on l id f s (admitted_of l i)
 
 -- ---- the order of the book
 
-keeps_one : (b : Book) (id : Id) (f : Message → Message) (P : Message → Message → Type 0) (m : Message) → are_distinct (all_ids b) ≡ true → message_of b id ≡ Some m → P m (f m) → ((x : Message) → P x x) →
+-- what one message has of itself as it changes, and each other has of itself
+pub keeps_one : (b : Book) (id : Id) (f : Message → Message) (P : Message → Message → Type 0) (m : Message) → are_distinct (all_ids b) ≡ true → message_of b id ≡ Some m → P m (f m) → ((x : Message) → P x x) →
     (x : Message) → IsIn x b.messages → P x (changed id f x)
 keeps_one b id f P m distinct there here rest x h = elim (id_cases x.id id) [
   | inl same ↦
@@ -160,7 +161,7 @@ keeps_active b id f m distinct there s active sealed = record {
     (λ h. or_left (is_active (f m).place) (is_settled (f m)) (ap is_active (s.place m) ∙ active)) (λ x h. h);
 }
 
-change_book : (l : Ledger) (id : Id) (f : Message → Message) (us : List Unsettled) (ss : List Id) (e : Entry) → IsBookConsistent l → KeepsOrder l.book (changed id f) → ((m : Message) → IsIn m l.book.messages → has_firm_failures m ≡ true → has_firm_failures (changed id f m) ≡ true) → IsBookConsistent (changed_ledger l id f us ss e)
+pub change_book : (l : Ledger) (id : Id) (f : Message → Message) (us : List Unsettled) (ss : List Id) (e : Entry) → IsBookConsistent l → KeepsOrder l.book (changed id f) → ((m : Message) → IsIn m l.book.messages → has_firm_failures m ≡ true → has_firm_failures (changed id f m) ≡ true) → IsBookConsistent (changed_ledger l id f us ss e)
 change_book l id f us ss e h o firm =
     let b = l.book in
     let k = changed_ledger l id f us ss e in
@@ -174,7 +175,7 @@ change_book l id f us ss e h o firm =
       come = ap (list_all (has_come k)) same ∙ all_weaker (has_come l) (has_come k) (all_ids b) (λ i there c. still_come l e i c) h.come;
     }
 
-held_on : (c : Message → Message) (o : Option Message) (n : Message) → option_map c o ≡ Some n → (m : Message) × (o ≡ Some m) × (c m ≡ n)
+pub held_on : (c : Message → Message) (o : Option Message) (n : Message) → option_map c o ≡ Some n → (m : Message) × (o ≡ Some m) × (c m ≡ n)
 held_on c None n h = absurd cc
 held_on c (Some m) n h = (m, refl, same_Some (c m) n h)
 

@@ -25,3 +25,4 @@ pub mod Preempted
 pub mod Batched
 pub mod Loaded
 pub mod Reading
+pub mod Moved

@@ -1,6 +1,6 @@
 -- Which positions have no mark, and which of these are logged, as a message changes.
 use Rattle.std.proofs.Common.{◌≡◌, ℕ, zero, suc, ◌+◌, Bool, true, false, not, List, [], ◌∷◌, ◌++◌, map, Option, Some, None, option_map, ◌⊎◌, inl, inr, refl, sym, ap, ◌∙◌, subst, if◌then◌else◌, arith, length, eq-eqb, eqb-true}
-use Rattle.std.proofs.lemmas.Bool.{and_from, and_parts, or_cases, or_left, or_right, not-true, not_from_false}
+use Rattle.std.proofs.lemmas.Bool.{and_from, and_parts, or_cases, or_left, or_parts, or_right, not-true, not_from_false}
 use Rattle.std.specs.List.{enumerate_from, list_all, list_any}
 use Rattle.std.specs.Option.{option_map_or}
 use Rattle.std.specs.Prelude.{◌&&◌, ◌||◌, ◌==◌, slice_get}
@@ -199,3 +199,19 @@ done_sealed m done firm =
     unwritten : has_none (written_marks m) ≡ true → (r : Recipient) (i : ℕ) → slice_get m.recipients i ≡ Some r → (b : Bool) → is_written r.mark ≡ b → b ≡ false
     unwritten none r i there false e = refl
     unwritten none r i there true e = absurd (none_in i (written_marks m) none (is_place 0 (λ j (x : Recipient). is_written x.mark) m.recipients i i r (omega arith) there e))
+
+-- a pending position has no mark
+pub pending_bare : (m : Message) (p : ℕ) → IsIn p (pending m) → is_unmarked_at m p ≡ true
+pending_bare m p h =
+    let one = place_is 0 (λ i (r : Recipient). not (is_marked r.mark || is_logged m i)) m.recipients p h in
+    let at : one.index ≡ p = omega (arith, one.is) in
+    let neither = or_parts (is_marked one.item.mark) (is_logged m p) (not-true (is_marked one.item.mark || is_logged m p) one.passes) in
+    unmarked_from m p (record { recipient = one.item; there = ap (slice_get m.recipients) (sym at) ∙ one.there; bare = neither.0 })
+
+some_in : {A : Type 0} (xs : List A) → not (has_none xs) ≡ true → (x : A) × IsIn x xs
+some_in [] h = absurd cc
+some_in (x ∷ xs) h = (x, inl refl)
+
+-- a message with a pending recipient isn't sealed
+pub pending_not_sealed : (m : Message) → not (has_none (pending m)) ≡ true → is_sealed m ≡ true → ⊥
+pending_not_sealed m h k = let one = some_in (pending m) h in bare_not_sealed m one.0 (pending_bare m one.0 one.1) k
