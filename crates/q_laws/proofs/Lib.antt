@@ -26,3 +26,4 @@ pub mod Batched
 pub mod Loaded
 pub mod Reading
 pub mod Moved
+pub mod Added
