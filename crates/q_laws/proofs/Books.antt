@@ -101,3 +101,9 @@ active_not_incoming places.Active h k = absurd cc
 active_not_incoming (places.Deferred due) h k = absurd cc
 active_not_incoming places.Hold h k = absurd cc
 active_not_incoming places.Corrupt h k = absurd cc
+
+pub placed_listed : (place : Place → Bool) (b : Book) (id : Id) → IsIn id (ids_at place b) → IsIn id (all_ids b)
+placed_listed place b id h = elim (in_ids_at place b id h) [
+  | inl whole ↦ subst (λ j. IsIn j (all_ids b)) whole.2 (message_listed b whole.0 whole.1)
+  | inr broken ↦ subst (λ j. IsIn j (all_ids b)) broken.2 (damaged_listed b broken.0 broken.1)
+]

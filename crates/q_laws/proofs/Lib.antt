@@ -27,3 +27,5 @@ pub mod Loaded
 pub mod Reading
 pub mod Moved
 pub mod Added
+pub mod Leaving
+pub mod Finished

@@ -4,7 +4,7 @@ use Rattle.std.proofs.lemmas.Bool.{and_from, and_parts, not-true, not_from_false
 use Rattle.std.specs.List.{list_all, list_any}
 use Rattle.std.specs.Option.{option_map_or}
 use Rattle.std.specs.Prelude.{◌&&◌, ◌||◌, nat_le}
-use Rattle.q_laws.proofs.Books.{active_not_incoming, at_place, damaged_at, damaged_listed, damaged_names, in_ids_at, message_found, message_in, message_listed, message_names, not_damaged, only_message}
+use Rattle.q_laws.proofs.Books.{active_not_incoming, at_place, damaged_at, damaged_listed, damaged_names, in_ids_at, message_found, message_in, message_listed, message_names, not_damaged, only_message, placed_listed}
 use Rattle.q_laws.proofs.Distinct.{distinct_join, distinct_named, distinct_one, distinct_parts, id_cases, id_eq-sym, id_other, id_same, names_filtered}
 use Rattle.q_laws.proofs.InPlace.{changed, changed_name, changed_other, changed_same, keeps_one}
 use Rattle.q_laws.proofs.Mapped.{KeepsOrder, find_mapped, paired_from}
@@ -48,21 +48,28 @@ other_moved b id i f h other = find_mapped (changed id f) (changed_name id f h) 
     same None e = refl
     same (Some m) e = ap Some (changed_other id f m (ap (λ (j : Id). id_eq j id) (message_in b i m e).1 ∙ other))
 
--- who stands at a place after the move stood there before, or is the one that moved
-pub moved_at : (test : Place → Bool) (b : Book) (id i : Id) (place : Place) → IsIn i (ids_at test (move_message b id place)) → IsIn i (ids_at test b) ⊎ ((i ≡ id) × (test place ≡ true))
-moved_at test b id i place h = elim (in_ids_at test (move_message b id place) i h) [
+-- who stands at a place after the move stood there before and is another, or is the one that moved
+pub moved_at : (test : Place → Bool) (b : Book) (id i : Id) (place : Place) (m : Message) → are_distinct (all_ids b) ≡ true → message_of b id ≡ Some m → IsIn i (ids_at test (move_message b id place)) →
+    (IsIn i (ids_at test b) × (id_eq i id ≡ false)) ⊎ ((i ≡ id) × (test place ≡ true))
+moved_at test b id i place m distinct there h = elim (in_ids_at test (move_message b id place) i h) [
   | inl whole ↦ let one = in_unmap (changed id (move_to place)) whole.0 b.messages whole.1 in which one.0 one.1 whole.0 one.2 whole.2 whole.3
-  | inr broken ↦ inl (subst (λ j. IsIn j (ids_at test b)) broken.2 (damaged_at test b broken.0 broken.1 broken.3))
+  | inr broken ↦
+    let mine = message_in b id m there in
+    elim (id_cases i id) [
+      | inl same ↦ absurd (not_damaged b distinct m broken.0 mine.0 broken.1 (mine.1 ∙ sym same.0 ∙ sym broken.2))
+      | inr other ↦ inl (subst (λ j. IsIn j (ids_at test b)) broken.2 (damaged_at test b broken.0 broken.1 broken.3), other)
+    ]
 ]
   where
-    which : (x : Message) → IsIn x b.messages → (y : Message) → changed id (move_to place) x ≡ y → y.id ≡ i → test y.place ≡ true → IsIn i (ids_at test b) ⊎ ((i ≡ id) × (test place ≡ true))
+    which : (x : Message) → IsIn x b.messages → (y : Message) → changed id (move_to place) x ≡ y → y.id ≡ i → test y.place ≡ true → (IsIn i (ids_at test b) × (id_eq i id ≡ false)) ⊎ ((i ≡ id) × (test place ≡ true))
     which x inside y e name at = elim (id_cases x.id id) [
       | inl same ↦
         let is : move_to place x ≡ y = sym (changed_same id (move_to place) x same.1) ∙ e in
         inr (sym name ∙ ap (λ (z : Message). z.id) (sym is) ∙ same.0, ap (λ (z : Message). test z.place) is ∙ at)
       | inr other ↦
         let is : x ≡ y = sym (changed_other id (move_to place) x other) ∙ e in
-        inl (subst (λ j. IsIn j (ids_at test b)) (ap (λ (z : Message). z.id) is ∙ name) (at_place test b x inside (ap (λ (z : Message). test z.place) is ∙ at)))
+        let mine : x.id ≡ i = ap (λ (z : Message). z.id) is ∙ name in
+        inl (subst (λ j. IsIn j (ids_at test b)) mine (at_place test b x inside (ap (λ (z : Message). test z.place) is ∙ at)), ap (λ (j : Id). id_eq j id) (sym mine) ∙ other)
     ]
 
 -- ---- a message is removed
@@ -168,8 +175,13 @@ removed_orderly b id m distinct there h =
       and_from (nat_le i.generation c.generation) (is_paired c i) parts.0 (removed_paired b id m distinct there i inside parts.1)))
     (all_filtered rest (λ (x : Message). not (id_eq x.id id)) b.messages two.1)
 
-pub removed_at : (test : Place → Bool) (b : Book) (id i : Id) → IsIn i (ids_at test (remove_message b id)) → IsIn i (ids_at test b)
-removed_at test b id i h = elim (in_ids_at test (remove_message b id) i h) [
-  | inl whole ↦ subst (λ j. IsIn j (ids_at test b)) whole.2 (at_place test b whole.0 (in_filtered (λ (x : Message). not (id_eq x.id id)) whole.0 b.messages whole.1).0 whole.3)
-  | inr broken ↦ subst (λ j. IsIn j (ids_at test b)) broken.2 (damaged_at test b broken.0 broken.1 broken.3)
-]
+-- who still stands at a place stood there before, and is another
+pub removed_at : (test : Place → Bool) (b : Book) (id i : Id) (m : Message) → are_distinct (all_ids b) ≡ true → message_of b id ≡ Some m → IsIn i (ids_at test (remove_message b id)) → IsIn i (ids_at test b) × (id_eq i id ≡ false)
+removed_at test b id i m distinct there h = (before (in_ids_at test (remove_message b id) i h), apart (id_eq i id) refl)
+  where
+    before : ((x : Message) × IsIn x (others id b.messages) × (x.id ≡ i) × (test x.place ≡ true)) ⊎ ((d : Damaged) × IsIn d b.damaged × (d.id ≡ i) × (test d.place ≡ true)) → IsIn i (ids_at test b)
+    before (inl whole) = subst (λ j. IsIn j (ids_at test b)) whole.2 (at_place test b whole.0 (in_filtered (λ (x : Message). not (id_eq x.id id)) whole.0 b.messages whole.1).0 whole.3)
+    before (inr broken) = subst (λ j. IsIn j (ids_at test b)) broken.2 (damaged_at test b broken.0 broken.1 broken.3)
+    apart : (t : Bool) → id_eq i id ≡ t → t ≡ false
+    apart false e = refl
+    apart true e = absurd (removed_gone b id m distinct there (subst (λ j. IsIn j (all_ids (remove_message b id))) (id_eq-true i id e) (placed_listed test (remove_message b id) i h)))
