@@ -29,3 +29,6 @@ pub mod Moved
 pub mod Added
 pub mod Leaving
 pub mod Finished
+pub mod Besides
+pub mod Arrived
+pub mod Cleared
