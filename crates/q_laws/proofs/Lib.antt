@@ -32,3 +32,5 @@ pub mod Finished
 pub mod Besides
 pub mod Arrived
 pub mod Cleared
+pub mod Picked
+pub mod Entering
