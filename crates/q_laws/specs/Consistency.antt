@@ -94,7 +94,7 @@ is_synced_well l id = not (is_leftover l id) || option_map_or (λ m. is_clean m 
 abbrev pub IsFresh : Ledger → Id → ℕ → Type 0
 IsFresh l id transport = (unread_of l id == 0) ≡ false → list_any (id_eq id) (line_of l transport) ≡ false → (starts_of l id transport ≡ 0) × (charged l id transport ≡ 0)
 
--- Messages in memory stand in active, once each; recipients in memory are theirs. Both are within their limits. Deliveries have numbers of their own.
+-- Messages in memory stand in active, once each; recipients in memory are theirs. Both are within their limits. Deliveries have numbers of their own. No line has an id twice.
 pub record IsMemoryConsistent (w : World) (l : Ledger) : Type 0 where
   pub admitted : are_distinct (map (λ a. a.id) l.admitted) ≡ true
   pub present : list_all (is_present l) l.admitted ≡ true
@@ -105,6 +105,7 @@ pub record IsMemoryConsistent (w : World) (l : Ledger) : Type 0 where
   pub held : (a : Admitted) (m : Message) → admitted_of l a.id ≡ Some a → message_of l.book a.id ≡ Some m → IsHeld l a m
   pub numbers : are_once (map (λ f. f.number) l.flights) ≡ true
   pub begun : list_all (λ f. nat_le f.number (starts l)) l.flights ≡ true
+  pub single : list_all are_distinct l.lines ≡ true
   pub lines : list_all (λ (line : ℕ × List Id). list_all (stays l line.0) line.1) (enumerate_from 0 l.lines) ≡ true
   pub fresh : (id : Id) (transport : ℕ) → IsFresh l id transport
   pub synced : list_all (is_synced_well l) l.synced ≡ true
