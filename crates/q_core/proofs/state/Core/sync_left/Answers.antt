@@ -13,5 +13,5 @@ unfolding after
 returns-clause-ok c = λ w l a apart may.
     settle_law l refl refl
     (note_law (entries.Sync c.args.id) (record { no_admit = λ id. refl; no_start_of = λ id t. refl; no_charge = λ id t. refl; no_start = refl })
-    (sync_left_law c.args.id (raw_law a.matches c.requires) a.consistent (sym (same_admitted a.matches.parts c.args.id) ∙ apart) may c.in_ok-unit.ensures))
+    (sync_left_law c.args.id (raw_law a.matches c.requires) a.consistent (sym (same_admitted a.matches.parts c.args.id) ∙ apart) may c.in_ok-note_synced.ensures.ok))
     c.settle.ensures
