@@ -34,4 +34,3 @@ use Rattle.q_model.specs.Settings.{World}
 use Rattle.q_model.specs.Syncs.{after_sync, sync_all}
 use Rattle.q_model.specs.declared.entry.Entry.{Entry}
 use Rattle.q_model.specs.declared.id.Id.{Id}
-
