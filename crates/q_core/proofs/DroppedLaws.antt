@@ -73,3 +73,8 @@ is_row-same r =
     ap (λ b. b && site_eq r.site r.site && bytes_eq r.positions r.positions) (id_eq-same r.id)
     ∙ ap (λ b. true && b && bytes_eq r.positions r.positions) (site_eq-refl r.site)
     ∙ (bytes_eq-Decides r.positions r.positions).1 refl
+
+-- two sites that differ, the other way round
+pub other_site : (site s : Site) → site_eq s site ≡ false → (b : Bool) → site_eq site s ≡ b → site_eq site s ≡ false
+other_site site s e false h = h
+other_site site s e true h = let bad : true ≡ false = sym (ap (λ x. site_eq x site) (sym (site_eq-true site s h)) ∙ site_eq-refl site) ∙ e in cc

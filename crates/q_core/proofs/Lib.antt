@@ -31,3 +31,5 @@ pub mod NeedsLaws
 pub mod DroppedLaws
 pub mod RowsLaws
 pub mod SkipLaws
+pub mod FlightLaws
+pub mod ReplyLaws

@@ -28,11 +28,11 @@ moved_back-None p xs h = elim (position-find p xs) [
   | inr f ↦ let bad : None ≡ Some f.0 = sym h ∙ f.2.place in cc
 ]
 
-or_false_parts : (a b : Bool) → (a || b) ≡ false → (a ≡ false) × (b ≡ false)
+pub or_false_parts : (a b : Bool) → (a || b) ≡ false → (a ≡ false) × (b ≡ false)
 or_false_parts true b h = cc
 or_false_parts false b h = (refl, h)
 
-not_true : (b : Bool) → not b ≡ true → b ≡ false
+pub not_true : (b : Bool) → not b ≡ true → b ≡ false
 not_true true h = cc
 not_true false h = refl
 

@@ -2,7 +2,7 @@
 use Rattle.std.proofs.Common.{◌≡◌, ℕ, ◌+◌, ◌-◌, ◌≤◌, Bool, true, false, List, [], ◌∷◌, ◌++◌, length, length-append, refl, sym, ap, ◌∙◌, subst, arith, Option, Some, None, sum_by, replicate, IsTrue}
 use Rattle.std.specs.List.{list_all, list_any, remove}
 use Rattle.std.specs.Prelude.{◌&&◌, ◌==◌, find, not, position, slice_get}
-use Rattle.q_core.proofs.DroppedLaws.{drop_first-narrow, found_first, is_row-same, is_row-true, list_any-drop_first, sum_by-drop_first}
+use Rattle.q_core.proofs.DroppedLaws.{drop_first-narrow, found_first, is_row-same, is_row-true, list_any-drop_first, other_site, sum_by-drop_first}
 use Rattle.q_core.proofs.ListLaws.{drop_first-Some, find-all, find-any, find-passes}
 use Rattle.q_core.proofs.NeedsLaws.{needs_few}
 use Rattle.q_core.proofs.NoteLaws.{IsQuiet, note_law}
@@ -16,7 +16,7 @@ use Rattle.q_core.specs.Held.{is_dead_in}
 use Rattle.q_core.specs.Leaving.{IsFirstDead, IsUnqueued, put_off_in}
 use Rattle.q_core.specs.declared.state.Core.{Core}
 use Rattle.q_laws.specs.Consistency.{IsConsistent}
-use Rattle.q_model.proofs.IdLaws.{site_eq-refl, site_eq-true}
+use Rattle.q_model.proofs.IdLaws.{site_eq-refl}
 use Rattle.q_model.specs.Book.{message_of}
 use Rattle.q_model.specs.Destinations.{site_eq}
 use Rattle.q_model.specs.Ledger.{Ledger}
@@ -85,10 +85,6 @@ skip_raw {w = w} {c = c} {d = d} {l = l} {entry = entry} h r m there e first dea
     let rest : d ≡ record c { waiting = d.waiting; flights = d.flights; unsettled = d.unsettled; in_memory = d.in_memory } =
     u.rest ∙ ap (λ fs. record c { waiting = d.waiting; flights = fs; unsettled = d.unsettled; in_memory = d.in_memory }) (sym (ap (λ (x : Core). x.flights) u.rest)) in
     rows_law ws l.flights us h rest (record { waiting = waiting; flights = ap (λ (x : Core). x.flights.items) u.rest ∙ h.parts.flights; unsettled = unsettled; memory = memory })
-
-other_site : (site s : Site) → site_eq s site ≡ false → (b : Bool) → site_eq site s ≡ b → site_eq site s ≡ false
-other_site site s e false h = h
-other_site site s e true h = let bad : true ≡ false = sym (ap (λ x. site_eq x site) (sym (site_eq-true site s h)) ∙ site_eq-refl site) ∙ e in cc
 
 -- a row left its site, and no other
 skip_leaves : (w : World) {l : Ledger} (r : Row) (m : Message) (p : Row → Bool) → find p l.waiting ≡ Some r → LeavesFrom r.site l (noted (entries.Skip r.id r.site r.positions) (skipped w l r m))

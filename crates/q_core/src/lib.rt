@@ -21,6 +21,7 @@ mod needs;
 mod next;
 mod queries;
 mod reading;
+mod reply;
 mod scan;
 mod settle;
 mod skip;
