@@ -3,7 +3,7 @@ use Rattle.std.proofs.Common.{◌≡◌, ℕ, ◌+◌, Bool, true, false, ◌⊎
 use Rattle.std.proofs.lemmas.Bool.{and_parts}
 use Rattle.std.specs.Prelude.{◌&&◌, ◌==◌, ◌||◌, nat_lt, ◌^◌, not}
 use Rattle.q_laws.proofs.Arrived.{arrive_consistent, bounce_consistent}
-use Rattle.q_laws.proofs.Begins.{life_consistent}
+use Rattle.q_laws.proofs.Beginnings.{life_consistent}
 use Rattle.q_laws.proofs.Cleared.{back_consistent, corrupt_consistent}
 use Rattle.q_laws.proofs.Clock.{at_consistent, trigger_consistent}
 use Rattle.q_laws.proofs.Decided.{Decided, Says}
