@@ -1,9 +1,9 @@
 -- A book that is lawful stays lawful: no entry brings a damaged file out of corrupt.
-use Rattle.std.proofs.Common.{◌≡◌, ℕ, Bool, true, false, List, [], ◌∷◌, ◌++◌, map, replicate, length, Option, Some, None, ◌⊎◌, inl, inr, refl, sym, ap, ◌∙◌, subst, if◌then◌else◌}
+use Rattle.std.proofs.Common.{◌≡◌, ℕ, Bool, true, false, List, [], ◌∷◌, ◌++◌, map, replicate, length, Option, Some, None, refl, ap, ◌∙◌, if◌then◌else◌}
 use Rattle.std.proofs.lemmas.Bool.{and_from, and_parts}
 use Rattle.std.specs.List.{list_all}
 use Rattle.std.specs.Option.{option_map_or}
-use Rattle.std.specs.Prelude.{◌&&◌, ◌+◌, nat_le}
+use Rattle.std.specs.Prelude.{◌+◌, nat_le}
 use Rattle.q_laws.proofs.Beginnings.{life_consistent}
 use Rattle.q_laws.proofs.Kept.{entry_consistent}
 use Rattle.q_laws.proofs.Loaded.{records_is}
@@ -19,7 +19,7 @@ use Rattle.q_model.specs.FilesStand.{all_ids, are_distinct}
 use Rattle.q_model.specs.declared.event.Mode.{Mode}
 use Rattle.q_model.specs.Ids.{id_eq}
 use Rattle.q_model.specs.Ledger.{Ledger}
-use Rattle.q_model.specs.Loads.{loaded, with_records}
+use Rattle.q_model.specs.Loads.{loaded}
 use Rattle.q_model.specs.Message.{Message}
 use Rattle.q_model.specs.Notices.{bounce_message}
 use Rattle.q_model.specs.Orderly.{is_lawful, is_orderly}

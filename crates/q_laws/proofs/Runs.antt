@@ -1,12 +1,12 @@
 -- The entries of a run, and what holds after each of them.
-use Rattle.std.proofs.Common.{◌≡◌, ℕ, zero, suc, ◌^◌, ◌≤◌, Bool, true, false, List, [], ◌∷◌, ◌++◌, Option, Some, None, ◌⊎◌, inl, inr, refl, sym, ap, ◌∙◌, subst, arith, if◌then◌else◌}
+use Rattle.std.proofs.Common.{◌≡◌, ℕ, zero, suc, ◌^◌, Bool, true, false, List, [], ◌∷◌, ◌++◌, Option, Some, None, inl, inr, refl, sym, ◌∙◌, subst, arith, if◌then◌else◌}
 use Rattle.std.proofs.lemmas.Bool.{and_from, and_parts}
-use Rattle.std.specs.Prelude.{◌&&◌, ◌+◌}
+use Rattle.std.specs.Prelude.{◌+◌}
 use Rattle.q_laws.proofs.Beginnings.{life_consistent}
 use Rattle.q_laws.proofs.Kept.{entry_consistent}
 use Rattle.q_laws.proofs.Lawful.{entry_lawful, life_lawful}
 use Rattle.q_laws.specs.Consistency.{IsConsistent, IsUsable}
-use Rattle.q_laws.specs.Traces.{AreAllowed, AreEntriesOf, IsEntryOf, IsWithinLimits, is_outside}
+use Rattle.q_laws.specs.Traces.{AreAllowed, AreEntriesOf, IsWithinLimits, is_outside}
 use Rattle.q_model.specs.Book.{Book}
 use Rattle.q_model.specs.FilesStand.{all_ids, are_distinct}
 use Rattle.q_model.specs.Ledger.{Ledger, opening}
