@@ -4,6 +4,7 @@
 
 ghost use Rattle.std.specs.Prelude.{◌+◌, ◌++◌, ◌≡◌, ◌∷◌, List, Some, true};
 ghost use Rattle.q_laws.specs.Consistency.{IsBookConsistent, IsConsistent, IsUsable};
+ghost use Rattle.q_laws.specs.SitesConsistency.{IsOpen, IsSitesConsistent};
 ghost use Rattle.q_laws.specs.Traces.{AreAllowed, IsEntryOf, IsWithinLimits};
 ghost use Rattle.q_model.specs.declared.entry.Entry.{Entry};
 ghost use Rattle.q_model.specs.declared.event.Item.{Item};
@@ -55,4 +56,15 @@ pub fn runs_stay_lawful()
 /// within their limits.
 pub fn stays_within_limits()
     ensures { (w : World) → (mode : Mode) → (book : Book) → (list : List Item) → IsUsable w → are_distinct (all_ids book) ≡ true → is_orderly book ≡ true → AreAllowed w (opening mode book) (items.Begin ∷ list) → (es : List Entry) → (fs : List Entry) → run_of w mode book list ≡ es ++ fs → IsWithinLimits w (after_all w (opening mode book) es) }
+{}
+
+/// A life begins with no destination known.
+pub fn destinations_begin()
+    ensures { (w : World) → (mode : Mode) → (book : Book) → IsOpen w → IsSitesConsistent w (after w (opening mode book) (entries.Life (book.generation + 1) mode)) }
+{}
+
+/// Such an entry keeps one record for each destination, its window open and within the limit, and
+/// no more deliveries to it than that limit.
+pub fn destinations_stay()
+    ensures { (w : World) → (l : Ledger) → (e : Entry) → IsConsistent w l → IsSitesConsistent w l → IsEntryOf w l e → IsSitesConsistent w (after w l e) }
 {}
