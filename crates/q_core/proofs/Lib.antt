@@ -11,6 +11,8 @@ pub mod TakeLaws
 pub mod BeginLaws
 pub mod ExpiryLaws
 pub mod NextLaws
+pub mod KindLaws
+pub mod TakenLaws
 pub mod LookLaws
 pub mod StepLaws
 pub mod NoteLaws

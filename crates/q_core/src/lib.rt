@@ -24,6 +24,7 @@ mod reading;
 mod reply;
 mod scan;
 mod settle;
+mod settling;
 mod skip;
 mod slot;
 mod start;
