@@ -71,9 +71,9 @@ pub settling_decided : (w : World) (l : Ledger) (e : Entry) (us : List Unsettled
 settling_decided w l e [] same h = absurd cc
 settling_decided w l e (u ∷ us) same h = subst (Decided w l) (same_Some (needed u.id u.position u.need) e h) (need_decided w l u.id u.position u.need us same)
 
-pub settling_none : (l : Ledger) (us : List Unsettled) → option_map (λ (u : Unsettled). needed u.id u.position u.need) (slice_get us 0) ≡ None → us ≡ []
-settling_none l [] h = refl
-settling_none l (u ∷ us) h = absurd cc
+pub settling_none : (us : List Unsettled) → option_map (λ (u : Unsettled). needed u.id u.position u.need) (slice_get us 0) ≡ None → us ≡ []
+settling_none [] h = refl
+settling_none (u ∷ us) h = absurd cc
 
 -- ---- N2
 

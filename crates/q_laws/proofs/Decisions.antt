@@ -204,7 +204,7 @@ rules_decided : (w : World) (l : Ledger) (e : Entry) → IsConsistent w l → fi
 rules_decided w l e c h =
     elim (either (settling_rule l) _ e h) [
       | inl r ↦ settling_decided w l e l.unsettled refl r
-      | inr a ↦ let none : l.unsettled ≡ [] = settling_none l l.unsettled a.0 in elim (either (sync_rule w l) _ e a.1) [
+      | inr a ↦ let none : l.unsettled ≡ [] = settling_none l.unsettled a.0 in elim (either (sync_rule w l) _ e a.1) [
         | inl r ↦ sync_decided w l e _ c refl r
         | inr b ↦ elim (either (skip_rule l) _ e b.1) [
           | inl r ↦ skip_decided w l e _ refl r

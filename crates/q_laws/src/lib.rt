@@ -14,7 +14,7 @@ ghost use Rattle.q_model.specs.Ledger.{Ledger, opening};
 ghost use Rattle.q_model.specs.Next.{next};
 ghost use Rattle.q_model.specs.Orderly.{is_lawful, is_orderly};
 ghost use Rattle.q_model.specs.Past.{is_living};
-ghost use Rattle.q_model.specs.Run.{run_of};
+ghost use Rattle.q_model.specs.Run.{run, run_of};
 ghost use Rattle.q_model.specs.Settings.{World};
 ghost use Rattle.q_model.specs.Step.{after, after_all, allowed};
 ghost use Rattle.q_model.specs.declared.entry.Entry.TheVariants as entries;
@@ -41,7 +41,12 @@ pub fn stays_consistent()
     ensures { (w : World) → (l : Ledger) → (e : Entry) → IsConsistent w l → IsEntryOf w l e → IsConsistent w (after w l e) }
 {}
 
-/// Such an entry keeps a lawful book lawful.
+/// After each entry of a run from a consistent ledger the ledger is consistent.
+pub fn runs_stay_consistent()
+    ensures { (w : World) → (l : Ledger) → (list : List Item) → IsConsistent w l → AreAllowed w l list → (es : List Entry) → (fs : List Entry) → run w l list ≡ es ++ fs → IsConsistent w (after_all w l es) }
+{}
+
+/// Such an entry of a consistent ledger keeps a lawful book lawful.
 pub fn stays_lawful()
     ensures { (w : World) → (l : Ledger) → (e : Entry) → IsConsistent w l → IsEntryOf w l e → is_lawful l.book ≡ true → is_lawful (after w l e).book ≡ true }
 {}
