@@ -16,6 +16,7 @@ use Rattle.q_laws.proofs.Decided.{Decided}
 use Rattle.q_laws.proofs.Decisions.{next_decided}
 use Rattle.q_model.specs.Ids.{id_eq}
 use Rattle.q_model.specs.Ledger.{Ledger}
+use Rattle.q_model.specs.Lists.{has_none}
 use Rattle.q_model.specs.Logs.{may_log, needs_log, why_eq}
 use Rattle.q_model.specs.Marking.{marks_first, marks_leftover, needs_mark}
 use Rattle.q_model.specs.Next.{needed, next, settling_rule}
@@ -122,17 +123,17 @@ pub mark_rule : (l : Ledger) (id : Id) (p : ℕ) → marks_first l id p ≡ true
 mark_rule l id p h = mark_list id p l.unsettled h
 
 -- nothing is unsettled, so an earlier life left the failure
-pub left_wanted : {w : World} {c : Core} {l : Ledger} {id : Id} {p : ℕ} → Agrees w c l → c.unsettled.items ≡ [] → Decided w l (entries.Mark id p) → marks_leftover l id p ≡ true
-left_wanted {c = c} {l = l} {id = id} {p = p} a none (may, inl first) =
+pub left_wanted : {w : World} {c : Core} {l : Ledger} (id : Id) (p : ℕ) → Agrees w c l → c.unsettled.items ≡ [] → Decided w l (entries.Mark id p) → marks_leftover l id p ≡ true
+left_wanted {c = c} {l = l} id p a none (may, inl first) =
     let empty : l.unsettled ≡ [] = sym a.matches.parts.unsettled ∙ none in
     let bad : true ≡ false = sym first ∙ ap (λ (us : List Unsettled). option_map_or (λ u. id_eq u.id id && (u.position == p) && needs_mark u.need) (slice_get us 0) false) empty in
     cc
-left_wanted a none (may, inr h) = h.1
+left_wanted id p a none (may, inr h) = h.1
 
 -- something is unsettled, and comes first
-pub first_wanted : {w : World} {c : Core} {l : Ledger} {id : Id} {p : ℕ} → Agrees w c l → 0 < length c.unsettled.items → Decided w l (entries.Mark id p) → settling_rule l ≡ Some (entries.Mark id p)
-first_wanted {l = l} {id = id} {p = p} a some (may, inl first) = mark_rule l id p first
-first_wanted {c = c} {l = l} a some (may, inr h) = let empty : length c.unsettled.items ≡ 0 = ap length (a.matches.parts.unsettled ∙ h.0) in absurd (omega (arith, some, empty))
+pub first_wanted : {w : World} {c : Core} {l : Ledger} (id : Id) (p : ℕ) → Agrees w c l → 0 < length c.unsettled.items → Decided w l (entries.Mark id p) → settling_rule l ≡ Some (entries.Mark id p)
+first_wanted {l = l} id p a some (may, inl first) = mark_rule l id p first
+first_wanted {c = c} {l = l} id p a some (may, inr h) = let empty : length c.unsettled.items ≡ 0 = ap length (a.matches.parts.unsettled ∙ h.0) in absurd (omega (arith, some, empty))
 
 some_within : {A : Type 0} (xs : List A) (n : ℕ) (x : A) → slice_get xs n ≡ Some x → n < length xs
 some_within [] n x e = cc
@@ -167,3 +168,11 @@ skip_at_place c id site entry (Some n) p h = skip_row c id site entry n (slice_g
 
 pub skip_parts : (c : Core) (id : Id) (site : Site) (entry : ℕ) → next_skip_in c ≡ Some (decisions.Skip id site entry) → IsSkipOf c id site entry
 skip_parts c id site entry h = skip_at_place c id site entry (position (λ r. is_dead_in c r.site) c.waiting.items) refl h
+
+pub no_items : {A : Type 0} (xs : List A) → has_none xs ≡ true → xs ≡ []
+no_items [] h = refl
+no_items (x ∷ xs) h = cc
+
+pub some_items : {A : Type 0} (xs : List A) → has_none xs ≡ false → 0 < length xs
+some_items [] h = cc
+some_items (x ∷ xs) h = omega arith

@@ -4,8 +4,8 @@ ghost use Rattle.std.specs.Prelude.{◌≡◌, IsTrue, OnErr, OnOk, Some};
 ghost use Rattle.q_core.specs.Changes.{IsAsBefore, is_looked_at};
 ghost use Rattle.q_core.specs.Agrees.{Agrees};
 ghost use Rattle.q_core.specs.Deciding.{IsTaken, decide_in};
-ghost use Rattle.q_core.specs.Rules.{next_skip_in};
 ghost use Rattle.q_model.specs.Ledger.{Ledger};
+ghost use Rattle.q_model.specs.Lists.{has_none};
 ghost use Rattle.q_model.specs.Settings.{World};
 
 use crate::decision::Decision;
@@ -14,6 +14,15 @@ use q_model::{Failure, Id, NoMemory, Site};
 use std::alloc::Global;
 
 impl Core {
+    fn is_settled(&self) -> bool
+        ensures { result ≡ has_none self.now.unsettled.items }
+    {
+        match self.unsettled.as_slice() {
+            [] => true,
+            [_, ..] => false,
+        }
+    }
+
     pub(crate) fn take_log(&mut self, id: Id, failure: Failure)
         requires seen { IsTrue (is_looked_at self.old) }
         requires decided { decide_in self.old ≡ Some (Decision.Log id failure) }
@@ -28,7 +37,7 @@ impl Core {
         requires decided { decide_in self.old ≡ Some (Decision.Mark id position) }
         ensures { (w : World) → (l : Ledger) → Agrees w self.old l → IsTaken w l self.old (Decision.Mark id position) self.new }
     {
-        if self.unsettled.is_empty() {
+        if self.is_settled() {
             self.mark_left();
         } else {
             self.mark_first(id);
@@ -43,10 +52,10 @@ impl Core {
     {
         if self.is_admitted(id) {
             self.sync(id);
-            Ok(())
-        } else {
-            self.sync_left(id)
+            return Ok(());
         }
+        self.sync_left(id)?;
+        Ok(())
     }
 
     pub(crate) fn take_skip(&mut self, alloc: Global, id: Id, site: Site, entry: usize) -> Result<(), NoMemory>
@@ -55,6 +64,7 @@ impl Core {
         ensures ok { OnOk result ((w : World) → (l : Ledger) → Agrees w self.old l → IsTaken w l self.old (Decision.Skip id site entry) self.new) }
         ensures err { OnErr result (IsAsBefore self.old self.new) }
     {
-        self.skip(alloc, entry)
+        self.skip(alloc, entry)?;
+        Ok(())
     }
 }
