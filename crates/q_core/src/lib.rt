@@ -27,6 +27,7 @@ mod settle;
 mod skip;
 mod slot;
 mod start;
+mod starting;
 mod state;
 mod sync;
 #[cfg(test)]
