@@ -35,3 +35,6 @@ pub mod RowsLaws
 pub mod SkipLaws
 pub mod FlightLaws
 pub mod ReplyLaws
+pub mod ChosenLaws
+pub mod AccountLaws
+pub mod SentLaws

@@ -28,6 +28,7 @@ mod settling;
 mod skip;
 mod slot;
 mod start;
+mod starting;
 mod state;
 mod sync;
 #[cfg(test)]
