@@ -33,3 +33,8 @@ pub mod RowsLaws
 pub mod SkipLaws
 pub mod FlightLaws
 pub mod ReplyLaws
+pub mod QueueLaws
+pub mod SameLaws
+pub mod PlacedLaws
+pub mod RestLaws
+pub mod DeferLaws

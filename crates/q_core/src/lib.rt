@@ -13,6 +13,7 @@ mod finishing;
 mod heard;
 mod idle;
 pub mod laws;
+mod leaving;
 mod leftover;
 mod line;
 mod marking;
