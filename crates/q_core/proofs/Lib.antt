@@ -37,4 +37,6 @@ pub mod QueueLaws
 pub mod SameLaws
 pub mod PlacedLaws
 pub mod RestLaws
+pub mod DueLaws
 pub mod DeferLaws
+pub mod RemoveLaws

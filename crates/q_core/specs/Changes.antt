@@ -110,3 +110,8 @@ slots_without id slots = filter (λ s. not (id_eq s.id id)) slots
 pub record IsPutOff (old new : Core) (id : Id) : Type 0 where
   pub rest : new ≡ record old { admitted = new.admitted; deferred = Unknown }
   pub admitted : new.admitted.items ≡ slots_without id old.admitted.items
+
+-- the slot of this id is gone, and incoming is to be looked at anew
+pub record IsTakenOut (old new : Core) (id : Id) : Type 0 where
+  pub rest : new ≡ record old { admitted = new.admitted; incoming = Unknown }
+  pub admitted : new.admitted.items ≡ slots_without id old.admitted.items
