@@ -40,3 +40,6 @@ pub mod RestLaws
 pub mod DueLaws
 pub mod DeferLaws
 pub mod RemoveLaws
+pub mod AddedLaws
+pub mod BounceLaws
+pub mod ArriveLaws

@@ -13,7 +13,7 @@ use Rattle.q_core.specs.Destinations.{forget_in, is_left_in, revive_dead_in, rev
 use Rattle.q_core.specs.Files.{is_nothing}
 use Rattle.q_core.specs.Lists.{moved_back}
 use Rattle.q_core.specs.Settled.{settled_line, settled_served}
-use Rattle.q_core.specs.Slots.{changed_at}
+use Rattle.q_core.specs.Slots.{changed_at, with_bounce}
 use Rattle.q_core.specs.declared.slot.Slot.{Slot}
 use Rattle.q_core.specs.declared.decision.Found.{Found}
 use Rattle.q_core.specs.declared.state.Core.{Core}
@@ -115,3 +115,8 @@ pub record IsPutOff (old new : Core) (id : Id) : Type 0 where
 pub record IsTakenOut (old new : Core) (id : Id) : Type 0 where
   pub rest : new ≡ record old { admitted = new.admitted; incoming = Unknown }
   pub admitted : new.admitted.items ≡ slots_without id old.admitted.items
+
+-- the bounce of this message is stored, and incoming is to be looked at anew
+pub record IsBounced (old new : Core) (id : Id) : Type 0 where
+  pub rest : new ≡ record old { admitted = new.admitted; incoming = Unknown }
+  pub admitted : new.admitted.items ≡ map (changed_at id with_bounce) old.admitted.items

@@ -12,6 +12,7 @@ mod destination;
 mod finishing;
 mod heard;
 mod idle;
+mod incoming;
 pub mod laws;
 mod leaving;
 mod leftover;
