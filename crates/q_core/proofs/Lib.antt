@@ -38,3 +38,13 @@ pub mod ReplyLaws
 pub mod ChosenLaws
 pub mod AccountLaws
 pub mod SentLaws
+pub mod QueueLaws
+pub mod SameLaws
+pub mod PlacedLaws
+pub mod RestLaws
+pub mod DueLaws
+pub mod DeferLaws
+pub mod RemoveLaws
+pub mod AddedLaws
+pub mod BounceLaws
+pub mod ArriveLaws
