@@ -251,3 +251,53 @@ begin_first c d h e =
     or_second is_begin (next_read_in c) (next_start_in c) d (reads_avoid is_begin begin_rare c) h
     (or_second is_begin (next_admission_in c c.incoming) (option_or (next_read_in c) (next_start_in c)) d (admissions_avoid is_begin begin_rare (λ id. refl) c) h
     (behind_clearing is_begin begin_rare (λ id site n. refl) c d h e))
+
+-- of two rules the first has nothing, where it has nothing that passes and something passes
+pub none_of : (p : Decision → Bool) (o q : Option Decision) (d : Decision) → Avoids p o → p d ≡ true → option_or o q ≡ Some d → o ≡ None
+none_of p None q d a h e = refl
+none_of p (Some x) q d a h e = let same : x ≡ d = cc in let bad : true ≡ false = sym h ∙ ap p (sym same) ∙ a in cc
+
+timed_true : (b : Bool) (o : Option Decision) (d : Decision) → (if not b then None else o) ≡ Some d → b ≡ true
+timed_true true o d e = refl
+timed_true false o d e = cc
+
+-- where a delivery begins or a job preempts, no rule before the last has anything
+pub record IsLastRule (c : Core) (d : Decision) : Type 0 where
+  pub timed : c.timed ≡ true
+  pub needs : first_need_in c ≡ None
+  pub syncs : next_sync_in c ≡ None
+  pub skips : next_skip_in c ≡ None
+  pub finishes : next_finish_in c ≡ None
+  pub clearing : next_clearing_in c c.active ≡ None
+  pub admission : next_admission_in c c.incoming ≡ None
+  pub reads : next_read_in c ≡ None
+  pub starts : next_start_in c ≡ Some d
+
+pub last_rule : (c : Core) (d : Decision) → is_begin d ≡ true → decide_in c ≡ Some d → IsLastRule c d
+last_rule c d h e =
+    let k = begin_rare in
+    let p = is_begin in
+    let from_read = option_or (next_read_in c) (next_start_in c) in
+    let from_admission = option_or (next_admission_in c c.incoming) from_read in
+    let from_finish = option_or (next_finish_in c) (clearing_on c) in
+    let from_skip = option_or (next_skip_in c) from_finish in
+    let from_sync = option_or (next_sync_in c) from_skip in
+    let e0 = timed_first c.timed (option_or (scan_look_in c.deferred c.scan) (first_rule_in c)) d e in
+    let e1 = or_second p (scan_look_in c.deferred c.scan) (first_rule_in c) d (scan_avoids p c.deferred c.scan k.look_deferred) h e0 in
+    let e2 = or_second p (first_need_in c) from_sync d (needs_avoid p k c) h e1 in
+    let e3 = or_second p (next_sync_in c) from_skip d (syncs_avoid p k c) h e2 in
+    let e4 = or_second p (next_skip_in c) from_finish d (skips_avoid p (λ id site n. refl) c) h e3 in
+    let e5 = or_second p (next_finish_in c) (clearing_on c) d (finishes_avoid p k c) h e4 in
+    let e6 = or_second p (next_clearing_in c c.active) from_admission d (clearing_avoids p k c c.active) h e5 in
+    let e7 = or_second p (next_admission_in c c.incoming) from_read d (admissions_avoid p k (λ id. refl) c) h e6 in
+    record {
+      timed = timed_true c.timed (option_or (scan_look_in c.deferred c.scan) (first_rule_in c)) d e;
+      needs = none_of p (first_need_in c) from_sync d (needs_avoid p k c) h e1;
+      syncs = none_of p (next_sync_in c) from_skip d (syncs_avoid p k c) h e2;
+      skips = none_of p (next_skip_in c) from_finish d (skips_avoid p (λ id site n. refl) c) h e3;
+      finishes = none_of p (next_finish_in c) (clearing_on c) d (finishes_avoid p k c) h e4;
+      clearing = none_of p (next_clearing_in c c.active) from_admission d (clearing_avoids p k c c.active) h e5;
+      admission = none_of p (next_admission_in c c.incoming) from_read d (admissions_avoid p k (λ id. refl) c) h e6;
+      reads = none_of p (next_read_in c) (next_start_in c) d (reads_avoid p k c) h e7;
+      starts = or_second p (next_read_in c) (next_start_in c) d (reads_avoid p k c) h e7;
+    }

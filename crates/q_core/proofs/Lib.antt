@@ -13,6 +13,7 @@ pub mod ExpiryLaws
 pub mod NextLaws
 pub mod KindLaws
 pub mod TakenLaws
+pub mod BeginningLaws
 pub mod LookLaws
 pub mod StepLaws
 pub mod NoteLaws
