@@ -49,3 +49,5 @@ pub mod RemoveLaws
 pub mod AddedLaws
 pub mod BounceLaws
 pub mod ArriveLaws
+pub mod BackLaws
+pub mod CorruptLaws

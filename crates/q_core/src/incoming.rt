@@ -7,6 +7,7 @@ ghost use Rattle.q_core.specs.Held.{is_admitted_in};
 ghost use Rattle.q_core.specs.Slots.{changed_at, with_bounce};
 ghost use Rattle.q_model.specs.Arrivals.{may_arrive};
 ghost use Rattle.q_model.specs.Bounces.{may_bounce};
+ghost use Rattle.q_model.specs.Leaving.{may_back};
 ghost use Rattle.q_model.specs.Ledger.{Ledger};
 ghost use Rattle.q_model.specs.Settings.{World};
 ghost use Rattle.q_model.specs.Step.{after};
@@ -74,6 +75,15 @@ impl Core {
         ensures { (w : World) → (l : Ledger) → (id : Id) → (sender : Option (List ℕ)) → (to : List (List ℕ)) → (content : List ℕ) → Agrees w self.old l → may_arrive l id ≡ true → Matches w self.new (after w l (Entry.Arrive id sender to content)) }
     {
         self.forget_incoming();
+        self.settle();
+    }
+
+    /// A message that an earlier life left goes back.
+    pub(crate) fn back(&mut self)
+        requires { IsTrue (is_looked_at self.old) }
+        ensures { (w : World) → (l : Ledger) → (id : Id) → Agrees w self.old l → may_back l id ≡ true → Matches w self.new (after w l (Entry.Back id)) }
+    {
+        self.forget_mail();
         self.settle();
     }
 }

@@ -7,6 +7,7 @@ mod admission;
 mod choice;
 mod clearing;
 mod clock;
+mod corrupt;
 mod decision;
 mod destination;
 mod finishing;
