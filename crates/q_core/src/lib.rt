@@ -4,6 +4,7 @@
 #![tactic(auto)]
 
 mod admission;
+mod beginning;
 mod choice;
 mod clearing;
 mod clock;
@@ -19,6 +20,7 @@ mod leaving;
 mod leftover;
 mod line;
 mod marking;
+mod moving;
 mod names;
 mod needs;
 mod next;
