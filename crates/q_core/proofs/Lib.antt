@@ -36,3 +36,5 @@ pub mod ReplyLaws
 pub mod ChosenLaws
 pub mod AccountLaws
 pub mod SentLaws
+pub mod JobLaws
+pub mod PreemptLaws

@@ -19,6 +19,7 @@ mod marking;
 mod names;
 mod needs;
 mod next;
+mod preempting;
 mod queries;
 mod reading;
 mod reply;
