@@ -1,5 +1,5 @@
 -- What entries add to the accounts of jobs.
-use Rattle.std.proofs.Common.{◌≡◌, ℕ, ◌+◌, ◌≤◌, ◌<◌, ◌^◌, Bool, true, false, cond, List, [], ◌∷◌, map, take_while, refl, sym, ap, ◌∙◌, zero-add, arith, lt-ltb}
+use Rattle.std.proofs.Common.{◌≡◌, ℕ, ◌+◌, ◌≤◌, ◌<◌, ◌^◌, Bool, true, false, cond, List, [], ◌∷◌, map, take_while, refl, sym, ap, ◌∙◌, zero-add, suc, Some, slice_get, arith, lt-ltb}
 use Rattle.std.specs.Prelude.{not, ◌&&◌, ◌==◌, count_by, nat_lt, sum_by, if◌then◌else◌}
 use Rattle.std.specs.List.{enumerate_from}
 use Rattle.std.proofs.lemmas.List.Sums.{take_while-cons, sum_by-cons}
@@ -102,3 +102,25 @@ lines_begun l number id site positions few n (ids ∷ ls) =
     ap (λ js. js ∷ map (begun_line id site.transport) (enumerate_from (n + 1) (map (jobs_of l) (enumerate_from (n + 1) ls))))
     (map-twice (begun_job id site.transport n) (job_of l n) (job_of (noted e l) n) (job_begun l number id site positions n few) ids)
     ∙ ap (λ rest. map (job_of (noted e l) n) ids ∷ rest) (lines_begun l number id site positions few (n + 1) ls)
+
+-- ---- a job is charged
+
+pub job_charged : (l : Ledger) (child parent : Id) (transport need t : ℕ) (k : Id) →
+    job_of (noted (entries.Preempt child parent transport need) l) t k ≡ record { id = k; starts = starts_of l k t; charged = (if id_eq parent k && (transport == t) then need else 0) + charged l k t }
+job_charged l child parent transport need t k =
+    ap (λ n. record { id = k; starts = n; charged = charged (noted (entries.Preempt child parent transport need) l) k t })
+    (starts_more (entries.Preempt child parent transport need) l k t refl ∙ zero-add (starts_of l k t))
+    ∙ ap (λ n. record { id = k; starts = starts_of l k t; charged = n }) (charged_more (entries.Preempt child parent transport need) l k t refl)
+
+-- ---- lines of which each changes
+
+pub lines_changed : (l k : Ledger) (f : (ℕ × List Job) → List Job) (g : (ℕ × List Id) → List Id) (n : ℕ) (ls : List (List Id)) →
+    ((i j : ℕ) (ids : List Id) → j ≡ n + i → slice_get ls i ≡ Some ids → f (j, map (job_of l j) ids) ≡ map (job_of k j) (g (j, ids))) →
+    map f (enumerate_from n (map (jobs_of l) (enumerate_from n ls))) ≡ map (jobs_of k) (enumerate_from n (map g (enumerate_from n ls)))
+lines_changed l k f g n [] h = refl
+lines_changed l k f g n (ids ∷ ls) h =
+    ap (λ js. js ∷ map f (enumerate_from (n + 1) (map (jobs_of l) (enumerate_from (n + 1) ls)))) (h 0 n ids (omega arith) refl)
+    ∙ ap (λ rest. map (job_of k n) (g (n, ids)) ∷ rest)
+    (lines_changed l k f g (n + 1) ls (λ i j xs e there.
+    let next : i + 1 ≡ suc i = omega arith in
+    h (i + 1) j xs (omega (arith, e)) (ap (slice_get (ids ∷ ls)) next ∙ there)))

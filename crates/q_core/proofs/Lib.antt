@@ -51,3 +51,5 @@ pub mod BounceLaws
 pub mod ArriveLaws
 pub mod BackLaws
 pub mod CorruptLaws
+pub mod JobLaws
+pub mod PreemptLaws
