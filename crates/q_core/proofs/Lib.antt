@@ -14,6 +14,7 @@ pub mod NextLaws
 pub mod KindLaws
 pub mod TakenLaws
 pub mod BeginningLaws
+pub mod WholeLaws
 pub mod LookLaws
 pub mod StepLaws
 pub mod NoteLaws

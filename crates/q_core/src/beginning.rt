@@ -20,4 +20,12 @@ impl Core {
         self.begin(number, id, site)?;
         Ok(())
     }
+
+    pub(crate) fn take_preempt(&mut self, child: Id, parent: Id, transport: u8, need: u64)
+        requires seen { IsTrue (is_looked_at self.old) }
+        requires decided { decide_in self.old ≡ Some (Decision.Preempt child parent transport need) }
+        ensures { (w : World) → (l : Ledger) → Agrees w self.old l → IsTaken w l self.old (Decision.Preempt child parent transport need) self.new }
+    {
+        self.preempt(child, parent, transport, need);
+    }
 }

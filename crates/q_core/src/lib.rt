@@ -9,6 +9,7 @@ mod choice;
 mod clearing;
 mod clock;
 mod corrupt;
+
 mod decision;
 mod destination;
 mod event;
