@@ -45,3 +45,9 @@ pub mod BounceLaws
 pub mod ArriveLaws
 pub mod BackLaws
 pub mod CorruptLaws
+pub mod TurnLaws
+pub mod TakenLaws
+pub mod AdmitLaws
+pub mod NewcomerLaws
+pub mod NoteAdmitLaws
+pub mod EnterLaws

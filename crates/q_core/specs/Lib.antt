@@ -16,3 +16,4 @@ pub mod Settled
 pub mod Needs
 pub mod Leaving
 pub mod Changes
+pub mod Taking

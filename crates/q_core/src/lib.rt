@@ -32,6 +32,7 @@ mod slot;
 mod start;
 mod state;
 mod sync;
+mod taking;
 #[cfg(test)]
 mod tests;
 mod unsettled;
