@@ -17,7 +17,7 @@ use Rattle.q_core.proofs.NoteAdmitLaws.{in_no_line, note_admit}
 use Rattle.q_core.proofs.QueueLaws.{IsSameOf, files_law, incoming_same, still_same, with_files}
 use Rattle.q_core.proofs.SameLaws.{not_bool}
 use Rattle.q_core.proofs.StepLaws.{HasRowsOf, HoldsRaw, IsStillSeen}
-use Rattle.q_core.proofs.TakenLaws.{picked_one}
+use Rattle.q_core.proofs.CorruptNextLaws.{picked_one}
 use Rattle.q_core.proofs.TurnLaws.{pick_by, picked_found, picks, turn_law}
 use Rattle.q_core.specs.Agrees.{IsSeen, found_active, found_at, found_incoming, slot_of}
 use Rattle.q_core.specs.Changes.{is_known, is_looked_at}

@@ -11,6 +11,9 @@ pub mod TakeLaws
 pub mod BeginLaws
 pub mod ExpiryLaws
 pub mod NextLaws
+pub mod KindLaws
+pub mod TakenLaws
+pub mod BeginningLaws
 pub mod LookLaws
 pub mod StepLaws
 pub mod NoteLaws
@@ -33,6 +36,9 @@ pub mod RowsLaws
 pub mod SkipLaws
 pub mod FlightLaws
 pub mod ReplyLaws
+pub mod ChosenLaws
+pub mod AccountLaws
+pub mod SentLaws
 pub mod QueueLaws
 pub mod SameLaws
 pub mod PlacedLaws
@@ -46,8 +52,10 @@ pub mod ArriveLaws
 pub mod BackLaws
 pub mod CorruptLaws
 pub mod TurnLaws
-pub mod TakenLaws
+pub mod CorruptNextLaws
 pub mod AdmitLaws
 pub mod NewcomerLaws
 pub mod NoteAdmitLaws
 pub mod EnterLaws
+pub mod JobLaws
+pub mod PreemptLaws

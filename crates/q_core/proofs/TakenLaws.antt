@@ -1,94 +1,178 @@
--- The damaged file that is next goes to corrupt.
-use Rattle.std.proofs.Common.{◌≡◌, Bool, true, false, is_some, Option, Some, None, refl, sym, ap, ◌∙◌, subst, IsTrue}
-use Rattle.std.proofs.lemmas.Bool.{and_parts}
+-- What the decision of the core says of the ledger's next.
+use Rattle.std.proofs.Common.{◌≡◌, ◌<◌, ℕ, zero, suc, arith, length, Bool, true, false, List, [], ◌∷◌, refl, sym, ap, ◌∙◌, subst, Option, Some, None, option_map, inl, inr, ◌⊎◌, eqb-true}
 use Rattle.std.specs.Option.{option_map_or}
-use Rattle.std.specs.Prelude.{◌&&◌, ◌||◌, if◌then◌else◌}
-use Rattle.q_core.proofs.CorruptLaws.{corrupt_law, corrupt_parts}
-use Rattle.q_core.proofs.NameLaws.{id_eq-true}
-use Rattle.q_core.proofs.SameLaws.{not_bool}
-use Rattle.q_core.proofs.StepLaws.{HoldsRaw}
-use Rattle.q_core.proofs.TakeLaws.{found_on}
-use Rattle.q_core.proofs.TurnLaws.{pick_by, picks, turn_law}
-use Rattle.q_core.specs.Agrees.{IsSeen, found_active, found_at}
-use Rattle.q_core.specs.Changes.{is_known, is_looked_at}
-use Rattle.q_core.specs.Files.{shows_damaged}
-use Rattle.q_core.specs.Taking.{found_name, from_deferred_in, passed_in, picked_in}
+use Rattle.std.specs.Prelude.{◌&&◌, ◌==◌, option_and_then, position, slice_get}
+use Rattle.q_core.proofs.NameLaws.{and_true_parts, id_eq-true}
+use Rattle.q_core.proofs.NextLaws.{next_law}
+use Rattle.q_core.specs.Agrees.{Agrees}
+use Rattle.q_core.specs.Deciding.{IsLooking, IsNext, decide_in}
+use Rattle.q_core.specs.Decisions.{IsRead, IsRule}
+use Rattle.q_core.specs.Held.{is_dead_in}
+use Rattle.q_core.specs.Rules.{next_skip_in, skip_at, skip_of}
+use Rattle.q_core.specs.declared.decision.Decision.{Decision}
+use Rattle.q_core.specs.declared.decision.Decision.TheVariants as decisions
 use Rattle.q_core.specs.declared.state.Core.{Core}
-use Rattle.q_core.specs.declared.state.Seen.{Seen}
-use Rattle.q_core.specs.declared.decision.Found.TheVariants.{Nothing}
-use Rattle.q_core.specs.declared.state.Seen.TheVariants.{Known, Unknown}
-use Rattle.q_laws.proofs.Books.{message_in, not_damaged}
-use Rattle.q_laws.proofs.Members.{find_in}
-use Rattle.q_laws.specs.Consistency.{IsConsistent}
-use Rattle.q_model.specs.Admissions.{cause_gone, has_room}
-use Rattle.q_model.specs.Book.{Book, Damaged, damaged_of, message_of}
-use Rattle.q_model.specs.BookChanges.{move_damaged}
-use Rattle.q_model.specs.FilesStand.{all_ids, are_distinct}
+use Rattle.q_laws.proofs.Decided.{Decided}
+use Rattle.q_laws.proofs.Decisions.{next_decided}
 use Rattle.q_model.specs.Ids.{id_eq}
-use Rattle.q_model.specs.Leaving.{after_corrupt, may_corrupt}
 use Rattle.q_model.specs.Ledger.{Ledger}
-use Rattle.q_model.specs.Leftovers.{is_next_leftover, next_leftover}
-use Rattle.q_model.specs.Message.{Message}
+use Rattle.q_model.specs.Lists.{has_none}
+use Rattle.q_model.specs.Logs.{may_log, needs_log, why_eq}
+use Rattle.q_model.specs.Marking.{marks_first, marks_leftover, needs_mark}
+use Rattle.q_model.specs.Next.{needed, next, settling_rule}
 use Rattle.q_model.specs.Settings.{World}
-use Rattle.q_model.specs.Turns.{Pick, is_pick, passed, pick, pick_id, taken}
-use Rattle.q_model.specs.Turns.Pick.{from_deferred, from_incoming}
+use Rattle.q_model.specs.declared.entry.Entry.{Entry}
+use Rattle.q_model.specs.declared.entry.Entry.TheVariants as entries
 use Rattle.q_model.specs.declared.id.Id.{Id}
-use Rattle.q_model.specs.declared.rows.DeferredName.{DeferredName}
-use Rattle.q_model.specs.declared.rows.Place.TheVariants as places
+use Rattle.q_model.specs.declared.outcome.Failure.{Failure}
+use Rattle.q_model.specs.declared.outcome.Why.{Why}
+use Rattle.q_model.specs.declared.outcome.Why.TheVariants.{Expired, Refused}
+use Rattle.q_model.specs.declared.rows.Need.{Need}
+use Rattle.q_model.specs.declared.rows.Need.TheVariants as needs
+use Rattle.q_model.specs.declared.rows.Row.{Row}
+use Rattle.q_model.specs.declared.rows.Unsettled.{Unsettled}
+use Rattle.q_model.specs.Values.{Site}
 
--- what is picked
-pub picked_one : (l : Ledger) (id : Id) (o : Option Pick) → pick l ≡ o → option_map_or (λ p. id_eq (pick_id p) id) o false ≡ true → (p : Pick) × (pick l ≡ Some p) × (pick_id p ≡ id)
-picked_one l id None e h = absurd cc
-picked_one l id (Some p) e h = (p, e, id_eq-true (pick_id p) id h)
+-- neither a look nor a read
+abbrev pub is_plain : Decision → Bool
+is_plain (decisions.Read id from max) = false
+is_plain decisions.LookActive = false
+is_plain decisions.LookIncoming = false
+is_plain (decisions.LookDeferred after until) = false
+is_plain _ = true
 
--- a damaged file has no message
-no_message : (b : Book) → are_distinct (all_ids b) ≡ true → (id : Id) → (o : Option Damaged) → damaged_of b id ≡ o → is_some o ≡ true → (q : Option Message) → message_of b id ≡ q → q ≡ None
-no_message b distinct id None e h q f = absurd cc
-no_message b distinct id (Some d) e h None f = refl
-no_message b distinct id (Some d) e h (Some m) f =
-    let mine = message_in b id m f in
-    let one = find_in (λ (x : Damaged). id_eq x.id id) d b.damaged e in
-    absurd (not_damaged b distinct m d mine.0 one.0 (mine.1 ∙ sym (id_eq-true d.id id one.1)))
+not_read : (w : World) (l : Ledger) (d : Decision) (r : Option Entry) → is_plain d ≡ true → IsRead w l d r → ⊥
+not_read w l (decisions.Log id failure) r p h = h
+not_read w l (decisions.Mark id position) r p h = h
+not_read w l (decisions.Sync id) r p h = h
+not_read w l (decisions.Skip id site entry) r p h = h
+not_read w l (decisions.Defer id due) r p h = h
+not_read w l (decisions.Back id) r p h = h
+not_read w l (decisions.Bounce id) r p h = h
+not_read w l (decisions.Remove id) r p h = h
+not_read w l (decisions.Corrupt id) r p h = h
+not_read w l (decisions.Admit id) r p h = h
+not_read w l (decisions.Preempt child parent transport need) r p h = h
+not_read w l (decisions.Start number id site) r p h = h
+not_read w l (decisions.Read id from max) r p h = cc
+not_read w l decisions.LookActive r p h = cc
+not_read w l decisions.LookIncoming r p h = cc
+not_read w l (decisions.LookDeferred after until) r p h = cc
 
--- the look at active would have shown the file
-hidden_on : (l : Ledger) (id : Id) → message_of l.book id ≡ None → (o : Option Id) → shows_damaged (Known (option_map_or (λ k. found_at l 0 k) o Nothing)) id ≡ false → option_map_or (λ k. id_eq k id) o false ≡ false
-hidden_on l id none None h = refl
-hidden_on l id none (Some k) h = not_bool (id_eq k id) (λ e.
-    let same = id_eq-true k id e in
-    let shown : shows_damaged (Known (found_at l 0 k)) id ≡ id_eq k id = ap (λ o. shows_damaged (Known (found_on l 0 k o)) id) (ap (message_of l.book) same ∙ none) in
-    let bad : true ≡ false = sym e ∙ sym shown ∙ h in
-    absurd cc)
+is_other : (d x : Decision) → is_plain d ≡ true → is_plain x ≡ false → ◌≡◌ {A = Option Decision} (Some d) (Some x) → ⊥
+is_other d x p q e = let same : d ≡ x = cc in let bad : true ≡ false = sym p ∙ ap is_plain same ∙ q in cc
 
-hidden_next : (seen : Seen) (l : Ledger) (id : Id) → message_of l.book id ≡ None → is_known seen ≡ true → IsSeen seen (found_active l) → shows_damaged seen id ≡ false → is_next_leftover l id ≡ false
-hidden_next Unknown l id none k h e = absurd cc
-hidden_next (Known found) l id none k h e = hidden_on l id none (next_leftover l) (ap (λ f. shows_damaged (Known f) id) (sym h) ∙ e)
+not_looking : (c : Core) (d : Decision) → is_plain d ≡ true → IsLooking c (Some d) → ⊥
+not_looking c d p (inl h) = is_other d decisions.LookActive p refl h.0
+not_looking c d p (inr (inl h)) = is_other d decisions.LookIncoming p refl h.0
+not_looking c d p (inr (inr h)) = is_other d (decisions.LookDeferred h.0.place h.0.until) p refl h.1
 
-or_second : (a b : Bool) → a ≡ false → (a || b) ≡ true → b ≡ true
-or_second true b e h = absurd cc
-or_second false b e h = h
+plain_rule : (w : World) (l : Ledger) (c : Core) (d : Decision) (r : Option Entry) → is_plain d ≡ true → IsNext w l c (Some d) r → IsRule c (Some d) r
+plain_rule w l c d r p (inl h) = h
+plain_rule w l c d r p (inr (inl h)) = absurd (not_read w l d r p h)
+plain_rule w l c d r p (inr (inr h)) = absurd (not_looking c d p h)
 
-abbrev corrupted : Id → Ledger → Ledger
-corrupted id l = record l { book = move_damaged l.book id places.Corrupt }
+-- what the core decides is the ledger's next
+pub decided_rule : {w : World} {c : Core} {l : Ledger} → Agrees w c l → (d : Decision) → is_plain d ≡ true → decide_in c ≡ Some d → IsRule c (Some d) (next w l)
+decided_rule {w = w} {c = c} {l = l} a d p e = plain_rule w l c d (next w l) p (subst (λ o. IsNext w l c o (next w l)) e (next_law a))
 
--- the turn and the book change apart
-passed_apart : (p : Pick) (id : Id) (l : Ledger) → passed p (corrupted id l) ≡ record (passed p l) { book = move_damaged l.book id places.Corrupt }
-passed_apart (from_incoming i) id l = refl
-passed_apart (from_deferred n) id l = refl
+pub may_next : {w : World} {c : Core} {l : Ledger} → Agrees w c l → (e : Entry) → next w l ≡ Some e → Decided w l e
+may_next {w = w} {l = l} a e h = next_decided w l e a.consistent h
 
-pub corrupt_taken_law : {w : World} {c : Core} {l : Ledger} (id : Id) → HoldsRaw w c l → IsConsistent w l → IsTrue (is_looked_at c) → is_known c.incoming ≡ true → is_known c.active ≡ true → shows_damaged c.active id ≡ false → may_corrupt w l id ≡ true →
-    HoldsRaw w (passed_in (from_deferred_in c) (found_name (picked_in c)) (record c { active = Unknown; incoming = Unknown; deferred = Unknown })) (after_corrupt l id)
-corrupt_taken_law {w = w} {c = c} {l = l} id r k looked known seen hidden may =
-    let parts = corrupt_parts k id may in
-    let two = and_parts (is_some (damaged_of l.book id) && (is_next_leftover l id || (has_room w l && is_pick l id))) (cause_gone l.book id) may in
-    let one = and_parts (is_some (damaged_of l.book id)) (is_next_leftover l id || (has_room w l && is_pick l id)) two.0 in
-    let none = no_message l.book k.book.distinct id (damaged_of l.book id) refl one.0 (message_of l.book id) refl in
-    let other : is_next_leftover l id ≡ false = hidden_next c.active l id none seen r.parts.active hidden in
-    let pick = picked_one l id (pick l) refl (and_parts (has_room w l) (is_pick l id) (or_second (is_next_leftover l id) (has_room w l && is_pick l id) other one.1)).1 in
-    let from = from_deferred_in c in
-    let name = found_name (picked_in c) in
-    let d : Core = passed_in from name (record c { active = Unknown; incoming = Unknown; deferred = Unknown }) in
-    let gone : HoldsRaw w d (passed (pick_by from name) (corrupted id l)) = turn_law from name (corrupt_law id r k parts.0 parts.1) in
-    let turned : HoldsRaw w d (record (passed pick.0 l) { book = move_damaged l.book id places.Corrupt }) =
-    subst (HoldsRaw w d) (ap (λ p. passed p (corrupted id l)) (picks r looked known pick.0 pick.1) ∙ passed_apart pick.0 id l) gone in
-    subst (λ (b : Bool). HoldsRaw w d (let t : Ledger = if b then l else taken l in record t { book = move_damaged l.book id places.Corrupt })) (sym other)
-    (subst (λ (o : Option Pick). HoldsRaw w d (record (option_map_or (λ p. passed p l) o l) { book = move_damaged l.book id places.Corrupt })) (sym pick.1) turned)
+same_why : (a b : Why) → why_eq a b ≡ true → b ≡ a
+same_why Refused Refused h = refl
+same_why Refused Expired h = cc
+same_why Expired Refused h = cc
+same_why Expired Expired h = refl
+
+need_log : (id k : Id) (f : Failure) (p : ℕ) (n : Need) → k ≡ id → p ≡ f.position → needs_log f n ≡ true → needed k p n ≡ entries.Log id f
+need_log id k f p (needs.Log why code) i e h =
+    let parts = and_true_parts (why_eq f.why why) (f.code == code) h in
+    ap (λ (x : Id). entries.Log x (record { position = p; why = why; code = code })) i
+    ∙ ap (λ n. entries.Log id (record { position = n; why = why; code = code })) e
+    ∙ ap (λ (y : Why). entries.Log id (record { position = f.position; why = y; code = code })) (same_why f.why why parts.0)
+    ∙ ap (λ n. entries.Log id (record { position = f.position; why = f.why; code = n })) (sym (eqb-true f.code code parts.1))
+need_log id k f p needs.Mark i e h = cc
+
+log_list : (id : Id) (f : Failure) (us : List Unsettled) → option_map_or (λ u. id_eq u.id id && (u.position == f.position) && needs_log f u.need) (slice_get us 0) false ≡ true →
+    option_map (λ (u : Unsettled). needed u.id u.position u.need) (slice_get us 0) ≡ Some (entries.Log id f)
+log_list id f [] h = cc
+log_list id f (u ∷ us) h =
+    let two = and_true_parts (id_eq u.id id && (u.position == f.position)) (needs_log f u.need) h in
+    let one = and_true_parts (id_eq u.id id) (u.position == f.position) two.0 in
+    ap (λ (e : Entry). Some e) (need_log id u.id f u.position u.need (id_eq-true u.id id one.0) (eqb-true u.position f.position one.1) two.1)
+
+-- the first outcome needs this record
+pub log_rule : (l : Ledger) (id : Id) (f : Failure) → may_log l id f ≡ true → settling_rule l ≡ Some (entries.Log id f)
+log_rule l id f h = log_list id f l.unsettled h
+
+need_mark : (id k : Id) (p q : ℕ) (n : Need) → k ≡ id → q ≡ p → needs_mark n ≡ true → needed k q n ≡ entries.Mark id p
+need_mark id k p q (needs.Log why code) i e h = cc
+need_mark id k p q needs.Mark i e h = ap (λ (x : Id). entries.Mark x q) i ∙ ap (λ n. entries.Mark id n) e
+
+mark_list : (id : Id) (p : ℕ) (us : List Unsettled) → option_map_or (λ u. id_eq u.id id && (u.position == p) && needs_mark u.need) (slice_get us 0) false ≡ true →
+    option_map (λ (u : Unsettled). needed u.id u.position u.need) (slice_get us 0) ≡ Some (entries.Mark id p)
+mark_list id p [] h = cc
+mark_list id p (u ∷ us) h =
+    let two = and_true_parts (id_eq u.id id && (u.position == p)) (needs_mark u.need) h in
+    let one = and_true_parts (id_eq u.id id) (u.position == p) two.0 in
+    ap (λ (e : Entry). Some e) (need_mark id u.id p u.position u.need (id_eq-true u.id id one.0) (eqb-true u.position p one.1) two.1)
+
+-- the first outcome needs this mark
+pub mark_rule : (l : Ledger) (id : Id) (p : ℕ) → marks_first l id p ≡ true → settling_rule l ≡ Some (entries.Mark id p)
+mark_rule l id p h = mark_list id p l.unsettled h
+
+-- nothing is unsettled, so an earlier life left the failure
+pub left_wanted : {w : World} {c : Core} {l : Ledger} (id : Id) (p : ℕ) → Agrees w c l → c.unsettled.items ≡ [] → Decided w l (entries.Mark id p) → marks_leftover l id p ≡ true
+left_wanted {c = c} {l = l} id p a none (may, inl first) =
+    let empty : l.unsettled ≡ [] = sym a.matches.parts.unsettled ∙ none in
+    let bad : true ≡ false = sym first ∙ ap (λ (us : List Unsettled). option_map_or (λ u. id_eq u.id id && (u.position == p) && needs_mark u.need) (slice_get us 0) false) empty in
+    cc
+left_wanted id p a none (may, inr h) = h.1
+
+-- something is unsettled, and comes first
+pub first_wanted : {w : World} {c : Core} {l : Ledger} (id : Id) (p : ℕ) → Agrees w c l → 0 < length c.unsettled.items → Decided w l (entries.Mark id p) → settling_rule l ≡ Some (entries.Mark id p)
+first_wanted {l = l} id p a some (may, inl first) = mark_rule l id p first
+first_wanted {c = c} {l = l} id p a some (may, inr h) = let empty : length c.unsettled.items ≡ 0 = ap length (a.matches.parts.unsettled ∙ h.0) in absurd (omega (arith, some, empty))
+
+some_within : {A : Type 0} (xs : List A) (n : ℕ) (x : A) → slice_get xs n ≡ Some x → n < length xs
+some_within [] n x e = cc
+some_within (y ∷ ys) zero x e = omega arith
+some_within (y ∷ ys) (suc n) x e = let rest = some_within ys n x e in omega (arith, rest)
+
+-- the third rule's row
+pub record IsSkipOf (c : Core) (id : Id) (site : Site) (entry : ℕ) : Type 0 where
+  pub row : Row
+  pub first : position (λ r. is_dead_in c r.site) c.waiting.items ≡ Some entry
+  pub there : slice_get c.waiting.items entry ≡ Some row
+  pub name : row.id ≡ id
+  pub place : row.site ≡ site
+  pub within : entry < length c.waiting.items
+
+skip_row : (c : Core) (id : Id) (site : Site) (entry n : ℕ) (o : Option Row) → position (λ r. is_dead_in c r.site) c.waiting.items ≡ Some n → slice_get c.waiting.items n ≡ o → option_map (skip_of n) o ≡ Some (decisions.Skip id site entry) → IsSkipOf c id site entry
+skip_row c id site entry n None p e h = cc
+skip_row c id site entry n (Some r) p e h =
+    let same : n ≡ entry = cc in
+    record {
+      row = r;
+      first = p ∙ ap (λ k. Some k) same;
+      there = ap (slice_get c.waiting.items) (sym same) ∙ e;
+      name = cc;
+      place = cc;
+      within = some_within c.waiting.items entry r (ap (slice_get c.waiting.items) (sym same) ∙ e);
+    }
+
+skip_at_place : (c : Core) (id : Id) (site : Site) (entry : ℕ) (o : Option ℕ) → position (λ r. is_dead_in c r.site) c.waiting.items ≡ o → option_and_then (skip_at c) o ≡ Some (decisions.Skip id site entry) → IsSkipOf c id site entry
+skip_at_place c id site entry None p h = cc
+skip_at_place c id site entry (Some n) p h = skip_row c id site entry n (slice_get c.waiting.items n) p refl h
+
+pub skip_parts : (c : Core) (id : Id) (site : Site) (entry : ℕ) → next_skip_in c ≡ Some (decisions.Skip id site entry) → IsSkipOf c id site entry
+skip_parts c id site entry h = skip_at_place c id site entry (position (λ r. is_dead_in c r.site) c.waiting.items) refl h
+
+pub no_items : {A : Type 0} (xs : List A) → has_none xs ≡ true → xs ≡ []
+no_items [] h = refl
+no_items (x ∷ xs) h = cc
+
+pub some_items : {A : Type 0} (xs : List A) → has_none xs ≡ false → 0 < length xs
+some_items [] h = cc
+some_items (x ∷ xs) h = omega arith

@@ -17,3 +17,5 @@ pub mod Needs
 pub mod Leaving
 pub mod Changes
 pub mod Taking
+pub mod Beginning
+pub mod Hearing

@@ -9,7 +9,7 @@ use Rattle.q_core.proofs.CorruptLaws.{corrupt_rows}
 use Rattle.q_core.proofs.NoteLaws.{note_law}
 use Rattle.q_core.proofs.SettleLaws.{settle_law}
 use Rattle.q_core.proofs.StepLaws.{HoldsRaw, raw_law}
-use Rattle.q_core.proofs.TakenLaws.{corrupt_taken_law}
+use Rattle.q_core.proofs.CorruptNextLaws.{corrupt_taken_law}
 use Rattle.q_core.proofs.state.Core.corrupt_taken.Goals as goal
 
 pub returns : goal.returns
