@@ -78,7 +78,7 @@ abbrev with_bounce : Bool → Id → Id
 with_bounce t j = record j { bounce = t }
 
 -- the file is the bounce of none that stands
-no_bounce : (b : Book) (id : Id) → cause_gone b id ≡ true → (i : Id) → IsIn i (all_ids b) → id_eq i id ≡ false → id_eq (bounce_of i) id ≡ false
+pub no_bounce : (b : Book) (id : Id) → cause_gone b id ≡ true → (i : Id) → IsIn i (all_ids b) → id_eq i id ≡ false → id_eq (bounce_of i) id ≡ false
 no_bounce b id gone i inside other = not_bool (id_eq (bounce_of i) id) (λ e. apart (id_eq-true (bounce_of i) id e) i.bounce refl)
   where
     apart : bounce_of i ≡ id → (t : Bool) → i.bounce ≡ t → ⊥

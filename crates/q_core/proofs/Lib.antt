@@ -52,5 +52,11 @@ pub mod BounceLaws
 pub mod ArriveLaws
 pub mod BackLaws
 pub mod CorruptLaws
+pub mod TurnLaws
+pub mod CorruptNextLaws
+pub mod AdmitLaws
+pub mod NewcomerLaws
+pub mod NoteAdmitLaws
+pub mod EnterLaws
 pub mod JobLaws
 pub mod PreemptLaws

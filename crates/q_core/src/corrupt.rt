@@ -27,7 +27,7 @@ impl Core {
     }
 
     /// All is to be looked at anew.
-    fn forget_looks(&mut self)
+    pub(crate) fn forget_looks(&mut self)
         ensures { self.new ≡ record self.old { active = Seen.Unknown; incoming = Seen.Unknown; deferred = Seen.Unknown } }
     {
         self.active = Seen::Unknown;

@@ -39,6 +39,7 @@ mod start;
 mod starting;
 mod state;
 mod sync;
+mod taking;
 #[cfg(test)]
 mod tests;
 mod unsettled;
