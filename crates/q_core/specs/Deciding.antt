@@ -81,3 +81,11 @@ question_of _ = Nothing
 abbrev pub question_for : Option Decision → Question
 question_for None = Nothing
 question_for (Some d) = question_of d
+
+-- the core waits for the answer to a look
+abbrev pub is_look : Question → Bool
+is_look Nothing = false
+is_look Active = true
+is_look Incoming = true
+is_look Deferred = true
+is_look (Recipients id from max) = false

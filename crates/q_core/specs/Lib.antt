@@ -19,3 +19,4 @@ pub mod Changes
 pub mod Taking
 pub mod Beginning
 pub mod Hearing
+pub mod Answers

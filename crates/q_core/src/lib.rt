@@ -15,6 +15,7 @@ mod decision;
 mod destination;
 mod event;
 mod finishing;
+mod found;
 mod heard;
 mod idle;
 mod incoming;
