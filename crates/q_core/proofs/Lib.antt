@@ -38,3 +38,6 @@ pub mod AccountLaws
 pub mod SentLaws
 pub mod JobLaws
 pub mod PreemptLaws
+pub mod GroupLaws
+pub mod JoinLaws
+pub mod LoadLaws

@@ -17,3 +17,4 @@ pub mod Needs
 pub mod Leaving
 pub mod Changes
 pub mod Beginning
+pub mod Loading
