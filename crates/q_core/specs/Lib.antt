@@ -16,5 +16,7 @@ pub mod Settled
 pub mod Needs
 pub mod Leaving
 pub mod Changes
+pub mod Taking
 pub mod Beginning
 pub mod Loading
+pub mod Hearing

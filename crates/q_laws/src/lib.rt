@@ -2,8 +2,9 @@
 //! function with nothing to do.
 #![tactic(auto)]
 
-ghost use Rattle.std.specs.Prelude.{◌+◌, ◌++◌, ◌≡◌, ◌∷◌, List, Some, true};
+ghost use Rattle.std.specs.Prelude.{◌+◌, ◌++◌, ◌≡◌, ◌∷◌, List, Some, true, ℕ};
 ghost use Rattle.q_laws.specs.Consistency.{IsBookConsistent, IsConsistent, IsUsable};
+ghost use Rattle.q_laws.specs.SitesConsistency.{IsOpen, IsSitesConsistent};
 ghost use Rattle.q_laws.specs.Traces.{AreAllowed, IsEntryOf, IsWithinLimits};
 ghost use Rattle.q_model.specs.declared.entry.Entry.{Entry};
 ghost use Rattle.q_model.specs.declared.event.Item.{Item};
@@ -14,7 +15,7 @@ ghost use Rattle.q_model.specs.Ledger.{Ledger, opening};
 ghost use Rattle.q_model.specs.Next.{next};
 ghost use Rattle.q_model.specs.Orderly.{is_lawful, is_orderly};
 ghost use Rattle.q_model.specs.Past.{is_living};
-ghost use Rattle.q_model.specs.Run.{run_of};
+ghost use Rattle.q_model.specs.Run.{run, run_of};
 ghost use Rattle.q_model.specs.Settings.{World};
 ghost use Rattle.q_model.specs.Step.{after, after_all, allowed};
 ghost use Rattle.q_model.specs.declared.entry.Entry.TheVariants as entries;
@@ -41,9 +42,25 @@ pub fn stays_consistent()
     ensures { (w : World) → (l : Ledger) → (e : Entry) → IsConsistent w l → IsEntryOf w l e → IsConsistent w (after w l e) }
 {}
 
-/// Such an entry keeps a lawful book lawful.
+/// After each entry of a run from a consistent ledger the ledger is consistent.
+pub fn runs_stay_consistent()
+    ensures { (w : World) → (l : Ledger) → (list : List Item) → IsConsistent w l → AreAllowed w l list → (es : List Entry) → (fs : List Entry) → run w l list ≡ es ++ fs → IsConsistent w (after_all w l es) }
+{}
+
+/// Such an entry of a consistent ledger keeps a lawful book lawful.
 pub fn stays_lawful()
     ensures { (w : World) → (l : Ledger) → (e : Entry) → IsConsistent w l → IsEntryOf w l e → is_lawful l.book ≡ true → is_lawful (after w l e).book ≡ true }
+{}
+
+/// A life begins with nothing known of destinations, which is consistent where the settings let
+/// windows be open.
+pub fn destinations_begin()
+    ensures { (w : World) → (l : Ledger) → (generation : ℕ) → (mode : Mode) → IsOpen w → IsSitesConsistent w (after w l (entries.Life generation mode)) }
+{}
+
+/// Each entry of a consistent ledger keeps what fits together of its destinations.
+pub fn destinations_stay_consistent()
+    ensures { (w : World) → (l : Ledger) → (e : Entry) → IsConsistent w l → IsSitesConsistent w l → IsEntryOf w l e → IsSitesConsistent w (after w l e) }
 {}
 
 /// After each entry of a run on a lawful book the book is lawful.
