@@ -61,3 +61,6 @@ pub mod NoteAdmitLaws
 pub mod EnterLaws
 pub mod JobLaws
 pub mod PreemptLaws
+pub mod GroupLaws
+pub mod JoinLaws
+pub mod LoadLaws

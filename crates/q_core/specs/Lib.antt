@@ -18,5 +18,6 @@ pub mod Leaving
 pub mod Changes
 pub mod Taking
 pub mod Beginning
+pub mod Loading
 pub mod Hearing
 pub mod Answers

@@ -9,20 +9,25 @@ mod choice;
 mod clearing;
 mod clock;
 mod corrupt;
-
 mod deciding;
 mod decision;
 mod destination;
 mod event;
 mod finishing;
+<<<<<<< HEAD
 mod found;
+=======
+mod grouping;
+>>>>>>> 2813ec3ceae5116817bebb7bf413cecf6c44febf
 mod heard;
 mod idle;
 mod incoming;
+mod joining;
 pub mod laws;
 mod leaving;
 mod leftover;
 mod line;
+mod loading;
 mod marking;
 mod moving;
 mod names;
