@@ -14,11 +14,8 @@ mod decision;
 mod destination;
 mod event;
 mod finishing;
-<<<<<<< HEAD
 mod found;
-=======
 mod grouping;
->>>>>>> 2813ec3ceae5116817bebb7bf413cecf6c44febf
 mod heard;
 mod idle;
 mod incoming;
