@@ -12,8 +12,9 @@ use crate::state::{Core, Seen};
 use q_model::{Entry, Moment, Trigger};
 
 impl Core {
-    /// Whether the next name of the scan was looked at, or there is no scan.
-    pub(crate) fn is_looked_at(&self) -> bool
+    /// Whether the next name of the scan was looked at, or there is no scan. It is so where the
+    /// ledger is quiet and where recipients are to be read.
+    pub fn is_looked_at(&self) -> bool
         ensures { result ≡ is_looked_at self.now }
     {
         match (&self.scan, &self.deferred) {

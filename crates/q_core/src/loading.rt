@@ -2,6 +2,7 @@
 ghost use Rattle.std.specs.Prelude.{◌≡◌, ◌+◌, ◌++◌, ◌∷◌, [], IfOk, IsTrue, true, length, List, map, min, OnErr, OnOk, Some, ℕ};
 ghost use Rattle.q_core.specs.Agrees.{Agrees, Matches};
 ghost use Rattle.q_core.specs.Changes.{IsAsBefore, IsSlotChange, is_looked_at};
+ghost use Rattle.q_core.specs.Deciding.{is_answered};
 ghost use Rattle.q_core.specs.Loading.{IsLoaded, IsTakenIn, read_up, rows_in};
 ghost use Rattle.q_core.specs.Slots.{changed_at};
 ghost use Rattle.q_model.specs.Batches.{load_positions};
@@ -9,6 +10,7 @@ ghost use Rattle.q_model.specs.Book.{message_of};
 ghost use Rattle.q_model.specs.Ledger.{Ledger};
 ghost use Rattle.q_model.specs.Loads.{may_load};
 ghost use Rattle.q_model.specs.Message.{Message, address_at};
+ghost use Rattle.q_model.specs.Next.{next};
 ghost use Rattle.q_model.specs.Settings.{World};
 ghost use Rattle.q_model.specs.Step.{after};
 
@@ -109,19 +111,32 @@ impl Core {
         Ok(())
     }
 
-    /// Takes in the recipients that were read, up to this place, whose sites were named in the
-    /// same order.
-    pub fn loaded(&mut self, alloc: Global, taken: &Batch, cursor: Cursor) -> Result<(), NoMemory>
-        requires seen { IsTrue (is_looked_at self.old) }
-        ensures ok { OnOk result ((w : World) → (l : Ledger) → (m : Message) → (id : Id) → (from max : ℕ) → Agrees w self.old l → self.old.question ≡ Question.Recipients id from max → message_of l.book id ≡ Some m → may_load w l id from cursor.position ≡ true → map (λ t. t.position) taken.now.items ≡ load_positions m from cursor.position → self.old.named.items ≡ map (λ p. w.table.route (address_at m p)) (load_positions m from cursor.position) → Matches w self.new (after w l (Entry.Load id from cursor.position))) }
-        ensures answered { OnOk result ((id : Id) → (from max : ℕ) → self.old.question ≡ Question.Recipients id from max → (self.new.question ≡ Question.Nothing) × (self.new.named.items ≡ [])) }
+    /// Takes in the recipients that were read, up to this place.
+    fn take_read(&mut self, alloc: Global, taken: &Batch, to: u32) -> Result<(), NoMemory>
+        requires { IsTrue (is_looked_at self.old) }
+        ensures ok { OnOk result ((w : World) → (l : Ledger) → (m : Message) → (id : Id) → (from max : ℕ) → Agrees w self.old l → self.old.question ≡ Question.Recipients id from max → message_of l.book id ≡ Some m → may_load w l id from to ≡ true → map (λ t. t.position) taken.now.items ≡ load_positions m from to → self.old.named.items ≡ map (λ p. w.table.route (address_at m p)) (load_positions m from to) → Matches w self.new (after w l (Entry.Load id from to))) }
         ensures err { OnErr result (IsAsBefore self.old self.new) }
     {
         let Question::Recipients { id, .. } = self.question else {
             return Ok(());
         };
-        self.load(alloc, id, cursor.position, taken)?;
+        self.load(alloc, id, to, taken)?;
         self.settle();
+        Ok(())
+    }
+
+    /// The answer to the read that waits for it: the pending recipients from the read's place on,
+    /// in order, as many as it may have, whose sites were named by `sited` in the same order. The
+    /// cursor stands just behind the last of them where there were so many, else behind the last
+    /// recipient.
+    pub fn loaded(&mut self, alloc: Global, taken: &Batch, cursor: Cursor) -> Result<(), NoMemory>
+        requires seen { IsTrue (is_looked_at self.old) }
+        ensures ok { OnOk result ((w : World) → (l : Ledger) → (m : Message) → (id : Id) → (from max : ℕ) → Agrees w self.old l → self.old.question ≡ Question.Recipients id from max → message_of l.book id ≡ Some m → next w l ≡ Some (Entry.Load id from cursor.position) → map (λ t. t.position) taken.now.items ≡ load_positions m from cursor.position → self.old.named.items ≡ map (λ p. w.table.route (address_at m p)) (load_positions m from cursor.position) → Agrees w self.new (after w l (Entry.Load id from cursor.position))) }
+        ensures answered { OnOk result (is_answered self.new.question ≡ true) }
+        ensures err { OnErr result ((w : World) → (l : Ledger) → Agrees w self.old l → Agrees w self.new l) }
+    {
+        self.take_read(alloc, taken, cursor.position)?;
+        self.question = Question::Nothing;
         Ok(())
     }
 }

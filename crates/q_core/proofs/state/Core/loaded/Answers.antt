@@ -1,25 +1,12 @@
-use Rattle.std.proofs.Common.{◌≡◌, ◌∙◌, ap, sym, subst, List, [], refl}
-use Rattle.q_model.specs.declared.id.Id.{Id}
-use Rattle.q_model.specs.declared.rows.Row.{Row}
-use Rattle.q_model.specs.Step.{after}
-use Rattle.q_core.proofs.LoadLaws.{load_law}
-use Rattle.q_core.specs.Loading.{IsLoaded, rows_in}
-use Rattle.q_core.specs.declared.state.Core.{Core}
-use Rattle.q_core.specs.declared.state.Question.TheVariants.{Recipients}
+use Rattle.std.proofs.Common.{inr}
+use Rattle.q_model.specs.declared.entry.Entry.TheVariants as entries
+use Rattle.q_core.specs.declared.state.Question.TheVariants.{Nothing}
+use Rattle.q_core.proofs.AskLaws.{question_law}
+use Rattle.q_core.proofs.TakenLaws.{may_next}
+use Rattle.q_core.proofs.WholeLaws.{before_law, whole_law}
 use Rattle.q_core.proofs.state.Core.loaded.Goals as goal
 
 pub returns-clause-ok : goal.returns-clause-ok
-unfolding after
-returns-clause-ok c = λ w l m id from max a asks e may read named.
-    let both : Recipients c.in-Recipients.id c.in-Recipients.from c.in-Recipients.max ≡ Recipients id from max = sym c.in-Recipients.is ∙ asks in
-    let same : c.in-Recipients.id ≡ id = cc in
-    load_law a c.requires.seen id from c.args.cursor.position m c.args.taken.now.items e may read named
-    (subst (λ (i : Id). (rows : List Row) → rows ≡ rows_in c.args.self.now.params.entry_limit i [] c.args.taken.now.items c.args.self.now.named.items → IsLoaded c.args.self.now c.load.new.self i c.args.cursor.position c.args.taken.now.items rows) same c.in_ok-load.ensures.ok)
-    c.settle.ensures
-
-pub returns-clause-answered : goal.returns-clause-answered
-returns-clause-answered c = λ id from max asks.
-    let change = c.in_ok-load.ensures.ok (rows_in c.args.self.now.params.entry_limit c.in-Recipients.id [] c.args.taken.now.items c.args.self.now.named.items) refl in (
-      ap (λ (x : Core). x.question) (c.settle.ensures.rest) ∙ ap (λ (x : Core). x.question) change.rest,
-      ap (λ (x : Core). x.named.items) (c.settle.ensures.rest) ∙ change.named,
-    )
+returns-clause-ok c = λ w l m id from max a asks e next read named.
+    let load = entries.Load id from c.args.cursor.position in
+    whole_law load a (inr next) (question_law Nothing (c.in_ok-take_read.ensures.ok w l m id from max a asks e (may_next a load next).0 read named))
