@@ -3,7 +3,7 @@ use Rattle.std.proofs.Common.{◌≡◌, Bool, true, false, List, [], ◌∷◌,
 use Rattle.std.proofs.lemmas.Bool.{and_from, and_parts, not-true, or_left}
 use Rattle.std.specs.List.{list_any}
 use Rattle.std.specs.Option.{option_map_or}
-use Rattle.std.specs.Prelude.{◌&&◌, ◌||◌, is_none, if◌then◌else◌}
+use Rattle.std.specs.Prelude.{◌&&◌, is_none, if◌then◌else◌}
 use Rattle.q_core.proofs.AddedLaws.{added_left, added_same, added_still}
 use Rattle.q_core.proofs.ApartLaws.{is_deferred}
 use Rattle.q_core.proofs.ChangeLaws.{seen_same}
@@ -17,15 +17,15 @@ use Rattle.q_core.specs.Changes.{IsBounced}
 use Rattle.q_core.specs.Slots.{changed_at, with_bounce}
 use Rattle.q_core.specs.declared.state.Core.{Core}
 use Rattle.q_core.specs.declared.state.Seen.{Seen}
-use Rattle.q_core.specs.declared.state.Seen.TheVariants.{Known, Unknown}
+use Rattle.q_core.specs.declared.state.Seen.TheVariants.{Unknown}
 use Rattle.q_laws.proofs.Added.{IsAddable, still_found}
 use Rattle.q_laws.proofs.Arrived.{bounce_addable}
 use Rattle.q_laws.proofs.Books.{at_place, message_in, placed_listed}
 use Rattle.q_laws.proofs.Distinct.{id_other, id_same}
 use Rattle.q_laws.proofs.Members.{IsIn, any_from, in_right, none_at}
 use Rattle.q_laws.specs.Consistency.{IsConsistent}
-use Rattle.q_model.proofs.IdLaws.{id_eq-refl, id_eq-true}
-use Rattle.q_model.specs.Book.{Book, Damaged, ids_at, message_of, stands_in}
+use Rattle.q_model.proofs.IdLaws.{id_eq-true}
+use Rattle.q_model.specs.Book.{Damaged, ids_at, message_of}
 use Rattle.q_model.specs.BookChanges.{add_message}
 use Rattle.q_model.specs.Bounces.{after_bounce, may_bounce}
 use Rattle.q_model.specs.FilesStand.{all_ids}

@@ -33,7 +33,6 @@ use Rattle.q_model.specs.Settings.{World}
 use Rattle.q_model.specs.Turns.{Pick, is_pick, passed, pick, pick_id, taken}
 use Rattle.q_model.specs.Turns.Pick.{from_deferred, from_incoming}
 use Rattle.q_model.specs.declared.id.Id.{Id}
-use Rattle.q_model.specs.declared.rows.DeferredName.{DeferredName}
 use Rattle.q_model.specs.declared.rows.Place.TheVariants as places
 
 -- what is picked

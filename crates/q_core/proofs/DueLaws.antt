@@ -3,7 +3,7 @@ use Rattle.std.proofs.Common.{◌≡◌, ℕ, Bool, true, false, cond, List, [],
 use Rattle.std.specs.List.{cons_option}
 use Rattle.std.specs.Prelude.{filter_map, option_map}
 use Rattle.q_core.proofs.ApartLaws.{is_deferred}
-use Rattle.q_laws.proofs.Books.{at_place, damaged_at, in_ids_at, not_damaged, only_message, placed_listed}
+use Rattle.q_laws.proofs.Books.{at_place, damaged_at, in_ids_at, not_damaged, only_message}
 use Rattle.q_laws.proofs.Distinct.{distinct_parts, same_named}
 use Rattle.q_laws.proofs.Members.{IsIn, in_either}
 use Rattle.q_model.specs.Book.{Book, Damaged, ids_at}

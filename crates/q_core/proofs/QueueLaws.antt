@@ -1,10 +1,10 @@
 -- How agreement goes on where messages come to other queues, and into memory or out of it.
-use Rattle.std.proofs.Common.{◌≡◌, ℕ, Bool, true, false, List, [], ◌∷◌, map, inl, inr, refl, sym, ap, ◌∙◌, subst, Option, Some, None}
+use Rattle.std.proofs.Common.{◌≡◌, ℕ, List, [], ◌∷◌, map, inl, inr, refl, sym, ap, ◌∙◌, subst, Option, Some, None}
 use Rattle.std.specs.Option.{option_map_or}
 use Rattle.std.specs.Prelude.{filter, option_and_then}
 use Rattle.q_core.proofs.StepLaws.{HoldsRaw, IsStillSeen}
 use Rattle.q_core.proofs.TakeLaws.{found_on, next_of}
-use Rattle.q_core.specs.Agrees.{Holds, IsSeen, file_of, found_active, found_at, found_deferred, found_incoming, found_next, slot_from, slot_of}
+use Rattle.q_core.specs.Agrees.{Holds, IsSeen, file_of, found_active, found_at, found_incoming, found_next, slot_from, slot_of}
 use Rattle.q_core.specs.Scanning.{scan_after}
 use Rattle.q_core.specs.declared.decision.Found.{Found}
 use Rattle.q_core.specs.declared.decision.Found.TheVariants.{Damaged, Nothing, Whole}
@@ -14,7 +14,6 @@ use Rattle.q_core.specs.declared.state.Seen.TheVariants.{Known, Unknown}
 use Rattle.q_laws.proofs.Members.{IsIn, in_filtered, least_in}
 use Rattle.q_model.specs.Admissions.{cause_gone}
 use Rattle.q_model.specs.Book.{Book, ids_at, message_of, stands_in}
-use Rattle.q_model.specs.Finishing.{has_bounce}
 use Rattle.q_model.specs.Ids.{bounce_of, id_before}
 use Rattle.q_model.specs.Ledger.{Ledger}
 use Rattle.q_model.specs.Leftovers.{leftovers}

@@ -1,9 +1,9 @@
 -- A message is removed.
-use Rattle.std.proofs.Common.{◌≡◌, ℕ, Bool, true, false, List, [], ◌∷◌, ◌++◌, cond, map, filter, find, is_some, not, Option, Some, None, inl, inr, refl, sym, ap, ◌∙◌, subst}
-use Rattle.std.proofs.lemmas.Bool.{and_parts, not-true, or_cases}
+use Rattle.std.proofs.Common.{◌≡◌, Bool, true, false, List, [], ◌∷◌, cond, map, filter, is_some, not, Option, Some, None, inl, inr, refl, sym, ap, ◌∙◌, subst}
+use Rattle.std.proofs.lemmas.Bool.{and_parts}
 use Rattle.std.specs.List.{list_any}
 use Rattle.std.specs.Option.{option_map_or}
-use Rattle.std.specs.Prelude.{◌&&◌, ◌||◌, ◌==◌}
+use Rattle.std.specs.Prelude.{◌&&◌, ◌||◌}
 use Rattle.q_core.proofs.ApartLaws.{is_deferred}
 use Rattle.q_core.proofs.ChangeLaws.{seen_same}
 use Rattle.q_core.proofs.DueLaws.{active_has_none, deferred_or_active, deferred_or_incoming, due_joined, due_kept, due_listed, due_name, one_queue}
@@ -13,10 +13,10 @@ use Rattle.q_core.proofs.RestLaws.{admitted_active, rest_active, rest_slots, sti
 use Rattle.q_core.proofs.SameLaws.{no_bounce_of, not_bool, paired_incoming}
 use Rattle.q_core.proofs.StepLaws.{HoldsRaw, IsStillSeen}
 use Rattle.q_core.specs.Agrees.{IsSeen, found_active, slot_of}
-use Rattle.q_core.specs.Changes.{IsTakenOut, slots_without}
+use Rattle.q_core.specs.Changes.{IsTakenOut}
 use Rattle.q_core.specs.declared.state.Core.{Core}
 use Rattle.q_core.specs.declared.state.Seen.{Seen}
-use Rattle.q_core.specs.declared.state.Seen.TheVariants.{Known, Unknown}
+use Rattle.q_core.specs.declared.state.Seen.TheVariants.{Unknown}
 use Rattle.q_laws.proofs.Books.{active_not_incoming, at_place, message_in, message_listed, not_damaged, only_message, placed_listed}
 use Rattle.q_laws.proofs.Distinct.{id_other}
 use Rattle.q_laws.proofs.Members.{IsIn, in_filtered, in_unmap, none_at}
@@ -40,7 +40,6 @@ use Rattle.q_model.specs.Settings.{World}
 use Rattle.q_model.specs.declared.id.Id.{Id}
 use Rattle.q_model.specs.declared.rows.Admitted.{Admitted}
 use Rattle.q_model.specs.declared.rows.DeferredName.{DeferredName}
-use Rattle.q_model.specs.declared.rows.Place.{Place}
 
 -- the message that is removed stands in active
 pub record IsRemovable (b : Book) (id : Id) : Type 0 where

@@ -1,9 +1,9 @@
 -- What is told of the messages that stay, as one leaves memory.
-use Rattle.std.proofs.Common.{◌≡◌, ℕ, Bool, true, false, List, [], ◌∷◌, cond, map, filter, not, inl, inr, refl, sym, ap, ◌∙◌, subst}
-use Rattle.std.proofs.lemmas.Bool.{and_parts, not-true}
+use Rattle.std.proofs.Common.{◌≡◌, Bool, true, false, List, [], ◌∷◌, cond, map, not, refl, sym, ap, ◌∙◌, subst}
+use Rattle.std.proofs.lemmas.Bool.{not-true}
 use Rattle.std.specs.List.{list_any}
-use Rattle.std.specs.Prelude.{◌&&◌, ◌||◌}
-use Rattle.q_core.proofs.HeldLaws.{IsThere, is_there}
+use Rattle.std.specs.Prelude.{◌||◌}
+use Rattle.q_core.proofs.HeldLaws.{is_there}
 use Rattle.q_core.proofs.ListLaws.{filter-map}
 use Rattle.q_core.proofs.QueueLaws.{IsSameOf, active_same, slots_same, with_files}
 use Rattle.q_core.proofs.SameLaws.{not_bool}

@@ -1,19 +1,18 @@
 -- Of other ids a book says the same where a message moves.
-use Rattle.std.proofs.Common.{◌≡◌, Bool, true, false, List, [], ◌∷◌, map, filter, is_some, Option, Some, None, option_map, not, ◌⊎◌, inl, inr, refl, sym, ap, ◌∙◌, subst}
-use Rattle.std.proofs.lemmas.Bool.{and_from, and_parts, or_cases, or_left, or_right}
+use Rattle.std.proofs.Common.{◌≡◌, Bool, true, false, List, is_some, Option, Some, None, not, inl, inr, refl, sym, ap, ◌∙◌, subst}
+use Rattle.std.proofs.lemmas.Bool.{and_parts, or_cases, or_left, or_right}
 use Rattle.std.specs.List.{list_all, list_any}
 use Rattle.std.specs.Option.{option_map_or}
-use Rattle.std.specs.Prelude.{◌&&◌, ◌||◌, nat_le, if◌then◌else◌}
+use Rattle.std.specs.Prelude.{◌&&◌, ◌||◌, nat_le}
 use Rattle.q_core.proofs.ListLaws.{list_any-map, list_any-same}
 use Rattle.q_core.proofs.QueueLaws.{IsSameOf}
 use Rattle.q_laws.proofs.Books.{at_place, damaged_at, damaged_names, message_at, message_in, message_listed, message_names}
-use Rattle.q_laws.proofs.Distinct.{id_cases, id_other, id_same}
+use Rattle.q_laws.proofs.Distinct.{id_other, id_same}
 use Rattle.q_laws.proofs.InPlace.{changed, changed_name, changed_other, changed_same}
 use Rattle.q_laws.proofs.Mapped.{stands_mapped}
-use Rattle.q_laws.proofs.Members.{IsIn, all_at, any_from, any_in, find_none, in_either, in_unmap}
+use Rattle.q_laws.proofs.Members.{IsIn, all_at, any_in, find_none, in_either, in_unmap}
 use Rattle.q_laws.proofs.Moved.{move_to, other_moved}
 use Rattle.q_model.proofs.IdLaws.{id_eq-true}
-use Rattle.q_model.specs.Admissions.{cause_gone}
 use Rattle.q_model.specs.Book.{Book, Damaged, damaged_of, ids_at, message_of, stands, stands_in}
 use Rattle.q_model.specs.BookChanges.{move_message}
 use Rattle.q_model.specs.FilesStand.{all_ids, are_distinct}
