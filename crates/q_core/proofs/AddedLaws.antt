@@ -2,8 +2,7 @@
 use Rattle.std.proofs.Common.{◌≡◌, Bool, true, false, List, [], ◌∷◌, ◌++◌, filter, is_some, not, Option, refl, sym, ap, ◌∙◌, subst}
 use Rattle.std.specs.List.{list_any}
 use Rattle.std.specs.Prelude.{◌&&◌, ◌||◌}
-use Rattle.q_core.proofs.ApartLaws.{is_deferred}
-use Rattle.q_core.proofs.DueLaws.{due_added, due_joined, due_listed}
+use Rattle.q_core.proofs.DueLaws.{due_added, due_joined, due_listed, is_deferred}
 use Rattle.q_core.proofs.PlacedLaws.{damaged_at, named, placed_added}
 use Rattle.q_core.proofs.QueueLaws.{IsSameOf, still_same, with_files}
 use Rattle.q_core.proofs.SameLaws.{not_bool}

@@ -1,8 +1,8 @@
 -- A message arrives.
 use Rattle.std.proofs.Common.{◌≡◌, ℕ, true, false, List, map, not, Option, refl, sym, ap, ◌∙◌, subst}
 use Rattle.std.proofs.lemmas.Bool.{and_parts}
+use Rattle.q_core.proofs.DueLaws.{is_deferred}
 use Rattle.q_core.proofs.AddedLaws.{added_left, added_same, added_still}
-use Rattle.q_core.proofs.ApartLaws.{is_deferred}
 use Rattle.q_core.proofs.ChangeLaws.{seen_same}
 use Rattle.q_core.proofs.QueueLaws.{IsSameOf, active_same, files_law, slots_same, with_files}
 use Rattle.q_core.proofs.RestLaws.{admitted_active}

@@ -3,8 +3,7 @@ use Rattle.std.proofs.Common.{◌≡◌, Bool, true, false, map, not, Option, So
 use Rattle.std.proofs.lemmas.Bool.{and_parts, not-true}
 use Rattle.std.specs.Option.{option_map_or}
 use Rattle.std.specs.Prelude.{◌&&◌}
-use Rattle.q_core.proofs.ApartLaws.{is_deferred}
-use Rattle.q_core.proofs.DueLaws.{active_has_none, deferred_or_active, due_joined, due_listed, due_mapped, due_name, one_queue}
+use Rattle.q_core.proofs.DueLaws.{active_has_none, deferred_or_active, due_joined, due_listed, due_mapped, due_name, one_queue, is_deferred}
 use Rattle.q_core.proofs.HeldLaws.{IsThere}
 use Rattle.q_core.proofs.QueueLaws.{IsSameOf, files_law, slots_same, still_same, with_files}
 use Rattle.q_core.proofs.RestLaws.{admitted_active}

@@ -5,10 +5,9 @@ use Rattle.std.specs.List.{list_any}
 use Rattle.std.specs.Option.{option_map_or}
 use Rattle.std.specs.Prelude.{◌&&◌, is_none, if◌then◌else◌}
 use Rattle.q_core.proofs.AddedLaws.{added_left, added_same, added_still}
-use Rattle.q_core.proofs.ApartLaws.{is_deferred}
 use Rattle.q_core.proofs.ChangeLaws.{seen_same}
-use Rattle.q_core.proofs.DueLaws.{deferred_or_active, one_queue}
-use Rattle.q_core.proofs.QueueLaws.{IsSameOf, files_law, slots_same, with_files}
+use Rattle.q_core.proofs.DueLaws.{deferred_or_active, one_queue, is_deferred}
+use Rattle.q_core.proofs.QueueLaws.{IsSameOf, files_law, slot_same, slots_same, with_files}
 use Rattle.q_core.proofs.RestLaws.{admitted_active, rest_active}
 use Rattle.q_core.proofs.SameLaws.{not_bool}
 use Rattle.q_core.proofs.StepLaws.{HasRowsOf, HoldsRaw, IsStillSeen}
@@ -112,9 +111,7 @@ bounced_slots l id m (a ∷ xs) h =
     ∙ ap (λ ss. slot_of (with_files l (add_message l.book (bounce_message l.now m.message)) l.admitted) a ∷ ss) (bounced_slots l id m xs (λ x k. h x (inr k)))
   where
     one : (t : Bool) → id_eq a.id id ≡ t → (if t then with_bounce (slot_of l a) else slot_of l a) ≡ slot_of (with_files l (add_message l.book (bounce_message l.now m.message)) l.admitted) a
-    one false e =
-        let s = bounced_listed l id m a.id (h a (inl refl)) e in
-        ap (λ x. slot_from a x (message_of l.book a.id)) (sym s.bounced) ∙ ap (slot_from a (has_bounce (with_files l (add_message l.book (bounce_message l.now m.message)) l.admitted) a.id)) (sym s.message)
+    one false e = slot_same l (add_message l.book (bounce_message l.now m.message)) l.admitted a (bounced_listed l id m a.id (h a (inl refl)) e)
     one true e =
         let next : Ledger = with_files l (add_message l.book (bounce_message l.now m.message)) l.admitted in
         let same = id_eq-true a.id id e in

@@ -4,12 +4,11 @@ use Rattle.std.proofs.lemmas.Bool.{and_parts}
 use Rattle.std.specs.Option.{option_map_or}
 use Rattle.std.specs.Prelude.{◌&&◌, if◌then◌else◌, option_and_then}
 use Rattle.q_core.proofs.AdmitLaws.{IsComing, admitting, coming_active, coming_same, newcomer}
-use Rattle.q_core.proofs.ApartLaws.{is_deferred}
 use Rattle.q_core.proofs.BackLaws.{moved_names}
 use Rattle.q_core.proofs.ChangeLaws.{seen_same}
 use Rattle.q_core.proofs.CorruptLaws.{taken_rows}
 use Rattle.q_core.proofs.DeferLaws.{moved_out}
-use Rattle.q_core.proofs.DueLaws.{deferred_or_incoming, due_listed, one_queue}
+use Rattle.q_core.proofs.DueLaws.{deferred_or_incoming, due_listed, one_queue, is_deferred}
 use Rattle.q_core.proofs.HeldLaws.{is_there}
 use Rattle.q_core.proofs.NewcomerLaws.{coming_slots}
 use Rattle.q_core.proofs.NoteAdmitLaws.{in_no_line, note_admit}

@@ -4,9 +4,8 @@ use Rattle.std.proofs.lemmas.Bool.{and_parts}
 use Rattle.std.specs.List.{list_any}
 use Rattle.std.specs.Option.{option_map_or}
 use Rattle.std.specs.Prelude.{◌&&◌, ◌||◌}
-use Rattle.q_core.proofs.ApartLaws.{is_deferred}
 use Rattle.q_core.proofs.ChangeLaws.{seen_same}
-use Rattle.q_core.proofs.DueLaws.{active_has_none, deferred_or_active, deferred_or_incoming, due_joined, due_kept, due_listed, due_name, one_queue}
+use Rattle.q_core.proofs.DueLaws.{active_has_none, deferred_or_active, deferred_or_incoming, due_joined, due_kept, due_listed, due_name, one_queue, is_deferred}
 use Rattle.q_core.proofs.PlacedLaws.{damaged_at, placed_joined, placed_kept}
 use Rattle.q_core.proofs.QueueLaws.{IsSameOf, files_law, slots_same, still_same, with_files}
 use Rattle.q_core.proofs.RestLaws.{admitted_active, rest_active, rest_slots, still_admitted}
