@@ -2,9 +2,10 @@
 use Rattle.std.proofs.Common.{◌≡◌, ℕ, zero, suc, ◌+◌, Bool, true, false, List, [], ◌∷◌, refl, sym, ap, ◌∙◌, subst, Option, Some, None, option_map}
 use Rattle.std.specs.Option.{option_map_or, option_or}
 use Rattle.std.specs.Prelude.{◌&&◌, ◌^◌, find, if◌then◌else◌, nat_lt, not, option_and_then, position, slice_get}
+use Rattle.q_core.specs.Changes.{is_known}
 use Rattle.q_core.specs.Choosing.{behind_jobs, best_in, choice_in, choices_from, choose_in, current_in, jobs_at, next_start_in, preempt_or, rest_in}
 use Rattle.q_core.specs.Deciding.{clearing_on, decide_in, first_rule_in, scan_look_in}
-use Rattle.q_core.specs.Files.{file_wants_bounce, picked, taken_found}
+use Rattle.q_core.specs.Files.{file_wants_bounce, picked, shows_damaged, taken_found}
 use Rattle.q_core.specs.Held.{due_in, finish_in, free_in, is_dead_in, is_idle_in, may_read_in, wants_sync_in}
 use Rattle.q_core.specs.Rules.{admission_in, admission_of, admission_seen, clear_found_in, clear_in, clear_marked, decision_of, first_need_in, has_message_room_in, is_synced_in, needed_in, next_admission_in, next_clearing_in, next_finish_in, next_read_in, next_skip_in, next_sync_in, skip_at, skip_of}
 use Rattle.q_core.specs.Slots.{wants_bounce_in}
@@ -20,6 +21,8 @@ use Rattle.q_core.specs.declared.state.Core.{Core}
 use Rattle.q_core.specs.declared.state.Seen.{Seen}
 use Rattle.q_core.specs.declared.state.Seen.TheVariants.{Known, Unknown}
 use Rattle.q_model.specs.declared.id.Id.{Id}
+use Rattle.q_core.proofs.NameLaws.{id_eq-same}
+use Rattle.q_model.specs.Ids.{id_eq}
 use Rattle.q_model.specs.Values.{Site}
 use Rattle.q_model.specs.declared.outcome.Failure.{Failure}
 use Rattle.q_model.specs.declared.rows.Need.{Need}
@@ -125,7 +128,6 @@ pub record IsRare (p : Decision → Bool) : Type 0 where
   pub bounce : (id : Id) → p (decisions.Bounce id) ≡ false
   pub remove : (id : Id) → p (decisions.Remove id) ≡ false
   pub corrupt : (id : Id) → p (decisions.Corrupt id) ≡ false
-  pub read : (id : Id) (from max : ℕ) → p (decisions.Read id from max) ≡ false
   pub look_active : p decisions.LookActive ≡ false
   pub look_incoming : p decisions.LookIncoming ≡ false
   pub look_deferred : (s : Scan) → p (decisions.LookDeferred s.place s.until) ≡ false
@@ -172,8 +174,8 @@ seen_avoids p k a c (Known incoming) = scanned_avoids p k a c incoming c.deferre
 admissions_avoid : (p : Decision → Bool) → IsRare p → ((id : Id) → p (decisions.Admit id) ≡ false) → (c : Core) → Avoids p (next_admission_in c c.incoming)
 admissions_avoid p k a c = if_avoids p (not (has_message_room_in c)) None (admission_seen c c.incoming) tt (seen_avoids p k a c c.incoming)
 
-reads_avoid : (p : Decision → Bool) → IsRare p → (c : Core) → Avoids p (next_read_in c)
-reads_avoid p k c = slot_avoids p (λ s. decisions.Read s.id s.unread (free_in c)) (find (may_read_in c) c.admitted.items) (λ s. k.read s.id s.unread (free_in c))
+reads_avoid : (p : Decision → Bool) → ((id : Id) (from max : ℕ) → p (decisions.Read id from max) ≡ false) → (c : Core) → Avoids p (next_read_in c)
+reads_avoid p k c = slot_avoids p (λ s. decisions.Read s.id s.unread (free_in c)) (find (may_read_in c) c.admitted.items) (λ s. k s.id s.unread (free_in c))
 
 -- a start or a preemption
 pub record IsNoStart (p : Decision → Bool) : Type 0 where
@@ -199,19 +201,19 @@ timed_first true o d e = e
 timed_first false o d e = cc
 
 skip_rare : IsRare is_skip
-skip_rare = record { log = λ id f. refl; mark = λ id k. refl; sync = λ id. refl; defer = λ id due. refl; back = λ id. refl; bounce = λ id. refl; remove = λ id. refl; corrupt = λ id. refl; read = λ id from max. refl; look_active = refl; look_incoming = refl; look_deferred = λ s. refl }
+skip_rare = record { log = λ id f. refl; mark = λ id k. refl; sync = λ id. refl; defer = λ id due. refl; back = λ id. refl; bounce = λ id. refl; remove = λ id. refl; corrupt = λ id. refl; look_active = refl; look_incoming = refl; look_deferred = λ s. refl }
 
 skip_no_start : IsNoStart is_skip
 skip_no_start = record { preempt = λ child parent transport need. refl; start = λ number id site. refl }
 
 admit_rare : IsRare is_admit
-admit_rare = record { log = λ id f. refl; mark = λ id k. refl; sync = λ id. refl; defer = λ id due. refl; back = λ id. refl; bounce = λ id. refl; remove = λ id. refl; corrupt = λ id. refl; read = λ id from max. refl; look_active = refl; look_incoming = refl; look_deferred = λ s. refl }
+admit_rare = record { log = λ id f. refl; mark = λ id k. refl; sync = λ id. refl; defer = λ id due. refl; back = λ id. refl; bounce = λ id. refl; remove = λ id. refl; corrupt = λ id. refl; look_active = refl; look_incoming = refl; look_deferred = λ s. refl }
 
 admit_no_start : IsNoStart is_admit
 admit_no_start = record { preempt = λ child parent transport need. refl; start = λ number id site. refl }
 
 begin_rare : IsRare is_begin
-begin_rare = record { log = λ id f. refl; mark = λ id k. refl; sync = λ id. refl; defer = λ id due. refl; back = λ id. refl; bounce = λ id. refl; remove = λ id. refl; corrupt = λ id. refl; read = λ id from max. refl; look_active = refl; look_incoming = refl; look_deferred = λ s. refl }
+begin_rare = record { log = λ id f. refl; mark = λ id k. refl; sync = λ id. refl; defer = λ id due. refl; back = λ id. refl; bounce = λ id. refl; remove = λ id. refl; corrupt = λ id. refl; look_active = refl; look_incoming = refl; look_deferred = λ s. refl }
 
 -- a decision that isn't common comes behind the first two rules
 behind_two : (p : Decision → Bool) → IsRare p → (c : Core) (d : Decision) → p d ≡ true → decide_in c ≡ Some d → option_or (next_skip_in c) (option_or (next_finish_in c) (clearing_on c)) ≡ Some d
@@ -228,7 +230,7 @@ skip_first c d h e =
     (or_avoids is_skip (next_finish_in c) (clearing_on c) (finishes_avoid is_skip skip_rare c)
     (or_avoids is_skip (next_clearing_in c c.active) (option_or (next_admission_in c c.incoming) (option_or (next_read_in c) (next_start_in c))) (clearing_avoids is_skip skip_rare c c.active)
     (or_avoids is_skip (next_admission_in c c.incoming) (option_or (next_read_in c) (next_start_in c)) (admissions_avoid is_skip skip_rare (λ id. refl) c)
-    (or_avoids is_skip (next_read_in c) (next_start_in c) (reads_avoid is_skip skip_rare c) (starts_avoid is_skip skip_no_start c)))))
+    (or_avoids is_skip (next_read_in c) (next_start_in c) (reads_avoid is_skip (λ id from max. refl) c) (starts_avoid is_skip skip_no_start c)))))
     h (behind_two is_skip skip_rare c d h e)
 
 behind_clearing : (p : Decision → Bool) → IsRare p → ((id : Id) (site : Site) (n : ℕ) → p (decisions.Skip id site n) ≡ false) → (c : Core) (d : Decision) → p d ≡ true → decide_in c ≡ Some d →
@@ -242,15 +244,8 @@ behind_clearing p k s c d h e =
 pub admit_first : (c : Core) (d : Decision) → is_admit d ≡ true → decide_in c ≡ Some d → next_admission_in c c.incoming ≡ Some d
 admit_first c d h e =
     or_first is_admit (next_admission_in c c.incoming) (option_or (next_read_in c) (next_start_in c)) d
-    (or_avoids is_admit (next_read_in c) (next_start_in c) (reads_avoid is_admit admit_rare c) (starts_avoid is_admit admit_no_start c))
+    (or_avoids is_admit (next_read_in c) (next_start_in c) (reads_avoid is_admit (λ id from max. refl) c) (starts_avoid is_admit admit_no_start c))
     h (behind_clearing is_admit admit_rare (λ id site n. refl) c d h e)
-
--- a start and a preemption are those of the last
-pub begin_first : (c : Core) (d : Decision) → is_begin d ≡ true → decide_in c ≡ Some d → next_start_in c ≡ Some d
-begin_first c d h e =
-    or_second is_begin (next_read_in c) (next_start_in c) d (reads_avoid is_begin begin_rare c) h
-    (or_second is_begin (next_admission_in c c.incoming) (option_or (next_read_in c) (next_start_in c)) d (admissions_avoid is_begin begin_rare (λ id. refl) c) h
-    (behind_clearing is_begin begin_rare (λ id site n. refl) c d h e))
 
 -- of two rules the first has nothing, where it has nothing that passes and something passes
 pub none_of : (p : Decision → Bool) (o q : Option Decision) (d : Decision) → Avoids p o → p d ≡ true → option_or o q ≡ Some d → o ≡ None
@@ -261,8 +256,15 @@ timed_true : (b : Bool) (o : Option Decision) (d : Decision) → (if not b then 
 timed_true true o d e = refl
 timed_true false o d e = cc
 
--- where a delivery begins or a job preempts, no rule before the last has anything
-pub record IsLastRule (c : Core) (d : Decision) : Type 0 where
+abbrev pub is_read : Decision → Bool
+is_read (decisions.Read id from max) = true
+is_read _ = false
+
+read_rare : IsRare is_read
+read_rare = record { log = λ id f. refl; mark = λ id k. refl; sync = λ id. refl; defer = λ id due. refl; back = λ id. refl; bounce = λ id. refl; remove = λ id. refl; corrupt = λ id. refl; look_active = refl; look_incoming = refl; look_deferred = λ s. refl }
+
+-- where a decision is one of the last two rules, no rule before them has anything
+pub record IsBehind (c : Core) (d : Decision) : Type 0 where
   pub timed : c.timed ≡ true
   pub needs : first_need_in c ≡ None
   pub syncs : next_sync_in c ≡ None
@@ -270,13 +272,11 @@ pub record IsLastRule (c : Core) (d : Decision) : Type 0 where
   pub finishes : next_finish_in c ≡ None
   pub clearing : next_clearing_in c c.active ≡ None
   pub admission : next_admission_in c c.incoming ≡ None
-  pub reads : next_read_in c ≡ None
-  pub starts : next_start_in c ≡ Some d
+  pub last : option_or (next_read_in c) (next_start_in c) ≡ Some d
 
-pub last_rule : (c : Core) (d : Decision) → is_begin d ≡ true → decide_in c ≡ Some d → IsLastRule c d
-last_rule c d h e =
-    let k = begin_rare in
-    let p = is_begin in
+behind_admission : (p : Decision → Bool) → IsRare p → ((id : Id) (site : Site) (n : ℕ) → p (decisions.Skip id site n) ≡ false) → ((id : Id) → p (decisions.Admit id) ≡ false) →
+    (c : Core) (d : Decision) → p d ≡ true → decide_in c ≡ Some d → IsBehind c d
+behind_admission p k no_skip no_admit c d h e =
     let from_read = option_or (next_read_in c) (next_start_in c) in
     let from_admission = option_or (next_admission_in c c.incoming) from_read in
     let from_finish = option_or (next_finish_in c) (clearing_on c) in
@@ -286,18 +286,113 @@ last_rule c d h e =
     let e1 = or_second p (scan_look_in c.deferred c.scan) (first_rule_in c) d (scan_avoids p c.deferred c.scan k.look_deferred) h e0 in
     let e2 = or_second p (first_need_in c) from_sync d (needs_avoid p k c) h e1 in
     let e3 = or_second p (next_sync_in c) from_skip d (syncs_avoid p k c) h e2 in
-    let e4 = or_second p (next_skip_in c) from_finish d (skips_avoid p (λ id site n. refl) c) h e3 in
+    let e4 = or_second p (next_skip_in c) from_finish d (skips_avoid p no_skip c) h e3 in
     let e5 = or_second p (next_finish_in c) (clearing_on c) d (finishes_avoid p k c) h e4 in
     let e6 = or_second p (next_clearing_in c c.active) from_admission d (clearing_avoids p k c c.active) h e5 in
-    let e7 = or_second p (next_admission_in c c.incoming) from_read d (admissions_avoid p k (λ id. refl) c) h e6 in
     record {
       timed = timed_true c.timed (option_or (scan_look_in c.deferred c.scan) (first_rule_in c)) d e;
       needs = none_of p (first_need_in c) from_sync d (needs_avoid p k c) h e1;
       syncs = none_of p (next_sync_in c) from_skip d (syncs_avoid p k c) h e2;
-      skips = none_of p (next_skip_in c) from_finish d (skips_avoid p (λ id site n. refl) c) h e3;
+      skips = none_of p (next_skip_in c) from_finish d (skips_avoid p no_skip c) h e3;
       finishes = none_of p (next_finish_in c) (clearing_on c) d (finishes_avoid p k c) h e4;
       clearing = none_of p (next_clearing_in c c.active) from_admission d (clearing_avoids p k c c.active) h e5;
-      admission = none_of p (next_admission_in c c.incoming) from_read d (admissions_avoid p k (λ id. refl) c) h e6;
-      reads = none_of p (next_read_in c) (next_start_in c) d (reads_avoid p k c) h e7;
-      starts = or_second p (next_read_in c) (next_start_in c) d (reads_avoid p k c) h e7;
+      admission = none_of p (next_admission_in c c.incoming) from_read d (admissions_avoid p k no_admit c) h e6;
+      last = or_second p (next_admission_in c c.incoming) from_read d (admissions_avoid p k no_admit c) h e6;
     }
+
+-- a read is that of the seventh rule
+pub read_first : (c : Core) (d : Decision) → is_read d ≡ true → decide_in c ≡ Some d → IsBehind c d × (next_read_in c ≡ Some d)
+read_first c d h e =
+    let k = behind_admission is_read read_rare (λ id site n. refl) (λ id. refl) c d h e in
+    (k, or_first is_read (next_read_in c) (next_start_in c) d (starts_avoid is_read (record { preempt = λ child parent transport need. refl; start = λ number id site. refl }) c) h k.last)
+
+-- a start and a preemption are those of the last
+pub begin_first : (c : Core) (d : Decision) → is_begin d ≡ true → decide_in c ≡ Some d → IsBehind c d × (next_read_in c ≡ None) × (next_start_in c ≡ Some d)
+begin_first c d h e =
+    let k = behind_admission is_begin begin_rare (λ id site n. refl) (λ id. refl) c d h e in
+    (
+      k,
+      none_of is_begin (next_read_in c) (next_start_in c) d (reads_avoid is_begin (λ id from max. refl) c) h k.last,
+      or_second is_begin (next_read_in c) (next_start_in c) d (reads_avoid is_begin (λ id from max. refl) c) h k.last,
+    )
+
+abbrev pub is_corrupt : Decision → Bool
+is_corrupt (decisions.Corrupt id) = true
+is_corrupt _ = false
+
+corrupt_no_start : IsNoStart is_corrupt
+corrupt_no_start = record { preempt = λ child parent transport need. refl; start = λ number id site. refl }
+
+corrupt_slot : (c : Core) (s : Slot) → Avoids is_corrupt (finish_in c s)
+corrupt_slot c s =
+    let p = is_corrupt in
+    if_avoids p (nat_lt 0 s.marks) None (if nat_lt 0 s.pending then Some (decisions.Defer s.id (due_in c s.arrival)) else (if s.logged then None else (if wants_bounce_in s && not s.bounced then Some (decisions.Bounce s.id) else Some (decisions.Remove s.id)))) tt
+    (if_avoids p (nat_lt 0 s.pending) (Some (decisions.Defer s.id (due_in c s.arrival))) (if s.logged then None else (if wants_bounce_in s && not s.bounced then Some (decisions.Bounce s.id) else Some (decisions.Remove s.id))) refl
+    (if_avoids p s.logged None (if wants_bounce_in s && not s.bounced then Some (decisions.Bounce s.id) else Some (decisions.Remove s.id)) tt
+    (if_avoids p (wants_bounce_in s && not s.bounced) (Some (decisions.Bounce s.id)) (Some (decisions.Remove s.id)) refl refl)))
+
+-- a file goes to corrupt by the fifth rule, or behind it by the sixth
+corrupt_behind : (c : Core) (id : Id) → decide_in c ≡ Some (decisions.Corrupt id) → clearing_on c ≡ Some (decisions.Corrupt id)
+corrupt_behind c id e =
+    let d = decisions.Corrupt id in
+    let p = is_corrupt in
+    let from_finish = option_or (next_finish_in c) (clearing_on c) in
+    let from_skip = option_or (next_skip_in c) from_finish in
+    let from_sync = option_or (next_sync_in c) from_skip in
+    let e0 = timed_first c.timed (option_or (scan_look_in c.deferred c.scan) (first_rule_in c)) d e in
+    let e1 = or_second p (scan_look_in c.deferred c.scan) (first_rule_in c) d (scan_avoids p c.deferred c.scan (λ s. refl)) refl e0 in
+    let e2 = or_second p (first_need_in c) from_sync d (need_avoids p (slice_get c.unsettled.items 0) (λ k f. refl) (λ k n. refl)) refl e1 in
+    let e3 = or_second p (next_sync_in c) from_skip d (slot_avoids p (λ s. decisions.Sync s.id) (find (wants_sync_in c) c.admitted.items) (λ s. refl)) refl e2 in
+    let e4 = or_second p (next_skip_in c) from_finish d (skips_avoid p (λ k site n. refl) c) refl e3 in
+    or_second p (next_finish_in c) (clearing_on c) d (finish_avoids p c (find (λ s. is_idle_in c s.id) c.admitted.items) (corrupt_slot c)) refl e4
+
+-- the looks that an admission rests on were made
+pub incoming_known : (c : Core) (d : Decision) (seen : Seen) (b : Bool) → (d ≡ decisions.LookIncoming → ⊥) → (if not b then None else admission_seen c seen) ≡ Some d → is_known seen ≡ true
+incoming_known c d Unknown true n e = let same : decisions.LookIncoming ≡ d = cc in absurd (n (sym same))
+incoming_known c d (Known found) true n e = refl
+incoming_known c d seen false n e = cc
+
+active_known : (c : Core) (seen : Seen) → next_clearing_in c seen ≡ None → is_known seen ≡ true
+active_known c Unknown e = cc
+active_known c (Known found) e = refl
+
+same_decision : (x y : Decision) → ◌≡◌ {A = Option Decision} (Some x) (Some y) → x ≡ y
+same_decision x y e = cc
+
+cleared_damaged : (c : Core) (id : Id) (f : Found) → clear_found_in c f ≡ Some (decisions.Corrupt id) → shows_damaged (Known f) id ≡ true
+cleared_damaged c id Nothing e = cc
+cleared_damaged c id (Damaged k due true) e = let same : k ≡ id = cc in ap (λ i. id_eq i id) same ∙ id_eq-same id
+cleared_damaged c id (Damaged k due false) e = cc
+cleared_damaged c id (Whole k due f) e =
+    let bad = sym (ap is_corrupt (same_decision (option_map_or (λ position. decisions.Mark k position) f.unmarked (clear_marked (is_synced_in c k) k f)) (decisions.Corrupt id) e))
+        ∙ clear_avoids is_corrupt (is_synced_in c k) k f f.unmarked (λ n. refl) (marked_avoids is_corrupt (is_synced_in c k) (nat_lt 0 f.pending) (file_wants_bounce f k && not f.bounced) (decisions.Sync k) (decisions.Back k) (decisions.Bounce k) (decisions.Remove k) refl refl refl refl) in
+    cc
+
+damaged_shown : (c : Core) (id : Id) (seen : Seen) → next_clearing_in c seen ≡ Some (decisions.Corrupt id) → shows_damaged seen id ≡ true
+damaged_shown c id Unknown e = cc
+damaged_shown c id (Known f) e = cleared_damaged c id f e
+
+-- a file that active didn't show was taken from incoming or deferred
+pub record IsCorruptTaken (c : Core) : Type 0 where
+  pub active : is_known c.active ≡ true
+  pub incoming : is_known c.incoming ≡ true
+
+corrupt_at : (c : Core) (id : Id) (o : Option Decision) → next_clearing_in c c.active ≡ o → option_or o (option_or (next_admission_in c c.incoming) (option_or (next_read_in c) (next_start_in c))) ≡ Some (decisions.Corrupt id) →
+    shows_damaged c.active id ≡ false → IsCorruptTaken c
+corrupt_at c id (Some x) e h hidden = let same : x ≡ decisions.Corrupt id = cc in let bad : true ≡ false = sym (damaged_shown c id c.active (e ∙ h)) ∙ hidden in cc
+corrupt_at c id None e h hidden =
+    let p = is_corrupt in
+    let taken = or_first p (next_admission_in c c.incoming) (option_or (next_read_in c) (next_start_in c)) (decisions.Corrupt id)
+        (or_avoids p (next_read_in c) (next_start_in c) (reads_avoid p (λ k from max. refl) c) (starts_avoid p corrupt_no_start c)) refl h in
+    record {
+      active = active_known c c.active e;
+      incoming = incoming_known c (decisions.Corrupt id) c.incoming (has_message_room_in c) (λ s. let bad : true ≡ false = ap is_corrupt s in cc) taken;
+    }
+
+pub corrupt_taken_parts : (c : Core) (id : Id) → decide_in c ≡ Some (decisions.Corrupt id) → shows_damaged c.active id ≡ false → IsCorruptTaken c
+corrupt_taken_parts c id e hidden = corrupt_at c id (next_clearing_in c c.active) refl (corrupt_behind c id e) hidden
+
+-- incoming was looked at before an admission
+pub admit_known : (c : Core) (id : Id) → decide_in c ≡ Some (decisions.Admit id) → is_known c.incoming ≡ true
+admit_known c id e =
+    incoming_known c (decisions.Admit id) c.incoming (has_message_room_in c) (λ s. let bad : true ≡ false = ap is_admit s in cc) (admit_first c (decisions.Admit id) refl e)

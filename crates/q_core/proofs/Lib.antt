@@ -13,6 +13,8 @@ pub mod NextLaws
 pub mod KindLaws
 pub mod TakenLaws
 pub mod BeginningLaws
+pub mod WholeLaws
+pub mod AskLaws
 pub mod LookLaws
 pub mod StepLaws
 pub mod NoteLaws

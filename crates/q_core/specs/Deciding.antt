@@ -69,3 +69,15 @@ is_answered Active = false
 is_answered Incoming = false
 is_answered Deferred = false
 is_answered (Recipients id from max) = false
+
+-- what a look or a read asks for
+abbrev pub question_of : Decision → Question
+question_of decisions.LookActive = Active
+question_of decisions.LookIncoming = Incoming
+question_of (decisions.LookDeferred after until) = Deferred
+question_of (decisions.Read id from max) = Recipients id from max
+question_of _ = Nothing
+
+abbrev pub question_for : Option Decision → Question
+question_for None = Nothing
+question_for (Some d) = question_of d

@@ -38,7 +38,7 @@ impl Core {
     fn hear(&mut self, alloc: Global, heard: Heard<'_>) -> Result<(), NoMemory>
         requires time { IsInTime heard }
         requires seen { IsTrue (is_looked_at self.old) }
-        ensures ok { OnOk result ((w : World) → (l : Ledger) → (e : Entry) → Agrees w self.old l → IsHeard heard e → allowed w l e ≡ true → Matches w self.new (after w l e)) }
+        ensures ok { OnOk result ((w : World) → (l : Ledger) → (e : Entry) → Agrees w self.old l → IsHeard heard.entry e → allowed w l e ≡ true → Matches w self.new (after w l e)) }
         ensures err { OnErr result (IsAsBefore self.old self.new) }
     {
         match heard {
@@ -63,7 +63,7 @@ impl Core {
         requires time { IsInTime heard }
         requires answered { is_answered self.old.question ≡ true }
         requires seen { IsTrue (is_looked_at self.old) }
-        ensures ok { OnOk result ((w : World) → (l : Ledger) → (e : Entry) → Agrees w self.old l → IsHeard heard e → allowed w l e ≡ true → Agrees w self.new (after w l e)) }
+        ensures ok { OnOk result ((w : World) → (l : Ledger) → (e : Entry) → Agrees w self.old l → IsHeard heard.entry e → allowed w l e ≡ true → Agrees w self.new (after w l e)) }
         ensures err { OnErr result ((w : World) → (l : Ledger) → Agrees w self.old l → Agrees w self.new l) }
     {
         self.hear(alloc, heard)?;

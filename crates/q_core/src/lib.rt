@@ -9,6 +9,8 @@ mod choice;
 mod clearing;
 mod clock;
 mod corrupt;
+
+mod deciding;
 mod decision;
 mod destination;
 mod event;
