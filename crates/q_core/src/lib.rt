@@ -9,7 +9,6 @@ mod choice;
 mod clearing;
 mod clock;
 mod corrupt;
-
 mod deciding;
 mod decision;
 mod destination;
