@@ -1,16 +1,14 @@
 -- What is told of the messages that stand, as one is added to incoming.
-use Rattle.std.proofs.Common.{◌≡◌, Bool, true, false, List, [], ◌∷◌, ◌++◌, map, filter, is_some, not, Option, Some, None, inl, inr, refl, sym, ap, ◌∙◌, subst}
+use Rattle.std.proofs.Common.{◌≡◌, Bool, true, false, List, [], ◌∷◌, ◌++◌, filter, is_some, not, Option, refl, sym, ap, ◌∙◌, subst}
 use Rattle.std.specs.List.{list_any}
 use Rattle.std.specs.Prelude.{◌&&◌, ◌||◌}
-use Rattle.q_core.proofs.ApartLaws.{is_deferred}
-use Rattle.q_core.proofs.DueLaws.{due_added, due_joined, due_listed}
+use Rattle.q_core.proofs.DueLaws.{due_added, due_joined, due_listed, is_deferred}
 use Rattle.q_core.proofs.PlacedLaws.{damaged_at, named, placed_added}
 use Rattle.q_core.proofs.QueueLaws.{IsSameOf, still_same, with_files}
 use Rattle.q_core.proofs.SameLaws.{not_bool}
 use Rattle.q_core.proofs.StepLaws.{IsStillSeen}
 use Rattle.q_core.specs.declared.state.Seen.{Seen}
 use Rattle.q_laws.proofs.Added.{IsAddable, other_found}
-use Rattle.q_laws.proofs.Books.{placed_listed}
 use Rattle.q_laws.proofs.Members.{IsIn}
 use Rattle.q_model.proofs.IdLaws.{id_eq-true}
 use Rattle.q_model.specs.Admissions.{cause_gone}
@@ -23,9 +21,8 @@ use Rattle.q_model.specs.Leftovers.{leftovers}
 use Rattle.q_model.specs.Memory.{is_admitted}
 use Rattle.q_model.specs.Message.{Message}
 use Rattle.q_model.specs.Places.{is_active, is_incoming}
-use Rattle.q_model.specs.Scans.{deferred_name, deferred_names}
+use Rattle.q_model.specs.Scans.{deferred_name}
 use Rattle.q_model.specs.declared.id.Id.{Id}
-use Rattle.q_model.specs.declared.rows.DeferredName.{DeferredName}
 use Rattle.q_model.specs.declared.rows.Place.TheVariants as places
 
 any_last : {X : Type 0} (p : X → Bool) (x : X) → p x ≡ false → (xs : List X) → list_any p (xs ++ x ∷ []) ≡ list_any p xs

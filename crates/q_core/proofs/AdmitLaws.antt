@@ -1,45 +1,30 @@
 -- A message comes into memory: what is told of the others, and its slot.
-use Rattle.std.proofs.Common.{◌≡◌, ℕ, Bool, true, false, List, [], ◌∷◌, ◌++◌, length, map, filter, is_some, not, Option, Some, None, option_map, inl, inr, refl, sym, ap, ◌∙◌, subst, IsTrue}
-use Rattle.std.proofs.lemmas.Bool.{and_parts, not-true, or_from, or_parts}
-use Rattle.std.specs.List.{list_all, list_any}
-use Rattle.std.specs.Option.{option_map_or}
-use Rattle.std.specs.Prelude.{◌&&◌, ◌||◌, is_none, nat_le, nat_lt}
-use Rattle.q_core.proofs.ApartLaws.{is_deferred}
+use Rattle.std.proofs.Common.{◌≡◌, Bool, true, false, List, [], ◌∷◌, ◌++◌, filter, not, Some, inl, refl, sym, ap, ◌∙◌, subst}
+use Rattle.std.specs.List.{list_any}
+use Rattle.std.specs.Prelude.{◌&&◌, ◌||◌}
 use Rattle.q_core.proofs.CorruptLaws.{no_bounce}
 use Rattle.q_core.proofs.PlacedLaws.{damaged_at, placed_joined, placed_mapped}
-use Rattle.q_core.proofs.QueueLaws.{IsSameOf, active_same, slots_same, with_files}
-use Rattle.q_core.proofs.RestLaws.{admitted_active}
-use Rattle.q_core.proofs.RuleLaws.{no_length}
-use Rattle.q_core.proofs.SameLaws.{listed_stands, moved_same, not_bool, stands_listed}
-use Rattle.q_core.proofs.TakeLaws.{found_on}
-use Rattle.q_core.specs.Agrees.{file_of, found_active, found_at, slot_from, slot_of}
-use Rattle.q_core.specs.Taking.{found_slot}
-use Rattle.q_core.specs.declared.slot.Slot.{Slot}
-use Rattle.q_laws.proofs.Books.{message_at, message_in, message_listed, not_damaged, only_message, placed_listed}
+use Rattle.q_core.proofs.QueueLaws.{IsSameOf, active_same, with_files}
+use Rattle.q_core.proofs.SameLaws.{moved_same, not_bool}
+use Rattle.q_core.specs.Agrees.{found_active}
+use Rattle.q_laws.proofs.Books.{message_at, message_in, not_damaged, only_message, placed_listed}
 use Rattle.q_laws.proofs.Distinct.{id_other, id_same}
 use Rattle.q_laws.proofs.InPlace.{changed, changed_name, changed_other, changed_same}
-use Rattle.q_laws.proofs.Mapped.{find_mapped}
 use Rattle.q_laws.proofs.Members.{IsIn, any_from, in_filtered, in_right, in_unmap}
-use Rattle.q_laws.proofs.Moved.{move_to, moved_at}
-use Rattle.q_laws.specs.Consistency.{IsConsistent}
+use Rattle.q_laws.proofs.Moved.{move_to}
 use Rattle.q_model.proofs.IdLaws.{id_eq-true}
 use Rattle.q_model.specs.Admissions.{cause_gone}
-use Rattle.q_model.specs.Book.{Book, Damaged, ids_at, message_of, stands, stands_in}
+use Rattle.q_model.specs.Book.{Damaged, ids_at, message_of}
 use Rattle.q_model.specs.BookChanges.{move_message}
 use Rattle.q_model.specs.FilesStand.{all_ids, are_distinct}
-use Rattle.q_model.specs.Finishing.{has_bounce}
-use Rattle.q_model.specs.Ids.{bounce_of, cause_of, id_eq}
+use Rattle.q_model.specs.Ids.{id_eq}
 use Rattle.q_model.specs.Ledger.{Ledger}
 use Rattle.q_model.specs.Leftovers.{leftovers}
-use Rattle.q_model.specs.Lists.{has_none}
 use Rattle.q_model.specs.Memory.{is_admitted}
-use Rattle.q_model.specs.Message.{Message, pending, unmarked_logged, written_marks}
-use Rattle.q_model.specs.Orderly.{has_firm_failures, is_orderly, is_paired, is_sealed, is_settled}
-use Rattle.q_model.specs.Places.{is_active, is_incoming}
-use Rattle.q_model.specs.Settings.{World}
+use Rattle.q_model.specs.Message.{Message}
+use Rattle.q_model.specs.Places.{is_active}
 use Rattle.q_model.specs.declared.id.Id.{Id}
 use Rattle.q_model.specs.declared.rows.Admitted.{Admitted}
-use Rattle.q_model.specs.declared.rows.Place.{Place}
 use Rattle.q_model.specs.declared.rows.Place.TheVariants as places
 
 -- the message that comes isn't in active nor in memory, and its cause is gone

@@ -1,9 +1,8 @@
 -- A message arrives.
-use Rattle.std.proofs.Common.{◌≡◌, ℕ, Bool, true, false, List, map, not, Option, refl, sym, ap, ◌∙◌, subst}
+use Rattle.std.proofs.Common.{◌≡◌, ℕ, true, false, List, map, not, Option, refl, sym, ap, ◌∙◌, subst}
 use Rattle.std.proofs.lemmas.Bool.{and_parts}
-use Rattle.std.specs.Prelude.{◌&&◌}
+use Rattle.q_core.proofs.DueLaws.{is_deferred}
 use Rattle.q_core.proofs.AddedLaws.{added_left, added_same, added_still}
-use Rattle.q_core.proofs.ApartLaws.{is_deferred}
 use Rattle.q_core.proofs.ChangeLaws.{seen_same}
 use Rattle.q_core.proofs.QueueLaws.{IsSameOf, active_same, files_law, slots_same, with_files}
 use Rattle.q_core.proofs.RestLaws.{admitted_active}
@@ -11,7 +10,6 @@ use Rattle.q_core.proofs.SameLaws.{not_bool}
 use Rattle.q_core.proofs.StepLaws.{HoldsRaw}
 use Rattle.q_core.specs.Agrees.{IsSeen, found_active, slot_of}
 use Rattle.q_core.specs.declared.state.Core.{Core}
-use Rattle.q_core.specs.declared.state.Seen.{Seen}
 use Rattle.q_core.specs.declared.state.Seen.TheVariants.{Unknown}
 use Rattle.q_laws.proofs.Arrived.{new_addable, new_message}
 use Rattle.q_laws.proofs.Books.{placed_listed}
@@ -19,14 +17,12 @@ use Rattle.q_laws.proofs.Members.{IsIn, in_filtered}
 use Rattle.q_laws.specs.Consistency.{IsConsistent}
 use Rattle.q_model.proofs.IdLaws.{id_eq-true}
 use Rattle.q_model.specs.Arrivals.{after_arrive, may_arrive, next_id}
-use Rattle.q_model.specs.Book.{Book, ids_at}
+use Rattle.q_model.specs.Book.{ids_at}
 use Rattle.q_model.specs.BookChanges.{add_message}
 use Rattle.q_model.specs.FilesStand.{all_ids}
 use Rattle.q_model.specs.Ids.{bounce_of, id_eq}
 use Rattle.q_model.specs.Ledger.{Ledger}
-use Rattle.q_model.specs.Leftovers.{leftovers}
 use Rattle.q_model.specs.Memory.{is_admitted}
-use Rattle.q_model.specs.Message.{Message}
 use Rattle.q_model.specs.Places.{is_active}
 use Rattle.q_model.specs.Settings.{World}
 use Rattle.q_model.specs.declared.id.Id.{Id}

@@ -1,19 +1,16 @@
 -- A message that an earlier life left goes back to incoming.
-use Rattle.std.proofs.Common.{◌≡◌, Bool, true, false, List, map, not, Option, Some, None, inl, inr, refl, sym, ap, ◌∙◌, subst}
+use Rattle.std.proofs.Common.{◌≡◌, Bool, true, false, map, not, Option, Some, None, refl, sym, ap, ◌∙◌, subst}
 use Rattle.std.proofs.lemmas.Bool.{and_parts, not-true}
-use Rattle.std.specs.List.{list_any}
 use Rattle.std.specs.Option.{option_map_or}
 use Rattle.std.specs.Prelude.{◌&&◌}
-use Rattle.q_core.proofs.ApartLaws.{is_deferred}
-use Rattle.q_core.proofs.DueLaws.{active_has_none, deferred_or_active, due_joined, due_listed, due_mapped, due_name, one_queue}
+use Rattle.q_core.proofs.DueLaws.{active_has_none, deferred_or_active, due_joined, due_listed, due_mapped, due_name, one_queue, is_deferred}
 use Rattle.q_core.proofs.HeldLaws.{IsThere}
 use Rattle.q_core.proofs.QueueLaws.{IsSameOf, files_law, slots_same, still_same, with_files}
 use Rattle.q_core.proofs.RestLaws.{admitted_active}
 use Rattle.q_core.proofs.SameLaws.{moved_same, no_bounce_of, not_bool}
-use Rattle.q_core.proofs.StepLaws.{HoldsRaw, IsStillSeen}
+use Rattle.q_core.proofs.StepLaws.{HoldsRaw}
 use Rattle.q_core.specs.Agrees.{slot_of}
 use Rattle.q_core.specs.declared.state.Core.{Core}
-use Rattle.q_core.specs.declared.state.Seen.{Seen}
 use Rattle.q_core.specs.declared.state.Seen.TheVariants.{Unknown}
 use Rattle.q_laws.proofs.Books.{active_not_incoming, at_place, left_active, left_parts, message_in, only_message, placed_listed}
 use Rattle.q_laws.proofs.InPlace.{changed, changed_other, changed_same}

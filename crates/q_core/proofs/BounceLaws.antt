@@ -3,12 +3,11 @@ use Rattle.std.proofs.Common.{◌≡◌, Bool, true, false, List, [], ◌∷◌,
 use Rattle.std.proofs.lemmas.Bool.{and_from, and_parts, not-true, or_left}
 use Rattle.std.specs.List.{list_any}
 use Rattle.std.specs.Option.{option_map_or}
-use Rattle.std.specs.Prelude.{◌&&◌, ◌||◌, is_none, if◌then◌else◌}
+use Rattle.std.specs.Prelude.{◌&&◌, is_none, if◌then◌else◌}
 use Rattle.q_core.proofs.AddedLaws.{added_left, added_same, added_still}
-use Rattle.q_core.proofs.ApartLaws.{is_deferred}
 use Rattle.q_core.proofs.ChangeLaws.{seen_same}
-use Rattle.q_core.proofs.DueLaws.{deferred_or_active, one_queue}
-use Rattle.q_core.proofs.QueueLaws.{IsSameOf, files_law, slots_same, with_files}
+use Rattle.q_core.proofs.DueLaws.{deferred_or_active, one_queue, is_deferred}
+use Rattle.q_core.proofs.QueueLaws.{IsSameOf, files_law, slot_same, slots_same, with_files}
 use Rattle.q_core.proofs.RestLaws.{admitted_active, rest_active}
 use Rattle.q_core.proofs.SameLaws.{not_bool}
 use Rattle.q_core.proofs.StepLaws.{HasRowsOf, HoldsRaw, IsStillSeen}
@@ -17,15 +16,15 @@ use Rattle.q_core.specs.Changes.{IsBounced}
 use Rattle.q_core.specs.Slots.{changed_at, with_bounce}
 use Rattle.q_core.specs.declared.state.Core.{Core}
 use Rattle.q_core.specs.declared.state.Seen.{Seen}
-use Rattle.q_core.specs.declared.state.Seen.TheVariants.{Known, Unknown}
+use Rattle.q_core.specs.declared.state.Seen.TheVariants.{Unknown}
 use Rattle.q_laws.proofs.Added.{IsAddable, still_found}
 use Rattle.q_laws.proofs.Arrived.{bounce_addable}
 use Rattle.q_laws.proofs.Books.{at_place, message_in, placed_listed}
 use Rattle.q_laws.proofs.Distinct.{id_other, id_same}
 use Rattle.q_laws.proofs.Members.{IsIn, any_from, in_right, none_at}
 use Rattle.q_laws.specs.Consistency.{IsConsistent}
-use Rattle.q_model.proofs.IdLaws.{id_eq-refl, id_eq-true}
-use Rattle.q_model.specs.Book.{Book, Damaged, ids_at, message_of, stands_in}
+use Rattle.q_model.proofs.IdLaws.{id_eq-true}
+use Rattle.q_model.specs.Book.{Damaged, ids_at, message_of}
 use Rattle.q_model.specs.BookChanges.{add_message}
 use Rattle.q_model.specs.Bounces.{after_bounce, may_bounce}
 use Rattle.q_model.specs.FilesStand.{all_ids}
@@ -112,9 +111,7 @@ bounced_slots l id m (a ∷ xs) h =
     ∙ ap (λ ss. slot_of (with_files l (add_message l.book (bounce_message l.now m.message)) l.admitted) a ∷ ss) (bounced_slots l id m xs (λ x k. h x (inr k)))
   where
     one : (t : Bool) → id_eq a.id id ≡ t → (if t then with_bounce (slot_of l a) else slot_of l a) ≡ slot_of (with_files l (add_message l.book (bounce_message l.now m.message)) l.admitted) a
-    one false e =
-        let s = bounced_listed l id m a.id (h a (inl refl)) e in
-        ap (λ x. slot_from a x (message_of l.book a.id)) (sym s.bounced) ∙ ap (slot_from a (has_bounce (with_files l (add_message l.book (bounce_message l.now m.message)) l.admitted) a.id)) (sym s.message)
+    one false e = slot_same l (add_message l.book (bounce_message l.now m.message)) l.admitted a (bounced_listed l id m a.id (h a (inl refl)) e)
     one true e =
         let next : Ledger = with_files l (add_message l.book (bounce_message l.now m.message)) l.admitted in
         let same = id_eq-true a.id id e in

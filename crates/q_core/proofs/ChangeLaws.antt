@@ -1,43 +1,34 @@
 -- What looks tell, and what slots say, where one message in active changes and keeps its name and place.
-use Rattle.std.proofs.Common.{◌≡◌, ℕ, Bool, true, false, List, [], ◌∷◌, map, refl, sym, ap, ◌∙◌, subst, Option, Some, None, option_map}
-use Rattle.std.specs.List.{list_all, list_any}
-use Rattle.std.specs.Option.{option_map_or}
-use Rattle.std.specs.Prelude.{◌&&◌, ◌||◌, filter, find, if◌then◌else◌, is_some, not, option_and_then}
-use Rattle.q_core.proofs.ApartLaws.{is_deferred, lacks, not_placed, not_scanned}
+use Rattle.std.proofs.Common.{◌≡◌, Bool, true, false, List, [], ◌∷◌, map, refl, sym, ap, ◌∙◌, subst, Option, Some, None, option_map}
+use Rattle.std.specs.List.{list_any}
+use Rattle.std.specs.Prelude.{◌&&◌, filter, if◌then◌else◌, not}
 use Rattle.q_core.proofs.BookLaws.{KeepsPlace, changed, deferred_names-change, ids_at-change, message_of-change, stands-change, stands_in-change}
-use Rattle.q_core.proofs.ChoiceLaws.{least-all}
+use Rattle.q_core.proofs.DueLaws.{active_or_deferred, due_listed, is_deferred, one_queue}
 use Rattle.q_core.proofs.ListLaws.{find-passes}
 use Rattle.q_core.proofs.NameLaws.{id_eq-same, id_eq-true}
+use Rattle.q_core.proofs.QueueLaws.{IsSameOf, active_same, incoming_same, slot_same, slots_same, still_same}
+use Rattle.q_core.proofs.SameLaws.{leftover_other, not_bool}
 use Rattle.q_core.proofs.StepLaws.{IsStillSeen}
-use Rattle.q_core.proofs.TakeLaws.{found_on, next_of}
-use Rattle.q_core.specs.Agrees.{IsSeen, file_of, found_active, found_at, found_deferred, found_incoming, found_next, slot_from, slot_of}
-use Rattle.q_core.specs.Scanning.{scan_after}
+use Rattle.q_laws.proofs.Books.{active_not_incoming, at_place, message_in}
+use Rattle.q_laws.proofs.Members.{IsIn, none_at}
+use Rattle.q_core.specs.Agrees.{IsSeen, found_active, found_incoming, slot_from, slot_of}
 use Rattle.q_core.specs.declared.decision.Found.{Found}
-use Rattle.q_core.specs.declared.decision.Found.TheVariants.{Damaged, Nothing, Whole}
 use Rattle.q_core.specs.Slots.{changed_at}
 use Rattle.q_core.specs.declared.slot.Slot.{Slot}
 use Rattle.q_core.specs.declared.state.Seen.{Seen}
 use Rattle.q_core.specs.declared.state.Seen.TheVariants.{Known, Unknown}
-use Rattle.q_model.specs.Admissions.{cause_gone}
 use Rattle.q_model.specs.Book.{Book, ids_at, message_of}
 use Rattle.q_model.specs.BookChanges.{change_message}
 use Rattle.q_model.specs.FilesStand.{all_ids, are_distinct}
 use Rattle.q_model.specs.Finishing.{has_bounce}
-use Rattle.q_model.specs.Ids.{id_before, id_eq}
+use Rattle.q_model.specs.Ids.{bounce_of, cause_of, id_eq}
 use Rattle.q_model.specs.Ledger.{Ledger}
-use Rattle.q_model.specs.Leftovers.{leftovers}
-use Rattle.q_model.specs.Lists.{least}
 use Rattle.q_model.specs.Memory.{is_admitted}
 use Rattle.q_model.specs.Message.{Message}
-use Rattle.q_model.specs.Places.{due_of, is_active, is_incoming}
-use Rattle.q_model.specs.Scans.{is_ahead, live, name_before, new_scan, scan_next}
+use Rattle.q_model.specs.Places.{is_active, is_incoming}
 use Rattle.q_model.specs.declared.id.Id.{Id}
 use Rattle.q_model.specs.declared.rows.Admitted.{Admitted}
-use Rattle.q_model.specs.declared.rows.DeferredName.{DeferredName}
 use Rattle.q_model.specs.declared.rows.Place.{Place}
-use Rattle.q_model.specs.declared.rows.Place.TheVariants as places
-use Rattle.q_model.specs.declared.rows.Request.{Request}
-use Rattle.q_model.specs.declared.rows.Scan.{Scan}
 
 -- the message of this id stands in active, and changes
 pub record IsBookChange (l : Ledger) (id : Id) (f : Message → Message) (m : Message) : Type 0 where
@@ -66,122 +57,39 @@ this_message b id m f keeps e =
     message_of-change b id id f keeps ∙ ap (option_map (changed id f)) e
     ∙ ap (λ c. Some (if c then f m else m)) (ap (λ i. id_eq i id) (message_name b id m e) ∙ id_eq-same id)
 
-file_other : (l : Ledger) (id k : Id) (f : Message → Message) → KeepsPlace f → (m : Message) → file_of (changed_ledger l id f) k m ≡ file_of l k m
-file_other l id k f keeps m =
-    ap (λ x. record (file_of l k m) { bounced = x; alone = cause_gone (change_message l.book id f) k }) (stands_in-change is_incoming l.book id _ f keeps)
-    ∙ ap (λ x. record (file_of l k m) { alone = not (k.bounce && x) }) (stands-change l.book id _ f keeps)
+-- another message stays
+kept_same : (b : Book) (id k : Id) (f : Message → Message) → KeepsPlace f → id_eq k id ≡ false → IsSameOf b (change_message b id f) k
+kept_same b id k f keeps e = record {
+  message = other_message b id k f keeps e;
+  bounced = stands_in-change is_incoming b id (bounce_of k) f keeps;
+  alone = ap (λ x. not (k.bounce && x)) (stands-change b id (cause_of k) f keeps);
+}
 
-found_map : (l : Ledger) (id : Id) (f : Message → Message) → KeepsPlace f → (due : ℕ) (k : Id) (o : Option Message) → found_on (changed_ledger l id f) due k o ≡ found_on l due k o
-found_map l id f keeps due k None = ap (λ x. Damaged k due (not (k.bounce && x))) (stands-change l.book id _ f keeps)
-found_map l id f keeps due k (Some m) = ap (Whole k due) (file_other l id k f keeps m)
+-- the one that changes is listed in active
+changed_listed : (l : Ledger) (id : Id) (f : Message → Message) (m : Message) → IsBookChange l id f m → IsIn id (ids_at is_active l.book)
+changed_listed l id f m k = let mine = message_in l.book id m k.there in subst (λ i. IsIn i (ids_at is_active l.book)) mine.1 (at_place is_active l.book m mine.0 k.active)
 
--- what is told of another message is as it was
-found_other : (l : Ledger) (id : Id) (f : Message → Message) → KeepsPlace f → (due : ℕ) (k : Id) → id_eq k id ≡ false → found_at (changed_ledger l id f) due k ≡ found_at l due k
-found_other l id f keeps due k e = ap (found_on (changed_ledger l id f) due k) (other_message l.book id k f keeps e) ∙ found_map l id f keeps due k (message_of l.book k)
-
-abbrev first_on : Ledger → Option Id → Found
-first_on l o = option_map_or (λ k. found_at l 0 k) o Nothing
-
-not_true : (b : Bool) → not b ≡ true → b ≡ false
-not_true true h = cc
-not_true false h = refl
-
-first_other : (l : Ledger) (id : Id) (f : Message → Message) → KeepsPlace f → (o : Option Id) → ((k : Id) → o ≡ Some k → not (id_eq k id) ≡ true) → first_on (changed_ledger l id f) o ≡ first_on l o
-first_other l id f keeps None h = refl
-first_other l id f keeps (Some k) h = found_other l id f keeps 0 k (not_true (id_eq k id) (h k refl))
-
-least_lacks : (id k : Id) (ids : List Id) → lacks id ids ≡ true → least id_before ids ≡ Some k → not (id_eq k id) ≡ true
-least_lacks id k ids h e = least-all id_before (λ i. not (id_eq i id)) ids k h e
-
-elsewhere : (place : Place) → is_active place ≡ true → is_incoming place ≡ false
-elsewhere places.Active h = refl
-elsewhere places.Incoming h = cc
-elsewhere (places.Deferred due) h = cc
-elsewhere places.Hold h = cc
-elsewhere places.Corrupt h = cc
-
-not_due : (place : Place) → is_active place ≡ true → is_deferred place ≡ false
-not_due places.Active h = refl
-not_due places.Incoming h = cc
-not_due (places.Deferred due) h = cc
-not_due places.Hold h = cc
-not_due places.Corrupt h = cc
+-- who stands elsewhere is another
+other_at : (l : Ledger) (id : Id) (f : Message → Message) (m : Message) → IsBookChange l id f m → (at : Place → Bool) → ((place : Place) → is_active place ≡ true → at place ≡ true → ⊥) → (i : Id) → IsIn i (ids_at at l.book) → IsSameOf l.book (change_message l.book id f) i
+other_at l id f m k at apart i inside = kept_same l.book id i f k.keeps (not_bool (id_eq i id) (λ e.
+    one_queue is_active at apart l.book k.distinct id (changed_listed l id f m k) (subst (λ j. IsIn j (ids_at at l.book)) (id_eq-true i id e) inside)))
 
 pub incoming_changed : (l : Ledger) (id : Id) (f : Message → Message) (m : Message) → IsBookChange l id f m → found_incoming (changed_ledger l id f) ≡ found_incoming l
-incoming_changed l id f m k =
-    ap (λ ids. first_on (changed_ledger l id f) (least id_before ids)) (ids_at-change is_incoming l.book id f k.keeps)
-    ∙ first_other l id f k.keeps (least id_before (ids_at is_incoming l.book))
-    (λ i e. least_lacks id i (ids_at is_incoming l.book) (not_placed is_incoming l.book id m k.distinct k.there (elsewhere m.place k.active)) e)
-
-leftovers_changed : (l : Ledger) (id : Id) (f : Message → Message) → KeepsPlace f → leftovers (changed_ledger l id f) ≡ leftovers l
-leftovers_changed l id f keeps = ap (filter (λ k. not (is_admitted l k))) (ids_at-change is_active l.book id f keeps)
-
-differs : (l : Ledger) (id x : Id) (b : Bool) → id_eq x id ≡ b → is_admitted l id ≡ true → is_admitted l x ≡ false → b ≡ false
-differs l id x false p adm e = refl
-differs l id x true p adm e = let bad : true ≡ false = sym adm ∙ ap (is_admitted l) (sym (id_eq-true x id p)) ∙ e in cc
-
-lacks_one : (l : Ledger) (id x : Id) (b : Bool) (ids : List Id) → is_admitted l id ≡ true → is_admitted l x ≡ b → lacks id ids ≡ true → lacks id (if not b then x ∷ ids else ids) ≡ true
-lacks_one l id x true ids adm e h = h
-lacks_one l id x false ids adm e h = ap (λ b. not b && lacks id ids) (differs l id x (id_eq x id) refl adm e) ∙ h
-
--- a message in memory is none that an earlier life left
-pub admitted_lacks : (l : Ledger) (id : Id) (ids : List Id) → is_admitted l id ≡ true → lacks id (filter (λ k. not (is_admitted l k)) ids) ≡ true
-admitted_lacks l id [] adm = refl
-admitted_lacks l id (x ∷ xs) adm = lacks_one l id x (is_admitted l x) (filter (λ k. not (is_admitted l k)) xs) adm refl (admitted_lacks l id xs adm)
+incoming_changed l id f m k = incoming_same l (change_message l.book id f) l.admitted (ids_at-change is_incoming l.book id f k.keeps) (other_at l id f m k is_incoming active_not_incoming)
 
 pub active_changed : (l : Ledger) (id : Id) (f : Message → Message) (m : Message) → IsBookChange l id f m → is_admitted l id ≡ true → found_active (changed_ledger l id f) ≡ found_active l
 active_changed l id f m k adm =
-    ap (λ ids. first_on (changed_ledger l id f) (least id_before ids)) (leftovers_changed l id f k.keeps)
-    ∙ first_other l id f k.keeps (least id_before (leftovers l)) (λ i e. least_lacks id i (leftovers l) (admitted_lacks l id (ids_at is_active l.book) adm) e)
-
-next_changed : (b : Book) (id : Id) (f : Message → Message) → KeepsPlace f → (s : Scan) → scan_next (change_message b id f) s ≡ scan_next b s
-next_changed b id f keeps s = ap (λ ns. least name_before (filter (is_ahead s) ns)) (deferred_names-change b id f keeps)
-
-abbrev over_none : Scan → Option DeferredName → (Option Scan × Option Request)
-over_none s None = (None, None)
-over_none s (Some x) = (Some s, None)
-
-abbrev over_some : Scan → Request → Option Scan → Option DeferredName → (Option Scan × Option Request)
-over_some s r next None = (next, None)
-over_some s r next (Some x) = (Some s, Some r)
-
-abbrev live_on : Scan → Option DeferredName → Option Scan
-live_on s o = option_and_then (λ n. Some s) o
-
-pub after_scan_changed : (b : Book) (id : Id) (f : Message → Message) → KeepsPlace f → (n : ℕ) (s : Option Scan) (q : Option Request) → scan_after (change_message b id f) n s q ≡ scan_after b n s q
-after_scan_changed b id f keeps n None q = refl
-after_scan_changed b id f keeps n (Some s) None = ap (over_none s) (next_changed b id f keeps s)
-after_scan_changed b id f keeps n (Some s) (Some r) =
-    ap (over_some s r (live (change_message b id f) (new_scan n r))) (next_changed b id f keeps s)
-    ∙ ap (λ o. over_some s r (live_on (new_scan n r) o) (scan_next b s)) (next_changed b id f keeps (new_scan n r))
-
-named_other : (l : Ledger) (id : Id) (f : Message → Message) → KeepsPlace f → (o : Option DeferredName) → ((n : DeferredName) → o ≡ Some n → not (id_eq n.id id) ≡ true) → found_next (changed_ledger l id f) o ≡ found_next l o
-named_other l id f keeps None h = refl
-named_other l id f keeps (Some n) h = found_other l id f keeps n.due n.id (not_true (id_eq n.id id) (h n refl))
-
-scan_other : (l : Ledger) (id : Id) (f : Message → Message) (m : Message) → IsBookChange l id f m → (o : Option Scan) → found_next (changed_ledger l id f) (next_of (change_message l.book id f) o) ≡ found_next l (next_of l.book o)
-scan_other l id f m k None = refl
-scan_other l id f m k (Some s) =
-    ap (found_next (changed_ledger l id f)) (next_changed l.book id f k.keeps s)
-    ∙ named_other l id f k.keeps (scan_next l.book s)
-    (λ n e. not_scanned l.book id s n (not_placed is_deferred l.book id m k.distinct k.there (not_due m.place k.active)) e)
-
-pub deferred_changed : (l : Ledger) (id : Id) (f : Message → Message) (m : Message) → IsBookChange l id f m → found_deferred (changed_ledger l id f) ≡ found_deferred l
-deferred_changed l id f m k = scan_other l id f m k l.scan
+    active_same l (change_message l.book id f) l.admitted (ap (filter (λ i. not (is_admitted l i))) (ids_at-change is_active l.book id f k.keeps))
+    (λ i h. kept_same l.book id i f k.keeps (leftover_other l id adm i h).1)
 
 pub seen_same : (seen : Seen) (f g : Found) → f ≡ g → IsSeen seen g → IsSeen seen f
 seen_same Unknown f g e h = tt
 seen_same (Known found) f g e h = h ∙ sym e
 
 pub still_changed : (seen : Seen) (l : Ledger) (id : Id) (f : Message → Message) (m : Message) → IsBookChange l id f m → IsStillSeen seen l → IsStillSeen seen (changed_ledger l id f)
-still_changed Unknown l id f m k h = tt
-still_changed (Known found) l id f m k h = (h.0 ∙ sym (deferred_changed l id f m k), after_scan_changed l.book id f k.keeps l.now l.scan l.asked ∙ h.1)
-
--- the slot of another message is as it was
-slot_other : (l : Ledger) (id : Id) (f : Message → Message) → KeepsPlace f → (a : Admitted) → id_eq a.id id ≡ false → slot_of (changed_ledger l id f) a ≡ slot_of l a
-slot_other l id f keeps a e =
-    ap (λ x. slot_from a x (message_of (change_message l.book id f) a.id)) (stands_in-change is_incoming l.book id _ f keeps)
-    ∙ ap (slot_from a (has_bounce l a.id)) (other_message l.book id a.id f keeps e)
+still_changed seen l id f m k h =
+    still_same seen l (change_message l.book id f) l.admitted (deferred_names-change l.book id f k.keeps)
+    (λ n inside. other_at l id f m k is_deferred active_or_deferred n.id (due_listed l.book n inside)) h
 
 -- the slot of this message is that of the changed one
 slot_this : (l : Ledger) (id : Id) (f : Message → Message) (m : Message) → IsBookChange l id f m → (a : Admitted) → a.id ≡ id → slot_of (changed_ledger l id f) a ≡ slot_from a (has_bounce l a.id) (Some (f m))
@@ -192,7 +100,7 @@ slot_this l id f m k a e =
 slot_case : (l : Ledger) (id : Id) (f : Message → Message) (m : Message) (g : Slot → Slot) → IsBookChange l id f m →
     ((a : Admitted) (bounced : Bool) → slot_from a bounced (Some (f m)) ≡ g (slot_from a bounced (Some m))) → (a : Admitted) (b : Bool) → id_eq a.id id ≡ b →
     slot_of (changed_ledger l id f) a ≡ (if b then g (slot_of l a) else slot_of l a)
-slot_case l id f m g k h a false e = slot_other l id f k.keeps a e
+slot_case l id f m g k h a false e = sym (slot_same l (change_message l.book id f) l.admitted a (kept_same l.book id a.id f k.keeps e))
 slot_case l id f m g k h a true e =
     let same : a.id ≡ id = id_eq-true a.id id e in
     slot_this l id f m k a same ∙ h a (has_bounce l a.id)
@@ -207,15 +115,7 @@ slots_changed l id f m g k h (a ∷ xs) =
     ap (λ s. s ∷ map (changed_at id g) (map (slot_of l) xs)) (sym (slot_case l id f m g k h a (id_eq a.id id) refl))
     ∙ ap (λ ss. slot_of (changed_ledger l id f) a ∷ ss) (slots_changed l id f m g k h xs)
 
-neither : (a b : Bool) → (a || b) ≡ false → (a ≡ false) × (b ≡ false)
-neither true b h = cc
-neither false b h = (refl, h)
-
 -- where the message isn't in memory, no slot changes
 pub slots_apart : (l : Ledger) (id : Id) (f : Message → Message) → KeepsPlace f → (xs : List Admitted) → list_any (λ (a : Admitted). id_eq a.id id) xs ≡ false →
     map (slot_of l) xs ≡ map (slot_of (changed_ledger l id f)) xs
-slots_apart l id f keeps [] h = refl
-slots_apart l id f keeps (a ∷ xs) h =
-    let parts = neither (id_eq a.id id) (list_any (λ (x : Admitted). id_eq x.id id) xs) h in
-    ap (λ s. s ∷ map (slot_of l) xs) (sym (slot_other l id f keeps a parts.0))
-    ∙ ap (λ ss. slot_of (changed_ledger l id f) a ∷ ss) (slots_apart l id f keeps xs parts.1)
+slots_apart l id f keeps xs h = slots_same l (change_message l.book id f) l.admitted xs (λ a inside. kept_same l.book id a.id f keeps (none_at (λ (x : Admitted). id_eq x.id id) a xs h inside))

@@ -1,6 +1,6 @@
 -- A damaged file goes to corrupt.
-use Rattle.std.proofs.Common.{◌≡◌, Bool, true, false, List, map, find, is_some, not, Option, Some, None, option_map, refl, sym, ap, ◌∙◌, subst}
-use Rattle.std.proofs.lemmas.Bool.{and_parts, not-true}
+use Rattle.std.proofs.Common.{◌≡◌, Bool, true, false, map, is_some, not, Option, Some, None, option_map, refl, sym, ap, ◌∙◌, subst}
+use Rattle.std.proofs.lemmas.Bool.{and_parts}
 use Rattle.std.specs.List.{list_any}
 use Rattle.std.specs.Option.{option_map_or}
 use Rattle.std.specs.Prelude.{◌&&◌, ◌||◌, if◌then◌else◌}
@@ -23,7 +23,7 @@ use Rattle.q_laws.proofs.Members.{IsIn, find_in, none_at}
 use Rattle.q_laws.specs.Consistency.{IsConsistent}
 use Rattle.q_model.proofs.IdLaws.{id_eq-true}
 use Rattle.q_model.specs.Admissions.{cause_gone, has_room}
-use Rattle.q_model.specs.Book.{Book, Damaged, damaged_of, ids_at, message_of, stands, stands_in}
+use Rattle.q_model.specs.Book.{Book, Damaged, damaged_of, message_of, stands, stands_in}
 use Rattle.q_model.specs.BookChanges.{move_damaged}
 use Rattle.q_model.specs.FilesStand.{all_ids}
 use Rattle.q_model.specs.Ids.{bounce_of, cause_of, id_eq}

@@ -33,7 +33,6 @@ use Rattle.q_model.specs.Settings.{World}
 use Rattle.q_model.specs.Turns.{Pick, is_pick, passed, pick, pick_id, taken}
 use Rattle.q_model.specs.Turns.Pick.{from_deferred, from_incoming}
 use Rattle.q_model.specs.declared.id.Id.{Id}
-use Rattle.q_model.specs.declared.rows.DeferredName.{DeferredName}
 use Rattle.q_model.specs.declared.rows.Place.TheVariants as places
 
 -- what is picked
@@ -70,10 +69,22 @@ or_second false b e h = h
 abbrev corrupted : Id → Ledger → Ledger
 corrupted id l = record l { book = move_damaged l.book id places.Corrupt }
 
+-- the file that is picked is taken
+pass_as : {w : World} {d : Core} (l : Ledger) (id : Id) (o : Option Pick) (p : Pick) → o ≡ Some p → HoldsRaw w d (record (passed p l) { book = move_damaged l.book id places.Corrupt }) →
+    HoldsRaw w d (record (option_map_or (λ q. passed q l) o l) { book = move_damaged l.book id places.Corrupt })
+pass_as l id None p e h = absurd cc
+pass_as {w = w} {d = d} l id (Some q) p e h = let same : p ≡ q = cc in subst (λ x. HoldsRaw w d (record (passed x l) { book = move_damaged l.book id places.Corrupt })) same h
+
+-- where it isn't a leftover
+pass_else : {w : World} {d : Core} (l : Ledger) (id : Id) (b : Bool) → b ≡ false → HoldsRaw w d (record (taken l) { book = move_damaged l.book id places.Corrupt }) →
+    HoldsRaw w d (let t : Ledger = if b then l else taken l in record t { book = move_damaged l.book id places.Corrupt })
+pass_else l id true e h = absurd cc
+pass_else l id false e h = h
+
 -- the turn and the book change apart
-passed_apart : (p : Pick) (id : Id) (l : Ledger) → passed p (corrupted id l) ≡ record (passed p l) { book = move_damaged l.book id places.Corrupt }
-passed_apart (from_incoming i) id l = refl
-passed_apart (from_deferred n) id l = refl
+pass_apart : {w : World} {d : Core} (l : Ledger) (id : Id) (p : Pick) → HoldsRaw w d (passed p (corrupted id l)) → HoldsRaw w d (record (passed p l) { book = move_damaged l.book id places.Corrupt })
+pass_apart l id (from_incoming i) h = h
+pass_apart l id (from_deferred n) h = h
 
 pub corrupt_taken_law : {w : World} {c : Core} {l : Ledger} (id : Id) → HoldsRaw w c l → IsConsistent w l → IsTrue (is_looked_at c) → is_known c.incoming ≡ true → is_known c.active ≡ true → shows_damaged c.active id ≡ false → may_corrupt w l id ≡ true →
     HoldsRaw w (passed_in (from_deferred_in c) (found_name (picked_in c)) (record c { active = Unknown; incoming = Unknown; deferred = Unknown })) (after_corrupt l id)
@@ -83,12 +94,11 @@ corrupt_taken_law {w = w} {c = c} {l = l} id r k looked known seen hidden may =
     let one = and_parts (is_some (damaged_of l.book id)) (is_next_leftover l id || (has_room w l && is_pick l id)) two.0 in
     let none = no_message l.book k.book.distinct id (damaged_of l.book id) refl one.0 (message_of l.book id) refl in
     let other : is_next_leftover l id ≡ false = hidden_next c.active l id none seen r.parts.active hidden in
-    let pick = picked_one l id (pick l) refl (and_parts (has_room w l) (is_pick l id) (or_second (is_next_leftover l id) (has_room w l && is_pick l id) other one.1)).1 in
+    let file = picked_one l id (pick l) refl (and_parts (has_room w l) (is_pick l id) (or_second (is_next_leftover l id) (has_room w l && is_pick l id) other one.1)).1 in
     let from = from_deferred_in c in
     let name = found_name (picked_in c) in
     let d : Core = passed_in from name (record c { active = Unknown; incoming = Unknown; deferred = Unknown }) in
     let gone : HoldsRaw w d (passed (pick_by from name) (corrupted id l)) = turn_law from name (corrupt_law id r k parts.0 parts.1) in
-    let turned : HoldsRaw w d (record (passed pick.0 l) { book = move_damaged l.book id places.Corrupt }) =
-    subst (HoldsRaw w d) (ap (λ p. passed p (corrupted id l)) (picks r looked known pick.0 pick.1) ∙ passed_apart pick.0 id l) gone in
-    subst (λ (b : Bool). HoldsRaw w d (let t : Ledger = if b then l else taken l in record t { book = move_damaged l.book id places.Corrupt })) (sym other)
-    (subst (λ (o : Option Pick). HoldsRaw w d (record (option_map_or (λ p. passed p l) o l) { book = move_damaged l.book id places.Corrupt })) (sym pick.1) turned)
+    let turned : HoldsRaw w d (record (passed file.0 l) { book = move_damaged l.book id places.Corrupt }) =
+    pass_apart l id file.0 (subst (λ p. HoldsRaw w d (passed p (corrupted id l))) (picks r looked known file.0 file.1) gone) in
+    pass_else l id (is_next_leftover l id) other (pass_as l id (pick l) file.0 file.1 turned)

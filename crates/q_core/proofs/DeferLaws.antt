@@ -1,34 +1,29 @@
 -- An idle message is deferred.
-use Rattle.std.proofs.Common.{◌≡◌, ℕ, Bool, true, false, List, [], ◌∷◌, ◌++◌, cond, map, filter, not, Option, Some, None, inl, inr, refl, sym, ap, ◌∙◌, subst}
-use Rattle.std.proofs.lemmas.Bool.{and_parts, not-true}
-use Rattle.std.specs.List.{list_any}
-use Rattle.std.specs.Prelude.{◌&&◌, ◌||◌, ◌==◌}
+use Rattle.std.proofs.Common.{◌≡◌, ℕ, Bool, true, false, map, filter, not, Some, refl, sym, ap, ◌∙◌, subst}
+use Rattle.std.proofs.lemmas.Bool.{and_parts}
+use Rattle.std.specs.Prelude.{◌&&◌}
 use Rattle.q_core.proofs.ChangeLaws.{seen_same}
-use Rattle.q_core.proofs.HeldLaws.{IsThere, is_there}
-use Rattle.q_core.proofs.ListLaws.{filter-map}
-use Rattle.q_core.proofs.PlacedLaws.{damaged_at, named, placed, placed_all, placed_joined, placed_mapped}
-use Rattle.q_core.proofs.QueueLaws.{IsSameOf, active_same, files_law, incoming_same, slots_same, with_files}
+use Rattle.q_core.proofs.HeldLaws.{is_there}
+use Rattle.q_core.proofs.PlacedLaws.{damaged_at, placed_all, placed_joined, placed_mapped}
+use Rattle.q_core.proofs.QueueLaws.{IsSameOf, files_law, incoming_same, with_files}
 use Rattle.q_core.proofs.RestLaws.{rest_active, rest_slots, still_admitted}
 use Rattle.q_core.proofs.SameLaws.{moved_same, no_bounce_of, not_bool}
 use Rattle.q_core.proofs.StepLaws.{HoldsRaw}
 use Rattle.q_core.specs.Agrees.{IsSeen, found_active, found_incoming, slot_of}
-use Rattle.q_core.specs.Changes.{IsPutOff, slots_without}
-use Rattle.q_core.specs.declared.slot.Slot.{Slot}
+use Rattle.q_core.specs.Changes.{IsPutOff}
 use Rattle.q_core.specs.declared.state.Core.{Core}
-use Rattle.q_core.specs.declared.state.Seen.{Seen}
-use Rattle.q_core.specs.declared.state.Seen.TheVariants.{Known, Unknown}
+use Rattle.q_core.specs.declared.state.Seen.TheVariants.{Unknown}
 use Rattle.q_laws.proofs.Books.{message_at, message_in, not_damaged, only_message, placed_listed}
-use Rattle.q_laws.proofs.Distinct.{id_other, id_same}
 use Rattle.q_laws.proofs.InPlace.{changed, changed_name, changed_other, changed_same}
 use Rattle.q_laws.proofs.Leaving.{idle_admitted}
-use Rattle.q_laws.proofs.Members.{IsIn, any_from, in_filtered, in_unmap}
+use Rattle.q_laws.proofs.Members.{IsIn, in_filtered, in_unmap}
 use Rattle.q_laws.proofs.Moved.{move_to}
 use Rattle.q_laws.specs.Consistency.{IsConsistent}
 use Rattle.q_model.proofs.IdLaws.{id_eq-true}
 use Rattle.q_model.specs.Book.{Book, Damaged, ids_at, message_of}
 use Rattle.q_model.specs.BookChanges.{move_message}
 use Rattle.q_model.specs.FilesStand.{all_ids, are_distinct}
-use Rattle.q_model.specs.Finishing.{is_clean, without}
+use Rattle.q_model.specs.Finishing.{without}
 use Rattle.q_model.specs.Ids.{id_eq}
 use Rattle.q_model.specs.Ledger.{Ledger}
 use Rattle.q_model.specs.Leaving.{after_defer, may_defer}
@@ -38,7 +33,6 @@ use Rattle.q_model.specs.Message.{Message}
 use Rattle.q_model.specs.Places.{is_active, is_incoming}
 use Rattle.q_model.specs.Settings.{World}
 use Rattle.q_model.specs.declared.id.Id.{Id}
-use Rattle.q_model.specs.declared.rows.Admitted.{Admitted}
 use Rattle.q_model.specs.declared.rows.Place.{Place}
 use Rattle.q_model.specs.declared.rows.Place.TheVariants as places
 

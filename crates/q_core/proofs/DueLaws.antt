@@ -2,8 +2,7 @@
 use Rattle.std.proofs.Common.{◌≡◌, ℕ, Bool, true, false, cond, List, [], ◌∷◌, ◌++◌, map, filter, is_some, Option, Some, None, inl, inr, refl, sym, ap, ◌∙◌, subst}
 use Rattle.std.specs.List.{cons_option}
 use Rattle.std.specs.Prelude.{filter_map, option_map}
-use Rattle.q_core.proofs.ApartLaws.{is_deferred}
-use Rattle.q_laws.proofs.Books.{at_place, damaged_at, in_ids_at, not_damaged, only_message, placed_listed}
+use Rattle.q_laws.proofs.Books.{at_place, damaged_at, in_ids_at, not_damaged, only_message}
 use Rattle.q_laws.proofs.Distinct.{distinct_parts, same_named}
 use Rattle.q_laws.proofs.Members.{IsIn, in_either}
 use Rattle.q_model.specs.Book.{Book, Damaged, ids_at}
@@ -15,6 +14,10 @@ use Rattle.q_model.specs.declared.id.Id.{Id}
 use Rattle.q_model.specs.declared.rows.DeferredName.{DeferredName}
 use Rattle.q_model.specs.declared.rows.Place.{Place}
 use Rattle.q_model.specs.declared.rows.Place.TheVariants as places
+
+-- in deferred
+abbrev pub is_deferred : Place → Bool
+is_deferred place = is_some (due_of place)
 
 abbrev pub due_name : Message → Option DeferredName
 due_name m = deferred_name m.place m.id
@@ -109,3 +112,6 @@ deferred_or_active places.Active h k = absurd cc
 deferred_or_active (places.Deferred due) h k = absurd cc
 deferred_or_active places.Hold h k = absurd cc
 deferred_or_active places.Corrupt h k = absurd cc
+
+pub active_or_deferred : (place : Place) → is_active place ≡ true → is_deferred place ≡ true → ⊥
+active_or_deferred place h k = deferred_or_active place k h

@@ -1,22 +1,20 @@
 -- The message that is next comes into memory.
-use Rattle.std.proofs.Common.{◌≡◌, ℕ, Bool, true, false, List, [], ◌∷◌, ◌++◌, filter, map, is_some, not, Option, Some, None, option_map, inl, inr, refl, sym, ap, ◌∙◌, subst, IsTrue}
+use Rattle.std.proofs.Common.{◌≡◌, Bool, true, false, List, [], ◌∷◌, ◌++◌, filter, map, is_some, Option, Some, None, option_map, refl, sym, ap, ◌∙◌, subst, IsTrue}
 use Rattle.std.proofs.lemmas.Bool.{and_parts}
-use Rattle.std.specs.List.{enumerate_from}
 use Rattle.std.specs.Option.{option_map_or}
 use Rattle.std.specs.Prelude.{◌&&◌, if◌then◌else◌, option_and_then}
 use Rattle.q_core.proofs.AdmitLaws.{IsComing, admitting, coming_active, coming_same, newcomer}
-use Rattle.q_core.proofs.ApartLaws.{is_deferred}
 use Rattle.q_core.proofs.BackLaws.{moved_names}
 use Rattle.q_core.proofs.ChangeLaws.{seen_same}
 use Rattle.q_core.proofs.CorruptLaws.{taken_rows}
 use Rattle.q_core.proofs.DeferLaws.{moved_out}
-use Rattle.q_core.proofs.DueLaws.{deferred_or_incoming, due_listed, due_name, one_queue}
+use Rattle.q_core.proofs.DueLaws.{deferred_or_incoming, due_listed, one_queue, is_deferred}
 use Rattle.q_core.proofs.HeldLaws.{is_there}
 use Rattle.q_core.proofs.NewcomerLaws.{coming_slots}
 use Rattle.q_core.proofs.NoteAdmitLaws.{in_no_line, note_admit}
-use Rattle.q_core.proofs.QueueLaws.{IsSameOf, files_law, incoming_same, still_same, with_files}
+use Rattle.q_core.proofs.QueueLaws.{IsSameOf, files_law, incoming_same, still_same}
 use Rattle.q_core.proofs.SameLaws.{not_bool}
-use Rattle.q_core.proofs.StepLaws.{HasRowsOf, HoldsRaw, IsStillSeen}
+use Rattle.q_core.proofs.StepLaws.{HasRowsOf, HoldsRaw}
 use Rattle.q_core.proofs.CorruptNextLaws.{picked_one}
 use Rattle.q_core.proofs.TurnLaws.{pick_by, picked_found, picks, turn_law}
 use Rattle.q_core.specs.Agrees.{IsSeen, found_active, found_at, found_incoming, slot_of}
@@ -24,11 +22,8 @@ use Rattle.q_core.specs.Changes.{is_known, is_looked_at}
 use Rattle.q_core.specs.Taking.{IsEntered, found_name, found_slot, from_deferred_in, passed_in, picked_in}
 use Rattle.q_core.specs.declared.slot.Slot.{Slot}
 use Rattle.q_core.specs.declared.state.Core.{Core}
-use Rattle.q_core.specs.declared.state.Seen.{Seen}
-use Rattle.q_core.specs.declared.state.Seen.TheVariants.{Known, Unknown}
 use Rattle.q_laws.proofs.Books.{message_at, placed_listed}
 use Rattle.q_laws.proofs.Members.{IsIn, in_filtered, least_in}
-use Rattle.q_laws.proofs.Moved.{move_to}
 use Rattle.q_laws.proofs.Picked.{picked_out}
 use Rattle.q_laws.specs.Consistency.{IsConsistent}
 use Rattle.q_model.proofs.IdLaws.{id_eq-true}
@@ -43,7 +38,7 @@ use Rattle.q_model.specs.Places.{is_active, is_incoming}
 use Rattle.q_model.specs.Scans.{deferred_name, deferred_names, is_ahead, name_before, scan_next}
 use Rattle.q_model.specs.Settings.{World}
 use Rattle.q_model.specs.Step.{noted}
-use Rattle.q_model.specs.Turns.{Pick, deferred_next, incoming_next, is_pick, passed, pick, pick_id, taken}
+use Rattle.q_model.specs.Turns.{Pick, deferred_next, incoming_next, is_pick, passed, pick, pick_id}
 use Rattle.q_model.specs.Turns.Pick.{from_deferred, from_incoming}
 use Rattle.q_model.specs.declared.entry.Entry.TheVariants as entries
 use Rattle.q_model.specs.declared.id.Id.{Id}

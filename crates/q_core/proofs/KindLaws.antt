@@ -309,8 +309,7 @@ read_first c d h e =
 -- a start and a preemption are those of the last
 pub begin_first : (c : Core) (d : Decision) → is_begin d ≡ true → decide_in c ≡ Some d → IsBehind c d × (next_read_in c ≡ None) × (next_start_in c ≡ Some d)
 begin_first c d h e =
-    let k = behind_admission is_begin begin_rare (λ id site n. refl) (λ id. refl) c d h e in
-    (
+    let k = behind_admission is_begin begin_rare (λ id site n. refl) (λ id. refl) c d h e in (
       k,
       none_of is_begin (next_read_in c) (next_start_in c) d (reads_avoid is_begin (λ id from max. refl) c) h k.last,
       or_second is_begin (next_read_in c) (next_start_in c) d (reads_avoid is_begin (λ id from max. refl) c) h k.last,
@@ -365,7 +364,7 @@ cleared_damaged c id (Damaged k due true) e = let same : k ≡ id = cc in ap (λ
 cleared_damaged c id (Damaged k due false) e = cc
 cleared_damaged c id (Whole k due f) e =
     let bad = sym (ap is_corrupt (same_decision (option_map_or (λ position. decisions.Mark k position) f.unmarked (clear_marked (is_synced_in c k) k f)) (decisions.Corrupt id) e))
-        ∙ clear_avoids is_corrupt (is_synced_in c k) k f f.unmarked (λ n. refl) (marked_avoids is_corrupt (is_synced_in c k) (nat_lt 0 f.pending) (file_wants_bounce f k && not f.bounced) (decisions.Sync k) (decisions.Back k) (decisions.Bounce k) (decisions.Remove k) refl refl refl refl) in
+    ∙ clear_avoids is_corrupt (is_synced_in c k) k f f.unmarked (λ n. refl) (marked_avoids is_corrupt (is_synced_in c k) (nat_lt 0 f.pending) (file_wants_bounce f k && not f.bounced) (decisions.Sync k) (decisions.Back k) (decisions.Bounce k) (decisions.Remove k) refl refl refl refl) in
     cc
 
 damaged_shown : (c : Core) (id : Id) (seen : Seen) → next_clearing_in c seen ≡ Some (decisions.Corrupt id) → shows_damaged seen id ≡ true
@@ -383,7 +382,7 @@ corrupt_at c id (Some x) e h hidden = let same : x ≡ decisions.Corrupt id = cc
 corrupt_at c id None e h hidden =
     let p = is_corrupt in
     let taken = or_first p (next_admission_in c c.incoming) (option_or (next_read_in c) (next_start_in c)) (decisions.Corrupt id)
-        (or_avoids p (next_read_in c) (next_start_in c) (reads_avoid p (λ k from max. refl) c) (starts_avoid p corrupt_no_start c)) refl h in
+    (or_avoids p (next_read_in c) (next_start_in c) (reads_avoid p (λ k from max. refl) c) (starts_avoid p corrupt_no_start c)) refl h in
     record {
       active = active_known c c.active e;
       incoming = incoming_known c (decisions.Corrupt id) c.incoming (has_message_room_in c) (λ s. let bad : true ≡ false = ap is_corrupt s in cc) taken;

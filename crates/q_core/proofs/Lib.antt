@@ -6,7 +6,6 @@ pub mod ChoiceLaws
 pub mod StartLaws
 pub mod StandingLaws
 pub mod LeftLaws
-pub mod ApartLaws
 pub mod TakeLaws
 pub mod BeginLaws
 pub mod ExpiryLaws

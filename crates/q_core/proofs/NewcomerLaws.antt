@@ -1,19 +1,17 @@
 -- The slot of a message that comes into memory.
-use Rattle.std.proofs.Common.{◌≡◌, ℕ, Bool, true, false, List, [], ◌∷◌, ◌++◌, length, map, not, Option, Some, None, option_map, inl, inr, refl, sym, ap, ◌∙◌, subst}
+use Rattle.std.proofs.Common.{◌≡◌, ℕ, Bool, true, false, List, [], ◌∷◌, ◌++◌, length, map, not, Some, option_map, inl, inr, refl, sym, ap, ◌∙◌, subst}
 use Rattle.std.proofs.lemmas.Bool.{and_parts}
 use Rattle.std.specs.List.{list_all}
 use Rattle.std.specs.Option.{option_map_or}
-use Rattle.std.specs.Prelude.{◌&&◌, ◌||◌, is_none, nat_le, nat_lt}
+use Rattle.std.specs.Prelude.{◌&&◌, ◌||◌, nat_le, nat_lt}
 use Rattle.q_core.proofs.AdmitLaws.{IsComing, admitting, coming_listed, newcomer}
 use Rattle.q_core.proofs.QueueLaws.{slots_same}
 use Rattle.q_core.proofs.RestLaws.{admitted_active}
 use Rattle.q_core.proofs.RuleLaws.{no_length}
 use Rattle.q_core.proofs.SameLaws.{listed_stands, not_bool, stands_listed}
 use Rattle.q_core.proofs.TakeLaws.{found_on}
-use Rattle.q_core.specs.Agrees.{file_of, found_at, slot_from, slot_of}
+use Rattle.q_core.specs.Agrees.{found_at, slot_from, slot_of}
 use Rattle.q_core.specs.Taking.{found_slot}
-use Rattle.q_core.specs.declared.decision.Found.TheVariants.{Whole}
-use Rattle.q_core.specs.declared.slot.Slot.{Slot}
 use Rattle.q_laws.proofs.Books.{message_in, message_listed, placed_listed}
 use Rattle.q_laws.proofs.Distinct.{id_other, id_same}
 use Rattle.q_laws.proofs.InPlace.{changed, changed_name, changed_same}
@@ -21,19 +19,18 @@ use Rattle.q_laws.proofs.Mapped.{find_mapped}
 use Rattle.q_laws.proofs.Members.{IsIn, all_at}
 use Rattle.q_laws.proofs.Moved.{move_to, moved_at}
 use Rattle.q_laws.specs.Consistency.{IsConsistent}
-use Rattle.q_model.specs.Book.{Book, ids_at, message_of, stands, stands_in}
+use Rattle.q_model.specs.Book.{ids_at, message_of, stands, stands_in}
 use Rattle.q_model.specs.BookChanges.{move_message}
 use Rattle.q_model.specs.FilesStand.{all_ids}
 use Rattle.q_model.specs.Finishing.{has_bounce}
 use Rattle.q_model.specs.Ids.{bounce_of, cause_of, id_eq}
 use Rattle.q_model.specs.Ledger.{Ledger}
 use Rattle.q_model.specs.Lists.{has_none}
-use Rattle.q_model.specs.Message.{Message, pending, unmarked_logged, written_marks}
-use Rattle.q_model.specs.Orderly.{has_firm_failures, is_orderly, is_paired, is_sealed, is_settled}
+use Rattle.q_model.specs.Message.{Message, unmarked_logged, written_marks}
+use Rattle.q_model.specs.Orderly.{has_firm_failures, is_paired, is_sealed, is_settled}
 use Rattle.q_model.specs.Places.{is_active, is_incoming}
 use Rattle.q_model.specs.Settings.{World}
 use Rattle.q_model.specs.declared.id.Id.{Id}
-use Rattle.q_model.specs.declared.rows.Admitted.{Admitted}
 use Rattle.q_model.specs.declared.rows.Place.TheVariants as places
 
 -- the message as it stands now

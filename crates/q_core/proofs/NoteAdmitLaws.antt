@@ -1,12 +1,12 @@
 -- The admission of a message is noted, which is in no line yet.
-use Rattle.std.proofs.Common.{◌≡◌, ℕ, ◌+◌, Bool, true, false, List, [], ◌∷◌, cond, find, map, not, Option, Some, None, inl, inr, refl, sym, ap, ◌∙◌, subst, zero-add}
+use Rattle.std.proofs.Common.{◌≡◌, ℕ, true, false, List, [], ◌∷◌, cond, map, not, Option, inl, inr, refl, sym, ap, ◌∙◌, zero-add}
 use Rattle.std.proofs.lemmas.List.Sums.{sum_by-cons, take_while-cons}
 use Rattle.std.specs.List.{enumerate_from, list_all, list_any}
 use Rattle.std.specs.Option.{option_map_or}
 use Rattle.std.specs.Prelude.{◌&&◌, ◌||◌, ◌==◌, count_by, sum_by}
 use Rattle.q_core.proofs.SameLaws.{not_bool}
 use Rattle.q_core.proofs.StepLaws.{HoldsRaw, IsStillSeen}
-use Rattle.q_core.specs.Agrees.{Holds, job_of, jobs_of}
+use Rattle.q_core.specs.Agrees.{job_of, jobs_of}
 use Rattle.q_core.specs.declared.state.Core.{Core}
 use Rattle.q_core.specs.declared.state.Seen.{Seen}
 use Rattle.q_core.specs.declared.state.Seen.TheVariants.{Known, Unknown}
@@ -17,7 +17,7 @@ use Rattle.q_model.proofs.IdLaws.{id_eq-true}
 use Rattle.q_model.specs.Accounts.{charge_of, charged, is_admit_of, is_start_of, since_admit, starts_of}
 use Rattle.q_model.specs.Ids.{id_eq}
 use Rattle.q_model.specs.Ledger.{Ledger}
-use Rattle.q_model.specs.Memory.{admitted_of, is_admitted, unread_count, unread_of}
+use Rattle.q_model.specs.Memory.{is_admitted, unread_count, unread_of}
 use Rattle.q_model.specs.Past.{is_start}
 use Rattle.q_model.specs.Settings.{World}
 use Rattle.q_model.specs.Step.{noted, stays}

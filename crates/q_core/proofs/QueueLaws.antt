@@ -1,10 +1,10 @@
 -- How agreement goes on where messages come to other queues, and into memory or out of it.
-use Rattle.std.proofs.Common.{◌≡◌, ℕ, Bool, true, false, List, [], ◌∷◌, map, inl, inr, refl, sym, ap, ◌∙◌, subst, Option, Some, None}
+use Rattle.std.proofs.Common.{◌≡◌, ℕ, List, [], ◌∷◌, map, inl, inr, refl, sym, ap, ◌∙◌, subst, Option, Some, None}
 use Rattle.std.specs.Option.{option_map_or}
 use Rattle.std.specs.Prelude.{filter, option_and_then}
 use Rattle.q_core.proofs.StepLaws.{HoldsRaw, IsStillSeen}
 use Rattle.q_core.proofs.TakeLaws.{found_on, next_of}
-use Rattle.q_core.specs.Agrees.{Holds, IsSeen, file_of, found_active, found_at, found_deferred, found_incoming, found_next, slot_from, slot_of}
+use Rattle.q_core.specs.Agrees.{Holds, IsSeen, file_of, found_active, found_at, found_incoming, found_next, slot_from, slot_of}
 use Rattle.q_core.specs.Scanning.{scan_after}
 use Rattle.q_core.specs.declared.decision.Found.{Found}
 use Rattle.q_core.specs.declared.decision.Found.TheVariants.{Damaged, Nothing, Whole}
@@ -14,7 +14,6 @@ use Rattle.q_core.specs.declared.state.Seen.TheVariants.{Known, Unknown}
 use Rattle.q_laws.proofs.Members.{IsIn, in_filtered, least_in}
 use Rattle.q_model.specs.Admissions.{cause_gone}
 use Rattle.q_model.specs.Book.{Book, ids_at, message_of, stands_in}
-use Rattle.q_model.specs.Finishing.{has_bounce}
 use Rattle.q_model.specs.Ids.{bounce_of, id_before}
 use Rattle.q_model.specs.Ledger.{Ledger}
 use Rattle.q_model.specs.Leftovers.{leftovers}
@@ -68,14 +67,13 @@ incoming_same l b rows e h =
     ap (λ ids. first_on (with_files l b rows) (least id_before ids)) e
     ∙ same_first l b rows (least id_before (ids_at is_incoming l.book)) (λ k f. h k (least_in id_before k (ids_at is_incoming l.book) f))
 
--- slots of such ids are as they were
+-- the slot of such an id is as it was
+pub slot_same : (l : Ledger) (b : Book) (rows : List Admitted) (a : Admitted) → IsSameOf l.book b a.id → slot_of l a ≡ slot_of (with_files l b rows) a
+slot_same l b rows a s = ap (λ x. slot_from a x (message_of l.book a.id)) (sym s.bounced) ∙ ap (slot_from a (stands_in is_incoming b (bounce_of a.id))) (sym s.message)
+
 pub slots_same : (l : Ledger) (b : Book) (rows xs : List Admitted) → ((a : Admitted) → IsIn a xs → IsSameOf l.book b a.id) → map (slot_of l) xs ≡ map (slot_of (with_files l b rows)) xs
 slots_same l b rows [] h = refl
-slots_same l b rows (a ∷ xs) h =
-    let s = h a (inl refl) in
-    ap (λ x. slot_from a x (message_of l.book a.id) ∷ map (slot_of l) xs) (sym s.bounced)
-    ∙ ap (λ o. slot_from a (stands_in is_incoming b (bounce_of a.id)) o ∷ map (slot_of l) xs) (sym s.message)
-    ∙ ap (λ ss. slot_of (with_files l b rows) a ∷ ss) (slots_same l b rows xs (λ x k. h x (inr k)))
+slots_same l b rows (a ∷ xs) h = ap (λ s. s ∷ map (slot_of l) xs) (slot_same l b rows a (h a (inl refl))) ∙ ap (λ ss. slot_of (with_files l b rows) a ∷ ss) (slots_same l b rows xs (λ x k. h x (inr k)))
 
 -- ---- deferred
 

@@ -1,22 +1,22 @@
 -- A message is removed.
-use Rattle.std.proofs.Common.{◌≡◌, ℕ, Bool, true, false, List, [], ◌∷◌, ◌++◌, cond, map, filter, find, is_some, not, Option, Some, None, inl, inr, refl, sym, ap, ◌∙◌, subst}
-use Rattle.std.proofs.lemmas.Bool.{and_parts, not-true, or_cases}
+use Rattle.std.proofs.Common.{◌≡◌, Bool, true, false, List, [], ◌∷◌, cond, map, filter, is_some, not, Option, Some, None, inl, inr, refl, sym, ap, ◌∙◌, subst}
+use Rattle.std.proofs.lemmas.Bool.{and_parts}
 use Rattle.std.specs.List.{list_any}
 use Rattle.std.specs.Option.{option_map_or}
-use Rattle.std.specs.Prelude.{◌&&◌, ◌||◌, ◌==◌}
-use Rattle.q_core.proofs.ApartLaws.{is_deferred}
+use Rattle.std.specs.Prelude.{◌&&◌, ◌||◌}
 use Rattle.q_core.proofs.ChangeLaws.{seen_same}
-use Rattle.q_core.proofs.DueLaws.{active_has_none, deferred_or_active, deferred_or_incoming, due_joined, due_kept, due_listed, due_name, one_queue}
+use Rattle.q_core.proofs.DueLaws.{active_has_none, deferred_or_active, deferred_or_incoming, due_joined, due_kept, due_listed, due_name, one_queue, is_deferred}
+use Rattle.q_core.proofs.HeldLaws.{IsThere}
 use Rattle.q_core.proofs.PlacedLaws.{damaged_at, placed_joined, placed_kept}
 use Rattle.q_core.proofs.QueueLaws.{IsSameOf, files_law, slots_same, still_same, with_files}
 use Rattle.q_core.proofs.RestLaws.{admitted_active, rest_active, rest_slots, still_admitted}
 use Rattle.q_core.proofs.SameLaws.{no_bounce_of, not_bool, paired_incoming}
 use Rattle.q_core.proofs.StepLaws.{HoldsRaw, IsStillSeen}
 use Rattle.q_core.specs.Agrees.{IsSeen, found_active, slot_of}
-use Rattle.q_core.specs.Changes.{IsTakenOut, slots_without}
+use Rattle.q_core.specs.Changes.{IsTakenOut}
 use Rattle.q_core.specs.declared.state.Core.{Core}
 use Rattle.q_core.specs.declared.state.Seen.{Seen}
-use Rattle.q_core.specs.declared.state.Seen.TheVariants.{Known, Unknown}
+use Rattle.q_core.specs.declared.state.Seen.TheVariants.{Unknown}
 use Rattle.q_laws.proofs.Books.{active_not_incoming, at_place, message_in, message_listed, not_damaged, only_message, placed_listed}
 use Rattle.q_laws.proofs.Distinct.{id_other}
 use Rattle.q_laws.proofs.Members.{IsIn, in_filtered, in_unmap, none_at}
@@ -40,33 +40,27 @@ use Rattle.q_model.specs.Settings.{World}
 use Rattle.q_model.specs.declared.id.Id.{Id}
 use Rattle.q_model.specs.declared.rows.Admitted.{Admitted}
 use Rattle.q_model.specs.declared.rows.DeferredName.{DeferredName}
-use Rattle.q_model.specs.declared.rows.Place.{Place}
 
 -- the message that is removed stands in active
-pub record IsRemovable (b : Book) (id : Id) : Type 0 where
-  pub message : Message
-  pub there : message_of b id ≡ Some message
-  pub active : is_active message.place ≡ true
-
-pub removable : (l : Ledger) (id : Id) → may_remove l id ≡ true → IsRemovable l.book id
+pub removable : (l : Ledger) (id : Id) → may_remove l id ≡ true → IsThere l id
 removable l id h = on (message_of l.book id) refl h
   where
-    on : (o : Option Message) → message_of l.book id ≡ o → option_map_or (λ m. is_active m.place && is_at_rest l id && is_done m && (not (wants_bounce m) || has_bounce l id)) o false ≡ true → IsRemovable l.book id
+    on : (o : Option Message) → message_of l.book id ≡ o → option_map_or (λ m. is_active m.place && is_at_rest l id && is_done m && (not (wants_bounce m) || has_bounce l id)) o false ≡ true → IsThere l id
     on None e may = absurd cc
     on (Some m) e may =
         let three = and_parts (is_active m.place && is_at_rest l id && is_done m) (not (wants_bounce m) || has_bounce l id) may in
         let two = and_parts (is_active m.place && is_at_rest l id) (is_done m) three.0 in
         record { message = m; there = e; active = (and_parts (is_active m.place) (is_at_rest l id) two.0).0 }
 
-pub removable_active : (b : Book) (id : Id) → IsRemovable b id → IsIn id (ids_at is_active b)
-removable_active b id m = let mine = message_in b id m.message m.there in subst (λ i. IsIn i (ids_at is_active b)) mine.1 (at_place is_active b m.message mine.0 m.active)
+pub removable_active : (l : Ledger) (id : Id) → IsThere l id → IsIn id (ids_at is_active l.book)
+removable_active l id m = let mine = message_in l.book id m.message m.there in subst (λ i. IsIn i (ids_at is_active l.book)) mine.1 (at_place is_active l.book m.message mine.0 m.active)
 
 -- a damaged file is another
-damaged_apart : (b : Book) → are_distinct (all_ids b) ≡ true → (id : Id) → IsRemovable b id → (i : Id) → IsIn i (damaged_at is_active b) → i ≡ id → ⊥
-damaged_apart b distinct id m i h e =
-    let mine = message_in b id m.message m.there in
-    let one = in_unmap (λ (d : Damaged). d.id) i (filter (λ (d : Damaged). is_active d.place) b.damaged) h in
-    not_damaged b distinct m.message one.0 mine.0 (in_filtered (λ (d : Damaged). is_active d.place) one.0 b.damaged one.1).0 (mine.1 ∙ sym e ∙ sym one.2)
+damaged_apart : (l : Ledger) → are_distinct (all_ids l.book) ≡ true → (id : Id) → IsThere l id → (i : Id) → IsIn i (damaged_at is_active l.book) → i ≡ id → ⊥
+damaged_apart l distinct id m i h e =
+    let mine = message_in l.book id m.message m.there in
+    let one = in_unmap (λ (d : Damaged). d.id) i (filter (λ (d : Damaged). is_active d.place) l.book.damaged) h in
+    not_damaged l.book distinct m.message one.0 mine.0 (in_filtered (λ (d : Damaged). is_active d.place) one.0 l.book.damaged one.1).0 (mine.1 ∙ sym e ∙ sym one.2)
 
 any_step : {X : Type 0} (p : X → Bool) (x : X) (xs : List X) (all b : Bool) → (b ≡ false → p x ≡ false) → list_any p xs ≡ all → list_any p (cond b (x ∷ xs) xs) ≡ (p x || all)
 any_step p x xs all true h e = ap (λ z. p x || z) e
@@ -92,7 +86,7 @@ removed_alone b id i distinct false e h = ap (λ z. not (z && stands (remove_mes
 removed_alone b id i distinct true e h = ap (λ (o : Option Message). not (i.bounce && (is_some o || is_some (damaged_of b (cause_of i))))) (other_left b id (cause_of i) distinct (h refl))
 
 -- another message stays, where it isn't in incoming
-pub removed_same : (l : Ledger) {w : World} → IsConsistent w l → (id : Id) → IsRemovable l.book id → (i : Id) → IsIn i (all_ids l.book) → (IsIn i (ids_at is_incoming l.book) → ⊥) → id_eq i id ≡ false → IsSameOf l.book (remove_message l.book id) i
+pub removed_same : (l : Ledger) {w : World} → IsConsistent w l → (id : Id) → IsThere l id → (i : Id) → IsIn i (all_ids l.book) → (IsIn i (ids_at is_incoming l.book) → ⊥) → id_eq i id ≡ false → IsSameOf l.book (remove_message l.book id) i
 removed_same l k id m i inside out other = record {
   message = other_left l.book id i k.book.distinct other;
   bounced = removed_incoming l.book id (bounce_of i) (no_bounce_of l.book k.book.orderly k.book.distinct id m.message m.there (not_bool (is_incoming m.message.place) (active_not_incoming m.message.place m.active)) i inside other);
@@ -103,26 +97,26 @@ removed_same l k id m i inside out other = record {
 }
 
 -- a message in active, but this one
-pub removed_active : (l : Ledger) {w : World} → IsConsistent w l → (id : Id) → IsRemovable l.book id → (i : Id) → IsIn i (ids_at is_active l.book) → id_eq i id ≡ false → IsSameOf l.book (remove_message l.book id) i
+pub removed_active : (l : Ledger) {w : World} → IsConsistent w l → (id : Id) → IsThere l id → (i : Id) → IsIn i (ids_at is_active l.book) → id_eq i id ≡ false → IsSameOf l.book (remove_message l.book id) i
 removed_active l k id m i inside other = removed_same l k id m i (placed_listed is_active l.book i inside) (one_queue is_active is_incoming active_not_incoming l.book k.book.distinct i inside) other
 
 -- a name in deferred
-removed_due : (l : Ledger) {w : World} → IsConsistent w l → (id : Id) → IsRemovable l.book id → (n : DeferredName) → IsIn n (deferred_names l.book) → IsSameOf l.book (remove_message l.book id) n.id
+removed_due : (l : Ledger) {w : World} → IsConsistent w l → (id : Id) → IsThere l id → (n : DeferredName) → IsIn n (deferred_names l.book) → IsSameOf l.book (remove_message l.book id) n.id
 removed_due l k id m n inside =
     let there = due_listed l.book n inside in
     removed_same l k id m n.id (placed_listed is_deferred l.book n.id there) (one_queue is_deferred is_incoming deferred_or_incoming l.book k.book.distinct n.id there)
-    (not_bool (id_eq n.id id) (λ e. one_queue is_deferred is_active deferred_or_active l.book k.book.distinct n.id there (subst (λ i. IsIn i (ids_at is_active l.book)) (sym (id_eq-true n.id id e)) (removable_active l.book id m))))
+    (not_bool (id_eq n.id id) (λ e. one_queue is_deferred is_active deferred_or_active l.book k.book.distinct n.id there (subst (λ i. IsIn i (ids_at is_active l.book)) (sym (id_eq-true n.id id e)) (removable_active l id m))))
 
 -- the same names stand in deferred
-removed_names : (b : Book) (id : Id) → are_distinct (all_ids b) ≡ true → IsRemovable b id → deferred_names (remove_message b id) ≡ deferred_names b
-removed_names b id distinct m =
-    due_joined b (remove_message b id) refl (due_kept (λ (x : Message). not (id_eq x.id id)) b.messages (λ x inside e.
-    let mine = message_in b id m.message m.there in
-    let same : x ≡ m.message = only_message b distinct x m.message inside mine.0 (id_eq-true x.id id (not_not (id_eq x.id id) e) ∙ sym mine.1) in
+removed_names : (l : Ledger) (id : Id) → are_distinct (all_ids l.book) ≡ true → IsThere l id → deferred_names (remove_message l.book id) ≡ deferred_names l.book
+removed_names l id distinct m =
+    due_joined l.book (remove_message l.book id) refl (due_kept (λ (x : Message). not (id_eq x.id id)) l.book.messages (λ x inside e.
+    let mine = message_in l.book id m.message m.there in
+    let same : x ≡ m.message = only_message l.book distinct x m.message inside mine.0 (id_eq-true x.id id (not_not (id_eq x.id id) e) ∙ sym mine.1) in
     ap due_name same ∙ active_has_none m.message m.message.place m.active))
 
-pub removed_still : (seen : Seen) (l : Ledger) {w : World} → IsConsistent w l → (id : Id) → IsRemovable l.book id → (rows : List Admitted) → IsStillSeen seen l → IsStillSeen seen (with_files l (remove_message l.book id) rows)
-removed_still seen l k id m rows h = still_same seen l (remove_message l.book id) rows (removed_names l.book id k.book.distinct m) (removed_due l k id m) h
+pub removed_still : (seen : Seen) (l : Ledger) {w : World} → IsConsistent w l → (id : Id) → IsThere l id → (rows : List Admitted) → IsStillSeen seen l → IsStillSeen seen (with_files l (remove_message l.book id) rows)
+removed_still seen l k id m rows h = still_same seen l (remove_message l.book id) rows (removed_names l id k.book.distinct m) (removed_due l k id m) h
 
 -- the same messages are left by an earlier life
 none_one : (l : Ledger) (id : Id) → is_admitted l id ≡ true → (m : Message) → (t : Bool) → id_eq m.id id ≡ t →
@@ -144,12 +138,12 @@ none_one l id adm m false e =
     both true = refl
     both false = refl
 
-removed_left : {w : World} {l : Ledger} → IsConsistent w l → (id : Id) → IsRemovable l.book id → is_admitted l id ≡ true → leftovers (with_files l (remove_message l.book id) (without id l.admitted)) ≡ leftovers l
+removed_left : {w : World} {l : Ledger} → IsConsistent w l → (id : Id) → IsThere l id → is_admitted l id ≡ true → leftovers (with_files l (remove_message l.book id) (without id l.admitted)) ≡ leftovers l
 removed_left {l = l} k id m adm =
     let next : Ledger = with_files l (remove_message l.book id) (without id l.admitted) in
     placed_joined is_active (λ i. not (is_admitted next i)) (λ i. not (is_admitted l i)) l.book (remove_message l.book id) refl
     (placed_kept is_active (λ i. not (is_admitted next i)) (λ i. not (is_admitted l i)) (λ (x : Message). not (id_eq x.id id)) l.book.messages (λ x h. none_one l id adm x (id_eq x.id id) refl))
-    (λ i h. ap not (still_admitted id i l.admitted (not_bool (id_eq i id) (λ e. damaged_apart l.book k.book.distinct id m i h (id_eq-true i id e)))))
+    (λ i h. ap not (still_admitted id i l.admitted (not_bool (id_eq i id) (λ e. damaged_apart l k.book.distinct id m i h (id_eq-true i id e)))))
 
 -- a message in memory is removed
 pub remove_law : {w : World} {c d : Core} {l : Ledger} (id : Id) → HoldsRaw w c l → IsConsistent w l → is_admitted l id ≡ true → may_remove l id ≡ true → IsTakenOut c d id → HoldsRaw w d (after_remove l id)

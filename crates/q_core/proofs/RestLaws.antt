@@ -1,12 +1,12 @@
 -- What is told of the messages that stay, as one leaves memory.
-use Rattle.std.proofs.Common.{◌≡◌, ℕ, Bool, true, false, List, [], ◌∷◌, cond, map, filter, not, inl, inr, refl, sym, ap, ◌∙◌, subst}
-use Rattle.std.proofs.lemmas.Bool.{and_parts, not-true}
+use Rattle.std.proofs.Common.{◌≡◌, Bool, true, false, List, [], ◌∷◌, cond, map, not, refl, sym, ap, ◌∙◌, subst}
+use Rattle.std.proofs.lemmas.Bool.{not-true}
 use Rattle.std.specs.List.{list_any}
-use Rattle.std.specs.Prelude.{◌&&◌, ◌||◌}
-use Rattle.q_core.proofs.HeldLaws.{IsThere, is_there}
+use Rattle.std.specs.Prelude.{◌||◌}
+use Rattle.q_core.proofs.HeldLaws.{is_there}
 use Rattle.q_core.proofs.ListLaws.{filter-map}
 use Rattle.q_core.proofs.QueueLaws.{IsSameOf, active_same, slots_same, with_files}
-use Rattle.q_core.proofs.SameLaws.{not_bool}
+use Rattle.q_core.proofs.SameLaws.{leftover_other, not_bool}
 use Rattle.q_core.specs.Agrees.{found_active, slot_of}
 use Rattle.q_core.specs.Changes.{slots_without}
 use Rattle.q_core.specs.declared.slot.Slot.{Slot}
@@ -43,15 +43,6 @@ admitted_active {l = l} k a h =
     let t = is_there k a.id (any_from (λ (x : Admitted). id_eq x.id a.id) a l.admitted h (id_same a.id a.id refl)) in
     let mine = message_in l.book a.id t.message t.there in
     subst (λ i. IsIn i (ids_at is_active l.book)) mine.1 (at_place is_active l.book t.message mine.0 t.active)
-
--- a message that an earlier life left is none in memory
-pub leftover_other : (l : Ledger) (id : Id) → is_admitted l id ≡ true → (i : Id) → IsIn i (leftovers l) → IsIn i (ids_at is_active l.book) × (id_eq i id ≡ false)
-leftover_other l id adm i h =
-    let two = in_filtered (λ x. not (is_admitted l x)) i (ids_at is_active l.book) h in
-    (two.0, not_bool (id_eq i id) (λ e. apart e (not-true (is_admitted l i) two.1)))
-  where
-    apart : id_eq i id ≡ true → is_admitted l i ≡ false → ⊥
-    apart e h = let bad : true ≡ false = sym adm ∙ ap (is_admitted l) (sym (id_eq-true i id e)) ∙ h in absurd cc
 
 -- the slots of those that stay
 pub rest_slots : {w : World} {l : Ledger} → IsConsistent w l → (id : Id) (b : Book) → ((i : Id) → IsIn i (ids_at is_active l.book) → id_eq i id ≡ false → IsSameOf l.book b i) → (slots : List Slot) → slots ≡ map (slot_of l) l.admitted →

@@ -1,23 +1,25 @@
 -- Of other ids a book says the same where a message moves.
-use Rattle.std.proofs.Common.{◌≡◌, Bool, true, false, List, [], ◌∷◌, map, filter, is_some, Option, Some, None, option_map, not, ◌⊎◌, inl, inr, refl, sym, ap, ◌∙◌, subst}
-use Rattle.std.proofs.lemmas.Bool.{and_from, and_parts, or_cases, or_left, or_right}
+use Rattle.std.proofs.Common.{◌≡◌, Bool, true, false, List, is_some, Option, Some, None, not, inl, inr, refl, sym, ap, ◌∙◌, subst}
+use Rattle.std.proofs.lemmas.Bool.{and_parts, not-true, or_cases, or_left, or_right}
 use Rattle.std.specs.List.{list_all, list_any}
 use Rattle.std.specs.Option.{option_map_or}
-use Rattle.std.specs.Prelude.{◌&&◌, ◌||◌, nat_le, if◌then◌else◌}
+use Rattle.std.specs.Prelude.{◌&&◌, ◌||◌, nat_le}
 use Rattle.q_core.proofs.ListLaws.{list_any-map, list_any-same}
 use Rattle.q_core.proofs.QueueLaws.{IsSameOf}
 use Rattle.q_laws.proofs.Books.{at_place, damaged_at, damaged_names, message_at, message_in, message_listed, message_names}
-use Rattle.q_laws.proofs.Distinct.{id_cases, id_other, id_same}
+use Rattle.q_laws.proofs.Distinct.{id_other, id_same}
 use Rattle.q_laws.proofs.InPlace.{changed, changed_name, changed_other, changed_same}
 use Rattle.q_laws.proofs.Mapped.{stands_mapped}
-use Rattle.q_laws.proofs.Members.{IsIn, all_at, any_from, any_in, find_none, in_either, in_unmap}
+use Rattle.q_laws.proofs.Members.{IsIn, all_at, any_in, find_none, in_either, in_filtered, in_unmap}
 use Rattle.q_laws.proofs.Moved.{move_to, other_moved}
 use Rattle.q_model.proofs.IdLaws.{id_eq-true}
-use Rattle.q_model.specs.Admissions.{cause_gone}
 use Rattle.q_model.specs.Book.{Book, Damaged, damaged_of, ids_at, message_of, stands, stands_in}
 use Rattle.q_model.specs.BookChanges.{move_message}
 use Rattle.q_model.specs.FilesStand.{all_ids, are_distinct}
 use Rattle.q_model.specs.Ids.{bounce_of, cause_of, id_eq}
+use Rattle.q_model.specs.Ledger.{Ledger}
+use Rattle.q_model.specs.Leftovers.{leftovers}
+use Rattle.q_model.specs.Memory.{is_admitted}
 use Rattle.q_model.specs.Message.{Message}
 use Rattle.q_model.specs.Orderly.{is_orderly, is_paired, is_sealed, is_settled}
 use Rattle.q_model.specs.Places.{is_active, is_incoming}
@@ -94,6 +96,15 @@ no_bounce_of b orderly distinct id m there away i inside other = not_bool (id_eq
         let place = message_at is_incoming b distinct id m (paired_incoming b orderly id (subst (λ x. IsIn x (all_ids b)) mine.1 (message_listed b m mine.0)) bounce (subst (λ x. IsIn x (all_ids b)) (sym cause) inside)) there in
         let bad : true ≡ false = sym place ∙ away in
         absurd cc
+
+-- a message that an earlier life left is none in memory
+pub leftover_other : (l : Ledger) (id : Id) → is_admitted l id ≡ true → (i : Id) → IsIn i (leftovers l) → IsIn i (ids_at is_active l.book) × (id_eq i id ≡ false)
+leftover_other l id adm i h =
+    let two = in_filtered (λ x. not (is_admitted l x)) i (ids_at is_active l.book) h in
+    (two.0, not_bool (id_eq i id) (λ e. apart e (not-true (is_admitted l i) two.1)))
+  where
+    apart : id_eq i id ≡ true → is_admitted l i ≡ false → ⊥
+    apart e h = let bad : true ≡ false = sym adm ∙ ap (is_admitted l) (sym (id_eq-true i id e)) ∙ h in absurd cc
 
 -- ---- a message moves
 

@@ -1,19 +1,19 @@
 -- The file that the core takes next is the ledger's, and the turn passes as there.
-use Rattle.std.proofs.Common.{◌≡◌, ℕ, Bool, true, false, List, Option, Some, None, option_map, refl, sym, ap, ◌∙◌, subst, IsTrue}
+use Rattle.std.proofs.Common.{◌≡◌, ℕ, Bool, true, false, Option, Some, None, option_map, refl, ap, ◌∙◌, IsTrue}
 use Rattle.std.specs.Option.{option_map_or}
 use Rattle.std.specs.Prelude.{◌&&◌, ◌||◌, if◌then◌else◌, is_none, not}
 use Rattle.q_core.proofs.StepLaws.{HoldsRaw, IsStillSeen}
 use Rattle.q_core.proofs.TakeLaws.{found_on, next_of, some_found}
-use Rattle.q_core.specs.Agrees.{Holds, IsSeen, found_at, found_deferred, found_incoming, found_next}
+use Rattle.q_core.specs.Agrees.{IsSeen, found_at, found_deferred, found_incoming, found_next}
 use Rattle.q_core.specs.Changes.{is_known, is_looked_at}
 use Rattle.q_core.specs.Files.{is_nothing, picked}
 use Rattle.q_core.specs.Taking.{found_name, from_deferred_in, is_from_deferred, moved_on, passed_in, picked_in, scanned_in, shown}
 use Rattle.q_core.specs.declared.decision.Found.{Found}
-use Rattle.q_core.specs.declared.decision.Found.TheVariants.{Damaged, Nothing, Whole}
+use Rattle.q_core.specs.declared.decision.Found.TheVariants.{Nothing}
 use Rattle.q_core.specs.declared.state.Core.{Core}
 use Rattle.q_core.specs.declared.state.Seen.{Seen}
 use Rattle.q_core.specs.declared.state.Seen.TheVariants.{Known, Unknown}
-use Rattle.q_model.specs.Book.{Book, message_of}
+use Rattle.q_model.specs.Book.{message_of}
 use Rattle.q_model.specs.Ledger.{Ledger}
 use Rattle.q_model.specs.Message.{Message}
 use Rattle.q_model.specs.Settings.{World}

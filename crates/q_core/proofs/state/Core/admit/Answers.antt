@@ -1,4 +1,4 @@
-use Rattle.std.proofs.Common.{◌≡◌, refl, sym, ap, subst, ◌∙◌}
+use Rattle.std.proofs.Common.{◌≡◌, sym, ap, subst, ◌∙◌}
 use Rattle.q_core.specs.Taking.{IsEntered, found_name, from_deferred_in, passed_in, picked_in}
 use Rattle.q_model.specs.Admissions.{after_admit}
 use Rattle.q_model.specs.declared.entry.Entry.TheVariants as entries

@@ -1,5 +1,4 @@
 use Rattle.std.proofs.Common.{refl, sym, ◌∙◌}
-use Rattle.q_model.specs.Bounces.{after_bounce}
 use Rattle.q_model.specs.declared.entry.Entry.TheVariants as entries
 use Rattle.q_model.specs.Step.{after}
 use Rattle.q_core.proofs.AgreesLaws.{same_admitted}
