@@ -15,11 +15,6 @@ use Rattle.q_core.specs.Queries.{expired_in, flight_in}
 use Rattle.q_core.specs.Windows.{heard_at}
 use Rattle.q_core.specs.declared.state.Core.{Core}
 
--- the core is as it was, but for the room of its unsettled outcomes
-pub record IsRoomier (old new : Core) : Type 0 where
-  pub rest : new ≡ record old { unsettled = new.unsettled }
-  pub unsettled : new.unsettled.items ≡ old.unsettled.items
-
 -- the first waiting row whose site is dead stands at this place
 abbrev pub IsFirstDead : Core → ℕ → Type 0
 IsFirstDead c entry = position (λ r. is_dead_in c r.site) c.waiting.items ≡ Some entry

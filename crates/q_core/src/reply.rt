@@ -1,8 +1,8 @@
 //! A delivery in flight ends.
 ghost use Rattle.std.specs.Prelude.{◌≡◌, ◌==◌, filter, IfOk, IsTrue, not, OnErr, OnOk, true};
 ghost use Rattle.q_core.specs.Agrees.{Agrees, Matches};
-ghost use Rattle.q_core.specs.Changes.{is_looked_at};
-ghost use Rattle.q_core.specs.Leaving.{AreAdded, IsHeard, IsLanded, IsRoomier, replied_in};
+ghost use Rattle.q_core.specs.Changes.{IsAsBefore, is_looked_at};
+ghost use Rattle.q_core.specs.Leaving.{AreAdded, IsHeard, IsLanded, replied_in};
 ghost use Rattle.q_model.specs.Ledger.{Ledger};
 ghost use Rattle.q_model.specs.Settings.{World};
 ghost use Rattle.q_model.specs.Step.{after, allowed};
@@ -50,7 +50,7 @@ impl Core {
         outcomes: &[Outcome],
     ) -> Result<Option<Site>, NoMemory>
         ensures ok { IfOk result (λ site. AreAdded self.old self.new number outcomes.now site) }
-        ensures err { OnErr result (IsRoomier self.old self.new) }
+        ensures err { OnErr result (IsAsBefore self.old self.new) }
     {
         let Some(delivery) = self.delivery(number) else {
             return Ok(None);
@@ -94,7 +94,7 @@ impl Core {
     ) -> Result<(), NoMemory>
         requires seen { IsTrue (is_looked_at self.old) }
         ensures ok { OnOk result ((w : World) → (l : Ledger) → Agrees w self.old l → allowed w l (Entry.Reply number state outcomes.now) ≡ true → Matches w self.new (after w l (Entry.Reply number state outcomes.now))) }
-        ensures err { OnErr result (IsRoomier self.old self.new) }
+        ensures err { OnErr result (IsAsBefore self.old self.new) }
     {
         let Some(site) = self.add_outcomes(alloc, number, outcomes)? else {
             return Ok(());

@@ -1,9 +1,9 @@
 //! Recipients whose destination is dead are put off.
 ghost use Rattle.std.specs.Prelude.{◌≡◌, ◌<◌, IfOk, IsTrue, length, List, OnErr, OnOk, slice_get, Some, ℕ};
 ghost use Rattle.q_core.specs.Agrees.{Agrees, Matches};
-ghost use Rattle.q_core.specs.Changes.{is_looked_at};
+ghost use Rattle.q_core.specs.Changes.{IsAsBefore, is_looked_at};
 ghost use Rattle.q_core.specs.Decisions.{IsRowAt};
-ghost use Rattle.q_core.specs.Leaving.{IsFirstDead, IsRoomier, IsUnqueued, put_off_in};
+ghost use Rattle.q_core.specs.Leaving.{IsFirstDead, IsUnqueued, put_off_in};
 ghost use Rattle.q_model.specs.Ledger.{Ledger};
 ghost use Rattle.q_model.specs.Settings.{World};
 ghost use Rattle.q_model.specs.Step.{after};
@@ -28,7 +28,7 @@ impl Core {
     fn unqueue(&mut self, alloc: Global, entry: usize) -> Result<Row, NoMemory>
         requires { entry < length self.old.waiting.items }
         ensures ok { IfOk result (λ r. IsUnqueued self.old self.new entry r) }
-        ensures err { OnErr result (IsRoomier self.old self.new) }
+        ensures err { OnErr result (IsAsBefore self.old self.new) }
     {
         let needs = self.row_needs(alloc, entry)?;
         self.unsettled.extend_from_slice(&needs)?;
@@ -43,7 +43,7 @@ impl Core {
         requires within { entry < length self.old.waiting.items }
         requires seen { IsTrue (is_looked_at self.old) }
         ensures ok { OnOk result ((w : World) → (l : Ledger) → (id : Id) → (site : Site) → (positions : List ℕ) → Agrees w self.old l → IsFirstDead self.old entry → IsRowAt self.old entry id site positions → Matches w self.new (after w l (Entry.Skip id site positions))) }
-        ensures err { OnErr result (IsRoomier self.old self.new) }
+        ensures err { OnErr result (IsAsBefore self.old self.new) }
     {
         let row = self.unqueue(alloc, entry)?;
         self.leave(&row.site);
