@@ -23,6 +23,7 @@ pub mod PlaceLaws
 pub mod FirstLaws
 pub mod LogLaws
 pub mod MarkLaws
+pub mod ClearLaws
 pub mod WindowLaws
 pub mod MovedLaws
 pub mod SiteLaws

@@ -179,7 +179,7 @@ slot_case m k true n u only a bounced =
     ∙ ap (λ b. record s { marks = if b then length (written_marks m) + 1 else length (written_marks m); logged = false }) (sym (marks_within m k u))
     ∙ ap (λ b. (if b then record s { marks = if nat_lt s.marks s.recipients then s.marks + 1 else s.marks; logged = false } else record s { marks = if nat_lt s.marks s.recipients then s.marks + 1 else s.marks; pending = s.pending - 1 })) (sym (ap (λ xs. not (has_none xs)) only))
 
-keeps_mark : (k : ℕ) → KeepsPlace (marked_at k)
+pub keeps_mark : (k : ℕ) → KeepsPlace (marked_at k)
 keeps_mark k = record { name = λ m. refl; place = λ m. refl }
 
 logged_is : (m : Message) (id : Id) (k : ℕ) (b : Bool) → id_eq id m.id ≡ true → is_logged m k ≡ b → logged_of m (Some (record { id = id; position = k; need = needs.Mark })) ≡ (if b then k ∷ [] else [])

@@ -6,7 +6,7 @@ use Rattle.std.specs.Prelude.{◌&&◌, ◌||◌, filter, find, not, position, s
 use Rattle.q_core.proofs.ListLaws.{drop_first-None, drop_first-Some, IsFoundAt, position-find}
 use Rattle.q_core.proofs.NameLaws.{and_true_parts}
 use Rattle.q_core.specs.Lists.{moved_back}
-use Rattle.q_laws.specs.Consistency.{are_apart}
+use Rattle.q_laws.specs.SitesConsistency.{are_apart}
 use Rattle.q_model.proofs.IdLaws.{site_eq-refl}
 use Rattle.q_model.specs.Destinations.{site_eq}
 use Rattle.q_model.specs.Lists.{drop_first}

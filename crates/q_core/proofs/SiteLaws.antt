@@ -14,7 +14,7 @@ use Rattle.q_core.specs.Lists.{moved_back}
 use Rattle.q_core.specs.declared.state.Core.{Core}
 use Rattle.q_core.specs.declared.state.Seen.{Seen}
 use Rattle.q_core.specs.declared.state.Seen.TheVariants.{Known, Unknown}
-use Rattle.q_laws.specs.Consistency.{are_apart}
+use Rattle.q_laws.specs.SitesConsistency.{are_apart}
 use Rattle.q_model.proofs.IdLaws.{site_eq-true}
 use Rattle.q_model.specs.Destinations.{site_eq}
 use Rattle.q_model.specs.Ledger.{Ledger}

@@ -108,5 +108,5 @@ skip_law {w = w} {c = c} {u = u} {mid = mid} {d = d} {l = l} {entry = entry} a l
     let e : Entry = entries.Skip r.id r.site r.positions in
     let quiet : IsQuiet e = record { no_admit = λ id. refl; no_start_of = λ id t. refl; no_charge = λ id t. refl; no_start = refl } in
     let over = skip_raw raw r m.0 there m.1 first (find-passes p l.waiting r found) un in
-    let done : Matches w d (settled w l (noted e (skipped w l r m.0))) = settle_left_law r.site l (skip_leaves w r m.0 p found) k.sites.apart (note_law e quiet over) left s in
+    let done : Matches w d (settled w l (noted e (skipped w l r m.0))) = settle_left_law r.site l (skip_leaves w r m.0 p found) a.destinations.apart (note_law e quiet over) left s in
     subst (λ z. Matches w d (settled w l (noted e z))) (sym (settle_is w r.id r.positions (replicate (length r.positions) (outcomes.Later 0)) (unqueued l r.id r.site r.positions) m.0 m.1)) done

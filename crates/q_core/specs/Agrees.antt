@@ -23,6 +23,7 @@ use Rattle.q_model.specs.Settings.{World}
 use Rattle.q_model.specs.Startable.{line_of}
 use Rattle.q_model.specs.Turns.{deferred_next, incoming_next}
 use Rattle.q_laws.specs.Consistency.{IsConsistent}
+use Rattle.q_laws.specs.SitesConsistency.{IsSitesConsistent}
 use Rattle.q_core.specs.Scanning.{scan_after}
 use Rattle.q_core.specs.declared.decision.FileFacts.{FileFacts}
 use Rattle.q_core.specs.declared.decision.Found.{Found}
@@ -139,3 +140,4 @@ pub record Matches (w : World) (c : Core) (l : Ledger) : Type 0 where
 pub record Agrees (w : World) (c : Core) (l : Ledger) : Type 0 where
   pub matches : Matches w c l
   pub consistent : IsConsistent w l
+  pub destinations : IsSitesConsistent w l

@@ -34,3 +34,6 @@ pub mod Arrived
 pub mod Cleared
 pub mod Picked
 pub mod Entering
+pub mod Kept
+pub mod Lawful
+pub mod Runs

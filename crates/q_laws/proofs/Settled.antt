@@ -70,7 +70,7 @@ scanned l None = (l.scan, l.asked, refl)
 scanned l (Some s) = goes_on l (scan_next l.book s)
 
 -- of a ledger only the scan and the request are settled
-settle_scan_is : (l : Ledger) → (s : Option Scan) × (q : Option Request) × (settle_scan l ≡ record l { scan = s; asked = q })
+pub settle_scan_is : (l : Ledger) → (s : Option Scan) × (q : Option Request) × (settle_scan l ≡ record l { scan = s; asked = q })
 settle_scan_is l = scanned l l.scan
 
 -- ---- the lines

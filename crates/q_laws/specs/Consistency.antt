@@ -9,8 +9,6 @@ use Rattle.q_model.specs.declared.rows.Row.{Row}
 use Rattle.q_model.specs.declared.rows.Unsettled.{Unsettled}
 use Rattle.q_model.specs.Accounts.{charged, starts_of}
 use Rattle.q_model.specs.Book.{message_of}
-use Rattle.q_model.specs.Deliveries.{busy}
-use Rattle.q_model.specs.Destinations.{site_eq}
 use Rattle.q_model.specs.FilesStand.{all_ids, are_distinct}
 use Rattle.q_model.specs.Finishing.{is_clean}
 use Rattle.q_model.specs.Ids.{id_eq}
@@ -26,14 +24,11 @@ use Rattle.q_model.specs.Places.{is_active}
 use Rattle.q_model.specs.Settings.{World}
 use Rattle.q_model.specs.Startable.{line_of}
 use Rattle.q_model.specs.Step.{stays}
-use Rattle.q_model.specs.Values.{Site, SiteRecord}
 
--- the settings let messages be read, marks be synced and windows be open
+-- the settings let messages be read and marks be synced
 pub record IsUsable (w : World) : Type 0 where
   pub recipient_minimum : 1 ≤ w.settings.recipient_minimum
   pub mark_sync_limit : 1 ≤ w.settings.mark_sync_limit
-  pub initial_concurrency : 1 ≤ w.settings.initial_concurrency
-  pub concurrency_limit : (1 ≤ w.settings.concurrency_limit) × (w.settings.concurrency_limit ≤ 40)
 
 -- the id is of an earlier life, or of a message that arrived in this one
 abbrev pub has_come : Ledger → Id → Bool
@@ -112,24 +107,8 @@ pub record IsMemoryConsistent (w : World) (l : Ledger) : Type 0 where
   pub messages : length l.admitted ≤ w.settings.active_limit
   pub recipients : in_memory l ≤ w.settings.recipient_limit
 
--- the window of a destination is open, and within the limit
-abbrev pub is_window : World → SiteRecord → Bool
-is_window w r = nat_le 1 r.window && nat_le r.window w.settings.concurrency_limit
-
--- no destination has two records
-abbrev pub are_apart : List SiteRecord → Bool
-are_apart [] = true
-are_apart (r ∷ rs) = not (list_any (λ s. site_eq s.site r.site) rs) && are_apart rs
-
--- Each destination has one record, and no more deliveries in flight than the limit.
-pub record IsSitesConsistent (w : World) (l : Ledger) : Type 0 where
-  pub apart : are_apart l.sites ≡ true
-  pub windows : list_all (is_window w) l.sites ≡ true
-  pub busy : (site : Site) → busy l site ≤ w.settings.concurrency_limit
-
 -- all that fits together
 pub record IsConsistent (w : World) (l : Ledger) : Type 0 where
   pub usable : IsUsable w
-  pub sites : IsSitesConsistent w l
   pub book : IsBookConsistent l
   pub memory : IsMemoryConsistent w l

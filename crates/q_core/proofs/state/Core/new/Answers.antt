@@ -6,7 +6,7 @@ use Rattle.q_core.specs.declared.state.Question.TheVariants.{Nothing}
 use Rattle.q_core.proofs.state.Core.new.Goals as goal
 
 pub returns : goal.returns
-returns c = λ w book settings count k.
+returns c = λ w book settings count k s.
     let core : Core = record {
       params = c.args.params;
       transports = c.args.transports;
@@ -47,5 +47,5 @@ returns c = λ w book settings count k.
       sites = c.new-7.ensures.items;
       synced = c.new-8.ensures.items;
     }) in
-    record { matches = matches; consistent = k }
+    record { matches = matches; consistent = k; destinations = s }
 
