@@ -7,7 +7,8 @@ use Rattle.std.specs.Prelude.{◌&&◌, ◌||◌, ◌==◌, filter, find, if◌t
 use Rattle.q_core.proofs.ListLaws.{list_any-map, list_any-same}
 use Rattle.q_core.proofs.MovedLaws.{not_true, or_false_parts}
 use Rattle.q_core.proofs.NameLaws.{and_true_parts}
-use Rattle.q_laws.specs.Consistency.{are_apart, are_once}
+use Rattle.q_laws.specs.Consistency.{are_once}
+use Rattle.q_laws.specs.SitesConsistency.{are_apart}
 use Rattle.q_model.specs.Destinations.{site_eq}
 use Rattle.q_model.specs.Feedbacks.{amount, unit}
 use Rattle.q_model.specs.Ledger.{Ledger}

@@ -22,6 +22,7 @@ use Rattle.q_core.specs.Queries.{flight_in}
 use Rattle.q_core.specs.Windows.{heard_at}
 use Rattle.q_core.specs.declared.state.Core.{Core}
 use Rattle.q_laws.specs.Consistency.{IsConsistent}
+use Rattle.q_laws.specs.SitesConsistency.{IsSitesConsistent}
 use Rattle.q_model.proofs.IdLaws.{site_eq-refl}
 use Rattle.q_model.specs.Book.{message_of}
 use Rattle.q_model.specs.Deliveries.{busy, flight_of}
@@ -61,9 +62,9 @@ over w l state os number f m = record l {
 }
 
 -- the delivery is over, its site has heard of it, and its outcomes are settled
-reply_raw : {w : World} {c u v d : Core} {l : Ledger} → HoldsRaw w c l → IsConsistent w l → (number : ℕ) (state : SiteState) (os : List Outcome) (f : Delivery) (m : Message) → find (λ x. x.number == number) l.flights ≡ Some f →
+reply_raw : {w : World} {c u v d : Core} {l : Ledger} → HoldsRaw w c l → IsConsistent w l → IsSitesConsistent w l → (number : ℕ) (state : SiteState) (os : List Outcome) (f : Delivery) (m : Message) → find (λ x. x.number == number) l.flights ≡ Some f →
     is_admitted l f.row.id ≡ true → message_of l.book f.row.id ≡ Some m → IsReplied c u f os f.row.site → IsHeard u v f.row.site state → IsLanded v d number → HoldsRaw w d (over w l state os number f m)
-reply_raw {w = w} {c = c} {u = u} {v = v} {d = d} {l = l} h k number state os f m found there e replies hears lands =
+reply_raw {w = w} {c = c} {u = u} {v = v} {d = d} {l = l} h k sites number state os f m found there e replies hears lands =
     let site = f.row.site in
     let needs : replied_in c f os ≡ needs_of w l.now m f.row.positions os = needs_law h.parts f.row.id m there e f.row.positions os in
     let fs : List Delivery = others l number in
@@ -75,7 +76,7 @@ reply_raw {w = w} {c = c} {u = u} {v = v} {d = d} {l = l} h k number state os f 
     ∙ ap (λ (x : List SiteRecord). map (heard_at c.params site (busy l site) c.clock.seconds state) x) h.parts.sites
     ∙ ap (λ n. map (heard_at c.params site (busy l site) n state) l.sites) h.parts.clock
     ∙ ap (λ (x : Settings). map (heard_at x site (busy l site) l.now state) l.sites) h.parts.settings
-    ∙ heard_law w l site k.usable.concurrency_limit.1 k.sites.windows state in
+    ∙ heard_law w l site sites.settings.concurrency_limit.1 sites.windows state in
     let between : Core = record c { sites = v.sites } in
     let raw : HoldsRaw w between (record l { sites = after_state w l site state }) = sites_law {w = w} {c = c} {d = between} {l = l} (after_state w l site state) h refl heard in
     let middle : v ≡ record c { unsettled = u.unsettled; in_memory = u.in_memory; sites = v.sites } = hears.rest ∙ ap (λ (x : Core). record x { sites = v.sites }) replies.rest in
@@ -138,8 +139,8 @@ reply_done {w = w} {c = c} {u = u} {v = v} {x = x} {mid = mid} {d = d} {l = l} a
     let m = stands l f.row.id admitted k.memory.present in
     let e : Entry = entries.Reply number state os in
     let quiet : IsQuiet e = record { no_admit = λ id. refl; no_start_of = λ id t. refl; no_charge = λ id t. refl; no_start = refl } in
-    let gone = reply_raw raw k number state os f m.0 found admitted m.1 replies hears lands in
-    let apart = apart_state w l f.row.site state ∙ k.sites.apart in
+    let gone = reply_raw raw k a.destinations number state os f m.0 found admitted m.1 replies hears lands in
+    let apart = apart_state w l f.row.site state ∙ a.destinations.apart in
     let done : Matches w d (settled w l (noted e (over w l state os number f m.0))) = settle_left_law f.row.site l (reply_leaves w l k e number state os f m.0 found) apart (note_law e quiet gone) left s in
     subst (λ z. Matches w d (settled w l (noted e z))) (sym (reply_is w l number state os f m.0 found m.1)) done
 
