@@ -33,3 +33,4 @@ pub mod RowsLaws
 pub mod SkipLaws
 pub mod FlightLaws
 pub mod ReplyLaws
+pub mod DecidedLaws
