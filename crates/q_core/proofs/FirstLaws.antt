@@ -105,8 +105,7 @@ first_of_message {l = l} k id position need f =
     let t = is_there k id adm in
     let found = found_some (find (λ (a : Admitted). id_eq a.id id) l.admitted) (find-any (λ (a : Admitted). id_eq a.id id) l.admitted ∙ adm) in
     let same : found.0.id ≡ id = id_eq-true found.0.id id (find-passes (λ (a : Admitted). id_eq a.id id) l.admitted found.0 found.1) in
-    let held : IsHeld l found.0 t.message = k.memory.held found.0 t.message (ap (admitted_of l) same ∙ found.1) (ap (message_of l.book) same ∙ t.there) in
-    (
+    let held : IsHeld l found.0 t.message = k.memory.held found.0 t.message (ap (admitted_of l) same ∙ found.1) (ap (message_of l.book) same ∙ t.there) in (
       t.message,
       record {
         admitted = adm;

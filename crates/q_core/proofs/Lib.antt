@@ -33,4 +33,3 @@ pub mod RowsLaws
 pub mod SkipLaws
 pub mod FlightLaws
 pub mod ReplyLaws
-pub mod DecidedLaws

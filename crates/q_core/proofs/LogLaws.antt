@@ -102,12 +102,11 @@ log_counts : (m : Message) (f : Failure) → is_unmarked_at m f.position ≡ tru
     (length (pending (with_failure f m)) ≡ length (pending m) - 1) × (has_none (unmarked_logged (with_failure f m)) ≡ false)
 log_counts m f u n =
     let one = less_one (is_pending_at m) (is_pending_at (with_failure f m)) f.position 0 f.position m.recipients (pending_log m f) (omega arith)
-    (passes_from unmarked (is_pending_at m) f.position (slice_get m.recipients f.position) (λ r e. pends (is_marked r.mark) (is_logged m f.position) n e) u) in
-    (
+    (passes_from unmarked (is_pending_at m) f.position (slice_get m.recipients f.position) (λ r e. pends (is_marked r.mark) (is_logged m f.position) n e) u) in (
       omega (arith, one),
       some_place (is_half_at (with_failure f m)) f.position 0 f.position m.recipients (omega arith)
-      (passes_from unmarked (is_half_at (with_failure f m)) f.position (slice_get m.recipients f.position)
-      (λ r e. halves (is_marked r.mark) (is_logged (with_failure f m) f.position) (logged_more m.failures f f.position ∙ ap (λ b. is_logged m f.position || b) (eq-eqb f.position f.position refl) ∙ or_true (is_logged m f.position)) e) u),
+          (passes_from unmarked (is_half_at (with_failure f m)) f.position (slice_get m.recipients f.position)
+          (λ r e. halves (is_marked r.mark) (is_logged (with_failure f m) f.position) (logged_more m.failures f f.position ∙ ap (λ b. is_logged m f.position || b) (eq-eqb f.position f.position refl) ∙ or_true (is_logged m f.position)) e) u),
     )
 
 has_last : {A : Type 0} (xs : List A) (x : A) → has_none (xs ++ x ∷ []) ≡ false

@@ -21,8 +21,8 @@ use Rattle.q_core.specs.Leaving.{IsHeard, IsLanded, IsReplied, replied_in}
 use Rattle.q_core.specs.Queries.{flight_in}
 use Rattle.q_core.specs.Windows.{heard_at}
 use Rattle.q_core.specs.declared.state.Core.{Core}
-use Rattle.q_laws.specs.Consistency.{IsConsistent}
 use Rattle.q_laws.specs.SitesConsistency.{IsSitesConsistent}
+use Rattle.q_laws.specs.Consistency.{IsConsistent}
 use Rattle.q_model.proofs.IdLaws.{site_eq-refl}
 use Rattle.q_model.specs.Book.{message_of}
 use Rattle.q_model.specs.Deliveries.{busy, flight_of}
@@ -64,7 +64,7 @@ over w l state os number f m = record l {
 -- the delivery is over, its site has heard of it, and its outcomes are settled
 reply_raw : {w : World} {c u v d : Core} {l : Ledger} → HoldsRaw w c l → IsConsistent w l → IsSitesConsistent w l → (number : ℕ) (state : SiteState) (os : List Outcome) (f : Delivery) (m : Message) → find (λ x. x.number == number) l.flights ≡ Some f →
     is_admitted l f.row.id ≡ true → message_of l.book f.row.id ≡ Some m → IsReplied c u f os f.row.site → IsHeard u v f.row.site state → IsLanded v d number → HoldsRaw w d (over w l state os number f m)
-reply_raw {w = w} {c = c} {u = u} {v = v} {d = d} {l = l} h k sites number state os f m found there e replies hears lands =
+reply_raw {w = w} {c = c} {u = u} {v = v} {d = d} {l = l} h k ds number state os f m found there e replies hears lands =
     let site = f.row.site in
     let needs : replied_in c f os ≡ needs_of w l.now m f.row.positions os = needs_law h.parts f.row.id m there e f.row.positions os in
     let fs : List Delivery = others l number in
@@ -76,7 +76,7 @@ reply_raw {w = w} {c = c} {u = u} {v = v} {d = d} {l = l} h k sites number state
     ∙ ap (λ (x : List SiteRecord). map (heard_at c.params site (busy l site) c.clock.seconds state) x) h.parts.sites
     ∙ ap (λ n. map (heard_at c.params site (busy l site) n state) l.sites) h.parts.clock
     ∙ ap (λ (x : Settings). map (heard_at x site (busy l site) l.now state) l.sites) h.parts.settings
-    ∙ heard_law w l site sites.settings.concurrency_limit.1 sites.windows state in
+    ∙ heard_law w l site ds.settings.concurrency_limit.1 ds.windows state in
     let between : Core = record c { sites = v.sites } in
     let raw : HoldsRaw w between (record l { sites = after_state w l site state }) = sites_law {w = w} {c = c} {d = between} {l = l} (after_state w l site state) h refl heard in
     let middle : v ≡ record c { unsettled = u.unsettled; in_memory = u.in_memory; sites = v.sites } = hears.rest ∙ ap (λ (x : Core). record x { sites = v.sites }) replies.rest in

@@ -39,11 +39,7 @@ pub enum Question {
     Incoming,
     Deferred,
     /// At most `max` recipients of the message from the position `from` on.
-    Recipients {
-        id: Id,
-        from: u32,
-        max: u32,
-    },
+    Recipients { id: Id, from: u32, max: u32 },
 }
 
 /// What is known in one life of a queue manager, without names on disk and without texts.

@@ -1,11 +1,11 @@
 -- Books to which a message is added, or in which a damaged file moves.
-use Rattle.std.proofs.Common.{◌≡◌, ℕ, ◌+◌, ◌≤◌, Bool, true, false, cond, not, List, [], ◌∷◌, ◌++◌, map, filter, find, is_some, Option, Some, None, option_map, ◌⊎◌, inl, inr, refl, sym, ap, ◌∙◌, subst, if◌then◌else◌}
-use Rattle.std.proofs.lemmas.Bool.{and_from, and_parts, not-true, not_from_false, or_cases, or_left, or_right}
+use Rattle.std.proofs.Common.{◌≡◌, Bool, true, false, cond, not, List, [], ◌∷◌, ◌++◌, map, find, is_some, Option, Some, None, ◌⊎◌, inl, inr, refl, sym, ap, ◌∙◌, subst, if◌then◌else◌}
+use Rattle.std.proofs.lemmas.Bool.{and_from, and_parts, or_cases, or_left, or_right}
 use Rattle.std.specs.List.{list_all, list_any}
 use Rattle.std.specs.Option.{option_map_or}
 use Rattle.std.specs.Prelude.{◌&&◌, ◌||◌, nat_le}
-use Rattle.q_laws.proofs.Books.{at_place, damaged_at, damaged_names, in_ids_at, message_in, message_listed, message_names}
-use Rattle.q_laws.proofs.Distinct.{distinct_join, distinct_one, distinct_parts, id_cases, id_other, id_same}
+use Rattle.q_laws.proofs.Books.{at_place, damaged_at, damaged_names, in_ids_at, message_names}
+use Rattle.q_laws.proofs.Distinct.{distinct_join, distinct_parts, id_cases}
 use Rattle.q_laws.proofs.Mapped.{paired_from}
 use Rattle.q_laws.proofs.Members.{IsIn, all_append, all_at, all_from, any_from, any_in, in_either, in_left, in_map, in_right, in_unmap}
 use Rattle.q_model.proofs.IdLaws.{id_eq-refl, id_eq-true}
@@ -15,12 +15,10 @@ use Rattle.q_model.specs.BookChanges.{add_message, move_damaged}
 use Rattle.q_model.specs.FilesStand.{all_ids, are_distinct}
 use Rattle.q_model.specs.Ids.{cause_of, id_eq}
 use Rattle.q_model.specs.Message.{Message}
-use Rattle.q_model.specs.Orderly.{is_lawful, is_orderly, is_paired, is_sealed, is_settled}
+use Rattle.q_model.specs.Orderly.{is_orderly, is_paired, is_sealed, is_settled}
 use Rattle.q_model.specs.Places.{is_active, is_incoming}
-use Rattle.q_model.specs.SpoolFiles.{is_corrupt}
 use Rattle.q_model.specs.declared.id.Id.{Id}
 use Rattle.q_model.specs.declared.rows.Place.{Place}
-use Rattle.q_model.specs.declared.rows.Place.TheVariants as places
 
 -- ---- a message more
 
@@ -77,15 +75,16 @@ added_distinct b x new h =
     let parts = distinct_parts (message_names b) (damaged_names b) h in
     ap (λ is. are_distinct (is ++ damaged_names b)) (names_added b x)
     ∙ distinct_join (message_names b ++ x.id ∷ []) (damaged_names b)
-      (distinct_join (message_names b) (x.id ∷ []) parts.0 refl (λ i k g. apart i k g)) parts.1
-      (λ i k g. elim (in_either i (message_names b) (x.id ∷ []) k) [
-        | inl old ↦ parts.2 i old g
-        | inr it ↦ mine i it g
-      ])
+    (distinct_join (message_names b) (x.id ∷ []) parts.0 refl (λ i k g. apart i k g)) parts.1
+    (λ i k g. elim (in_either i (message_names b) (x.id ∷ []) k) [
+      | inl old ↦ parts.2 i old g
+      | inr it ↦ mine i it g
+    ])
   where
     apart : (i : Id) → IsIn i (message_names b) → IsIn i (x.id ∷ []) → ⊥
     apart i k (inl e) = new (in_left x.id (message_names b) (damaged_names b) (subst (λ j. IsIn j (message_names b)) (sym e) k))
     apart i k (inr e) = e
+
     mine : (i : Id) → IsIn i (x.id ∷ []) → IsIn i (damaged_names b) → ⊥
     mine i (inl e) g = new (in_right x.id (message_names b) (damaged_names b) (subst (λ j. IsIn j (damaged_names b)) (sym e) g))
     mine i (inr e) g = e
@@ -136,8 +135,8 @@ new_paired b x a = which x.id.bounce refl
         let broken : Bool = list_any (λ (d : Damaged). id_eq d.id x.id && is_incoming d.place) b.damaged in
         or_right (not x.id.bounce || not (stands (add_message b x) (cause_of x.id))) (stands_in is_incoming (add_message b x) x.id && option_map_or (λ m. is_active m.place && is_sealed m) (message_of (add_message b x) (cause_of x.id)) false)
         (and_from (stands_in is_incoming (add_message b x) x.id) (option_map_or (λ m. is_active m.place && is_sealed m) (message_of (add_message b x) (cause_of x.id)) false)
-          (or_left (list_any test (b.messages ++ x ∷ [])) broken (any_from test x (b.messages ++ x ∷ []) (in_right x b.messages (x ∷ []) (inl refl)) (and_from (id_eq x.id x.id) (is_incoming x.place) (id_eq-refl x.id) a.incoming)))
-          (kept_cause b x (cause_of x.id) (a.cause e)))
+        (or_left (list_any test (b.messages ++ x ∷ [])) broken (any_from test x (b.messages ++ x ∷ []) (in_right x b.messages (x ∷ []) (inl refl)) (and_from (id_eq x.id x.id) (is_incoming x.place) (id_eq-refl x.id) a.incoming)))
+        (kept_cause b x (cause_of x.id) (a.cause e)))
 
 pub added_orderly : (b : Book) (x : Message) → IsAddable b x → is_orderly b ≡ true → is_orderly (add_message b x) ≡ true
 added_orderly b x a h =
@@ -148,8 +147,8 @@ added_orderly b x a h =
     and_from (list_all (test c) (all_ids c)) (list_all rest (b.messages ++ x ∷ []))
     (all_from (test c) (all_ids c) (λ i inside. elim (added_ids b x i inside) [
       | inl old ↦
-        let parts = and_parts (nat_le i.generation b.generation) (is_paired b i) (all_at (test b) i (all_ids b) two.0 old) in
-        and_from (nat_le i.generation c.generation) (is_paired c i) parts.0 (old_paired b x a i old parts.1)
+          let parts = and_parts (nat_le i.generation b.generation) (is_paired b i) (all_at (test b) i (all_ids b) two.0 old) in
+          and_from (nat_le i.generation c.generation) (is_paired c i) parts.0 (old_paired b x a i old parts.1)
       | inr same ↦ subst (λ j. test c j ≡ true) same (and_from (nat_le x.id.generation c.generation) (is_paired c x.id) a.generation (new_paired b x a))
     ]))
     (all_append rest b.messages (x ∷ []) two.1 (and_from (rest x) true (or_right (is_active x.place) (is_settled x) a.settled) refl))
@@ -207,10 +206,10 @@ shifted_incoming b id place i other h =
     elim (or_cases whole (list_any test b.damaged) h) [
       | inl m ↦ or_left whole (list_any test (map (shifted id place) b.damaged)) m
       | inr d ↦
-        let one = any_in test b.damaged d in
-        let name : (one.0).id ≡ i = id_eq-true (one.0).id i (and_parts (id_eq (one.0).id i) (is_incoming (one.0).place) one.2).0 in
-        let same : shifted id place one.0 ≡ one.0 = ap (λ t. if t then record (one.0) { place = place } else one.0) (ap (λ (j : Id). id_eq j id) name ∙ other) in
-        or_right whole (list_any test (map (shifted id place) b.damaged)) (any_from test one.0 (map (shifted id place) b.damaged) (subst (λ (x : Damaged). IsIn x (map (shifted id place) b.damaged)) same (in_map (shifted id place) one.0 b.damaged one.1)) one.2)
+          let one = any_in test b.damaged d in
+          let name : (one.0).id ≡ i = id_eq-true (one.0).id i (and_parts (id_eq (one.0).id i) (is_incoming (one.0).place) one.2).0 in
+          let same : shifted id place one.0 ≡ one.0 = ap (λ t. if t then record (one.0) { place = place } else one.0) (ap (λ (j : Id). id_eq j id) name ∙ other) in
+          or_right whole (list_any test (map (shifted id place) b.damaged)) (any_from test one.0 (map (shifted id place) b.damaged) (subst (λ (x : Damaged). IsIn x (map (shifted id place) b.damaged)) same (in_map (shifted id place) one.0 b.damaged one.1)) one.2)
     ]
 
 -- a file that is no bounce with a cause may move
@@ -222,23 +221,24 @@ shifted_orderly b id place gone h =
     let two = and_parts (list_all (test b) (all_ids b)) (list_all rest b.messages) h in
     and_from (list_all (test c) (all_ids c)) (list_all rest b.messages)
     (all_from (test c) (all_ids c) (λ i inside.
-      let parts = and_parts (nat_le i.generation b.generation) (is_paired b i) (all_at (test b) i (all_ids b) two.0 (subst (λ is. IsIn i is) (shifted_ids b id place) inside)) in
-      and_from (nat_le i.generation c.generation) (is_paired c i) parts.0 (paired i parts.1))) two.1
+    let parts = and_parts (nat_le i.generation b.generation) (is_paired b i) (all_at (test b) i (all_ids b) two.0 (subst (λ is. IsIn i is) (shifted_ids b id place) inside)) in
+    and_from (nat_le i.generation c.generation) (is_paired c i) parts.0 (paired i parts.1))) two.1
   where
     alone : (x y : Bool) → not (x && y) ≡ true → (not x || not y) ≡ true
     alone true y e = e
     alone false y e = refl
+
     paired : (i : Id) → is_paired b i ≡ true → is_paired (move_damaged b id place) i ≡ true
     paired i k = elim (id_cases i id) [
       | inl same ↦
-        let c = move_damaged b id place in
-        or_left (not i.bounce || not (stands c (cause_of i))) (stands_in is_incoming c i && option_map_or (λ m. is_active m.place && is_sealed m) (message_of c (cause_of i)) false)
-        (ap (λ t. not i.bounce || not t) (shifted_stands b id place (cause_of i)) ∙ subst (λ j. (not j.bounce || not (stands b (cause_of j))) ≡ true) (sym same.0) (alone id.bounce (stands b (cause_of id)) gone))
+          let c = move_damaged b id place in
+          or_left (not i.bounce || not (stands c (cause_of i))) (stands_in is_incoming c i && option_map_or (λ m. is_active m.place && is_sealed m) (message_of c (cause_of i)) false)
+          (ap (λ t. not i.bounce || not t) (shifted_stands b id place (cause_of i)) ∙ subst (λ j. (not j.bounce || not (stands b (cause_of j))) ≡ true) (sym same.0) (alone id.bounce (stands b (cause_of id)) gone))
       | inr other ↦
-        let c = move_damaged b id place in
-        paired_from (not i.bounce) (not (stands b (cause_of i))) (not (stands c (cause_of i))) (stands_in is_incoming b i) (stands_in is_incoming c i)
-        (option_map_or (λ m. is_active m.place && is_sealed m) (message_of b (cause_of i)) false) (option_map_or (λ m. is_active m.place && is_sealed m) (message_of c (cause_of i)) false)
-        (ap not (shifted_stands b id place (cause_of i))) (λ p q. shifted_incoming b id place i other) (λ r. r) k
+          let c = move_damaged b id place in
+          paired_from (not i.bounce) (not (stands b (cause_of i))) (not (stands c (cause_of i))) (stands_in is_incoming b i) (stands_in is_incoming c i)
+          (option_map_or (λ m. is_active m.place && is_sealed m) (message_of b (cause_of i)) false) (option_map_or (λ m. is_active m.place && is_sealed m) (message_of c (cause_of i)) false)
+          (ap not (shifted_stands b id place (cause_of i))) (λ p q. shifted_incoming b id place i other) (λ r. r) k
     ]
 
 -- who stands at a place where the file doesn't go stood there before

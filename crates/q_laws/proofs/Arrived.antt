@@ -1,55 +1,40 @@
 -- What fits together still does as a message arrives and as a bounce is stored.
-use Rattle.std.proofs.Common.{◌≡◌, ℕ, zero, suc, ◌+◌, ◌-◌, ◌≤◌, ◌<◌, Bool, true, false, not, List, [], ◌∷◌, ◌++◌, map, length, is_some, Option, Some, None, ◌⊎◌, inl, inr, refl, sym, ap, ◌∙◌, subst, arith, if◌then◌else◌, le_refl, le-leb, leb-true, ltb-true, count_by}
-use Rattle.std.proofs.lemmas.Bool.{and_from, and_parts, not-true, not_from_false, or_cases, or_left, or_parts, or_right}
+use Rattle.std.proofs.Common.{◌≡◌, ℕ, ◌+◌, ◌≤◌, ◌<◌, Bool, true, false, not, List, [], is_some, Option, Some, None, inl, inr, refl, sym, ap, ◌∙◌, subst, arith, if◌then◌else◌, le_refl, le-leb, leb-true, ltb-true}
+use Rattle.std.proofs.lemmas.Bool.{and_from, and_parts, not-true, or_cases, or_right}
 use Rattle.std.proofs.lemmas.List.Sums.{sum_by-cons}
-use Rattle.std.proofs.lemmas.Option.{same_Some}
 use Rattle.std.specs.List.{list_all, list_any}
 use Rattle.std.specs.Option.{option_map_or}
-use Rattle.std.specs.Prelude.{◌==◌, ◌&&◌, ◌||◌, nat_le, nat_lt, is_none, unwrap_or}
-use Rattle.q_laws.proofs.Added.{IsAddable, added_at, added_distinct, added_ids, added_orderly, other_found, shifted_at, shifted_ids, shifted_orderly, still_found}
-use Rattle.q_laws.proofs.Books.{damaged_listed, left_from, left_parts, left_active, message_in, message_listed, placed_listed}
-use Rattle.q_laws.proofs.Distinct.{id_cases, id_other, id_same}
-use Rattle.q_laws.proofs.Finished.{leave_order}
-use Rattle.q_laws.proofs.InPlace.{change_book, changed, changed_ledger}
-use Rattle.q_laws.proofs.Leaving.{well_still}
-use Rattle.q_laws.proofs.Members.{in_unmap, IsIn, all_append, all_at, all_from, all_weaker, any_from, any_in, find_in, in_either}
-use Rattle.q_laws.proofs.Moved.{move_to, moved_at, other_moved}
-use Rattle.q_laws.proofs.Quiet.{IsQuiet, account_kept, begun_noted, otherwise, otherwise_ready, still_come}
+use Rattle.std.specs.Prelude.{◌==◌, ◌&&◌, ◌||◌, nat_le, nat_lt, is_none}
+use Rattle.q_laws.proofs.Added.{IsAddable}
+use Rattle.q_laws.proofs.Books.{message_in, message_listed}
+use Rattle.q_laws.proofs.Members.{in_unmap, IsIn, all_at}
+use Rattle.q_laws.proofs.Quiet.{still_come}
 use Rattle.q_laws.proofs.Settled.{IsReady, after_consistent}
-use Rattle.q_laws.proofs.Synced.{mine_or_not}
-use Rattle.q_laws.proofs.Unmarked.{logged_bare, done_sealed, pending_not_sealed}
-use Rattle.q_laws.specs.Consistency.{IsBookConsistent, IsConsistent, has_come, is_present, is_synced_well, is_within}
-use Rattle.q_model.proofs.IdLaws.{id_eq-refl, id_eq-true}
-use Rattle.q_model.specs.Admissions.{cause_gone, has_room}
+use Rattle.q_laws.proofs.Unmarked.{logged_bare, done_sealed}
+use Rattle.q_laws.specs.Consistency.{IsBookConsistent, IsConsistent, has_come}
+use Rattle.q_model.proofs.IdLaws.{id_eq-true}
 use Rattle.q_model.specs.Arrivals.{after_arrive, arrived, may_arrive, next_id}
-use Rattle.q_model.specs.Book.{Book, Damaged, damaged_of, ids_at, message_of, stands, stands_in}
-use Rattle.q_model.specs.BookChanges.{add_message, move_damaged, move_message}
-use Rattle.q_model.specs.Bounces.{after_bounce, may_bounce}
-use Rattle.q_model.specs.FilesStand.{all_ids, are_distinct}
-use Rattle.q_model.specs.Finishing.{has_bounce, is_at_rest, is_clean, is_done, wants_bounce}
+use Rattle.q_model.specs.Book.{Book, damaged_of, message_of, stands, stands_in}
+use Rattle.q_model.specs.BookChanges.{add_message}
+use Rattle.q_model.specs.Bounces.{may_bounce}
+use Rattle.q_model.specs.FilesStand.{all_ids}
+use Rattle.q_model.specs.Finishing.{has_bounce, is_at_rest, is_done, wants_bounce}
 use Rattle.q_model.specs.Ids.{bounce_of, cause_of, id_eq}
-use Rattle.q_model.specs.Leaving.{after_back, after_corrupt, may_back, may_corrupt}
 use Rattle.q_model.specs.Ledger.{Ledger}
-use Rattle.q_model.specs.Leftovers.{is_leftover, is_next_leftover, was_synced}
 use Rattle.q_model.specs.Lists.{has_none}
-use Rattle.q_model.specs.Memory.{admitted_of, is_admitted, unread_count, unread_of}
-use Rattle.q_model.specs.Message.{Logged, Recipient, is_logged, Message, pending, unmarked_logged, written_marks}
+use Rattle.q_model.specs.Message.{Logged, Recipient, is_logged, Message, unmarked_logged, written_marks}
 use Rattle.q_model.specs.Notices.{bounce_message}
-use Rattle.q_model.specs.Orderly.{has_firm_failures, is_orderly, is_paired, is_sealed, is_settled}
+use Rattle.q_model.specs.Orderly.{has_firm_failures, is_paired, is_sealed, is_settled}
 use Rattle.q_model.specs.Past.{arrivals, is_arrive}
 use Rattle.q_model.specs.Places.{is_active, is_incoming}
 use Rattle.q_model.specs.Settings.{World}
 use Rattle.q_model.specs.Step.{after, noted}
-use Rattle.q_model.specs.Turns.{Pick, passed, pick, taken}
 use Rattle.q_model.specs.declared.entry.Entry.{Entry}
 use Rattle.q_model.specs.declared.id.Id.{Id}
-use Rattle.q_model.specs.declared.rows.Admitted.{Admitted}
-use Rattle.q_model.specs.declared.rows.Place.{Place}
 use Rattle.q_model.specs.declared.entry.Entry.TheVariants as entries
-use Rattle.q_model.specs.declared.rows.Place.TheVariants as places
-use Rattle.q_laws.proofs.Besides.{add_ready, with_book}
+use Rattle.q_laws.proofs.Besides.{add_ready}
 use Rattle.q_laws.proofs.Places.{IsPlaceOf, got_in, nothing_in, place_is}
-use Rattle.q_model.specs.Marks.{is_marked, is_written}
+use Rattle.q_model.specs.Marks.{is_written}
 use Rattle.q_model.specs.declared.rows.Mark.TheVariants as marks
 
 -- ---- a message without failures and marks has nothing to settle
@@ -58,12 +43,13 @@ fresh_settled : (x : Message) → x.failures ≡ [] → ((r : Recipient) → IsI
 fresh_settled x none unwritten =
     and_from (has_none (unmarked_logged x) && has_none (written_marks x)) (has_firm_failures x)
     (and_from (has_none (unmarked_logged x)) (has_none (written_marks x))
-      (ap has_none (nothing_in (unmarked_logged x) (λ q k. unlogged q (logged_bare x q k).1)))
-      (ap has_none (nothing_in (written_marks x) (λ q k. clean (place_is 0 (λ i (r : Recipient). is_written r.mark) x.recipients q k)))))
+    (ap has_none (nothing_in (unmarked_logged x) (λ q k. unlogged q (logged_bare x q k).1)))
+    (ap has_none (nothing_in (written_marks x) (λ q k. clean (place_is 0 (λ i (r : Recipient). is_written r.mark) x.recipients q k)))))
     (ap (λ fs. list_all (λ (f : Logged). f.firm) fs) none)
   where
     unlogged : (q : ℕ) → is_logged x q ≡ true → ⊥
     unlogged q h = let bad : false ≡ true = sym (ap (λ fs. list_any (λ (f : Logged). f.failure.position == q) fs) none) ∙ h in absurd cc
+
     clean : {q : ℕ} → IsPlaceOf 0 (λ i (r : Recipient). is_written r.mark) x.recipients q → ⊥
     clean one = let bad : false ≡ true = sym (unwritten one.item (got_in one.item x.recipients one.index one.there)) ∙ one.passes in absurd cc
 
@@ -87,10 +73,10 @@ new_addable l sender to content h = record {
   generation = le-leb l.book.generation l.book.generation (le_refl l.book.generation);
   incoming = refl;
   settled = fresh_settled (new_message l sender to content) refl (λ r inside.
-    let one = in_unmap (λ (address : List ℕ). record { address = address; mark = marks.Unmarked }) r to inside in
-    ap (λ (x : Recipient). is_written x.mark) (sym one.2));
+      let one = in_unmap (λ (address : List ℕ). record { address = address; mark = marks.Unmarked }) r to inside in
+      ap (λ (x : Recipient). is_written x.mark) (sym one.2));
   childless = λ i inside bounce same.
-    not_later l.book.generation (arrivals l) (ap (λ (j : Id). nat_lt j.generation l.book.generation || nat_le j.serial (arrivals l)) (sym same) ∙ all_at (has_come l) i (all_ids l.book) h.come inside);
+      not_later l.book.generation (arrivals l) (ap (λ (j : Id). nat_lt j.generation l.book.generation || nat_le j.serial (arrivals l)) (sym same) ∙ all_at (has_come l) i (all_ids l.book) h.come inside);
   cause = λ bounce. absurd cc;
 }
 
@@ -130,17 +116,17 @@ bounce_addable l m h there active done alone unsaid =
     let ids : list_all test (all_ids b) ≡ true = (and_parts (list_all test (all_ids b)) (list_all (λ (x : Message). is_active x.place || is_settled x) b.messages) h.orderly).0 in
     record {
       new = λ k.
-        let pair = (and_parts (nat_le m.id.generation b.generation) (is_paired b (bounce_of m.id)) (all_at test (bounce_of m.id) (all_ids b) ids k)).1 in
-        let stands_now : stands b (cause_of (bounce_of m.id)) ≡ true = ap (stands b) (same_cause m.id alone) ∙ stands_true b m.id m there in
-        let said : stands_in is_incoming b (bounce_of m.id) ≡ true = paired_there true (stands b (cause_of (bounce_of m.id))) (stands_in is_incoming b (bounce_of m.id)) (option_map_or (λ x. is_active x.place && is_sealed x) (message_of b (cause_of (bounce_of m.id))) false) refl stands_now pair in
-        let bad : false ≡ true = sym unsaid ∙ said in
-        absurd cc;
+          let pair = (and_parts (nat_le m.id.generation b.generation) (is_paired b (bounce_of m.id)) (all_at test (bounce_of m.id) (all_ids b) ids k)).1 in
+          let stands_now : stands b (cause_of (bounce_of m.id)) ≡ true = ap (stands b) (same_cause m.id alone) ∙ stands_true b m.id m there in
+          let said : stands_in is_incoming b (bounce_of m.id) ≡ true = paired_there true (stands b (cause_of (bounce_of m.id))) (stands_in is_incoming b (bounce_of m.id)) (option_map_or (λ x. is_active x.place && is_sealed x) (message_of b (cause_of (bounce_of m.id))) false) refl stands_now pair in
+          let bad : false ≡ true = sym unsaid ∙ said in
+          absurd cc;
       generation = (and_parts (nat_le m.id.generation b.generation) (is_paired b m.id) (all_at test m.id (all_ids b) ids (message_listed b m inside))).0;
       incoming = refl;
       settled = fresh_settled (bounce_message l.now m) refl (λ r k. unmarked r k);
       childless = λ i k bounce same. let bad : false ≡ true = ap (λ (j : Id). j.bounce) same in absurd cc;
       cause = λ k. ap (λ (o : Option Message). option_map_or (λ x. is_active x.place && is_sealed x) o false) (ap (message_of b) (same_cause m.id alone) ∙ there)
-        ∙ and_from (is_active m.place) (is_sealed m) active (done_sealed m done (all_at has_firm_failures m b.messages h.firm inside));
+          ∙ and_from (is_active m.place) (is_sealed m) active (done_sealed m done (all_at has_firm_failures m b.messages h.firm inside));
     }
   where
     unmarked : (r : Recipient) → IsIn r (bounce_message l.now m).recipients → is_written r.mark ≡ false

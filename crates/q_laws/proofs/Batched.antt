@@ -1,15 +1,15 @@
 -- The positions that a load takes: which they are, how many, and that its rows hold each once.
-use Rattle.std.proofs.Common.{◌≡◌, ℕ, zero, suc, ◌+◌, ◌-◌, ◌≤◌, ◌<◌, Bool, true, false, cond, not, List, [], ◌∷◌, ◌++◌, length, filter, Option, Some, None, ◌⊎◌, inl, inr, refl, sym, ap, ◌∙◌, subst, arith, if◌then◌else◌, eqb-true, leb-true, ltb-true, length-append, le_trans, lt-ltb, le-leb}
-use Rattle.std.proofs.lemmas.Bool.{and_parts, not-true, or_parts}
+use Rattle.std.proofs.Common.{◌≡◌, ℕ, zero, suc, ◌+◌, ◌-◌, ◌≤◌, ◌<◌, Bool, true, false, cond, not, List, [], ◌∷◌, ◌++◌, length, filter, Option, Some, None, inl, inr, refl, sym, ap, ◌∙◌, arith, if◌then◌else◌, eqb-true, leb-true, ltb-true, length-append}
+use Rattle.std.proofs.lemmas.Bool.{not-true, or_parts}
 use Rattle.std.specs.Option.{option_map_or}
 use Rattle.std.specs.Prelude.{◌==◌, ◌&&◌, ◌||◌, nat_le, nat_lt, slice_get}
-use Rattle.q_laws.proofs.Counts.{in_times, times, times_append, times_none}
+use Rattle.q_laws.proofs.Counts.{times, times_append, times_none}
 use Rattle.q_laws.proofs.Members.{IsIn, in_filtered}
 use Rattle.q_laws.proofs.Places.{got_below, got_in, place_is}
 use Rattle.q_laws.proofs.RowCounts.{lengths_more, row_lengths, row_positions}
 use Rattle.q_laws.proofs.Unmarked.{unmarked_from}
 use Rattle.q_laws.specs.Consistency.{waiting_positions}
-use Rattle.q_model.specs.Batches.{join_rows, load_end, load_positions, load_rows, pending_from, rows_from}
+use Rattle.q_model.specs.Batches.{join_rows, load_end, load_positions, pending_from, rows_from}
 use Rattle.q_model.specs.Destinations.{site_eq}
 use Rattle.q_model.specs.Ids.{id_eq}
 use Rattle.q_model.specs.Lists.{places_from}

@@ -1,53 +1,32 @@
 -- What fits together still does as the book changes beside the messages in memory.
-use Rattle.std.proofs.Common.{◌≡◌, ℕ, zero, suc, ◌+◌, ◌-◌, ◌≤◌, ◌<◌, Bool, true, false, not, List, [], ◌∷◌, ◌++◌, map, length, is_some, Option, Some, None, ◌⊎◌, inl, inr, refl, sym, ap, ◌∙◌, subst, arith, if◌then◌else◌, le_refl, le-leb, leb-true, ltb-true, count_by}
-use Rattle.std.proofs.lemmas.Bool.{and_from, and_parts, not-true, not_from_false, or_cases, or_left, or_parts, or_right}
-use Rattle.std.proofs.lemmas.List.Sums.{sum_by-cons}
-use Rattle.std.proofs.lemmas.Option.{same_Some}
-use Rattle.std.specs.List.{list_all, list_any}
+use Rattle.std.proofs.Common.{◌≡◌, ◌-◌, Bool, true, false, [], ◌∷◌, length, Option, Some, None, inl, inr, refl, sym, ap, ◌∙◌, subst}
+use Rattle.std.proofs.lemmas.Bool.{and_from}
+use Rattle.std.specs.List.{list_all}
 use Rattle.std.specs.Option.{option_map_or}
-use Rattle.std.specs.Prelude.{◌==◌, ◌&&◌, ◌||◌, nat_le, nat_lt, is_none, unwrap_or}
-use Rattle.q_laws.proofs.Added.{IsAddable, added_at, added_distinct, added_ids, added_orderly, other_found, shifted_at, shifted_ids, shifted_orderly, still_found}
-use Rattle.q_laws.proofs.Books.{damaged_listed, left_from, left_parts, message_in, message_listed, placed_listed}
-use Rattle.q_laws.proofs.Distinct.{id_cases, id_other, id_same}
-use Rattle.q_laws.proofs.Finished.{leave_order}
-use Rattle.q_laws.proofs.InPlace.{change_book, changed, changed_ledger}
+use Rattle.std.specs.Prelude.{◌==◌, nat_le}
+use Rattle.q_laws.proofs.Added.{IsAddable, added_at, added_distinct, added_ids, added_orderly, other_found, still_found}
+use Rattle.q_laws.proofs.Books.{left_from, left_parts, placed_listed}
 use Rattle.q_laws.proofs.Leaving.{well_still}
-use Rattle.q_laws.proofs.Members.{IsIn, all_append, all_at, all_from, all_weaker, any_from, any_in, find_in, in_either}
-use Rattle.q_laws.proofs.Moved.{move_to, moved_at, other_moved}
-use Rattle.q_laws.proofs.Places.{none_of}
-use Rattle.q_laws.proofs.Quiet.{IsQuiet, account_kept, begun_noted, otherwise, otherwise_ready, still_come}
-use Rattle.q_laws.proofs.Settled.{IsReady, after_consistent}
-use Rattle.q_laws.proofs.Synced.{mine_or_not}
-use Rattle.q_laws.proofs.Unmarked.{done_sealed, pending_not_sealed}
+use Rattle.q_laws.proofs.Members.{IsIn, all_append, all_at, all_from, all_weaker, find_in}
+use Rattle.q_laws.proofs.Quiet.{IsQuiet, account_kept, begun_noted, still_come}
+use Rattle.q_laws.proofs.Settled.{IsReady}
 use Rattle.q_laws.specs.Consistency.{IsBookConsistent, IsConsistent, has_come, is_present, is_synced_well, is_within}
-use Rattle.q_model.proofs.IdLaws.{id_eq-refl, id_eq-true}
-use Rattle.q_model.specs.Admissions.{cause_gone, has_room}
-use Rattle.q_model.specs.Arrivals.{after_arrive, arrived, may_arrive, next_id}
-use Rattle.q_model.specs.Book.{Book, Damaged, damaged_of, ids_at, message_of, stands, stands_in}
-use Rattle.q_model.specs.BookChanges.{add_message, move_damaged, move_message}
-use Rattle.q_model.specs.Bounces.{after_bounce, may_bounce}
-use Rattle.q_model.specs.FilesStand.{all_ids, are_distinct}
-use Rattle.q_model.specs.Finishing.{has_bounce, is_at_rest, is_clean, is_done, wants_bounce}
-use Rattle.q_model.specs.Ids.{bounce_of, cause_of, id_eq}
-use Rattle.q_model.specs.Leaving.{after_back, after_corrupt, may_back, may_corrupt}
+use Rattle.q_model.proofs.IdLaws.{id_eq-true}
+use Rattle.q_model.specs.Book.{Book, ids_at, message_of}
+use Rattle.q_model.specs.BookChanges.{add_message}
+use Rattle.q_model.specs.FilesStand.{all_ids}
+use Rattle.q_model.specs.Ids.{id_eq}
 use Rattle.q_model.specs.Ledger.{Ledger}
-use Rattle.q_model.specs.Leftovers.{is_leftover, is_next_leftover, was_synced}
-use Rattle.q_model.specs.Lists.{has_none}
-use Rattle.q_model.specs.Memory.{admitted_of, is_admitted, unread_count, unread_of}
-use Rattle.q_model.specs.Message.{Message, pending, unmarked_logged, written_marks}
-use Rattle.q_model.specs.Notices.{bounce_message}
-use Rattle.q_model.specs.Orderly.{has_firm_failures, is_orderly, is_paired, is_sealed, is_settled}
-use Rattle.q_model.specs.Past.{arrivals, is_arrive}
-use Rattle.q_model.specs.Places.{is_active, is_incoming}
+use Rattle.q_model.specs.Leftovers.{is_leftover}
+use Rattle.q_model.specs.Memory.{admitted_of, unread_count, unread_of}
+use Rattle.q_model.specs.Message.{Message}
+use Rattle.q_model.specs.Orderly.{has_firm_failures}
+use Rattle.q_model.specs.Places.{is_active}
 use Rattle.q_model.specs.Settings.{World}
-use Rattle.q_model.specs.Step.{after, noted}
-use Rattle.q_model.specs.Turns.{Pick, passed, pick, taken}
+use Rattle.q_model.specs.Step.{noted}
 use Rattle.q_model.specs.declared.entry.Entry.{Entry}
 use Rattle.q_model.specs.declared.id.Id.{Id}
 use Rattle.q_model.specs.declared.rows.Admitted.{Admitted}
-use Rattle.q_model.specs.declared.rows.Place.{Place}
-use Rattle.q_model.specs.declared.entry.Entry.TheVariants as entries
-use Rattle.q_model.specs.declared.rows.Place.TheVariants as places
 
 -- the ledger with this book
 abbrev pub with_book : Ledger → Book → Entry → Ledger
@@ -77,8 +56,8 @@ book_ready w l b e c quiet book same synced =
         flights = m.flights;
         unsettled = m.unsettled;
         held = λ a x here there.
-          let h = m.held a x here (sym (same a (find_in (λ (y : Admitted). id_eq y.id a.id) a l.admitted here).0) ∙ there) in
-          record { read = h.read; once = h.once; unmarked = h.unmarked; logged = h.logged };
+            let h = m.held a x here (sym (same a (find_in (λ (y : Admitted). id_eq y.id a.id) a l.admitted here).0) ∙ there) in
+            record { read = h.read; once = h.once; unmarked = h.unmarked; logged = h.logged };
         numbers = m.numbers;
         begun = begun_noted l e m.begun;
         single = m.single;

@@ -1,10 +1,9 @@
 -- The messages of a book whose ids are distinct, and those that an earlier life left in active.
-use Rattle.std.proofs.Common.{◌≡◌, Bool, true, false, not, List, map, filter, find, Option, Some, ◌⊎◌, inl, inr, refl, sym, ap, ◌∙◌, subst}
-use Rattle.std.specs.List.{list_any}
-use Rattle.q_laws.proofs.Distinct.{distinct_parts, find_named, id_same, in_listed, listed_in, same_named}
+use Rattle.std.proofs.Common.{◌≡◌, Bool, true, not, List, map, filter, Some, ◌⊎◌, inl, inr, sym, ◌∙◌, subst}
+use Rattle.q_laws.proofs.Distinct.{distinct_parts, find_named, in_listed, listed_in, same_named}
 use Rattle.q_laws.proofs.Members.{IsIn, find_in, in_either, in_filter, in_filtered, in_left, in_map, in_right, in_unmap}
 use Rattle.q_model.proofs.IdLaws.{id_eq-true}
-use Rattle.q_model.specs.Book.{Book, Damaged, damaged_of, ids_at, message_of}
+use Rattle.q_model.specs.Book.{Book, Damaged, ids_at, message_of}
 use Rattle.q_model.specs.FilesStand.{all_ids, are_distinct}
 use Rattle.q_model.specs.Ids.{id_eq}
 use Rattle.q_model.specs.Ledger.{Ledger}
@@ -48,12 +47,12 @@ message_at place b h id m there e =
     let mine = message_in b id m e in
     elim (in_either id (map (λ (x : Message). x.id) (filter (λ (x : Message). place x.place) b.messages)) (map (λ (d : Damaged). d.id) (filter (λ (d : Damaged). place d.place) b.damaged)) there) [
       | inl whole ↦
-        let one = in_unmap (λ (x : Message). x.id) id (filter (λ (x : Message). place x.place) b.messages) whole in
-        let two = in_filtered (λ (x : Message). place x.place) one.0 b.messages one.1 in
-        subst (λ (x : Message). place x.place ≡ true) (only_message b h one.0 m two.0 mine.0 (one.2 ∙ sym mine.1)) two.1
+          let one = in_unmap (λ (x : Message). x.id) id (filter (λ (x : Message). place x.place) b.messages) whole in
+          let two = in_filtered (λ (x : Message). place x.place) one.0 b.messages one.1 in
+          subst (λ (x : Message). place x.place ≡ true) (only_message b h one.0 m two.0 mine.0 (one.2 ∙ sym mine.1)) two.1
       | inr broken ↦
-        let one = in_unmap (λ (d : Damaged). d.id) id (filter (λ (d : Damaged). place d.place) b.damaged) broken in
-        absurd (not_damaged b h m one.0 mine.0 (in_filtered (λ (d : Damaged). place d.place) one.0 b.damaged one.1).0 (mine.1 ∙ sym one.2))
+          let one = in_unmap (λ (d : Damaged). d.id) id (filter (λ (d : Damaged). place d.place) b.damaged) broken in
+          absurd (not_damaged b h m one.0 mine.0 (in_filtered (λ (d : Damaged). place d.place) one.0 b.damaged one.1).0 (mine.1 ∙ sym one.2))
     ]
 
 -- a message at a place of a kind is listed there
@@ -80,13 +79,13 @@ pub in_ids_at : (place : Place → Bool) (b : Book) (id : Id) → IsIn id (ids_a
 in_ids_at place b id h =
     elim (in_either id (map (λ (x : Message). x.id) (filter (λ (x : Message). place x.place) b.messages)) (map (λ (d : Damaged). d.id) (filter (λ (d : Damaged). place d.place) b.damaged)) h) [
       | inl whole ↦
-        let one = in_unmap (λ (x : Message). x.id) id (filter (λ (x : Message). place x.place) b.messages) whole in
-        let two = in_filtered (λ (x : Message). place x.place) one.0 b.messages one.1 in
-        inl (one.0, two.0, one.2, two.1)
+          let one = in_unmap (λ (x : Message). x.id) id (filter (λ (x : Message). place x.place) b.messages) whole in
+          let two = in_filtered (λ (x : Message). place x.place) one.0 b.messages one.1 in
+          inl (one.0, two.0, one.2, two.1)
       | inr broken ↦
-        let one = in_unmap (λ (d : Damaged). d.id) id (filter (λ (d : Damaged). place d.place) b.damaged) broken in
-        let two = in_filtered (λ (d : Damaged). place d.place) one.0 b.damaged one.1 in
-        inr (one.0, two.0, one.2, two.1)
+          let one = in_unmap (λ (d : Damaged). d.id) id (filter (λ (d : Damaged). place d.place) b.damaged) broken in
+          let two = in_filtered (λ (d : Damaged). place d.place) one.0 b.damaged one.1 in
+          inr (one.0, two.0, one.2, two.1)
     ]
 
 pub damaged_at : (place : Place → Bool) (b : Book) (d : Damaged) → IsIn d b.damaged → place d.place ≡ true → IsIn d.id (ids_at place b)

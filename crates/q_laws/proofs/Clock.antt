@@ -1,11 +1,11 @@
 -- The clock and triggers change nothing that fits together.
-use Rattle.std.proofs.Common.{◌≡◌, ℕ, Bool, true, false, Option, Some, None, refl, sym, ap, subst, if◌then◌else◌, List}
+use Rattle.std.proofs.Common.{ℕ, Bool, true, false, Option, Some, None, refl, if◌then◌else◌}
 use Rattle.std.specs.Option.{option_map_or}
 use Rattle.std.specs.Prelude.{nat_le}
-use Rattle.q_laws.proofs.Quiet.{IsQuiet, otherwise, otherwise_ready, quiet_ready}
+use Rattle.q_laws.proofs.Quiet.{otherwise_ready, quiet_ready}
 use Rattle.q_laws.proofs.Settled.{IsReady, after_consistent}
 use Rattle.q_laws.specs.Consistency.{IsConsistent}
-use Rattle.q_model.specs.Clock.{after_at, scheduled, woken}
+use Rattle.q_model.specs.Clock.{scheduled, woken}
 use Rattle.q_model.specs.Ledger.{Ledger}
 use Rattle.q_model.specs.Revival.{revive_all, revive_due}
 use Rattle.q_model.specs.Scans.{ask_scan, joined_request, new_scan}

@@ -1,11 +1,9 @@
 -- How often a position stands in a list, and how often it is held in memory.
-use Rattle.std.proofs.Common.{◌≡◌, ℕ, zero, suc, ◌+◌, ◌≤◌, Bool, true, false, not, List, [], ◌∷◌, ◌++◌, map, length, filter, sum_by, ◌⊎◌, inl, inr, refl, sym, ap, ◌∙◌, subst, arith, if◌then◌else◌, cond, eq-eqb, eqb-true, le_trans}
+use Rattle.std.proofs.Common.{◌≡◌, ℕ, zero, suc, ◌+◌, ◌≤◌, Bool, true, false, not, List, [], ◌∷◌, ◌++◌, inl, inr, refl, sym, ap, ◌∙◌, subst, arith, if◌then◌else◌, eq-eqb, eqb-true, le_trans}
 use Rattle.std.proofs.lemmas.Bool.{and_from, and_parts, not-true, not_from_false}
-use Rattle.std.proofs.lemmas.Grind.{flat_map-append}
-use Rattle.std.proofs.lemmas.List.Sums.{sum_by-append, sum_by-cons}
-use Rattle.std.specs.List.{flat_map, list_all, list_any}
-use Rattle.std.specs.Prelude.{◌==◌, ◌&&◌, nat_lt}
-use Rattle.q_laws.proofs.Members.{IsIn, all_at, all_from, any_from, none_at, none_from}
+use Rattle.std.specs.List.{list_all, list_any}
+use Rattle.std.specs.Prelude.{◌==◌}
+use Rattle.q_laws.proofs.Members.{IsIn, all_at, all_from, none_at, none_from}
 use Rattle.q_laws.specs.Consistency.{are_once}
 
 -- how often the number stands in the list

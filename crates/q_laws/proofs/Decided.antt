@@ -1,50 +1,33 @@
 -- The next decision is allowed, and what else its rule says of it.
-use Rattle.std.proofs.Common.{◌≡◌, ℕ, zero, suc, ◌+◌, ◌<◌, ◌≤◌, ◌^◌, Bool, true, false, cond, not, List, [], ◌∷◌, map, filter, find, filter_map, Option, Some, None, option_map, length, ◌⊎◌, inl, inr, refl, sym, ap, ◌∙◌, subst, arith, if◌then◌else◌, eq-eqb, is_some, option_and_then, bytes_eq, leb-true, ltb-true, min}
-use Rattle.std.proofs.lemmas.Bool.{and_from, and_parts, or_cases, or_left, or_right, not_from_false}
+use Rattle.std.proofs.Common.{◌≡◌, ℕ, ◌<◌, ◌≤◌, Bool, true, false, not, List, [], ◌∷◌, find, Option, Some, None, option_map, length, ◌⊎◌, inl, inr, refl, ap, ◌∙◌, subst, arith, eq-eqb, option_and_then, leb-true, ltb-true}
+use Rattle.std.proofs.lemmas.Bool.{and_from, and_parts, or_cases, or_left, or_right}
 use Rattle.std.proofs.lemmas.Option.{same_Some}
 use Rattle.std.proofs.lemmas.Slice.Eq.{bytes_eq-Decides}
-use Rattle.std.specs.List.{cons_option, enumerate_from, list_all, list_any}
-use Rattle.std.specs.Option.{option_map_or, option_or}
+use Rattle.std.specs.List.{list_any}
+use Rattle.std.specs.Option.{option_map_or}
 use Rattle.std.specs.Prelude.{◌==◌, ◌||◌, ◌&&◌, nat_le, nat_lt, slice_get}
-use Rattle.q_laws.proofs.Books.{left_active, message_in}
-use Rattle.q_laws.proofs.Distinct.{find_named, in_listed}
-use Rattle.q_laws.proofs.Members.{IsIn, all_at, any_from, find_in, in_filtered, least_in}
-use Rattle.q_laws.proofs.Places.{got_in, place_is}
+use Rattle.q_laws.proofs.Members.{IsIn, all_at, any_from, find_in}
 use Rattle.q_laws.specs.Consistency.{IsConsistent, is_present}
-use Rattle.q_model.proofs.IdLaws.{id_eq-refl, id_eq-true, site_eq-refl}
-use Rattle.q_model.specs.Admissions.{has_room, may_admit}
-use Rattle.q_model.specs.Batches.{load_end}
+use Rattle.q_model.proofs.IdLaws.{id_eq-refl, site_eq-refl}
 use Rattle.q_model.specs.Book.{message_of}
 use Rattle.q_model.specs.Bounces.{may_bounce}
-use Rattle.q_model.specs.Accounts.{rest}
-use Rattle.q_model.specs.Candidates.{best}
-use Rattle.q_model.specs.Choice.{choice, next_row, start_of}
-use Rattle.q_model.specs.Destinations.{site_eq}
-use Rattle.q_model.specs.Ids.{id_before, id_eq}
-use Rattle.q_model.specs.Leaving.{may_back, may_corrupt, may_defer, may_remove}
+use Rattle.q_model.specs.Ids.{id_eq}
+use Rattle.q_model.specs.Leaving.{may_defer, may_remove}
 use Rattle.q_model.specs.Ledger.{Ledger}
-use Rattle.q_model.specs.Leftovers.{is_leftover, leftovers, was_synced}
-use Rattle.q_model.specs.Lists.{first_of, first_some, has_none}
-use Rattle.q_model.specs.Loads.{may_load, may_read}
-use Rattle.q_model.specs.Logs.{may_log, needs_log, why_eq}
-use Rattle.q_model.specs.Marking.{is_unmarked_at, marks_first, marks_leftover, may_mark, needs_mark}
-use Rattle.q_model.specs.Marks.{is_marked}
-use Rattle.q_model.specs.Memory.{admitted_of, free, is_admitted, is_idle}
-use Rattle.q_model.specs.Message.{Message, Recipient, is_logged, unmarked_logged, written_marks}
-use Rattle.q_model.specs.Next.{admission_rule, clear_leftover, finish, finishing_rule, first_rule, leftover_decision, leftover_rule, load_of, load_rule, mark_logged, needed, next, settling_rule, skip_rule, start_rule, sync_rule, wants_sync}
-use Rattle.q_model.specs.Past.{is_living, starts}
+use Rattle.q_model.specs.Leftovers.{is_leftover}
+use Rattle.q_model.specs.Lists.{first_of, has_none}
+use Rattle.q_model.specs.Logs.{needs_log, why_eq}
+use Rattle.q_model.specs.Marking.{marks_first, marks_leftover, needs_mark}
+use Rattle.q_model.specs.Memory.{is_admitted, is_idle}
+use Rattle.q_model.specs.Message.{Message, unmarked_logged, written_marks}
+use Rattle.q_model.specs.Next.{finish, needed, wants_sync}
 use Rattle.q_model.specs.Places.{is_active}
-use Rattle.q_model.specs.Preemptions.{may_preempt}
 use Rattle.q_model.specs.Settings.{World}
 use Rattle.q_model.specs.SiteRecords.{is_dead_site}
-use Rattle.q_model.specs.Skips.{may_skip}
-use Rattle.q_model.specs.Startable.{can_start, current, is_startable, line_of}
-use Rattle.q_model.specs.Starts.{is_row, may_start}
-use Rattle.q_model.specs.Step.{allowed, may}
-use Rattle.q_model.specs.Syncs.{may_sync}
+use Rattle.q_model.specs.Startable.{line_of}
+use Rattle.q_model.specs.Starts.{is_row}
+use Rattle.q_model.specs.Step.{may}
 use Rattle.q_model.specs.Times.{due}
-use Rattle.q_model.specs.Turns.{pick, pick_id, Pick}
-use Rattle.q_model.specs.Values.{Site}
 use Rattle.q_model.specs.declared.entry.Entry.{Entry}
 use Rattle.q_model.specs.declared.id.Id.{Id}
 use Rattle.q_model.specs.declared.outcome.Why.{Why}
@@ -74,11 +57,14 @@ same_why Refused = refl
 same_why Expired = refl
 
 need_decided : (w : World) (l : Ledger) (id : Id) (position : ℕ) (n : Need) (us : List Unsettled) → l.unsettled ≡ record { id = id; position = position; need = n } ∷ us → Decided w l (needed id position n)
-need_decided w l id position (needs.Log why code) us e = (ap (λ (xs : List Unsettled). option_map_or (λ (u : Unsettled). id_eq u.id id && (u.position == position) && needs_log (record { position = position; why = why; code = code }) u.need) (slice_get xs 0) false) e
-    ∙ rw (id_eq-refl id, eq-eqb position position refl, same_why why, eq-eqb code code refl) refl, tt)
+need_decided w l id position (needs.Log why code) us e = (
+  ap (λ (xs : List Unsettled). option_map_or (λ (u : Unsettled). id_eq u.id id && (u.position == position) && needs_log (record { position = position; why = why; code = code }) u.need) (slice_get xs 0) false) e
+      ∙ rw (id_eq-refl id, eq-eqb position position refl, same_why why, eq-eqb code code refl) refl,
+  tt,
+)
 need_decided w l id position needs.Mark us e =
     let first : marks_first l id position ≡ true = ap (λ (xs : List Unsettled). option_map_or (λ (u : Unsettled). id_eq u.id id && (u.position == position) && needs_mark u.need) (slice_get xs 0) false) e
-        ∙ rw (id_eq-refl id, eq-eqb position position refl) refl in
+    ∙ rw (id_eq-refl id, eq-eqb position position refl) refl in
     (or_left (marks_first l id position) (marks_leftover l id position) first, inl first)
 
 pub settling_decided : (w : World) (l : Ledger) (e : Entry) (us : List Unsettled) → l.unsettled ≡ us → option_map (λ (u : Unsettled). needed u.id u.position u.need) (slice_get us 0) ≡ Some e → Decided w l e
@@ -113,9 +99,10 @@ pub sync_decided : (w : World) (l : Ledger) (e : Entry) (o : Option Admitted) �
 sync_decided w l e None c f h = absurd cc
 sync_decided w l e (Some a) c f h =
     let one = find_in (wants_sync w l) a l.admitted f in
-    subst (Decided w l) (same_Some (entries.Sync a.id) e h)
-    (sync_on l a.id w.settings.mark_sync_limit (is_idle l a.id) (message_of l.book a.id) c.usable.mark_sync_limit (all_at (is_present l) a l.admitted c.memory.present one.0) one.1,
-     inl (any_from (λ (x : Admitted). id_eq x.id a.id) a l.admitted one.0 (id_eq-refl a.id)))
+    subst (Decided w l) (same_Some (entries.Sync a.id) e h) (
+      sync_on l a.id w.settings.mark_sync_limit (is_idle l a.id) (message_of l.book a.id) c.usable.mark_sync_limit (all_at (is_present l) a l.admitted c.memory.present one.0) one.1,
+      inl (any_from (λ (x : Admitted). id_eq x.id a.id) a l.admitted one.0 (id_eq-refl a.id)),
+    )
 
 -- ---- N3
 

@@ -1,12 +1,12 @@
 -- Each decision of a consistent ledger is allowed.
-use Rattle.std.proofs.Common.{◌≡◌, ℕ, zero, suc, ◌+◌, ◌^◌, Bool, true, false, cond, not, List, [], ◌∷◌, map, filter, find, filter_map, Option, Some, None, option_map, ◌⊎◌, inl, inr, refl, sym, ap, ◌∙◌, subst, arith, if◌then◌else◌, eq-eqb, eqb-true, option_and_then}
+use Rattle.std.proofs.Common.{◌≡◌, ℕ, ◌+◌, ◌^◌, Bool, true, false, not, List, [], ◌∷◌, find, filter_map, Option, Some, None, option_map, ◌⊎◌, inl, inr, refl, sym, ap, ◌∙◌, subst, arith, if◌then◌else◌, eq-eqb, eqb-true, option_and_then}
 use Rattle.std.proofs.lemmas.Bool.{and_from, and_parts, or_left, or_right}
 use Rattle.std.proofs.lemmas.Option.{same_Some}
 use Rattle.std.specs.List.{cons_option, enumerate_from, list_any}
 use Rattle.std.specs.Option.{option_map_or, option_or}
 use Rattle.std.specs.Prelude.{◌==◌, ◌||◌, ◌&&◌, nat_lt, slice_get}
 use Rattle.q_laws.proofs.Books.{left_active, message_in}
-use Rattle.q_laws.proofs.Decided.{Decided, Says, chosen, finishing_decided, row_is, settling_decided, settling_none, skip_decided, sync_decided}
+use Rattle.q_laws.proofs.Decided.{Decided, chosen, finishing_decided, row_is, settling_decided, settling_none, skip_decided, sync_decided}
 use Rattle.q_laws.proofs.Distinct.{find_named, in_listed}
 use Rattle.q_laws.proofs.Members.{IsIn, any_from, find_in, in_filtered, least_in}
 use Rattle.q_laws.proofs.Places.{got_in, place_is}
@@ -23,7 +23,7 @@ use Rattle.q_model.specs.Ids.{id_before, id_eq}
 use Rattle.q_model.specs.Leaving.{may_back, may_corrupt, may_remove}
 use Rattle.q_model.specs.Ledger.{Ledger}
 use Rattle.q_model.specs.Leftovers.{is_leftover, leftovers, was_synced}
-use Rattle.q_model.specs.Lists.{first_of, first_some, has_none, least, places_from}
+use Rattle.q_model.specs.Lists.{first_of, first_some, has_none, least}
 use Rattle.q_model.specs.Loads.{may_load, may_read}
 use Rattle.q_model.specs.Marking.{is_unmarked_at, marks_first, marks_leftover}
 use Rattle.q_model.specs.Marks.{is_marked}
@@ -41,7 +41,6 @@ use Rattle.q_model.specs.declared.entry.Entry.{Entry}
 use Rattle.q_model.specs.declared.id.Id.{Id}
 use Rattle.q_model.specs.declared.rows.Admitted.{Admitted}
 use Rattle.q_model.specs.declared.rows.Row.{Row}
-use Rattle.q_model.specs.declared.rows.Unsettled.{Unsettled}
 use Rattle.q_model.specs.declared.entry.Entry.TheVariants as entries
 
 -- ---- N5
@@ -64,7 +63,7 @@ mark_decided : (w : World) (l : Ledger) (id : Id) (m : Message) (e : Entry) (o :
 mark_decided w l id m e None none left there f h = absurd cc
 mark_decided w l id m e (Some p) none left there f h =
     let marks : marks_leftover l m.id p ≡ true = and_from (is_leftover l m.id) (option_map_or (λ x. is_logged x p && is_unmarked_at x p) (message_of l.book m.id) false) left
-        (ap (λ (x : Option Message). option_map_or (λ x. is_logged x p && is_unmarked_at x p) x false) there ∙ unmarked_is m p (got_in p (unmarked_logged m) 0 f)) in
+    (ap (λ (x : Option Message). option_map_or (λ x. is_logged x p && is_unmarked_at x p) x false) there ∙ unmarked_is m p (got_in p (unmarked_logged m) 0 f)) in
     subst (Decided w l) (same_Some (entries.Mark m.id p) e h) (or_right (marks_first l m.id p) (marks_leftover l m.id p) marks, inr (none, marks))
 
 abbrev clearings : World → Ledger → Id → List (Bool × Entry)
@@ -91,11 +90,11 @@ cleared w l m e c none left there h =
     elim (either (mark_logged m) (first_of (clearings w l m.id)) e h) [
       | inl mark ↦ mark_decided w l m.id m e (slice_get (unmarked_logged m) 0) none left there refl mark
       | inr other ↦
-        let one = chosen (clearings w l m.id) e other.1 in
-        let may : option_map_or (λ (x : Message). is_active x.place && (is_leftover l m.id || not (has_none (written_marks x)))) (message_of l.book m.id) false ≡ true =
+          let one = chosen (clearings w l m.id) e other.1 in
+          let may : option_map_or (λ (x : Message). is_active x.place && (is_leftover l m.id || not (has_none (written_marks x)))) (message_of l.book m.id) false ≡ true =
           ap (λ (o : Option Message). option_map_or (λ (x : Message). is_active x.place && (is_leftover l m.id || not (has_none (written_marks x)))) o false) there
           ∙ and_from (is_active m.place) (is_leftover l m.id || not (has_none (written_marks m))) (left_active l c.book.distinct m.id m left there) (or_left (is_leftover l m.id) (not (has_none (written_marks m))) left) in
-        subst (Decided w l) one.3 (clear_decided w l m.id one.0 (may, inr (m, there, none_unmarked m (unmarked_logged m) other.0)) one.1 one.2)
+          subst (Decided w l) one.3 (clear_decided w l m.id one.0 (may, inr (m, there, none_unmarked m (unmarked_logged m) other.0)) one.1 one.2)
     ]
 
 corrupt_decided : (w : World) (l : Ledger) (id : Id) (c : Bool × Entry) → IsIn c ((may_corrupt w l id, entries.Corrupt id) ∷ []) → c.0 ≡ true → Decided w l c.1
@@ -142,9 +141,9 @@ load_on w l a e None there mine reads h = absurd cc
 load_on w l a e (Some m) there mine reads h =
     let to = load_end m a.unread (free w l) in
     let may : may_load w l a.id a.unread to ≡ true =
-      ap (λ (x : Option Admitted). option_map_or (λ (y : Admitted). option_map_or (λ z. may_read w l y && (a.unread == y.unread) && (to == load_end z a.unread (free w l))) (message_of l.book a.id) false) x false) mine
-      ∙ ap (λ (x : Option Message). option_map_or (λ z. may_read w l a && (a.unread == a.unread) && (to == load_end z a.unread (free w l))) x false) there
-      ∙ and_from (may_read w l a && (a.unread == a.unread)) (to == to) (and_from (may_read w l a) (a.unread == a.unread) reads (same_number a.unread)) (same_number to) in
+    ap (λ (x : Option Admitted). option_map_or (λ (y : Admitted). option_map_or (λ z. may_read w l y && (a.unread == y.unread) && (to == load_end z a.unread (free w l))) (message_of l.book a.id) false) x false) mine
+    ∙ ap (λ (x : Option Message). option_map_or (λ z. may_read w l a && (a.unread == a.unread) && (to == load_end z a.unread (free w l))) x false) there
+    ∙ and_from (may_read w l a && (a.unread == a.unread)) (to == to) (and_from (may_read w l a) (a.unread == a.unread) reads (same_number a.unread)) (same_number to) in
     subst (Decided w l) (same_Some (entries.Load a.id a.unread to) e h) (may, tt)
 
 load_decided : (w : World) (l : Ledger) (e : Entry) (o : Option Admitted) → IsConsistent w l → find (may_read w l) l.admitted ≡ o → option_and_then (λ (a : Admitted). load_of w l a) o ≡ Some e → Decided w l e
@@ -168,18 +167,21 @@ start_decided w l transport parent r now row =
     let one = in_filtered (λ (x : Row). id_eq x.id parent && (x.site.transport == transport) && is_startable w l x) r l.waiting (least_in _ r _ row) in
     let two = and_parts (id_eq r.id parent && (r.site.transport == transport)) (is_startable w l r) one.1 in
     let three = and_parts (id_eq r.id parent) (r.site.transport == transport) two.0 in
-    let line : IsIn parent (line_of l transport) = (find_in (can_start w l transport) parent (line_of l transport) now).0 in
-    (and_from (starts l + 1 == starts l + 1) (list_any (λ (x : Row). is_row r.id r.site r.positions x && is_startable w l x) l.waiting) (same_number (starts l + 1))
-      (any_from (λ (x : Row). is_row r.id r.site r.positions x && is_startable w l x) r l.waiting one.0 (and_from (is_row r.id r.site r.positions r) (is_startable w l r) (row_is r) two.1)),
-     subst (λ i. IsIn i (line_of l r.site.transport)) (sym (id_eq-true r.id parent three.0)) (subst (λ t. IsIn parent (line_of l t)) (sym (eqb-true r.site.transport transport three.1)) line))
+    let line : IsIn parent (line_of l transport) = (find_in (can_start w l transport) parent (line_of l transport) now).0 in (
+      and_from (starts l + 1 == starts l + 1) (list_any (λ (x : Row). is_row r.id r.site r.positions x && is_startable w l x) l.waiting) (same_number (starts l + 1))
+          (any_from (λ (x : Row). is_row r.id r.site r.positions x && is_startable w l x) r l.waiting one.0 (and_from (is_row r.id r.site r.positions r) (is_startable w l r) (row_is r) two.1)),
+      subst (λ i. IsIn i (line_of l r.site.transport)) (sym (id_eq-true r.id parent three.0)) (subst (λ t. IsIn parent (line_of l t)) (sym (eqb-true r.site.transport transport three.1)) line),
+    )
 
 preempt_decided : (w : World) (l : Ledger) (transport : ℕ) (parent child : Id) → current w l transport ≡ Some parent → best w l transport parent ≡ Some child → Decided w l (entries.Preempt child parent transport (rest l child transport))
 preempt_decided w l transport parent child now good = (
-    and_from (option_map_or (λ c. id_eq c parent) (current w l transport) false && option_map_or (λ b. id_eq b child) (best w l transport parent) false) (rest l child transport == rest l child transport)
-    (and_from (option_map_or (λ c. id_eq c parent) (current w l transport) false) (option_map_or (λ b. id_eq b child) (best w l transport parent) false)
+  and_from (option_map_or (λ c. id_eq c parent) (current w l transport) false && option_map_or (λ b. id_eq b child) (best w l transport parent) false) (rest l child transport == rest l child transport)
+      (and_from (option_map_or (λ c. id_eq c parent) (current w l transport) false) (option_map_or (λ b. id_eq b child) (best w l transport parent) false)
       (ap (λ (o : Option Id). option_map_or (λ c. id_eq c parent) o false) now ∙ id_eq-refl parent)
       (ap (λ (o : Option Id). option_map_or (λ c. id_eq c child) o false) good ∙ id_eq-refl child))
-    (same_number (rest l child transport)), tt)
+      (same_number (rest l child transport)),
+  tt,
+)
 
 best_decided : (w : World) (l : Ledger) (transport : ℕ) (parent : Id) (e : Entry) (o : Option Id) → current w l transport ≡ Some parent → best w l transport parent ≡ o →
     (q : Option Row) → next_row w l transport parent ≡ q → option_map_or (λ child. Some (entries.Preempt child parent transport (rest l child transport))) o (option_map (start_of l) q) ≡ Some e → Decided w l e

@@ -1,19 +1,19 @@
 -- What fits together still does as rows are skipped and deliveries end.
-use Rattle.std.proofs.Common.{◌≡◌, ℕ, zero, suc, ◌+◌, ◌≤◌, Bool, true, false, cond, not, List, [], ◌∷◌, ◌++◌, map, filter, find, replicate, length, Option, Some, None, ◌⊎◌, inl, inr, refl, sym, ap, ◌∙◌, subst, arith, if◌then◌else◌, eq-eqb}
+use Rattle.std.proofs.Common.{◌≡◌, ℕ, ◌≤◌, Bool, true, false, cond, not, List, [], ◌∷◌, ◌++◌, map, filter, replicate, length, Option, Some, None, refl, sym, ap, ◌∙◌, arith, if◌then◌else◌, eq-eqb}
 use Rattle.std.proofs.lemmas.Bool.{and_parts}
 use Rattle.std.proofs.lemmas.Slice.Eq.{bytes_eq-Decides}
-use Rattle.std.specs.List.{list_all, list_any}
+use Rattle.std.specs.List.{list_any}
 use Rattle.std.specs.Option.{option_map_or}
 use Rattle.std.specs.Prelude.{◌==◌, ◌&&◌, bytes_eq, nat_le}
 use Rattle.q_laws.proofs.Books.{message_in}
 use Rattle.q_laws.proofs.Counts.{once_fewer, times}
 use Rattle.q_laws.proofs.Members.{IsIn, all_at, all_filtered, all_from, find_in, in_dropped}
 use Rattle.q_laws.proofs.Quiet.{begun_noted}
-use Rattle.q_laws.proofs.RowCounts.{IsTaken, flight_lengths, left_flights, left_lengths, row_lengths, row_positions, taken}
+use Rattle.q_laws.proofs.RowCounts.{IsTaken, left_flights, left_lengths, row_positions, taken}
 use Rattle.q_laws.proofs.Rows.{outcomes_ready, with_rows}
 use Rattle.q_laws.proofs.Settled.{IsReady, after_consistent}
 use Rattle.q_laws.proofs.Synced.{admitted_active}
-use Rattle.q_laws.specs.Consistency.{IsConsistent, are_once, flight_positions, waiting_positions}
+use Rattle.q_laws.specs.Consistency.{IsConsistent}
 use Rattle.q_model.proofs.IdLaws.{id_eq-true, site_eq-true}
 use Rattle.q_model.specs.Book.{message_of}
 use Rattle.q_model.specs.Deliveries.{flight_of}
@@ -24,16 +24,15 @@ use Rattle.q_model.specs.Lists.{drop_first}
 use Rattle.q_model.specs.Memory.{is_admitted}
 use Rattle.q_model.specs.Message.{Message}
 use Rattle.q_model.specs.Past.{starts}
-use Rattle.q_model.specs.Replies.{after_reply, fits_state, landed, may_reply, replied}
+use Rattle.q_model.specs.Replies.{fits_state, landed, may_reply, replied}
 use Rattle.q_model.specs.Settings.{World}
-use Rattle.q_model.specs.Settling.{needs_of, settle}
+use Rattle.q_model.specs.Settling.{needs_of}
 use Rattle.q_model.specs.SiteRecords.{is_dead_site}
-use Rattle.q_model.specs.Skips.{after_skip, may_skip, unqueued}
+use Rattle.q_model.specs.Skips.{may_skip, unqueued}
 use Rattle.q_model.specs.Starts.{is_row}
 use Rattle.q_model.specs.Step.{after, noted}
-use Rattle.q_model.specs.Values.{Served, Site, SiteRecord}
+use Rattle.q_model.specs.Values.{Site}
 use Rattle.q_model.specs.Windows.{after_state}
-use Rattle.q_model.specs.declared.entry.Entry.{Entry}
 use Rattle.q_model.specs.declared.id.Id.{Id}
 use Rattle.q_model.specs.declared.outcome.Outcome.{Outcome}
 use Rattle.q_model.specs.declared.outcome.SiteState.{SiteState}
@@ -67,10 +66,10 @@ skip_ready w l id site ps os x c there t =
     (all_from (λ (r : Row). is_admitted l r.id) (drop_first (is_row id site ps) l.waiting) (λ r inside. all_at (λ (y : Row). is_admitted l y.id) r l.waiting c.memory.waiting (in_dropped (is_row id site ps) r l.waiting inside)))
     c.memory.flights c.memory.numbers (begun_noted l (entries.Skip id site ps) c.memory.begun)
     (λ i q.
-      let n = t.count i q in
-      let same : times q (row_positions i t.row) ≡ times q (if id_eq x.id i then ps else []) =
-        ap (λ (j : Id). times q (if id_eq j i then t.row.positions else [])) (this.name ∙ sym name) ∙ ap (λ (qs : List ℕ). times q (if id_eq x.id i then qs else [])) this.positions in
-      omega (arith, n, same))
+    let n = t.count i q in
+    let same : times q (row_positions i t.row) ≡ times q (if id_eq x.id i then ps else []) =
+    ap (λ (j : Id). times q (if id_eq j i then t.row.positions else [])) (this.name ∙ sym name) ∙ ap (λ (qs : List ℕ). times q (if id_eq x.id i then qs else [])) this.positions in
+    omega (arith, n, same))
     (let n = t.lengths in let m : length t.row.positions ≡ length ps = ap length this.positions in omega (arith, n, m))
 
 skip_on : (w : World) (l : Ledger) (id : Id) (site : Site) (ps : List ℕ) (o : Option Message) → IsConsistent w l → message_of l.book id ≡ o → (x : Message) → message_of l.book id ≡ Some x → IsTaken (is_row id site ps) l.waiting →
@@ -115,9 +114,9 @@ reply_ready w l number state os f x c inside there =
     (once_fewer (map (λ (g : Delivery). g.number) l.flights) (map (λ (g : Delivery). g.number) (other_flights f l.flights)) (λ q. numbers_kept others q l.flights) c.memory.numbers)
     (all_filtered (λ (g : Delivery). nat_le g.number (starts (noted e l))) others l.flights (begun_noted l e c.memory.begun))
     (λ i q.
-      let n = left_flights others i q f l.flights inside gone in
-      let same : times q (row_positions i f.row) ≡ times q (if id_eq x.id i then f.row.positions else []) = ap (λ (j : Id). times q (if id_eq j i then f.row.positions else [])) (sym name) in
-      omega (arith, n, same))
+    let n = left_flights others i q f l.flights inside gone in
+    let same : times q (row_positions i f.row) ≡ times q (if id_eq x.id i then f.row.positions else []) = ap (λ (j : Id). times q (if id_eq j i then f.row.positions else [])) (sym name) in
+    omega (arith, n, same))
     (let n = left_lengths others f l.flights inside gone in omega (arith, n))
 
 settled_on : (w : World) (l : Ledger) (number : ℕ) (state : SiteState) (os : List Outcome) (f : Delivery) (o : Option Message) → IsConsistent w l → IsIn f l.flights → message_of l.book f.row.id ≡ o → (x : Message) → message_of l.book f.row.id ≡ Some x →

@@ -1,52 +1,42 @@
 -- What fits together still does as a message comes into memory.
-use Rattle.std.proofs.Common.{option_map, cond, find, filter, take_while, sum_by, eqb-true, lt-ltb, length-append, ◌≡◌, ℕ, zero, suc, ◌+◌, ◌-◌, ◌≤◌, ◌<◌, Bool, true, false, not, List, [], ◌∷◌, ◌++◌, map, length, is_some, Option, Some, None, ◌⊎◌, inl, inr, refl, sym, ap, ◌∙◌, subst, arith, if◌then◌else◌, le_refl, le-leb, leb-true, ltb-true, count_by}
-use Rattle.std.proofs.lemmas.Bool.{and_from, and_parts, not-true, not_from_false, or_cases, or_left, or_parts, or_right}
-use Rattle.std.proofs.lemmas.List.Sums.{sum_by-cons, take_while-cons}
+use Rattle.std.proofs.Common.{option_map, cond, find, sum_by, length-append, ◌≡◌, ℕ, ◌-◌, ◌<◌, Bool, true, false, not, List, [], ◌∷◌, ◌++◌, map, length, is_some, Option, Some, None, inl, inr, refl, sym, ap, ◌∙◌, subst, arith, if◌then◌else◌, le-leb, ltb-true, count_by}
+use Rattle.std.proofs.lemmas.Bool.{and_from, and_parts, or_parts}
+use Rattle.std.proofs.lemmas.List.Sums.{take_while-cons}
 use Rattle.std.proofs.lemmas.Option.{same_Some}
 use Rattle.std.specs.List.{flat_map, list_all, list_any}
 use Rattle.std.specs.Option.{option_map_or}
-use Rattle.std.specs.Prelude.{slice_get, ◌==◌, ◌&&◌, ◌||◌, nat_le, nat_lt, is_none, unwrap_or}
-use Rattle.q_laws.proofs.Added.{IsAddable, added_at, added_distinct, added_ids, added_orderly, other_found, shifted_at, shifted_ids, shifted_orderly, still_found, find_passed}
-use Rattle.q_laws.proofs.Books.{damaged_listed, left_from, left_parts, left_active, message_in, message_listed, placed_listed}
-use Rattle.q_laws.proofs.Distinct.{id_eq-sym, distinct_join, distinct_one, id_cases, id_other, id_same}
-use Rattle.q_laws.proofs.Finished.{leave_order}
-use Rattle.q_laws.proofs.InPlace.{changed_same, changed_name, change_book, changed, changed_ledger}
+use Rattle.std.specs.Prelude.{slice_get, ◌==◌, ◌&&◌, ◌||◌, nat_le, nat_lt}
+use Rattle.q_laws.proofs.Added.{find_passed}
+use Rattle.q_laws.proofs.Books.{left_from, left_parts, message_in}
+use Rattle.q_laws.proofs.Distinct.{id_eq-sym, distinct_join, id_cases, id_other, id_same}
+use Rattle.q_laws.proofs.InPlace.{changed_same, changed_name, change_book, changed}
 use Rattle.q_laws.proofs.Leaving.{HasNoRows, absent_rows, well_still}
-use Rattle.q_laws.proofs.Members.{in_unmap, in_left, in_right, none_at, find_none_from, IsIn, all_append, all_at, all_from, all_weaker, any_from, any_in, find_in, in_either}
+use Rattle.q_laws.proofs.Members.{in_unmap, in_left, in_right, none_at, find_none_from, IsIn, all_append, all_at, all_weaker, any_from, any_in, find_in}
 use Rattle.q_laws.proofs.Moved.{keeps_move, move_to, moved_at, other_moved}
 use Rattle.q_laws.proofs.Places.{none_of, got_in}
-use Rattle.q_laws.proofs.Quiet.{LeavesAccount, account_kept, begun_noted, otherwise, otherwise_ready, still_come}
+use Rattle.q_laws.proofs.Quiet.{account_kept, begun_noted, otherwise_ready}
 use Rattle.q_laws.proofs.Settled.{IsReady, after_consistent}
 use Rattle.q_laws.proofs.Synced.{admitted_active, mine_or_not}
-use Rattle.q_laws.proofs.Unmarked.{done_sealed, pending_not_sealed}
-use Rattle.q_laws.specs.Consistency.{IsHeld, are_once, flight_positions, held_positions, logged_of, unsettled_positions, waiting_positions, IsBookConsistent, IsConsistent, has_come, is_present, is_synced_well, is_within}
+use Rattle.q_laws.specs.Consistency.{IsHeld, are_once, flight_positions, held_positions, logged_of, unsettled_positions, IsBookConsistent, IsConsistent, is_present, is_synced_well, is_within}
 use Rattle.q_model.proofs.IdLaws.{id_eq-refl, id_eq-true}
-use Rattle.q_model.specs.Admissions.{after_admit, delivers, may_admit, cause_gone, has_room}
-use Rattle.q_model.specs.Arrivals.{after_arrive, arrived, may_arrive, next_id}
-use Rattle.q_model.specs.Book.{Book, Damaged, damaged_of, ids_at, message_of, stands, stands_in}
-use Rattle.q_model.specs.BookChanges.{add_message, move_damaged, move_message}
-use Rattle.q_model.specs.Bounces.{after_bounce, may_bounce}
+use Rattle.q_model.specs.Admissions.{delivers, may_admit, cause_gone, has_room}
+use Rattle.q_model.specs.Book.{Book, ids_at, message_of, stands}
+use Rattle.q_model.specs.BookChanges.{move_message}
 use Rattle.q_model.specs.FilesStand.{all_ids, are_distinct}
-use Rattle.q_model.specs.Finishing.{has_bounce, is_at_rest, is_clean, is_done, wants_bounce}
-use Rattle.q_model.specs.Ids.{bounce_of, cause_of, id_eq}
-use Rattle.q_model.specs.Leaving.{after_back, after_corrupt, may_back, may_corrupt}
+use Rattle.q_model.specs.Ids.{cause_of, id_eq}
 use Rattle.q_model.specs.Ledger.{Ledger}
-use Rattle.q_model.specs.Leftovers.{is_leftover, is_next_leftover, was_synced}
+use Rattle.q_model.specs.Leftovers.{is_leftover}
 use Rattle.q_model.specs.Lists.{has_none}
 use Rattle.q_model.specs.Marking.{is_unmarked_at}
 use Rattle.q_model.specs.Memory.{admitted_of, is_admitted, unread_count, unread_of, free}
-use Rattle.q_model.specs.Message.{Message, pending, unmarked_logged, written_marks}
-use Rattle.q_model.specs.Notices.{bounce_message}
-use Rattle.q_model.specs.Orderly.{has_firm_failures, is_orderly, is_paired, is_sealed, is_settled}
-use Rattle.q_model.specs.Past.{arrivals, is_arrive}
+use Rattle.q_model.specs.Message.{Message, unmarked_logged, written_marks}
+use Rattle.q_model.specs.Orderly.{has_firm_failures, is_paired, is_sealed, is_settled}
 use Rattle.q_model.specs.Places.{is_active, is_incoming}
 use Rattle.q_model.specs.Settings.{World}
 use Rattle.q_model.specs.Step.{after, noted}
-use Rattle.q_model.specs.Turns.{Pick, from_deferred, from_incoming, is_pick, passed, pick, taken}
-use Rattle.q_model.specs.declared.entry.Entry.{Entry}
+use Rattle.q_model.specs.Turns.{Pick, from_deferred, from_incoming, is_pick, passed, pick}
 use Rattle.q_model.specs.declared.id.Id.{Id}
 use Rattle.q_model.specs.declared.rows.Admitted.{Admitted}
-use Rattle.q_model.specs.declared.rows.Place.{Place}
 use Rattle.q_model.specs.declared.entry.Entry.TheVariants as entries
 use Rattle.q_model.specs.declared.rows.Place.TheVariants as places
 use Rattle.q_laws.proofs.First.{other_logged}
@@ -56,7 +46,6 @@ use Rattle.q_model.specs.Accounts.{charge_of, charged, is_start_of, is_admit_of,
 use Rattle.q_model.specs.declared.rows.Delivery.{Delivery}
 use Rattle.q_model.specs.declared.rows.Row.{Row}
 use Rattle.q_model.specs.declared.rows.Unsettled.{Unsettled}
-use Rattle.q_laws.proofs.Besides.{book_ready, book_well, with_book}
 
 -- the message comes last, all of it unread
 abbrev new_admitted : Id → Admitted
@@ -169,15 +158,15 @@ settled_before l m h inside out =
 enter_held : (w : World) (l : Ledger) (id : Id) (m : Message) → IsConsistent w l → MayEnter w l id m → (a : Admitted) (x : Message) → admitted_of (entered l id) a.id ≡ Some a → message_of (move_message l.book id places.Active) a.id ≡ Some x → IsHeld (entered l id) a x
 enter_held w l id m c p a x here there = elim (id_cases a.id id) [
   | inl same ↦
-    let none : find (λ (b : Admitted). id_eq b.id id) l.admitted ≡ None = find_none_from (λ (b : Admitted). id_eq b.id id) l.admitted (λ b inside. none_at (λ (y : Admitted). id_eq y.id id) b l.admitted p.absent inside) in
-    let it : new_admitted id ≡ a = same_Some (new_admitted id) a (sym (find_last id l.admitted none) ∙ ap (admitted_of (entered l id)) (sym same.0) ∙ here) in
-    let mine : move_to places.Active m ≡ x = same_Some (move_to places.Active m) x (sym (entered_message l id m p.there) ∙ ap (message_of (move_message l.book id places.Active)) (sym same.0) ∙ there) in
-    let found = message_in l.book id m p.there in
-    subst (λ (b : Admitted). IsHeld (entered l id) b x) it (subst (λ (y : Message). IsHeld (entered l id) (new_admitted id) y) mine
-    (new_held l id (move_to places.Active m) found.1 (absent_rows w l id c p.absent) (settled_before l m c.book found.0 p.out)))
+      let none : find (λ (b : Admitted). id_eq b.id id) l.admitted ≡ None = find_none_from (λ (b : Admitted). id_eq b.id id) l.admitted (λ b inside. none_at (λ (y : Admitted). id_eq y.id id) b l.admitted p.absent inside) in
+      let it : new_admitted id ≡ a = same_Some (new_admitted id) a (sym (find_last id l.admitted none) ∙ ap (admitted_of (entered l id)) (sym same.0) ∙ here) in
+      let mine : move_to places.Active m ≡ x = same_Some (move_to places.Active m) x (sym (entered_message l id m p.there) ∙ ap (message_of (move_message l.book id places.Active)) (sym same.0) ∙ there) in
+      let found = message_in l.book id m p.there in
+      subst (λ (b : Admitted). IsHeld (entered l id) b x) it (subst (λ (y : Message). IsHeld (entered l id) (new_admitted id) y) mine
+      (new_held l id (move_to places.Active m) found.1 (absent_rows w l id c p.absent) (settled_before l m c.book found.0 p.out)))
   | inr other ↦
-    let h = c.memory.held a x (sym (find_passed (λ (b : Admitted). id_eq b.id a.id) l.admitted (new_admitted id) (id_eq-sym a.id id other)) ∙ here) (sym (other_moved l.book id a.id (move_to places.Active) (λ y. refl) other) ∙ there) in
-    record { read = h.read; once = h.once; unmarked = h.unmarked; logged = h.logged }
+      let h = c.memory.held a x (sym (find_passed (λ (b : Admitted). id_eq b.id a.id) l.admitted (new_admitted id) (id_eq-sym a.id id other)) ∙ here) (sym (other_moved l.book id a.id (move_to places.Active) (λ y. refl) other) ∙ there) in
+      record { read = h.read; once = h.once; unmarked = h.unmarked; logged = h.logged }
 ]
 
 enter_well : (w : World) (l : Ledger) (id : Id) (m : Message) → IsConsistent w l → MayEnter w l id m → list_all (is_synced_well (entered l id)) l.synced ≡ true
@@ -187,9 +176,9 @@ enter_well w l id m c p = all_weaker (is_synced_well l) (is_synced_well (entered
     still i parts = elim (moved_at is_active l.book id i places.Active m c.book.distinct p.there parts.0) [
       | inl old ↦ (left_from l i old.0 (outside (is_admitted l i) refl), other_moved l.book id i (move_to places.Active) (λ x. refl) old.1)
       | inr moved ↦
-        let adm : is_admitted (entered l id) i ≡ true = any_from (λ (a : Admitted). id_eq a.id i) (new_admitted id) (l.admitted ++ new_admitted id ∷ []) (in_right (new_admitted id) l.admitted (new_admitted id ∷ []) (inl refl)) (id_same id i (sym moved.0)) in
-        let bad : false ≡ true = sym (ap not adm) ∙ parts.1 in
-        absurd cc
+          let adm : is_admitted (entered l id) i ≡ true = any_from (λ (a : Admitted). id_eq a.id i) (new_admitted id) (l.admitted ++ new_admitted id ∷ []) (in_right (new_admitted id) l.admitted (new_admitted id ∷ []) (inl refl)) (id_same id i (sym moved.0)) in
+          let bad : false ≡ true = sym (ap not adm) ∙ parts.1 in
+          absurd cc
     ]
       where
         outside : (t : Bool) → is_admitted l i ≡ t → not t ≡ true
@@ -210,11 +199,11 @@ enter_ready w l id m c p =
       memory = record {
         admitted = ap are_distinct (names_more id l.admitted) ∙ distinct_join (map (λ (a : Admitted). a.id) l.admitted) (id ∷ []) h.admitted refl (λ i inside it. apart i inside it);
         present = all_append (is_present k) l.admitted (new_admitted id ∷ [])
-          (all_weaker (is_present l) (is_present k) l.admitted (λ a inside g. ap (λ (o : Option Message). option_map_or (λ x. is_active x.place) o false) (same a inside) ∙ g) h.present)
-          (and_from (is_present k (new_admitted id)) true (ap (λ (o : Option Message). option_map_or (λ x. is_active x.place) o false) now) refl);
+            (all_weaker (is_present l) (is_present k) l.admitted (λ a inside g. ap (λ (o : Option Message). option_map_or (λ x. is_active x.place) o false) (same a inside) ∙ g) h.present)
+            (and_from (is_present k (new_admitted id)) true (ap (λ (o : Option Message). option_map_or (λ x. is_active x.place) o false) now) refl);
         within = all_append (is_within k) l.admitted (new_admitted id ∷ [])
-          (all_weaker (is_within l) (is_within k) l.admitted (λ a inside g. ap (λ (o : Option Message). option_map_or (λ x. nat_le a.unread (length x.recipients)) o false) (same a inside) ∙ g) h.within)
-          (and_from (is_within k (new_admitted id)) true (ap (λ (o : Option Message). option_map_or (λ x. nat_le 0 (length x.recipients)) o false) now ∙ le-leb 0 (length m.recipients) (omega arith)) refl);
+            (all_weaker (is_within l) (is_within k) l.admitted (λ a inside g. ap (λ (o : Option Message). option_map_or (λ x. nat_le a.unread (length x.recipients)) o false) (same a inside) ∙ g) h.within)
+            (and_from (is_within k (new_admitted id)) true (ap (λ (o : Option Message). option_map_or (λ x. nat_le 0 (length x.recipients)) o false) now ∙ le-leb 0 (length m.recipients) (omega arith)) refl);
         waiting = all_weaker (λ (r : Row). is_admitted l r.id) (λ (r : Row). is_admitted k r.id) l.waiting (λ r inside g. still_admitted l id r.id g) h.waiting;
         flights = all_weaker (λ (f : Delivery). is_admitted l f.row.id) (λ (f : Delivery). is_admitted k f.row.id) l.flights (λ f inside g. still_admitted l id f.row.id g) h.flights;
         unsettled = all_weaker (λ (u : Unsettled). is_admitted l u.id) (λ (u : Unsettled). is_admitted k u.id) l.unsettled (λ u inside g. still_admitted l id u.id g) h.unsettled;

@@ -1,45 +1,35 @@
 -- What fits together still does as a message is deferred or removed.
-use Rattle.std.proofs.Common.{◌≡◌, ℕ, zero, suc, ◌+◌, ◌≤◌, Bool, true, false, cond, not, List, [], ◌∷◌, ◌++◌, map, filter, find, length, Option, Some, None, ◌⊎◌, inl, inr, refl, sym, ap, ◌∙◌, subst, arith, if◌then◌else◌, le_trans, eqb-true}
-use Rattle.std.proofs.lemmas.Bool.{and_from, and_parts, not-true, not_from_false, or_cases, or_left, or_parts, or_right}
-use Rattle.std.specs.List.{list_all, list_any}
+use Rattle.std.proofs.Common.{◌≡◌, ℕ, true, false, not, [], Option, Some, None, inl, inr, refl, sym, ap, ◌∙◌, subst}
+use Rattle.std.proofs.lemmas.Bool.{and_from, and_parts, not-true, or_cases, or_right}
 use Rattle.std.specs.Option.{option_map_or}
-use Rattle.std.specs.Prelude.{◌==◌, ◌&&◌, ◌||◌, nat_le, slice_get}
-use Rattle.q_laws.proofs.Books.{active_not_incoming, left_from, left_parts, message_in, not_damaged}
-use Rattle.q_laws.proofs.Distinct.{distinct_named, id_cases, id_eq-sym, id_other, id_same}
-use Rattle.q_laws.proofs.First.{other_logged}
-use Rattle.q_laws.proofs.InPlace.{change_book, changed, changed_ledger}
-use Rattle.q_laws.proofs.Members.{IsIn, all_at, all_filtered, all_from, all_weaker, any_from, any_in, find_in, find_none_from, in_filter, in_filtered, none_at, none_from}
-use Rattle.q_laws.proofs.Moved.{keeps_move, move_to, moved_at, other_left, other_moved, removed_at, removed_distinct, removed_gone, removed_ids, removed_orderly}
-use Rattle.q_laws.proofs.Places.{got_in}
-use Rattle.q_laws.proofs.Quiet.{IsQuiet, account_kept, begun_noted, still_come}
+use Rattle.std.specs.Prelude.{◌==◌, ◌&&◌, ◌||◌}
+use Rattle.q_laws.proofs.Books.{active_not_incoming, left_parts, message_in}
+use Rattle.q_laws.proofs.InPlace.{change_book, changed}
+use Rattle.q_laws.proofs.Members.{IsIn, all_at, all_filtered, all_from}
+use Rattle.q_laws.proofs.Moved.{keeps_move, move_to, moved_at, other_left, other_moved, removed_at, removed_distinct, removed_ids, removed_orderly}
+use Rattle.q_laws.proofs.Quiet.{IsQuiet, still_come}
 use Rattle.q_laws.proofs.Settled.{IsReady, after_consistent}
-use Rattle.q_laws.proofs.Synced.{admitted_active, found_admitted, mine_or_not}
+use Rattle.q_laws.proofs.Synced.{admitted_active, mine_or_not}
 use Rattle.q_laws.proofs.Unmarked.{pending_not_sealed}
-use Rattle.q_laws.specs.Consistency.{IsBookConsistent, IsConsistent, IsHeld, has_come, is_present, is_synced_well, is_within, logged_of}
-use Rattle.q_model.proofs.IdLaws.{id_eq-refl, id_eq-true}
-use Rattle.q_model.specs.Book.{Book, ids_at, message_of, stands}
+use Rattle.q_laws.specs.Consistency.{IsBookConsistent, IsConsistent, has_come}
+use Rattle.q_model.specs.Book.{message_of}
 use Rattle.q_model.specs.BookChanges.{move_message, remove_message}
-use Rattle.q_model.specs.FilesStand.{all_ids, are_distinct}
-use Rattle.q_model.specs.Finishing.{has_bounce, is_at_rest, is_clean, is_done, wants_bounce, without}
-use Rattle.q_model.specs.Ids.{cause_of, id_eq}
-use Rattle.q_model.specs.Leaving.{after_defer, after_remove, may_defer, may_remove}
+use Rattle.q_model.specs.FilesStand.{all_ids}
+use Rattle.q_model.specs.Finishing.{has_bounce, is_at_rest, is_clean, is_done, wants_bounce}
+use Rattle.q_model.specs.Ids.{id_eq}
+use Rattle.q_model.specs.Leaving.{may_defer, may_remove}
 use Rattle.q_model.specs.Ledger.{Ledger}
 use Rattle.q_model.specs.Leftovers.{is_leftover, was_synced}
 use Rattle.q_model.specs.Lists.{has_none}
-use Rattle.q_model.specs.Memory.{admitted_of, has_rows, has_waiting, is_admitted, is_idle, unread_count, unread_of}
+use Rattle.q_model.specs.Memory.{is_admitted, is_idle}
 use Rattle.q_model.specs.Message.{Message, pending, unmarked_logged, written_marks}
 use Rattle.q_model.specs.Orderly.{has_firm_failures, is_sealed, is_settled}
-use Rattle.q_model.specs.Places.{is_active, is_incoming}
+use Rattle.q_model.specs.Places.{is_active}
 use Rattle.q_model.specs.Settings.{World}
 use Rattle.q_model.specs.Step.{after, noted}
 use Rattle.q_model.specs.Times.{due}
-use Rattle.q_model.specs.declared.entry.Entry.{Entry}
 use Rattle.q_model.specs.declared.id.Id.{Id}
-use Rattle.q_model.specs.declared.rows.Admitted.{Admitted}
-use Rattle.q_model.specs.declared.rows.Delivery.{Delivery}
 use Rattle.q_model.specs.declared.rows.Place.{Place}
-use Rattle.q_model.specs.declared.rows.Row.{Row}
-use Rattle.q_model.specs.declared.rows.Unsettled.{Unsettled}
 use Rattle.q_model.specs.declared.entry.Entry.TheVariants as entries
 use Rattle.q_model.specs.declared.rows.Place.TheVariants as places
 use Rattle.std.proofs.lemmas.Option.{same_Some}
@@ -59,7 +49,7 @@ leave_order l id place m h there active open_still none clean =
     (λ k. absurd (open_still (and_parts (is_active m.place) (is_sealed m) k).1))
     (λ k bounce standing. absurd (active_not_incoming m.place active k))
     (or_right (is_active place) (is_settled m) (and_from (has_none (unmarked_logged m) && has_none (written_marks m)) (has_firm_failures m)
-      (and_from (has_none (unmarked_logged m)) (has_none (written_marks m)) (ap has_none none) clean) (firm_of l m h (message_in l.book id m there).0)))
+    (and_from (has_none (unmarked_logged m)) (has_none (written_marks m)) (ap has_none none) clean) (firm_of l m h (message_in l.book id m there).0)))
 
 defer_ready : (w : World) (l : Ledger) (id : Id) (t : ℕ) (o : Option Message) → IsConsistent w l → is_idle l id ≡ true → message_of l.book id ≡ o → option_map_or (λ m. not (has_none (pending m)) && is_clean m && (t == due w l.now m)) o false ≡ true →
     IsReady w (left_ledger l id (move_message l.book id (places.Deferred t)) (entries.Defer id t))
@@ -75,8 +65,8 @@ defer_ready w l id t (Some m) c idle there may =
     let one = and_parts (not (has_none (pending m))) (is_clean m) two.0 in
     let same : (i : Id) → id_eq i id ≡ false → message_of (move_message l.book id place) i ≡ message_of l.book i = λ i other. other_moved l.book id i (move_to place) (λ x. refl) other in
     let book = change_book l id (move_to place) l.unsettled l.synced e c.book
-      (leave_order l id place m c.book there active (pending_not_sealed m one.0) (settled_rows w l id m c adm there none.unsettled) one.1)
-      (λ x inside firm. mine_or_not id (move_to place) x (λ y. has_firm_failures y ≡ true) (λ k. firm) (λ k. firm)) in
+    (leave_order l id place m c.book there active (pending_not_sealed m one.0) (settled_rows w l id m c adm there none.unsettled) one.1)
+    (λ x inside firm. mine_or_not id (move_to place) x (λ y. has_firm_failures y ≡ true) (λ k. firm) (λ k. firm)) in
     leave_ready w l id (move_message l.book id place) e c (quiet_defer id t)
     (record { distinct = book.distinct; orderly = book.orderly; firm = book.firm; come = book.come }) none same
     (left_well l id (move_message l.book id place) e (λ i k. elim (moved_at is_active l.book id i place m c.book.distinct there k) [

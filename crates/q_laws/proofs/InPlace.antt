@@ -1,5 +1,5 @@
 -- One message changes where it stands: its id, its place and how many recipients it has stay.
-use Rattle.std.proofs.Common.{◌≡◌, ℕ, ◌+◌, ◌-◌, ◌≤◌, Bool, true, false, cond, not, List, [], ◌∷◌, ◌++◌, map, filter, find, Option, Some, None, option_map, ◌⊎◌, inl, inr, refl, sym, ap, ◌∙◌, subst, length, arith, if◌then◌else◌, sum_by, le_trans, le_refl}
+use Rattle.std.proofs.Common.{◌≡◌, ◌-◌, ◌≤◌, Bool, true, false, cond, not, List, [], ◌∷◌, ◌++◌, map, filter, Option, Some, None, option_map, inl, inr, refl, sym, ap, ◌∙◌, subst, length, arith, if◌then◌else◌, le_trans, le_refl}
 use Rattle.std.proofs.lemmas.Bool.{and_from, and_parts, or_left}
 use Rattle.std.proofs.lemmas.Option.{same_Some}
 use Rattle.std.specs.List.{list_all, list_any}
@@ -10,7 +10,7 @@ use Rattle.q_laws.proofs.Distinct.{id_cases}
 use Rattle.q_laws.proofs.Mapped.{KeepsOrder, all_ids_mapped, find_mapped, orderly_mapped}
 use Rattle.q_laws.proofs.Members.{IsIn, all_at, all_from, all_weaker, in_unmap}
 use Rattle.q_laws.proofs.Quiet.{IsQuiet, account_kept, begun_noted, still_come}
-use Rattle.q_laws.proofs.Settled.{IsMemoryReady, IsReady}
+use Rattle.q_laws.proofs.Settled.{IsReady}
 use Rattle.q_laws.specs.Consistency.{IsBookConsistent, IsConsistent, IsHeld, has_come, is_present, is_synced_well, is_within}
 use Rattle.q_model.specs.Book.{Book, Damaged, ids_at, message_of}
 use Rattle.q_model.specs.BookChanges.{change_message}
@@ -18,11 +18,11 @@ use Rattle.q_model.specs.FilesStand.{all_ids, are_distinct}
 use Rattle.q_model.specs.Finishing.{is_clean}
 use Rattle.q_model.specs.Ids.{id_eq}
 use Rattle.q_model.specs.Ledger.{Ledger}
-use Rattle.q_model.specs.Leftovers.{is_leftover, leftovers}
+use Rattle.q_model.specs.Leftovers.{is_leftover}
 use Rattle.q_model.specs.Lists.{has_none}
 use Rattle.q_model.specs.Memory.{admitted_of, is_admitted, unread_count, unread_of}
 use Rattle.q_model.specs.Message.{Message, unmarked_logged}
-use Rattle.q_model.specs.Orderly.{has_firm_failures, is_orderly, is_sealed, is_settled}
+use Rattle.q_model.specs.Orderly.{has_firm_failures, is_sealed, is_settled}
 use Rattle.q_model.specs.Places.{is_active, is_incoming}
 use Rattle.q_model.specs.Settings.{World}
 use Rattle.q_model.specs.declared.entry.Entry.{Entry}
@@ -144,9 +144,9 @@ pub keeps_one : (b : Book) (id : Id) (f : Message → Message) (P : Message → 
     (x : Message) → IsIn x b.messages → P x (changed id f x)
 keeps_one b id f P m distinct there here rest x h = elim (id_cases x.id id) [
   | inl same ↦
-    let mine = message_in b id m there in
-    let one : m ≡ x = only_message b distinct m x mine.0 h (mine.1 ∙ sym same.0) in
-    subst (λ y. P x y) (sym (changed_same id f x same.1)) (subst (λ y. P y (f y)) one here)
+      let mine = message_in b id m there in
+      let one : m ≡ x = only_message b distinct m x mine.0 h (mine.1 ∙ sym same.0) in
+      subst (λ y. P x y) (sym (changed_same id f x same.1)) (subst (λ y. P y (f y)) one here)
   | inr other ↦ subst (λ y. P x y) (sym (changed_other id f x other)) (rest x)
 ]
 
@@ -155,10 +155,10 @@ pub keeps_active : (b : Book) (id : Id) (f : Message → Message) (m : Message) 
 keeps_active b id f m distinct there s active sealed = record {
   name = changed_name id f s.name;
   cause = keeps_one b id f (λ x y. (is_active x.place && is_sealed x) ≡ true → (is_active y.place && is_sealed y) ≡ true) m distinct there
-    (λ h. let two = and_parts (is_active m.place) (is_sealed m) h in and_from (is_active (f m).place) (is_sealed (f m)) (ap is_active (s.place m) ∙ active) (sealed two.1)) (λ x h. h);
+      (λ h. let two = and_parts (is_active m.place) (is_sealed m) h in and_from (is_active (f m).place) (is_sealed (f m)) (ap is_active (s.place m) ∙ active) (sealed two.1)) (λ x h. h);
   incoming = λ x h e bounce stands. ap is_incoming (kept_by (λ y. y.place) f (id_eq x.id id) x (s.place x)) ∙ e;
   settled = keeps_one b id f (λ x y. (is_active x.place || is_settled x) ≡ true → (is_active y.place || is_settled y) ≡ true) m distinct there
-    (λ h. or_left (is_active (f m).place) (is_settled (f m)) (ap is_active (s.place m) ∙ active)) (λ x h. h);
+      (λ h. or_left (is_active (f m).place) (is_settled (f m)) (ap is_active (s.place m) ∙ active)) (λ x h. h);
 }
 
 pub change_book : (l : Ledger) (id : Id) (f : Message → Message) (us : List Unsettled) (ss : List Id) (e : Entry) → IsBookConsistent l → KeepsOrder l.book (changed id f) → ((m : Message) → IsIn m l.book.messages → has_firm_failures m ≡ true → has_firm_failures (changed id f m) ≡ true) → IsBookConsistent (changed_ledger l id f us ss e)
@@ -170,8 +170,8 @@ change_book l id f us ss e h o firm =
       distinct = ap are_distinct same ∙ h.distinct;
       orderly = orderly_mapped b b.generation (changed id f) (le_refl b.generation) o h.orderly;
       firm = all_from has_firm_failures (map (changed id f) b.messages) (λ x there.
-        let one = in_unmap (changed id f) x b.messages there in
-        subst (λ y. has_firm_failures y ≡ true) one.2 (firm one.0 one.1 (all_at has_firm_failures one.0 b.messages h.firm one.1)));
+          let one = in_unmap (changed id f) x b.messages there in
+          subst (λ y. has_firm_failures y ≡ true) one.2 (firm one.0 one.1 (all_at has_firm_failures one.0 b.messages h.firm one.1)));
       come = ap (list_all (has_come k)) same ∙ all_weaker (has_come l) (has_come k) (all_ids b) (λ i there c. still_come l e i c) h.come;
     }
 
@@ -199,8 +199,8 @@ change_ready w l id f us ss e c s o firm q theirs fewer held synced =
         flights = m.flights;
         unsettled = theirs;
         held = λ a n mine there.
-          let one = held_on (changed id f) (message_of l.book a.id) n (sym (find_mapped (changed id f) (changed_name id f s.name) a.id l.book.messages) ∙ there) in
-          subst (λ x. IsHeld k a x) one.2 (held a one.0 mine one.1);
+            let one = held_on (changed id f) (message_of l.book a.id) n (sym (find_mapped (changed id f) (changed_name id f s.name) a.id l.book.messages) ∙ there) in
+            subst (λ x. IsHeld k a x) one.2 (held a one.0 mine one.1);
         numbers = m.numbers;
         begun = begun_noted l e m.begun;
         single = m.single;

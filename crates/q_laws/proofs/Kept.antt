@@ -1,12 +1,12 @@
 -- Each entry that is allowed and says what its rule says keeps all that fits together.
-use Rattle.std.proofs.Common.{◌≡◌, ℕ, ◌+◌, Bool, true, false, ◌⊎◌, inl, inr, Some, refl, sym, ap, subst, eqb-true}
+use Rattle.std.proofs.Common.{◌≡◌, ◌+◌, true, inl, inr, Some, refl, sym, subst, eqb-true}
 use Rattle.std.proofs.lemmas.Bool.{and_parts}
 use Rattle.std.specs.Prelude.{◌&&◌, ◌==◌, ◌||◌, nat_lt, ◌^◌, not}
 use Rattle.q_laws.proofs.Arrived.{arrive_consistent, bounce_consistent}
-use Rattle.q_laws.proofs.Begins.{life_consistent}
+use Rattle.q_laws.proofs.Beginnings.{life_consistent}
 use Rattle.q_laws.proofs.Cleared.{back_consistent, corrupt_consistent}
 use Rattle.q_laws.proofs.Clock.{at_consistent, trigger_consistent}
-use Rattle.q_laws.proofs.Decided.{Decided, Says}
+use Rattle.q_laws.proofs.Decided.{Says}
 use Rattle.q_laws.proofs.Decisions.{next_decided}
 use Rattle.q_laws.proofs.Delivered.{reply_consistent, skip_consistent}
 use Rattle.q_laws.proofs.Entering.{admit_consistent}

@@ -1,22 +1,25 @@
 -- A book that is lawful stays lawful: no entry brings a damaged file out of corrupt.
-use Rattle.std.proofs.Common.{◌≡◌, ℕ, Bool, true, false, List, [], ◌∷◌, ◌++◌, map, replicate, length, Option, Some, None, ◌⊎◌, inl, inr, refl, sym, ap, ◌∙◌, subst, if◌then◌else◌}
+use Rattle.std.proofs.Common.{◌≡◌, ℕ, Bool, true, false, List, [], ◌∷◌, ◌++◌, map, replicate, length, Option, Some, None, refl, ap, ◌∙◌, if◌then◌else◌}
 use Rattle.std.proofs.lemmas.Bool.{and_from, and_parts}
 use Rattle.std.specs.List.{list_all}
 use Rattle.std.specs.Option.{option_map_or}
-use Rattle.std.specs.Prelude.{◌&&◌, nat_le}
+use Rattle.std.specs.Prelude.{◌+◌, nat_le}
+use Rattle.q_laws.proofs.Beginnings.{life_consistent}
 use Rattle.q_laws.proofs.Kept.{entry_consistent}
 use Rattle.q_laws.proofs.Loaded.{records_is}
 use Rattle.q_laws.proofs.Settled.{settle_scan_is}
-use Rattle.q_laws.specs.Consistency.{IsConsistent}
+use Rattle.q_laws.specs.Consistency.{IsConsistent, IsUsable}
 use Rattle.q_laws.specs.Traces.{IsEntryOf}
 use Rattle.q_model.specs.Batches.{load_rows}
 use Rattle.q_model.specs.Book.{Book, Damaged, message_of}
 use Rattle.q_model.specs.BookChanges.{add_message}
 use Rattle.q_model.specs.Clock.{after_at, scheduled, woken}
 use Rattle.q_model.specs.Deliveries.{flight_of}
+use Rattle.q_model.specs.FilesStand.{all_ids, are_distinct}
+use Rattle.q_model.specs.declared.event.Mode.{Mode}
 use Rattle.q_model.specs.Ids.{id_eq}
 use Rattle.q_model.specs.Ledger.{Ledger}
-use Rattle.q_model.specs.Loads.{loaded, with_records}
+use Rattle.q_model.specs.Loads.{loaded}
 use Rattle.q_model.specs.Message.{Message}
 use Rattle.q_model.specs.Notices.{bounce_message}
 use Rattle.q_model.specs.Orderly.{is_lawful, is_orderly}
@@ -132,3 +135,11 @@ pub entry_lawful : (w : World) (l : Ledger) (e : Entry) → IsConsistent w l →
 entry_lawful w l e c h lawful =
     let next = entry_consistent w l e c h in
     and_from (is_orderly (after w l e).book) (are_corrupt (after w l e).book.damaged) next.book.orderly (damaged_after w l e (and_parts (is_orderly l.book) (are_corrupt l.book.damaged) lawful).1)
+
+-- a life that begins on a lawful book has one
+pub life_lawful : (w : World) (l : Ledger) (mode : Mode) → IsUsable w → are_distinct (all_ids l.book) ≡ true → is_lawful l.book ≡ true → is_lawful (after w l (entries.Life (l.book.generation + 1) mode)).book ≡ true
+life_lawful w l mode usable distinct lawful =
+    let two = and_parts (is_orderly l.book) (are_corrupt l.book.damaged) lawful in
+    let e = entries.Life (l.book.generation + 1) mode in
+    let next = life_consistent w l mode usable distinct two.0 in
+    and_from (is_orderly (after w l e).book) (are_corrupt (after w l e).book.damaged) next.book.orderly (damaged_after w l e two.1)

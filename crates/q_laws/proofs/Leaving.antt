@@ -1,47 +1,35 @@
 -- What fits together still does as a message without rows leaves memory.
-use Rattle.std.proofs.Common.{◌≡◌, ℕ, zero, suc, ◌+◌, ◌-◌, ◌≤◌, Bool, true, false, cond, not, List, [], ◌∷◌, ◌++◌, map, filter, find, length, Option, Some, None, ◌⊎◌, inl, inr, refl, sym, ap, ◌∙◌, subst, arith, if◌then◌else◌, le_trans, eqb-true}
-use Rattle.std.proofs.lemmas.Bool.{and_from, and_parts, not-true, not_from_false, or_cases, or_left, or_parts, or_right}
+use Rattle.std.proofs.Common.{◌≡◌, suc, ◌-◌, ◌≤◌, Bool, true, false, cond, not, List, [], ◌∷◌, find, length, Option, Some, None, refl, sym, ap, ◌∙◌, arith, le_trans}
+use Rattle.std.proofs.lemmas.Bool.{and_parts, not-true, not_from_false, or_parts}
 use Rattle.std.specs.List.{list_all, list_any}
 use Rattle.std.specs.Option.{option_map_or}
 use Rattle.std.specs.Prelude.{◌==◌, ◌&&◌, ◌||◌, nat_le, slice_get}
-use Rattle.q_laws.proofs.Books.{active_not_incoming, left_from, left_parts, message_in, not_damaged}
-use Rattle.q_laws.proofs.Distinct.{distinct_named, id_cases, id_eq-sym, id_other, id_same}
+use Rattle.q_laws.proofs.Books.{left_from, left_parts, message_in}
+use Rattle.q_laws.proofs.Distinct.{distinct_named, id_eq-sym}
 use Rattle.q_laws.proofs.First.{other_logged}
-use Rattle.q_laws.proofs.InPlace.{change_book, changed, changed_ledger}
-use Rattle.q_laws.proofs.Members.{IsIn, all_at, all_filtered, all_from, all_weaker, any_from, any_in, find_in, find_none_from, in_filter, in_filtered, none_at, none_from}
-use Rattle.q_laws.proofs.Moved.{keeps_move, move_to, moved_at, other_left, other_moved, removed_at, removed_distinct, removed_gone, removed_ids, removed_orderly}
+use Rattle.q_laws.proofs.Members.{IsIn, all_at, all_from, all_weaker, any_from, any_in, find_in, find_none_from, in_filter, in_filtered, none_at, none_from}
 use Rattle.q_laws.proofs.Places.{got_in}
-use Rattle.q_laws.proofs.Quiet.{IsQuiet, account_kept, begun_noted, still_come}
-use Rattle.q_laws.proofs.Settled.{IsReady, after_consistent}
-use Rattle.q_laws.proofs.Synced.{admitted_active, found_admitted, mine_or_not}
-use Rattle.q_laws.proofs.Unmarked.{pending_not_sealed}
-use Rattle.q_laws.specs.Consistency.{IsBookConsistent, IsConsistent, IsHeld, has_come, is_present, is_synced_well, is_within, logged_of}
-use Rattle.q_model.proofs.IdLaws.{id_eq-refl, id_eq-true}
-use Rattle.q_model.specs.Book.{Book, ids_at, message_of, stands}
-use Rattle.q_model.specs.BookChanges.{move_message, remove_message}
-use Rattle.q_model.specs.FilesStand.{all_ids, are_distinct}
-use Rattle.q_model.specs.Finishing.{has_bounce, is_at_rest, is_clean, is_done, wants_bounce, without}
-use Rattle.q_model.specs.Ids.{cause_of, id_eq}
-use Rattle.q_model.specs.Leaving.{after_defer, after_remove, may_defer, may_remove}
+use Rattle.q_laws.proofs.Quiet.{IsQuiet, account_kept, begun_noted}
+use Rattle.q_laws.proofs.Settled.{IsReady}
+use Rattle.q_laws.proofs.Synced.{found_admitted}
+use Rattle.q_laws.specs.Consistency.{IsBookConsistent, IsConsistent, is_present, is_synced_well, is_within, logged_of}
+use Rattle.q_model.proofs.IdLaws.{id_eq-true}
+use Rattle.q_model.specs.Book.{Book, ids_at, message_of}
+use Rattle.q_model.specs.Finishing.{is_clean, without}
+use Rattle.q_model.specs.Ids.{id_eq}
 use Rattle.q_model.specs.Ledger.{Ledger}
-use Rattle.q_model.specs.Leftovers.{is_leftover, was_synced}
+use Rattle.q_model.specs.Leftovers.{is_leftover}
 use Rattle.q_model.specs.Lists.{has_none}
 use Rattle.q_model.specs.Memory.{admitted_of, has_rows, has_waiting, is_admitted, is_idle, unread_count, unread_of}
-use Rattle.q_model.specs.Message.{Message, pending, unmarked_logged, written_marks}
-use Rattle.q_model.specs.Orderly.{has_firm_failures, is_sealed, is_settled}
-use Rattle.q_model.specs.Places.{is_active, is_incoming}
+use Rattle.q_model.specs.Message.{Message, unmarked_logged}
+use Rattle.q_model.specs.Places.{is_active}
 use Rattle.q_model.specs.Settings.{World}
-use Rattle.q_model.specs.Step.{after, noted}
-use Rattle.q_model.specs.Times.{due}
 use Rattle.q_model.specs.declared.entry.Entry.{Entry}
 use Rattle.q_model.specs.declared.id.Id.{Id}
 use Rattle.q_model.specs.declared.rows.Admitted.{Admitted}
 use Rattle.q_model.specs.declared.rows.Delivery.{Delivery}
-use Rattle.q_model.specs.declared.rows.Place.{Place}
 use Rattle.q_model.specs.declared.rows.Row.{Row}
 use Rattle.q_model.specs.declared.rows.Unsettled.{Unsettled}
-use Rattle.q_model.specs.declared.entry.Entry.TheVariants as entries
-use Rattle.q_model.specs.declared.rows.Place.TheVariants as places
 
 -- ---- leftovers that were synced
 
@@ -103,16 +91,17 @@ left_unread l id b e same i some = which (id_eq i id) refl
     on : (o : Option Admitted) → ((a : Admitted) → o ≡ Some a → id_eq a.id id ≡ false) → option_map_or (λ (a : Admitted). unread_count (left_ledger l id b e) a) o 0 ≡ option_map_or (λ (a : Admitted). unread_count l a) o 0
     on None h = refl
     on (Some a) h = ap (λ (o : Option Message). option_map_or (λ m. length m.recipients - a.unread) o 0) (same a.id (h a refl))
+
     which : (t : Bool) → id_eq i id ≡ t → (unread_of l i == 0) ≡ false
     which false k =
         let found : admitted_of (left_ledger l id b e) i ≡ admitted_of l i = find_without id i l.admitted k in
         let equal : unread_of (left_ledger l id b e) i ≡ unread_of l i =
-          ap (λ (o : Option Admitted). option_map_or (λ (a : Admitted). unread_count (left_ledger l id b e) a) o 0) found
-          ∙ on (admitted_of l i) (λ a f. ap (λ (j : Id). id_eq j id) (id_eq-true a.id i (find_in (λ (x : Admitted). id_eq x.id i) a l.admitted f).1) ∙ k) in
+        ap (λ (o : Option Admitted). option_map_or (λ (a : Admitted). unread_count (left_ledger l id b e) a) o 0) found
+        ∙ on (admitted_of l i) (λ a f. ap (λ (j : Id). id_eq j id) (id_eq-true a.id i (find_in (λ (x : Admitted). id_eq x.id i) a l.admitted f).1) ∙ k) in
         ap (λ n. n == 0) (sym equal) ∙ some
     which true k =
         let none : unread_of (left_ledger l id b e) i ≡ 0 =
-          ap (λ (o : Option Admitted). option_map_or (λ (a : Admitted). unread_count (left_ledger l id b e) a) o 0) (ap (admitted_of (left_ledger l id b e)) (id_eq-true i id k) ∙ gone_without id l.admitted) in
+        ap (λ (o : Option Admitted). option_map_or (λ (a : Admitted). unread_count (left_ledger l id b e) a) o 0) (ap (admitted_of (left_ledger l id b e)) (id_eq-true i id k) ∙ gone_without id l.admitted) in
         let bad : true ≡ false = sym (ap (λ n. n == 0) none) ∙ some in
         absurd cc
 
@@ -127,19 +116,19 @@ leave_ready w l id b e c quiet book none same synced =
       memory = record {
         admitted = distinct_named (λ (a : Admitted). a.id) (λ (a : Admitted). not (id_eq a.id id)) l.admitted m.admitted;
         present = all_from (is_present k) (without id l.admitted) (λ a inside.
-          let two = in_filtered (λ (x : Admitted). not (id_eq x.id id)) a l.admitted inside in
-          ap (λ (o : Option Message). option_map_or (λ x. is_active x.place) o false) (same a.id (not-true (id_eq a.id id) two.1)) ∙ all_at (is_present l) a l.admitted m.present two.0);
+            let two = in_filtered (λ (x : Admitted). not (id_eq x.id id)) a l.admitted inside in
+            ap (λ (o : Option Message). option_map_or (λ x. is_active x.place) o false) (same a.id (not-true (id_eq a.id id) two.1)) ∙ all_at (is_present l) a l.admitted m.present two.0);
         within = all_from (is_within k) (without id l.admitted) (λ a inside.
-          let two = in_filtered (λ (x : Admitted). not (id_eq x.id id)) a l.admitted inside in
-          ap (λ (o : Option Message). option_map_or (λ x. nat_le a.unread (length x.recipients)) o false) (same a.id (not-true (id_eq a.id id) two.1)) ∙ all_at (is_within l) a l.admitted m.within two.0);
+            let two = in_filtered (λ (x : Admitted). not (id_eq x.id id)) a l.admitted inside in
+            ap (λ (o : Option Message). option_map_or (λ x. nat_le a.unread (length x.recipients)) o false) (same a.id (not-true (id_eq a.id id) two.1)) ∙ all_at (is_within l) a l.admitted m.within two.0);
         waiting = all_weaker (λ (r : Row). is_admitted l r.id) (λ (r : Row). is_admitted k r.id) l.waiting (λ r inside h. any_without id r.id l.admitted (none_at (λ (x : Row). id_eq x.id id) r l.waiting none.waiting inside) h) m.waiting;
         flights = all_weaker (λ (f : Delivery). is_admitted l f.row.id) (λ (f : Delivery). is_admitted k f.row.id) l.flights (λ f inside h. any_without id f.row.id l.admitted (none_at (λ (x : Delivery). id_eq x.row.id id) f l.flights none.flights inside) h) m.flights;
         unsettled = all_weaker (λ (u : Unsettled). is_admitted l u.id) (λ (u : Unsettled). is_admitted k u.id) l.unsettled (λ u inside h. any_without id u.id l.admitted (none_at (λ (x : Unsettled). id_eq x.id id) u l.unsettled none.unsettled inside) h) m.unsettled;
         held = λ a x here there.
-          let inside = (find_in (λ (y : Admitted). id_eq y.id a.id) a (without id l.admitted) here).0 in
-          let other : id_eq a.id id ≡ false = not-true (id_eq a.id id) (in_filtered (λ (y : Admitted). not (id_eq y.id id)) a l.admitted inside).1 in
-          let h = m.held a x (sym (find_without id a.id l.admitted other) ∙ here) (sym (same a.id other) ∙ there) in
-          record { read = h.read; once = h.once; unmarked = h.unmarked; logged = h.logged };
+            let inside = (find_in (λ (y : Admitted). id_eq y.id a.id) a (without id l.admitted) here).0 in
+            let other : id_eq a.id id ≡ false = not-true (id_eq a.id id) (in_filtered (λ (y : Admitted). not (id_eq y.id id)) a l.admitted inside).1 in
+            let h = m.held a x (sym (find_without id a.id l.admitted other) ∙ here) (sym (same a.id other) ∙ there) in
+            record { read = h.read; once = h.once; unmarked = h.unmarked; logged = h.logged };
         numbers = m.numbers;
         begun = begun_noted l e m.begun;
         single = m.single;

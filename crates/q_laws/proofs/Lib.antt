@@ -4,7 +4,7 @@ pub mod Settled
 pub mod Mapped
 pub mod Places
 pub mod Messages
-pub mod Begins
+pub mod Beginnings
 pub mod Books
 pub mod Decided
 pub mod Decisions
@@ -37,3 +37,6 @@ pub mod Entering
 pub mod Kept
 pub mod Lawful
 pub mod Runs
+pub mod Apart
+pub mod Destinations
+pub mod DestinationEntries

@@ -1,47 +1,32 @@
 -- What fits together still does xs recipients of a message are read.
-use Rattle.std.proofs.Common.{◌≡◌, ℕ, zero, suc, ◌+◌, ◌-◌, ◌≤◌, ◌<◌, min, Bool, true, false, cond, not, List, [], ◌∷◌, ◌++◌, map, find, length, Option, Some, None, option_map, ◌⊎◌, inl, inr, refl, sym, ap, ◌∙◌, subst, arith, if◌then◌else◌, eqb-true, leb-true, ltb-true, le-leb, lt-ltb, le_trans}
-use Rattle.std.proofs.lemmas.Bool.{and_from, and_parts, not-true, not_from_false}
+use Rattle.std.proofs.Common.{◌≡◌, ℕ, zero, suc, ◌+◌, ◌≤◌, ◌<◌, min, Bool, true, false, cond, not, List, [], ◌∷◌, ◌++◌, map, find, length, Option, Some, None, option_map, ◌⊎◌, inl, inr, refl, sym, ap, ◌∙◌, subst, arith, if◌then◌else◌, eqb-true, leb-true, ltb-true, lt-ltb}
+use Rattle.std.proofs.lemmas.Bool.{and_parts}
 use Rattle.std.proofs.lemmas.Grind.{flat_map-append}
-use Rattle.std.proofs.lemmas.List.{length-map}
-use Rattle.std.proofs.lemmas.List.Sums.{sum_by-append}
 use Rattle.std.proofs.lemmas.Option.{same_Some}
-use Rattle.std.specs.List.{enumerate_from, list_all, list_any}
+use Rattle.std.specs.List.{list_any}
 use Rattle.std.specs.Option.{option_map_or}
-use Rattle.std.specs.Prelude.{◌==◌, ◌&&◌, ◌||◌, nat_le, nat_lt, slice_get}
-use Rattle.q_laws.proofs.Batched.{IsEnd, end_is, rows_count, rows_length, rows_of, taken_once, taken_up}
-use Rattle.q_laws.proofs.Books.{message_in}
+use Rattle.std.specs.Prelude.{◌==◌, ◌&&◌, ◌||◌, nat_le, nat_lt}
+use Rattle.q_laws.proofs.Batched.{IsEnd, end_is, rows_count, taken_once, taken_up}
 use Rattle.q_laws.proofs.Counts.{all_fewer, in_times, once_fewer, once_times, times, times_append, times_in, times_none, times_once}
-use Rattle.q_laws.proofs.Distinct.{distinct_join, distinct_one, gone_listed, id_cases, id_same}
-use Rattle.q_laws.proofs.Members.{IsIn, all_append, all_at, all_from, all_weaker, any_from, find_in, in_left, in_unmap, none_from}
-use Rattle.q_laws.proofs.Places.{got_numbered}
-use Rattle.q_laws.proofs.Quiet.{account_kept, begun_noted, book_noted}
-use Rattle.q_laws.proofs.RowCounts.{flight_lengths, row_lengths}
-use Rattle.q_laws.proofs.Settled.{IsReady, after_consistent}
-use Rattle.q_laws.specs.Consistency.{IsConsistent, IsHeld, are_once, flight_positions, held_positions, is_present, is_synced_well, is_within, unsettled_positions, waiting_positions}
-use Rattle.q_model.proofs.IdLaws.{id_eq-refl, id_eq-true}
+use Rattle.q_laws.proofs.Distinct.{id_same}
+use Rattle.q_laws.proofs.Members.{IsIn, all_at, all_from, find_in}
+use Rattle.q_laws.specs.Consistency.{IsConsistent, IsHeld, flight_positions, held_positions, is_within, unsettled_positions, waiting_positions}
+use Rattle.q_model.proofs.IdLaws.{id_eq-true}
 use Rattle.q_model.specs.Batches.{load_end, load_positions, load_rows}
-use Rattle.q_model.specs.Book.{ids_at, message_of}
-use Rattle.q_model.specs.FilesStand.{are_distinct}
-use Rattle.q_model.specs.Finishing.{is_clean}
+use Rattle.q_model.specs.Book.{message_of}
 use Rattle.q_model.specs.Ids.{id_eq}
 use Rattle.q_model.specs.Ledger.{Ledger}
-use Rattle.q_model.specs.Leftovers.{is_leftover}
-use Rattle.q_model.specs.Lists.{has_none}
-use Rattle.q_model.specs.Loads.{after_load, join_lines, joins, loaded, may_load, may_read, with_records}
+use Rattle.q_model.specs.Loads.{join_lines, may_read, with_records}
 use Rattle.q_model.specs.Marking.{is_unmarked_at}
-use Rattle.q_model.specs.Memory.{admitted_of, free, has_waiting, in_memory, is_admitted, unread_count, unread_of}
-use Rattle.q_model.specs.Message.{Message, unmarked_logged}
-use Rattle.q_model.specs.Places.{is_active}
+use Rattle.q_model.specs.Memory.{admitted_of, free, has_waiting, unread_count}
+use Rattle.q_model.specs.Message.{Message}
 use Rattle.q_model.specs.Settings.{World}
 use Rattle.q_model.specs.SiteRecords.{with_record}
-use Rattle.q_model.specs.Startable.{line_of}
-use Rattle.q_model.specs.Step.{after, noted}
 use Rattle.q_model.specs.Values.{SiteRecord}
 use Rattle.q_model.specs.declared.entry.Entry.{Entry}
 use Rattle.q_model.specs.declared.id.Id.{Id}
 use Rattle.q_model.specs.declared.rows.Admitted.{Admitted}
 use Rattle.q_model.specs.declared.rows.Row.{Row}
-use Rattle.q_model.specs.declared.entry.Entry.TheVariants as entries
 
 -- of a ledger only the sites gain records
 pub records_is : (w : World) (rows : List Row) (l : Ledger) → (s : List SiteRecord) × (with_records w rows l ≡ record l { sites = s })
@@ -117,7 +102,7 @@ load_on w l id from to (Some a) (Some m) c found there may =
     let same : a.id ≡ id = id_eq-true a.id id mine.1 in
     let start : from ≡ a.unread = eqb-true from a.unread one.1 in
     let within : nat_le a.unread (length m.recipients) ≡ true =
-      sym (ap (λ (x : Option Message). option_map_or (λ (y : Message). nat_le a.unread (length y.recipients)) x false) (ap (message_of l.book) same ∙ there)) ∙ all_at (is_within l) a l.admitted c.memory.within mine.0 in
+    sym (ap (λ (x : Option Message). option_map_or (λ (y : Message). nat_le a.unread (length y.recipients)) x false) (ap (message_of l.book) same ∙ there)) ∙ all_at (is_within l) a l.admitted c.memory.within mine.0 in
     record {
       row = a;
       message = m;
@@ -125,7 +110,7 @@ load_on w l id from to (Some a) (Some m) c found there may =
       there = there;
       start = sym start;
       end = subst (λ n. IsEnd m from (free w l) n) (sym (eqb-true to (load_end m from (free w l)) two.1))
-        (end_is m from (free w l) (some_room w.settings.recipient_minimum (unread_count l a) (free w l) c.usable.recipient_minimum some.0 reads.1) (subst (λ n. n ≤ length m.recipients) (sym start) (leb-true a.unread (length m.recipients) within)));
+          (end_is m from (free w l) (some_room w.settings.recipient_minimum (unread_count l a) (free w l) c.usable.recipient_minimum some.0 reads.1) (subst (λ n. n ≤ length m.recipients) (sym start) (leb-true a.unread (length m.recipients) within)));
     }
 
 -- ---- what is held
@@ -139,7 +124,7 @@ held_count w l id from to m sites e i q =
     let a = times_append q (waiting_positions i (l.waiting ++ rows) ++ fs) us in
     let b = times_append q (waiting_positions i (l.waiting ++ rows)) fs in
     let d : times q (waiting_positions i (l.waiting ++ rows)) ≡ times q (waiting_positions i l.waiting) + times q (waiting_positions i rows) =
-      ap (times q) (flat_map-append (λ (r : Row). if id_eq r.id i then r.positions else []) l.waiting rows) ∙ times_append q (waiting_positions i l.waiting) (waiting_positions i rows) in
+    ap (times q) (flat_map-append (λ (r : Row). if id_eq r.id i then r.positions else []) l.waiting rows) ∙ times_append q (waiting_positions i l.waiting) (waiting_positions i rows) in
     let f : times q (waiting_positions i rows) ≡ 0 + times q (if id_eq m.id i then load_positions m from to else []) = rows_count w m i q [] (load_positions m from to) (λ r k. absurd k) in
     let g = times_append q (waiting_positions i l.waiting ++ fs) us in
     let j = times_append q (waiting_positions i l.waiting) fs in
@@ -188,8 +173,8 @@ pub other_held : (w : World) (l : Ledger) (id : Id) (from to : ℕ) (sites : Lis
 other_held w l id from to sites e m a x other h =
     let k = loaded_ledger l id to (load_rows w m from to) sites e in
     let fewer : (q : ℕ) → times q (held_positions k a.id) ≤ times q (held_positions l a.id) = λ q.
-      let s : times q (held_positions k a.id) ≡ times q (held_positions l a.id) + 0 = held_count w l id from to m sites e a.id q ∙ ap (λ b. times q (held_positions l a.id) + times q (if b then load_positions m from to else [])) other in
-      omega (arith, s) in
+    let s : times q (held_positions k a.id) ≡ times q (held_positions l a.id) + 0 = held_count w l id from to m sites e a.id q ∙ ap (λ b. times q (held_positions l a.id) + times q (if b then load_positions m from to else [])) other in
+    omega (arith, s) in
     record {
       read = all_fewer (λ q. nat_lt q a.unread) (held_positions l a.id) (held_positions k a.id) fewer h.read;
       once = once_fewer (held_positions l a.id) (held_positions k a.id) fewer h.once;

@@ -1,14 +1,13 @@
 -- Books whose messages are changed where they stand, and keep their ids.
-use Rattle.std.proofs.Common.{◌≡◌, ℕ, Bool, true, false, cond, not, List, [], ◌∷◌, ◌++◌, map, filter, find, is_some, Option, Some, None, option_map, ◌⊎◌, inl, inr, refl, sym, ap, ◌∙◌, subst, ◌≤◌, le_trans, le-leb, leb-true}
-use Rattle.std.proofs.lemmas.Bool.{and_from, and_parts, or_cases, or_left, or_right, not-true}
+use Rattle.std.proofs.Common.{◌≡◌, ℕ, Bool, true, false, cond, not, List, [], ◌∷◌, ◌++◌, map, find, is_some, Option, Some, None, option_map, inl, inr, refl, ap, ◌∙◌, subst, ◌≤◌, le_trans, le-leb, leb-true}
+use Rattle.std.proofs.lemmas.Bool.{and_from, and_parts, or_cases, or_left, or_right}
 use Rattle.std.specs.List.{list_all, list_any}
 use Rattle.std.specs.Option.{option_map_or}
-use Rattle.std.specs.Prelude.{◌&&◌, ◌||◌, nat_le, if◌then◌else◌}
-use Rattle.q_laws.proofs.Distinct.{id_cases, id_same}
+use Rattle.std.specs.Prelude.{◌&&◌, ◌||◌, nat_le}
+use Rattle.q_laws.proofs.Distinct.{id_same}
 use Rattle.q_laws.proofs.Members.{IsIn, all_at, all_from, all_weaker, any_from, any_in, find_in, in_map, in_unmap}
 use Rattle.q_model.proofs.IdLaws.{id_eq-true}
 use Rattle.q_model.specs.Book.{Book, Damaged, damaged_of, message_of, stands, stands_in}
-use Rattle.q_model.specs.BookChanges.{change_message}
 use Rattle.q_model.specs.FilesStand.{all_ids}
 use Rattle.q_model.specs.Ids.{cause_of, id_eq}
 use Rattle.q_model.specs.Message.{Message}
@@ -111,10 +110,10 @@ orderly_mapped b g f up k h =
     let rest : Message → Bool = λ m. is_active m.place || is_settled m in
     let two = and_parts (list_all (test b) (all_ids b)) (list_all rest b.messages) h in
     let each : list_all (test c) (all_ids b) ≡ true = all_weaker (test b) (test c) (all_ids b) (λ id there e.
-      let parts = and_parts (nat_le id.generation b.generation) (is_paired b id) e in
-      and_from (nat_le id.generation g) (is_paired c id) (raise id.generation b.generation g up parts.0) (paired_mapped b g f k id parts.1)) two.0 in
+    let parts = and_parts (nat_le id.generation b.generation) (is_paired b id) e in
+    and_from (nat_le id.generation g) (is_paired c id) (raise id.generation b.generation g up parts.0) (paired_mapped b g f k id parts.1)) two.0 in
     and_from (list_all (test c) (all_ids c)) (list_all rest (map f b.messages))
     (ap (list_all (test c)) (all_ids_mapped b g f k.name) ∙ each)
     (all_from rest (map f b.messages) (λ x there.
-      let one = in_unmap f x b.messages there in
-      subst (λ y. rest y ≡ true) one.2 (k.settled one.0 one.1 (all_at rest one.0 b.messages two.1 one.1))))
+    let one = in_unmap f x b.messages there in
+    subst (λ y. rest y ≡ true) one.2 (k.settled one.0 one.1 (all_at rest one.0 b.messages two.1 one.1))))

@@ -1,50 +1,38 @@
 -- What fits together still does as a recipient is marked.
-use Rattle.std.proofs.Common.{◌≡◌, ℕ, zero, suc, ◌+◌, ◌≤◌, Bool, true, false, not, List, [], ◌∷◌, ◌++◌, map, drop, length, Option, Some, None, option_map, ◌⊎◌, inl, inr, refl, sym, ap, ◌∙◌, subst, if◌then◌else◌, arith, eq-eqb, eqb-true, le_refl}
-use Rattle.std.proofs.lemmas.Bool.{and_from, and_parts, or_cases, or_right}
-use Rattle.std.specs.List.{list_all, list_any}
+use Rattle.std.proofs.Common.{◌≡◌, ℕ, suc, ◌+◌, ◌≤◌, Bool, true, false, not, List, [], ◌∷◌, ◌++◌, drop, length, Option, Some, None, inl, inr, refl, sym, ap, ◌∙◌, subst, if◌then◌else◌, arith, eqb-true, le_refl}
+use Rattle.std.proofs.lemmas.Bool.{and_parts}
+use Rattle.std.specs.List.{list_all}
 use Rattle.std.specs.Option.{option_map_or}
 use Rattle.std.specs.Prelude.{nat_lt, ◌&&◌, ◌||◌, ◌==◌, slice_get}
 use Rattle.q_laws.proofs.Books.{left_active, message_in}
-use Rattle.q_laws.proofs.Counts.{all_fewer, in_times, once_fewer, once_times, times, times_append, times_in}
+use Rattle.q_laws.proofs.Counts.{all_fewer, in_times, once_fewer, once_times, times, times_append}
 use Rattle.q_laws.proofs.Decided.{Says}
-use Rattle.q_laws.proofs.Distinct.{id_cases, id_eq-sym, id_other, id_same}
-use Rattle.std.proofs.lemmas.List.{length-map}
-use Rattle.q_laws.proofs.Mapped.{find_mapped}
-use Rattle.q_laws.proofs.InPlace.{KeepsShape, admitted_not_left, change_ready, changed, changed_ledger, changed_name, changed_other, changed_same, keeps_active, left_change, well_admitted, well_kept, well_other}
+use Rattle.q_laws.proofs.Distinct.{id_cases, id_eq-sym, id_same}
+use Rattle.q_laws.proofs.InPlace.{KeepsShape, admitted_not_left, change_ready, changed, changed_ledger, changed_other, keeps_active, well_kept, well_other}
 use Rattle.q_laws.proofs.Places.{got_in, length-numbered, none_in}
-use Rattle.q_laws.proofs.Members.{find_in, IsIn, all_at, all_from, all_weaker, any_from, any_in, in_left, in_right}
-use Rattle.q_laws.proofs.Messages.{sealed_sync, unmarked_sync, written_sync}
+use Rattle.q_laws.proofs.Members.{find_in, IsIn, all_at, all_weaker, any_from, in_right}
 use Rattle.q_laws.proofs.RowCounts.{unsettled_held}
 use Rattle.q_laws.proofs.Settled.{IsReady, after_consistent}
-use Rattle.q_laws.proofs.Unmarked.{bare_logged, bare_mark, bare_not_sealed, bare_sync, firm_more, logged_alone, logged_bare, logged_itself, none_logged, none_more, sealed_more}
-use Rattle.q_laws.specs.Consistency.{IsConsistent, IsHeld, flight_positions, held_positions, is_present, is_synced_well, logged_of, unsettled_positions, waiting_positions}
+use Rattle.q_laws.proofs.Unmarked.{bare_logged, bare_mark, bare_not_sealed, none_logged, none_more}
+use Rattle.q_laws.specs.Consistency.{IsConsistent, IsHeld, flight_positions, held_positions, is_synced_well, logged_of, unsettled_positions, waiting_positions}
 use Rattle.q_model.proofs.IdLaws.{id_eq-refl, id_eq-true}
 use Rattle.q_model.specs.Book.{message_of}
-use Rattle.q_model.specs.BookChanges.{change_message}
 use Rattle.q_model.specs.Finishing.{is_clean}
 use Rattle.q_model.specs.Ids.{id_eq}
 use Rattle.q_model.specs.Ledger.{Ledger}
 use Rattle.q_model.specs.Leftovers.{is_leftover}
 use Rattle.q_model.specs.Lists.{has_none}
-use Rattle.q_model.specs.Logs.{after_log, first_logged, may_log, needs_log, with_failure}
-use Rattle.q_model.specs.Marking.{after_mark, drop_unsettled, is_unmarked_at, mark_one, marks_first, marks_leftover, may_mark, needs_mark, with_mark}
+use Rattle.q_model.specs.Marking.{is_unmarked_at, mark_one, marks_first, needs_mark, with_mark}
 use Rattle.q_model.specs.Memory.{admitted_of, is_admitted}
-use Rattle.q_model.specs.Message.{Message, Recipient, is_logged, unmarked_logged, written_marks}
-use Rattle.q_model.specs.Orderly.{has_firm_failures, is_sealed}
-use Rattle.q_model.specs.Places.{is_active}
+use Rattle.q_model.specs.Message.{Message, is_logged, unmarked_logged}
+use Rattle.q_model.specs.Orderly.{has_firm_failures}
 use Rattle.q_model.specs.Settings.{World}
-use Rattle.q_model.specs.Step.{after, noted}
-use Rattle.q_model.specs.Syncs.{after_sync, may_sync, sync_all}
-use Rattle.q_model.specs.declared.entry.Entry.{Entry}
+use Rattle.q_model.specs.Step.{after}
 use Rattle.q_model.specs.declared.id.Id.{Id}
-use Rattle.q_model.specs.declared.outcome.Failure.{Failure}
 use Rattle.q_model.specs.declared.rows.Admitted.{Admitted}
-use Rattle.q_model.specs.declared.rows.Need.{Need}
 use Rattle.q_model.specs.declared.rows.Unsettled.{Unsettled}
 use Rattle.q_model.specs.declared.entry.Entry.TheVariants as entries
-use Rattle.q_model.specs.declared.rows.Need.TheVariants as needs
-
-use Rattle.q_laws.proofs.First.{first_on, first_positions, not_logged_yet, other_logged, same_logged}
+use Rattle.q_laws.proofs.First.{first_on, first_positions, other_logged}
 use Rattle.q_laws.proofs.Synced.{admitted_active, found_admitted, mine_or_not}
 
 mark_shape : (p : ℕ) → KeepsShape (with_mark p)
@@ -73,22 +61,22 @@ mark_held l id p u rest a m e mine at need name h =
     let now : unmarked_logged m ≡ logged_of m (Some u) = h.logged ∙ ap (λ (us : List Unsettled). logged_of m (slice_get us 0)) e in
     mine_or_not id (with_mark p) m (λ x. IsHeld k a x)
     (λ it.
-      let still : list_all (is_unmarked_at (with_mark p m)) (held_positions k a.id) ≡ true =
-        all_weaker (is_unmarked_at m) (is_unmarked_at (with_mark p m)) (held_positions k a.id) (λ q there b. bare_mark p q m (apart (mine ∙ sym it ∙ name) q there (q == p) refl) ∙ b) bare in
-      record {
-        read = reads;
-        once = once;
-        unmarked = still;
-        logged = none_more p m (λ q k. only now q k) ∙ sym (none_logged (with_mark p m) (slice_get rest 0) (none_more p m (λ q k. only now q k)) (λ v f s. all_at (is_unmarked_at (with_mark p m)) v.position (held_positions k a.id) still (behind v f (s ∙ name))));
-      })
+    let still : list_all (is_unmarked_at (with_mark p m)) (held_positions k a.id) ≡ true =
+    all_weaker (is_unmarked_at m) (is_unmarked_at (with_mark p m)) (held_positions k a.id) (λ q there b. bare_mark p q m (apart (mine ∙ sym it ∙ name) q there (q == p) refl) ∙ b) bare in
+    record {
+      read = reads;
+      once = once;
+      unmarked = still;
+      logged = none_more p m (λ q k. only now q k) ∙ sym (none_logged (with_mark p m) (slice_get rest 0) (none_more p m (λ q k. only now q k)) (λ v f s. all_at (is_unmarked_at (with_mark p m)) v.position (held_positions k a.id) still (behind v f (s ∙ name))));
+    })
     (λ other.
-      let none : unmarked_logged m ≡ [] = now ∙ other_logged m u (ap (λ i. id_eq i m.id) mine ∙ id_eq-sym m.id id other) in
-      record {
-        read = reads;
-        once = once;
-        unmarked = bare;
-        logged = none ∙ sym (none_logged m (slice_get rest 0) none (λ v f s. all_at (is_unmarked_at m) v.position (held_positions k a.id) bare (behind v f (s ∙ name))));
-      })
+    let none : unmarked_logged m ≡ [] = now ∙ other_logged m u (ap (λ i. id_eq i m.id) mine ∙ id_eq-sym m.id id other) in
+    record {
+      read = reads;
+      once = once;
+      unmarked = bare;
+      logged = none ∙ sym (none_logged m (slice_get rest 0) none (λ v f s. all_at (is_unmarked_at m) v.position (held_positions k a.id) bare (behind v f (s ∙ name))));
+    })
   where
     only : unmarked_logged m ≡ logged_of m (Some u) → (q : ℕ) → IsIn q (unmarked_logged m) → q ≡ p
     only now q k = which (id_eq u.id m.id && needs_mark u.need && is_logged m u.position) (subst (λ ps. IsIn q ps) now k)
@@ -97,6 +85,7 @@ mark_held l id p u rest a m e mine at need name h =
         which true (inl s) = sym s ∙ at
         which true (inr s) = absurd s
         which false s = absurd s
+
     apart : u.id ≡ a.id → (q : ℕ) → IsIn q (waiting_positions a.id l.waiting ++ flight_positions a.id l.flights ++ unsettled_positions a.id rest) → (b : Bool) → (q == p) ≡ b → (q == p) ≡ false
     apart same q there false k = k
     apart same q there true k =
@@ -106,6 +95,7 @@ mark_held l id p u rest a m e mine at need name h =
         let all : times q (held_positions l a.id) ≤ 1 = once_times (held_positions l a.id) h.once q in
         let s = fewer_held l u rest a.id e q in
         absurd (omega (arith, more, first, all, s))
+
     behind : (v : Unsettled) → slice_get rest 0 ≡ Some v → v.id ≡ a.id → IsIn v.position (waiting_positions a.id l.waiting ++ flight_positions a.id l.flights ++ unsettled_positions a.id rest)
     behind v f s = in_right v.position (waiting_positions a.id l.waiting ++ flight_positions a.id l.flights) (unsettled_positions a.id rest) (unsettled_held a.id v rest (got_in v rest 0 f) s)
 
@@ -120,13 +110,13 @@ marked_ready w l id p c first =
     let bare : is_unmarked_at mine.0 p ≡ true = subst (λ q. is_unmarked_at mine.0 q ≡ true) one.4 (all_at (is_unmarked_at mine.0) u.position (held_positions l (a.0).id) h.unmarked (first_positions u one.1 l (a.0).id one.2 (one.3 ∙ sym a.2))) in
     subst (λ us. IsReady w (changed_ledger l id (with_mark p) us l.synced (entries.Mark id p))) (sym (ap (drop 1) one.2))
     (change_ready w l id (with_mark p) one.1 l.synced (entries.Mark id p) c (mark_shape p)
-      (keeps_active l.book id (with_mark p) mine.0 c.book.distinct mine.1.there (mark_shape p) mine.1.active (λ sealed. absurd (bare_not_sealed mine.0 p bare sealed)))
-      (λ x inside firm. mine_or_not id (with_mark p) x (λ y. has_firm_failures y ≡ true) (λ same. firm) (λ other. firm))
-      (λ i t. record { admit = refl; start = refl; charge = refl })
-      (and_parts (is_admitted l u.id) (list_all (λ (x : Unsettled). is_admitted l x.id) one.1) (sym (ap (list_all (λ (x : Unsettled). is_admitted l x.id)) one.2) ∙ c.memory.unsettled)).1
-      (let n : length l.unsettled ≡ suc (length one.1) = ap length one.2 in omega (arith, n))
-      (λ b x here there. mark_held l id p u one.1 b x one.2 one.3 one.4 one.5 (message_in l.book b.id x there).1 (c.memory.held b x here there))
-      (well_kept l id (with_mark p) one.1 l.synced (entries.Mark id p) (mark_shape p) adm c.memory.synced))
+    (keeps_active l.book id (with_mark p) mine.0 c.book.distinct mine.1.there (mark_shape p) mine.1.active (λ sealed. absurd (bare_not_sealed mine.0 p bare sealed)))
+    (λ x inside firm. mine_or_not id (with_mark p) x (λ y. has_firm_failures y ≡ true) (λ same. firm) (λ other. firm))
+    (λ i t. record { admit = refl; start = refl; charge = refl })
+    (and_parts (is_admitted l u.id) (list_all (λ (x : Unsettled). is_admitted l x.id) one.1) (sym (ap (list_all (λ (x : Unsettled). is_admitted l x.id)) one.2) ∙ c.memory.unsettled)).1
+    (let n : length l.unsettled ≡ suc (length one.1) = ap length one.2 in omega (arith, n))
+    (λ b x here there. mark_held l id p u one.1 b x one.2 one.3 one.4 one.5 (message_in l.book b.id x there).1 (c.memory.held b x here there))
+    (well_kept l id (with_mark p) one.1 l.synced (entries.Mark id p) (mark_shape p) adm c.memory.synced))
 
 -- ---- the mark of a leftover
 

@@ -1,18 +1,15 @@
 -- What a message keeps as its failures become sure, its marks are synced, and failures and marks are added.
-use Rattle.std.proofs.Common.{◌≡◌, ℕ, zero, suc, ◌+◌, Bool, true, false, not, List, [], ◌∷◌, ◌++◌, map, Option, Some, None, ◌⊎◌, inl, inr, refl, sym, ap, ◌∙◌, subst, if◌then◌else◌, arith, ◌<◌, ◌≤◌, option_map, length, eq-eqb, eqb-true}
-use Rattle.std.proofs.lemmas.Bool.{and_from, and_parts, or_cases, or_from, not-true, not_from_false, not_from_true, or_left, or_right}
-use Rattle.std.specs.List.{enumerate_from, list_all, list_any}
-use Rattle.std.specs.Option.{option_map_or}
-use Rattle.std.specs.Prelude.{◌&&◌, ◌||◌, ◌==◌, slice_get}
-use Rattle.q_laws.proofs.Members.{IsIn, all_at, all_from}
-use Rattle.q_laws.proofs.Places.{got_in, in_got, is_place, none_in, nothing_in, place_is, places_mapped, places_same}
-use Rattle.q_model.specs.Finishing.{is_clean, is_done}
+use Rattle.std.proofs.Common.{◌≡◌, ℕ, ◌+◌, Bool, true, false, not, List, [], ◌∷◌, map, refl, ap, ◌∙◌}
+use Rattle.std.proofs.lemmas.Bool.{and_from, and_parts}
+use Rattle.std.specs.List.{list_all, list_any}
+use Rattle.std.specs.Prelude.{◌&&◌, ◌||◌, ◌==◌}
+use Rattle.q_laws.proofs.Members.{all_at, all_from}
+use Rattle.q_laws.proofs.Places.{places_mapped, places_same}
 use Rattle.q_model.specs.Lists.{has_none, places_from}
 use Rattle.q_model.specs.Lives.{firm_failures}
 use Rattle.q_model.specs.Marks.{is_marked, is_written, sync_mark}
-use Rattle.q_model.specs.Message.{Logged, Message, Recipient, is_logged, pending, unmarked_logged, written_marks}
+use Rattle.q_model.specs.Message.{Logged, Message, Recipient, is_logged, unmarked_logged, written_marks}
 use Rattle.q_model.specs.Orderly.{has_firm_failures, is_sealed, is_settled}
-use Rattle.q_model.specs.Places.{is_active}
 use Rattle.q_model.specs.Syncs.{sync_all}
 use Rattle.q_model.specs.declared.rows.Mark.{Mark}
 use Rattle.q_model.specs.declared.rows.Mark.TheVariants as marks

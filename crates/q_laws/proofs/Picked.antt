@@ -1,5 +1,5 @@
 -- What is taken next stands in incoming or in deferred.
-use Rattle.std.proofs.Common.{◌≡◌, ℕ, Bool, true, false, List, [], ◌∷◌, ◌++◌, map, filter, filter_map, Option, Some, None, option_map, option_and_then, ◌⊎◌, inl, inr, refl, sym, ap, ◌∙◌, subst, if◌then◌else◌}
+use Rattle.std.proofs.Common.{◌≡◌, Bool, true, false, List, [], ◌∷◌, filter, filter_map, Option, Some, None, option_map, option_and_then, ◌⊎◌, inl, inr, refl, sym, ap, ◌∙◌, subst, if◌then◌else◌}
 use Rattle.std.proofs.lemmas.Option.{same_Some}
 use Rattle.std.specs.List.{cons_option}
 use Rattle.std.specs.Option.{option_map_or}
@@ -10,9 +10,8 @@ use Rattle.q_model.specs.Book.{Book, Damaged, ids_at, message_of}
 use Rattle.q_model.specs.FilesStand.{all_ids, are_distinct}
 use Rattle.q_model.specs.Ids.{id_before, id_eq}
 use Rattle.q_model.specs.Ledger.{Ledger}
-use Rattle.q_model.specs.Lists.{least}
 use Rattle.q_model.specs.Message.{Message}
-use Rattle.q_model.specs.Places.{due_of, is_active, is_incoming}
+use Rattle.q_model.specs.Places.{is_active, is_incoming}
 use Rattle.q_model.specs.Scans.{deferred_name, deferred_names, is_ahead, name_before, scan_next}
 use Rattle.q_model.specs.Turns.{Pick, deferred_next, from_deferred, from_incoming, incoming_next, is_pick, pick, pick_id}
 use Rattle.q_model.specs.declared.id.Id.{Id}
@@ -45,12 +44,12 @@ deferred_out b distinct n m inside there =
     let mine = message_in b n.id m there in
     elim (in_either n (filter_map (λ (x : Message). deferred_name x.place x.id) b.messages) (filter_map (λ (d : Damaged). deferred_name d.place d.id) b.damaged) inside) [
       | inl whole ↦
-        let one = in_given (λ (x : Message). deferred_name x.place x.id) n b.messages whole in
-        let is = name_is (one.0).place (one.0).id n one.2 in
-        subst (λ (x : Message). is_active x.place ≡ false) (only_message b distinct one.0 m one.1 mine.0 (sym is.0 ∙ sym mine.1)) is.1
+          let one = in_given (λ (x : Message). deferred_name x.place x.id) n b.messages whole in
+          let is = name_is (one.0).place (one.0).id n one.2 in
+          subst (λ (x : Message). is_active x.place ≡ false) (only_message b distinct one.0 m one.1 mine.0 (sym is.0 ∙ sym mine.1)) is.1
       | inr broken ↦
-        let one = in_given (λ (d : Damaged). deferred_name d.place d.id) n b.damaged broken in
-        absurd (not_damaged b distinct m one.0 mine.0 one.1 (mine.1 ∙ (name_is (one.0).place (one.0).id n one.2).0))
+          let one = in_given (λ (d : Damaged). deferred_name d.place d.id) n b.damaged broken in
+          absurd (not_damaged b distinct m one.0 mine.0 one.1 (mine.1 ∙ (name_is (one.0).place (one.0).id n one.2).0))
     ]
 
 scanned_out : (l : Ledger) → are_distinct (all_ids l.book) ≡ true → (o : Option Scan) (n : DeferredName) (m : Message) → option_and_then (λ s. scan_next l.book s) o ≡ Some n → message_of l.book n.id ≡ Some m → is_active m.place ≡ false

@@ -1,10 +1,8 @@
 -- Positions of recipients: which of them are pending, logged without a mark, or marked for now.
-use Rattle.std.proofs.Common.{◌≡◌, ℕ, zero, suc, ◌+◌, Bool, true, false, not, List, [], ◌∷◌, ◌++◌, map, Option, Some, None, ◌⊎◌, inl, inr, refl, sym, ap, ◌∙◌, subst, if◌then◌else◌, arith, ◌<◌, ◌≤◌, option_map, length, eq-eqb, eqb-true}
-use Rattle.std.proofs.lemmas.Bool.{and_from, and_parts, or_cases, or_from, not-true, not_from_false, not_from_true}
-use Rattle.std.specs.List.{enumerate_from, list_all, list_any}
-use Rattle.std.specs.Option.{option_map_or}
-use Rattle.std.specs.Prelude.{◌&&◌, ◌||◌, ◌==◌, slice_get}
-use Rattle.q_laws.proofs.Members.{IsIn, all_at, all_from}
+use Rattle.std.proofs.Common.{◌≡◌, ℕ, zero, suc, ◌+◌, Bool, true, false, List, [], ◌∷◌, map, Some, inl, inr, refl, sym, ap, ◌∙◌, subst, if◌then◌else◌, arith, ◌<◌, ◌≤◌, option_map, length}
+use Rattle.std.specs.List.{enumerate_from}
+use Rattle.std.specs.Prelude.{slice_get}
+use Rattle.q_laws.proofs.Members.{IsIn}
 use Rattle.q_model.specs.Lists.{has_none, places_from}
 
 -- ---- elements and their places
@@ -109,9 +107,9 @@ one_place n p test xs false there only rest = rest there only
 one_place n p test xs true there only rest =
     let first : n ≡ p = only n (inl refl) in
     let none : places_from (n + 1) test xs ≡ [] = nothing_in (places_from (n + 1) test xs) (λ q k.
-      let same : q ≡ p = only q (inr k) in
-      let past : n + 1 ≤ q = place_from (n + 1) test xs q k in
-      absurd (omega (arith, first, same, past))) in
+    let same : q ≡ p = only q (inr k) in
+    let past : n + 1 ≤ q = place_from (n + 1) test xs q k in
+    absurd (omega (arith, first, same, past))) in
     ap (λ (ps : List ℕ). n ∷ ps) none ∙ ap (λ k. k ∷ []) first
 
 -- the only place is the whole list of places

@@ -1,5 +1,5 @@
 -- What fits together still does as a job goes before the current one.
-use Rattle.std.proofs.Common.{◌≡◌, ℕ, zero, suc, ◌+◌, Bool, true, false, cond, not, List, [], ◌∷◌, ◌++◌, map, filter, find, Option, Some, None, ◌⊎◌, inl, inr, refl, sym, ap, ◌∙◌, subst, arith, if◌then◌else◌, eqb-true}
+use Rattle.std.proofs.Common.{◌≡◌, ℕ, ◌+◌, Bool, true, false, not, List, [], ◌∷◌, map, filter, find, Option, Some, None, ◌⊎◌, inl, inr, refl, sym, ap, ◌∙◌, subst, arith, if◌then◌else◌, eqb-true}
 use Rattle.std.proofs.lemmas.Bool.{and_from, and_parts, not_from_false}
 use Rattle.std.specs.List.{enumerate_from, list_all, list_any}
 use Rattle.std.specs.Option.{option_map_or}
@@ -20,7 +20,6 @@ use Rattle.q_model.specs.Preemptions.{after_preempt, is_best, is_current, may_pr
 use Rattle.q_model.specs.Settings.{World}
 use Rattle.q_model.specs.Startable.{can_start, current, line_of}
 use Rattle.q_model.specs.Step.{after, noted}
-use Rattle.q_model.specs.declared.entry.Entry.{Entry}
 use Rattle.q_model.specs.declared.id.Id.{Id}
 use Rattle.q_model.specs.declared.rows.Admitted.{Admitted}
 use Rattle.q_model.specs.declared.entry.Entry.TheVariants as entries
@@ -117,7 +116,7 @@ line_keeps child parent transport n ids h x there = which (n == transport) refl
         let two = h (eqb-true n transport e) in
         elim (id_cases x child) [
           | inl same ↦ subst (λ i. IsIn i (put_before child parent (others child ids))) (sym same.0)
-            (put_there child parent (others child ids) (in_filter (λ y. not (id_eq y child)) parent ids two.0 (not_from_false (id_eq parent child) (apart two.1 (id_eq parent child) refl))))
+              (put_there child parent (others child ids) (in_filter (λ y. not (id_eq y child)) parent ids two.0 (not_from_false (id_eq parent child) (apart two.1 (id_eq parent child) refl))))
           | inr other ↦ put_keeps child parent x (others child ids) (in_filter (λ y. not (id_eq y child)) x ids there (not_from_false (id_eq x child) other))
         ]
       where
@@ -196,8 +195,8 @@ preempt_ready w l child parent transport need c p =
         begun = begun_noted l e m.begun;
         single = lines_single child parent transport 0 l.lines m.single;
         fresh = λ i t some gone.
-          let out = was_gone i t gone in
-          account_kept l e i t (charged_other l child parent transport need p.inside i t out) (m.fresh i t some out);
+            let out = was_gone i t gone in
+            account_kept l e i t (charged_other l child parent transport need p.inside i t out) (m.fresh i t some out);
         synced = m.synced;
         messages = m.messages;
         recipients = m.recipients;
@@ -207,7 +206,7 @@ preempt_ready w l child parent transport need c p =
     was_gone : (i : Id) (t : ℕ) → list_any (id_eq i) (line_of (after_preempt l child parent transport) t) ≡ false → list_any (id_eq i) (line_of l t) ≡ false
     was_gone i t gone =
         let line : line_of (after_preempt l child parent transport) t ≡ preempt_line child parent transport (t, line_of l t) =
-          line_mapped (preempt_line child parent transport) (no_line child parent transport) 0 t t l.lines (omega arith) in
+        line_mapped (preempt_line child parent transport) (no_line child parent transport) 0 t t l.lines (omega arith) in
         none_from (id_eq i) (line_of l t) (λ x there. other x there line gone (id_eq i x) refl)
       where
         other : (x : Id) → IsIn x (line_of l t) → line_of (after_preempt l child parent transport) t ≡ preempt_line child parent transport (t, line_of l t) → list_any (id_eq i) (line_of (after_preempt l child parent transport) t) ≡ false → (b : Bool) → id_eq i x ≡ b → b ≡ false

@@ -1,21 +1,18 @@
 -- Entries that leave the accounts of jobs as they are, and fields of a ledger on which nothing depends here.
-use Rattle.std.proofs.Common.{◌≡◌, ℕ, ◌+◌, ◌≤◌, Bool, true, false, cond, not, List, [], ◌∷◌, map, Option, Some, count_by, sum_by, take_while, ◌⊎◌, inl, inr, refl, sym, ap, ◌∙◌, subst, arith, length}
+use Rattle.std.proofs.Common.{◌≡◌, ℕ, ◌+◌, ◌≤◌, Bool, true, false, cond, not, List, [], ◌∷◌, Option, count_by, sum_by, inl, inr, ap, ◌∙◌, arith}
 use Rattle.std.proofs.lemmas.List.Sums.{sum_by-cons, take_while-cons}
 use Rattle.std.proofs.lemmas.Bool.{or_cases, or_left, or_right}
-use Rattle.std.specs.List.{list_all, list_any}
-use Rattle.std.specs.Prelude.{◌==◌, ◌||◌, nat_le, nat_lt}
+use Rattle.std.specs.List.{list_all}
+use Rattle.std.specs.Prelude.{nat_le, nat_lt}
 use Rattle.q_laws.proofs.Mapped.{raise}
-use Rattle.q_laws.proofs.Members.{IsIn, all_weaker}
-use Rattle.q_laws.proofs.Settled.{IsMemoryReady, IsReady}
-use Rattle.q_laws.specs.Consistency.{IsBookConsistent, IsConsistent, IsFresh, has_come}
+use Rattle.q_laws.proofs.Members.{all_weaker}
+use Rattle.q_laws.proofs.Settled.{IsReady}
+use Rattle.q_laws.specs.Consistency.{IsBookConsistent, IsConsistent, has_come}
 use Rattle.q_model.specs.Accounts.{charge_of, charged, is_admit_of, is_start_of, since_admit, starts_of}
 use Rattle.q_model.specs.FilesStand.{all_ids}
-use Rattle.q_model.specs.Ids.{id_eq}
 use Rattle.q_model.specs.Ledger.{Ledger}
-use Rattle.q_model.specs.Memory.{unread_of}
 use Rattle.q_model.specs.Past.{arrivals, is_arrive, is_start, starts}
 use Rattle.q_model.specs.Settings.{World}
-use Rattle.q_model.specs.Startable.{line_of}
 use Rattle.q_model.specs.Step.{noted}
 use Rattle.q_model.specs.Values.{Served, SiteRecord}
 use Rattle.q_model.specs.declared.entry.Entry.{Entry}

@@ -1,40 +1,34 @@
 -- Lines, accounts and limits after a load, and that the ledger is consistent.
-use Rattle.std.proofs.Common.{◌≡◌, ℕ, zero, suc, ◌+◌, ◌-◌, ◌≤◌, ◌<◌, min, Bool, true, false, cond, not, List, [], ◌∷◌, ◌++◌, map, find, length, Option, Some, None, option_map, ◌⊎◌, inl, inr, refl, sym, ap, ◌∙◌, subst, arith, eq-eqb, if◌then◌else◌, eqb-true, leb-true, ltb-true, le-leb, lt-ltb, le_trans}
-use Rattle.std.proofs.lemmas.Bool.{and_from, and_parts, not-true, not_from_false}
-use Rattle.std.proofs.lemmas.Grind.{flat_map-append}
+use Rattle.std.proofs.Common.{◌≡◌, ℕ, ◌+◌, ◌-◌, ◌≤◌, Bool, true, false, not, List, [], ◌∷◌, ◌++◌, map, length, Option, Some, None, option_map, inl, inr, refl, sym, ap, ◌∙◌, subst, arith, eq-eqb, if◌then◌else◌, eqb-true, le-leb}
+use Rattle.std.proofs.lemmas.Bool.{and_from, and_parts, not-true}
 use Rattle.std.proofs.lemmas.List.{length-map}
 use Rattle.std.proofs.lemmas.List.Sums.{sum_by-append}
 use Rattle.std.proofs.lemmas.Option.{same_Some}
 use Rattle.std.specs.List.{enumerate_from, list_all, list_any}
 use Rattle.std.specs.Option.{option_map_or}
-use Rattle.std.specs.Prelude.{◌==◌, ◌&&◌, ◌||◌, nat_le, nat_lt, slice_get}
-use Rattle.q_laws.proofs.Batched.{IsEnd, end_is, rows_count, rows_length, rows_of, taken_once, taken_up}
+use Rattle.std.specs.Prelude.{◌==◌, ◌&&◌, ◌||◌, nat_le, slice_get}
+use Rattle.q_laws.proofs.Batched.{rows_length, rows_of}
 use Rattle.q_laws.proofs.Books.{message_in}
-use Rattle.q_laws.proofs.Counts.{all_fewer, in_times, once_fewer, once_times, times, times_append, times_in, times_none, times_once}
-use Rattle.q_laws.proofs.Distinct.{id_eq-sym, distinct_join, distinct_one, gone_listed, id_cases, id_same}
+use Rattle.q_laws.proofs.Distinct.{id_eq-sym, distinct_join, gone_listed}
 use Rattle.q_laws.proofs.Members.{filter_same, none_at, IsIn, all_append, all_at, all_from, all_weaker, any_from, find_in, in_left, in_unmap, none_from}
 use Rattle.q_laws.proofs.Places.{got_numbered}
 use Rattle.q_laws.proofs.Quiet.{account_kept, begun_noted, book_noted}
-use Rattle.q_laws.proofs.RowCounts.{flight_lengths, row_lengths}
+use Rattle.q_laws.proofs.RowCounts.{row_lengths}
 use Rattle.q_laws.proofs.Settled.{IsReady, after_consistent}
-use Rattle.q_laws.specs.Consistency.{IsConsistent, IsHeld, are_once, flight_positions, held_positions, is_present, is_synced_well, is_within, unsettled_positions, waiting_positions}
-use Rattle.q_model.proofs.IdLaws.{id_eq-refl, id_eq-true}
-use Rattle.q_model.specs.Batches.{load_end, load_positions, load_rows}
+use Rattle.q_laws.specs.Consistency.{IsConsistent, IsHeld, is_present, is_synced_well, is_within}
+use Rattle.q_model.proofs.IdLaws.{id_eq-true}
+use Rattle.q_model.specs.Batches.{load_positions, load_rows}
 use Rattle.q_model.specs.Book.{ids_at, message_of}
 use Rattle.q_model.specs.FilesStand.{are_distinct}
 use Rattle.q_model.specs.Finishing.{is_clean}
 use Rattle.q_model.specs.Ids.{id_eq}
 use Rattle.q_model.specs.Ledger.{Ledger}
-use Rattle.q_model.specs.Leftovers.{is_leftover}
 use Rattle.q_model.specs.Lists.{has_none}
-use Rattle.q_model.specs.Loads.{after_load, join_lines, joins, loaded, may_load, may_read, with_records}
-use Rattle.q_model.specs.Marking.{is_unmarked_at}
-use Rattle.q_model.specs.Memory.{admitted_of, free, has_waiting, in_memory, is_admitted, unread_count, unread_of}
+use Rattle.q_model.specs.Loads.{join_lines, joins, loaded, may_load, with_records}
+use Rattle.q_model.specs.Memory.{admitted_of, in_memory, is_admitted, unread_count, unread_of}
 use Rattle.q_model.specs.Message.{Message, unmarked_logged}
 use Rattle.q_model.specs.Places.{is_active}
 use Rattle.q_model.specs.Settings.{World}
-use Rattle.q_model.specs.SiteRecords.{with_record}
-use Rattle.q_model.specs.Startable.{line_of}
 use Rattle.q_model.specs.Step.{after, noted}
 use Rattle.q_model.specs.Values.{SiteRecord}
 use Rattle.q_model.specs.declared.entry.Entry.{Entry}
@@ -157,14 +151,14 @@ load_ready w l id from to sites c load =
       memory = record {
         admitted = ap are_distinct (names_read id to l.admitted) ∙ m.admitted;
         present = all_from (is_present k) (map (read_to id to) l.admitted) (λ x inside.
-          let one = in_unmap (read_to id to) x l.admitted inside in
-          ap (λ i. option_map_or (λ (y : Message). is_active y.place) (message_of l.book i) false) (sym (ap (λ (y : Admitted). y.id) one.2) ∙ read_name id to one.0) ∙ all_at (is_present l) one.0 l.admitted m.present one.1);
+            let one = in_unmap (read_to id to) x l.admitted inside in
+            ap (λ i. option_map_or (λ (y : Message). is_active y.place) (message_of l.book i) false) (sym (ap (λ (y : Admitted). y.id) one.2) ∙ read_name id to one.0) ∙ all_at (is_present l) one.0 l.admitted m.present one.1);
         within = all_from (is_within k) (map (read_to id to) l.admitted) (λ x inside.
-          let one = in_unmap (read_to id to) x l.admitted inside in
-          subst (λ y. is_within k y ≡ true) one.2 (fits one.0 (all_at (is_within l) one.0 l.admitted m.within one.1) (id_eq (one.0).id id) refl));
+            let one = in_unmap (read_to id to) x l.admitted inside in
+            subst (λ y. is_within k y ≡ true) one.2 (fits one.0 (all_at (is_within l) one.0 l.admitted m.within one.1) (id_eq (one.0).id id) refl));
         waiting = all_append (λ (r : Row). is_admitted k r.id) l.waiting rows
-          (all_weaker (λ (r : Row). is_admitted l r.id) (λ (r : Row). is_admitted k r.id) l.waiting (λ r inside h. adm r.id ∙ h) m.waiting)
-          (all_from (λ (r : Row). is_admitted k r.id) rows (λ r inside. adm r.id ∙ ap (is_admitted l) (rows_of w load.message [] (load_positions load.message from to) (λ x g. absurd g) r inside ∙ name)
+            (all_weaker (λ (r : Row). is_admitted l r.id) (λ (r : Row). is_admitted k r.id) l.waiting (λ r inside h. adm r.id ∙ h) m.waiting)
+            (all_from (λ (r : Row). is_admitted k r.id) rows (λ r inside. adm r.id ∙ ap (is_admitted l) (rows_of w load.message [] (load_positions load.message from to) (λ x g. absurd g) r inside ∙ name)
             ∙ (let mine = find_in (λ (x : Admitted). id_eq x.id id) load.row l.admitted load.found in any_from (λ (x : Admitted). id_eq x.id id) load.row l.admitted mine.0 mine.1)));
         flights = all_weaker (λ (f : Delivery). is_admitted l f.row.id) (λ (f : Delivery). is_admitted k f.row.id) l.flights (λ f inside h. adm f.row.id ∙ h) m.flights;
         unsettled = all_weaker (λ (u : Unsettled). is_admitted l u.id) (λ (u : Unsettled). is_admitted k u.id) l.unsettled (λ u inside h. adm u.id ∙ h) m.unsettled;
@@ -173,16 +167,16 @@ load_ready w l id from to sites c load =
         begun = begun_noted l e m.begun;
         single = lines_joined id rows 0 l.lines m.single;
         fresh = λ i t some gone. account_kept l e i t (record { admit = refl; start = refl; charge = refl })
-          (m.fresh i t (not_zero (unread_of k i) (unread_of l i) (less_unread w l id from to rows sites e load i) some) (was_gone id rows l.lines i t gone));
+            (m.fresh i t (not_zero (unread_of k i) (unread_of l i) (less_unread w l id from to rows sites e load i) some) (was_gone id rows l.lines i t gone));
         synced = all_weaker (is_synced_well l) (is_synced_well k) l.synced (λ i inside h.
-          ap (λ (is : List Id). not (list_any (id_eq i) is) || option_map_or (λ x. is_clean x && has_none (unmarked_logged x)) (message_of l.book i) true) (filter_same (λ x. not (is_admitted k x)) (λ x. not (is_admitted l x)) (λ x. ap not (adm x)) (ids_at is_active l.book)) ∙ h) m.synced;
+            ap (λ (is : List Id). not (list_any (id_eq i) is) || option_map_or (λ x. is_clean x && has_none (unmarked_logged x)) (message_of l.book i) true) (filter_same (λ x. not (is_admitted k x)) (λ x. not (is_admitted l x)) (λ x. ap not (adm x)) (ids_at is_active l.book)) ∙ h) m.synced;
         messages = (let n = length-map l.admitted (read_to id to) in omega (arith, n, m.messages));
         recipients = (
-          let n : row_lengths (l.waiting ++ rows) ≡ row_lengths l.waiting + row_lengths rows = sum_by-append (λ (r : Row). length r.positions) l.waiting rows in
-          let j : row_lengths rows ≡ 0 + length (load_positions load.message from to) = rows_length w load.message [] (load_positions load.message from to) in
-          let few : length (load_positions load.message from to) ≤ w.settings.recipient_limit - in_memory l = load.end.few in
-          let fits : in_memory l ≤ w.settings.recipient_limit = m.recipients in
-          omega (arith, n, j, few, fits));
+            let n : row_lengths (l.waiting ++ rows) ≡ row_lengths l.waiting + row_lengths rows = sum_by-append (λ (r : Row). length r.positions) l.waiting rows in
+            let j : row_lengths rows ≡ 0 + length (load_positions load.message from to) = rows_length w load.message [] (load_positions load.message from to) in
+            let few : length (load_positions load.message from to) ≤ w.settings.recipient_limit - in_memory l = load.end.few in
+            let fits : in_memory l ≤ w.settings.recipient_limit = m.recipients in
+            omega (arith, n, j, few, fits));
       };
     }
   where

@@ -1,10 +1,8 @@
 -- How often positions stand in rows that wait, deliveries in flight and unsettled outcomes, as rows are taken and added.
-use Rattle.std.proofs.Common.{◌≡◌, ℕ, zero, suc, ◌+◌, ◌≤◌, Bool, true, false, cond, not, List, [], ◌∷◌, ◌++◌, map, length, filter, sum_by, Option, Some, None, option_map, ◌⊎◌, inl, inr, refl, sym, ap, ◌∙◌, subst, arith, if◌then◌else◌}
-use Rattle.std.proofs.lemmas.Bool.{or_cases}
-use Rattle.std.proofs.lemmas.Grind.{flat_map-append}
-use Rattle.std.proofs.lemmas.List.Sums.{sum_by-append, sum_by-cons}
-use Rattle.std.specs.List.{cons_option, list_all, list_any}
-use Rattle.std.specs.Prelude.{◌==◌, ◌||◌}
+use Rattle.std.proofs.Common.{◌≡◌, ℕ, suc, ◌+◌, ◌≤◌, Bool, true, false, cond, List, [], ◌∷◌, ◌++◌, length, filter, sum_by, Option, Some, None, option_map, inl, inr, refl, sym, ap, ◌∙◌, subst, arith, if◌then◌else◌}
+use Rattle.std.proofs.lemmas.List.Sums.{sum_by-cons}
+use Rattle.std.specs.List.{cons_option, list_any}
+use Rattle.std.specs.Prelude.{◌||◌}
 use Rattle.q_laws.proofs.Counts.{times, times_append}
 use Rattle.q_laws.proofs.Distinct.{id_same}
 use Rattle.q_laws.proofs.Members.{IsIn, in_left, in_right}
@@ -62,17 +60,17 @@ take_one p r rs false e drops rest =
       inside = inr t.inside;
       passes = t.passes;
       count = λ id q.
-        let s = times_append q (row_positions id r) (waiting_positions id rs) in
-        let u = times_append q (row_positions id r) (waiting_positions id (drop_first p rs)) in
-        let v = t.count id q in
-        let d : times q (waiting_positions id (drop_first p (r ∷ rs))) ≡ times q (row_positions id r ++ waiting_positions id (drop_first p rs)) = ap (λ xs. times q (waiting_positions id xs)) drops in
-        omega (arith, s, u, v, d);
+          let s = times_append q (row_positions id r) (waiting_positions id rs) in
+          let u = times_append q (row_positions id r) (waiting_positions id (drop_first p rs)) in
+          let v = t.count id q in
+          let d : times q (waiting_positions id (drop_first p (r ∷ rs))) ≡ times q (row_positions id r ++ waiting_positions id (drop_first p rs)) = ap (λ xs. times q (waiting_positions id xs)) drops in
+          omega (arith, s, u, v, d);
       lengths =
-        let s = lengths_more r rs in
-        let u = lengths_more r (drop_first p rs) in
-        let v = t.lengths in
-        let d : row_lengths (drop_first p (r ∷ rs)) ≡ row_lengths (r ∷ drop_first p rs) = ap row_lengths drops in
-        omega (arith, s, u, v, d);
+          let s = lengths_more r rs in
+          let u = lengths_more r (drop_first p rs) in
+          let v = t.lengths in
+          let d : row_lengths (drop_first p (r ∷ rs)) ≡ row_lengths (r ∷ drop_first p rs) = ap row_lengths drops in
+          omega (arith, s, u, v, d);
     }
 
 taken_here : (p : Row → Bool) (r : Row) (rs : List Row) → (p r || list_any p rs) ≡ true → (b : Bool) → p r ≡ b → b ≡ false → list_any p rs ≡ true

@@ -1,5 +1,5 @@
 -- Recipients move between those that wait, those in flight and those that are unsettled.
-use Rattle.std.proofs.Common.{◌≡◌, ℕ, zero, suc, ◌+◌, ◌≤◌, Bool, true, false, not, List, [], ◌∷◌, ◌++◌, map, length, Option, Some, None, ◌⊎◌, inl, inr, refl, sym, ap, ◌∙◌, subst, arith, if◌then◌else◌, le_trans, length-append}
+use Rattle.std.proofs.Common.{◌≡◌, ℕ, ◌+◌, ◌≤◌, true, false, List, [], ◌∷◌, ◌++◌, map, length, Some, refl, sym, ap, ◌∙◌, arith, if◌then◌else◌, le_trans, length-append}
 use Rattle.std.specs.List.{list_all, list_any}
 use Rattle.std.specs.Prelude.{◌==◌, nat_le, nat_lt, slice_get}
 use Rattle.std.proofs.lemmas.Grind.{flat_map-append}
@@ -7,11 +7,11 @@ use Rattle.q_laws.proofs.Books.{message_in}
 use Rattle.q_laws.proofs.Counts.{all_fewer, once_fewer, times, times_append}
 use Rattle.q_laws.proofs.Members.{IsIn, all_append, all_at, all_from, in_right}
 use Rattle.q_laws.proofs.Places.{got_in}
-use Rattle.q_laws.proofs.Quiet.{IsQuiet, LeavesAccount, account_kept, begun_noted, book_noted}
+use Rattle.q_laws.proofs.Quiet.{IsQuiet, LeavesAccount, account_kept, book_noted}
 use Rattle.q_laws.proofs.RowCounts.{flight_lengths, needs_count, needs_length, needs_owner, row_lengths, unsettled_held}
-use Rattle.q_laws.proofs.Settled.{IsMemoryReady, IsReady}
+use Rattle.q_laws.proofs.Settled.{IsReady}
 use Rattle.q_laws.proofs.Unmarked.{none_logged}
-use Rattle.q_laws.specs.Consistency.{IsConsistent, IsHeld, are_once, flight_positions, held_positions, is_synced_well, logged_of, unsettled_positions, waiting_positions}
+use Rattle.q_laws.specs.Consistency.{IsConsistent, IsHeld, are_once, flight_positions, held_positions, logged_of, unsettled_positions, waiting_positions}
 use Rattle.q_model.specs.Book.{message_of}
 use Rattle.q_model.specs.Ids.{id_eq}
 use Rattle.q_model.specs.Ledger.{Ledger}
@@ -78,7 +78,7 @@ held_less w l ws fs sv ss e x ps os id q h =
     let a = times_append q (waiting_positions id ws ++ flight_positions id fs) (unsettled_positions id (l.unsettled ++ needs)) in
     let b = times_append q (waiting_positions id ws) (flight_positions id fs) in
     let d : times q (unsettled_positions id (l.unsettled ++ needs)) ≡ times q (unsettled_positions id l.unsettled) + times q (unsettled_positions id needs) =
-      ap (times q) (flat_map-append (λ (u : Unsettled). if id_eq u.id id then u.position ∷ [] else []) l.unsettled needs) ∙ times_append q (unsettled_positions id l.unsettled) (unsettled_positions id needs) in
+    ap (times q) (flat_map-append (λ (u : Unsettled). if id_eq u.id id then u.position ∷ [] else []) l.unsettled needs) ∙ times_append q (unsettled_positions id l.unsettled) (unsettled_positions id needs) in
     let f = times_append q (waiting_positions id l.waiting ++ flight_positions id l.flights) (unsettled_positions id l.unsettled) in
     let g = times_append q (waiting_positions id l.waiting) (flight_positions id l.flights) in
     let n = needs_count w l.now x ps os id q (id_eq x.id id) refl in
@@ -101,7 +101,7 @@ outcomes_held w l ws fs sv ss e x ps os less a m name h =
       once = once_fewer (held_positions l a.id) (held_positions k a.id) fewer h.once;
       unmarked = bare;
       logged = first_joined m l.unsettled (needs_of w l.now x ps os) h.logged (λ u inside s. all_at (is_unmarked_at m) u.position (held_positions k a.id) bare
-        (in_right u.position (waiting_positions a.id ws ++ flight_positions a.id fs) (unsettled_positions a.id (l.unsettled ++ needs_of w l.now x ps os)) (unsettled_held a.id u (l.unsettled ++ needs_of w l.now x ps os) inside (s ∙ name))));
+          (in_right u.position (waiting_positions a.id ws ++ flight_positions a.id fs) (unsettled_positions a.id (l.unsettled ++ needs_of w l.now x ps os)) (unsettled_held a.id u (l.unsettled ++ needs_of w l.now x ps os) inside (s ∙ name))));
     }
 
 -- rows that leave become outcomes of their message
@@ -113,7 +113,7 @@ pub outcomes_ready : (w : World) (l : Ledger) (ws : List Row) (fs : List Deliver
 outcomes_ready w l ws fs sv ss e x ps os c quiet adm waiting flights numbers begun less lengths =
     rows_ready w l ws fs (l.unsettled ++ needs_of w l.now x ps os) sv ss e c waiting flights
     (all_append (λ (u : Unsettled). is_admitted l u.id) l.unsettled (needs_of w l.now x ps os) c.memory.unsettled
-      (all_from (λ (u : Unsettled). is_admitted l u.id) (needs_of w l.now x ps os) (λ u inside. ap (is_admitted l) (needs_owner w l.now x ps os u inside) ∙ adm)))
+    (all_from (λ (u : Unsettled). is_admitted l u.id) (needs_of w l.now x ps os) (λ u inside. ap (is_admitted l) (needs_owner w l.now x ps os u inside) ∙ adm)))
     (λ a m here there. outcomes_held w l ws fs sv ss e x ps os less a m (message_in l.book a.id m there).1 (c.memory.held a m here there))
     numbers begun (λ id t some gone. quiet id t)
     (let n = needs_length w l.now x ps os in let j = length-append l.unsettled (needs_of w l.now x ps os) in omega (arith, n, j, lengths))

@@ -1,17 +1,19 @@
 -- The entries of a run, and what holds after each of them.
-use Rattle.std.proofs.Common.{◌≡◌, ℕ, zero, suc, ◌^◌, ◌≤◌, Bool, true, false, List, [], ◌∷◌, ◌++◌, Option, Some, None, ◌⊎◌, inl, inr, refl, sym, ap, ◌∙◌, subst, arith, if◌then◌else◌}
+use Rattle.std.proofs.Common.{◌≡◌, ℕ, zero, suc, ◌^◌, Bool, true, false, List, [], ◌∷◌, ◌++◌, Option, Some, None, inl, inr, refl, sym, ◌∙◌, subst, arith, if◌then◌else◌}
 use Rattle.std.proofs.lemmas.Bool.{and_from, and_parts}
-use Rattle.std.specs.Prelude.{◌&&◌, ◌+◌}
-use Rattle.q_laws.proofs.Begins.{life_consistent}
+use Rattle.std.specs.Prelude.{◌+◌}
+use Rattle.q_laws.proofs.Beginnings.{life_consistent}
 use Rattle.q_laws.proofs.Kept.{entry_consistent}
-use Rattle.q_laws.proofs.Lawful.{entry_lawful}
+use Rattle.q_laws.proofs.Lawful.{entry_lawful, life_lawful}
 use Rattle.q_laws.specs.Consistency.{IsConsistent, IsUsable}
-use Rattle.q_laws.specs.Traces.{AreAllowed, AreEntriesOf, IsEntryOf, IsWithinLimits, is_outside}
+use Rattle.q_laws.specs.Traces.{AreAllowed, AreEntriesOf, IsWithinLimits, is_outside}
 use Rattle.q_model.specs.Book.{Book}
 use Rattle.q_model.specs.FilesStand.{all_ids, are_distinct}
 use Rattle.q_model.specs.Ledger.{Ledger, opening}
 use Rattle.q_model.specs.Next.{next}
 use Rattle.q_model.specs.Orderly.{is_lawful, is_orderly}
+use Rattle.std.specs.List.{list_all}
+use Rattle.q_model.specs.SpoolFiles.{is_corrupt}
 use Rattle.q_model.specs.Run.{decide, decisions, entry_of, event_entry, goes_on, run, run_of, turn}
 use Rattle.q_model.specs.Settings.{World}
 use Rattle.q_model.specs.Step.{after, after_all, allowed}
@@ -116,3 +118,33 @@ same_first x y xs ys h = cc
 runs_on : (w : World) (mode : Mode) (book : Book) (items : List Item) → AreAllowed w (opening mode book) (Begin ∷ items) → AreEntriesOf w (opening mode book) (run_of w mode book items)
 unfolding run_of
 runs_on w mode book items h = run_entries w (opening mode book) (Begin ∷ items) h
+
+-- of a run on a book, the entry with which it begins and the others
+begins_with : (w : World) (mode : Mode) (book : Book) (items : List Item) (e : Entry) (es fs : List Entry) → AreAllowed w (opening mode book) (Begin ∷ items) → run_of w mode book items ≡ e ∷ (es ++ fs) →
+    (entries.Life (book.generation + 1) mode ≡ e) × AreEntriesOf w (after w (opening mode book) e) (es ++ fs)
+begins_with w mode book items e es fs h same =
+    let all = subst (AreEntriesOf w (opening mode book)) same (runs_on w mode book items h) in
+    let first = first_entry w mode book items in
+    (same_first (entries.Life (book.generation + 1) mode) e first.0 (es ++ fs) (sym first.1 ∙ same), all.1)
+
+-- at each moment of a run on an orderly book the limits hold
+pub run_limits : (w : World) (mode : Mode) (book : Book) (items : List Item) → IsUsable w → are_distinct (all_ids book) ≡ true → is_orderly book ≡ true → AreAllowed w (opening mode book) (Begin ∷ items) →
+    (es fs : List Entry) → run_of w mode book items ≡ es ++ fs → IsWithinLimits w (after_all w (opening mode book) es)
+unfolding after_all
+run_limits w mode book items usable distinct orderly h [] fs same = record { messages = omega arith; recipients = omega arith }
+run_limits w mode book items usable distinct orderly h (e ∷ es) fs same =
+    let two = begins_with w mode book items e es fs h same in
+    let first : IsConsistent w (after w (opening mode book) e) = subst (λ x. IsConsistent w (after w (opening mode book) x)) two.0 (life_consistent w (opening mode book) mode usable distinct orderly) in
+    limits_of w (after_all w (after w (opening mode book) e) es) (front_consistent w (after w (opening mode book) e) es fs first two.1)
+
+-- at each moment of a run on a lawful book the book is lawful
+pub run_lawful : (w : World) (mode : Mode) (book : Book) (items : List Item) → IsUsable w → are_distinct (all_ids book) ≡ true → is_lawful book ≡ true → AreAllowed w (opening mode book) (Begin ∷ items) →
+    (es fs : List Entry) → run_of w mode book items ≡ es ++ fs → is_lawful (after_all w (opening mode book) es).book ≡ true
+unfolding after_all
+run_lawful w mode book items usable distinct lawful h [] fs same = lawful
+run_lawful w mode book items usable distinct lawful h (e ∷ es) fs same =
+    let two = begins_with w mode book items e es fs h same in
+    let orderly = (and_parts (is_orderly book) (list_all (λ d. is_corrupt d.place) book.damaged) lawful).0 in
+    let first : IsConsistent w (after w (opening mode book) e) = subst (λ x. IsConsistent w (after w (opening mode book) x)) two.0 (life_consistent w (opening mode book) mode usable distinct orderly) in
+    let good : is_lawful (after w (opening mode book) e).book ≡ true = subst (λ x. is_lawful (after w (opening mode book) x).book ≡ true) two.0 (life_lawful w (opening mode book) mode usable distinct lawful) in
+    front_lawful w (after w (opening mode book) e) es fs first good two.1

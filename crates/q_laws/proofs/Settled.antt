@@ -1,15 +1,14 @@
 -- Settling the ledger after an entry: lines lose those who left them, and all else that fits together still does.
-use Rattle.std.proofs.Common.{◌≡◌, ℕ, zero, suc, ◌+◌, Bool, true, false, not, List, [], ◌∷◌, map, filter, Option, Some, None, option_map, length, refl, sym, ap, ◌∙◌, subst, ◌≤◌, ◌⊎◌, inl, inr, arith}
+use Rattle.std.proofs.Common.{◌≡◌, ℕ, zero, suc, ◌+◌, Bool, true, false, not, List, [], ◌∷◌, map, filter, Option, Some, None, length, refl, sym, ap, ◌∙◌, subst, ◌≤◌, arith}
 use Rattle.std.proofs.lemmas.Bool.{and_from, and_parts, not_from_false, or_left}
 use Rattle.std.specs.List.{enumerate_from, list_all, list_any}
 use Rattle.std.specs.Option.{option_map_or}
-use Rattle.std.specs.Prelude.{◌==◌, ◌||◌, ◌&&◌, nat_le, slice_get}
-use Rattle.q_laws.proofs.Distinct.{distinct_filter, gone_listed, listed_in}
+use Rattle.std.specs.Prelude.{◌==◌, ◌&&◌, nat_le, slice_get}
+use Rattle.q_laws.proofs.Distinct.{distinct_filter, gone_listed}
 use Rattle.q_laws.proofs.Members.{IsIn, all_from, in_filter, in_filtered, none_from}
-use Rattle.q_laws.specs.Consistency.{IsBookConsistent, IsConsistent, IsFresh, IsHeld, IsMemoryConsistent, IsUsable, are_once, is_present, is_synced_well, is_within}
+use Rattle.q_laws.specs.Consistency.{IsBookConsistent, IsConsistent, IsFresh, IsHeld, IsUsable, are_once, is_present, is_synced_well, is_within}
 use Rattle.q_model.proofs.IdLaws.{id_eq-true}
-use Rattle.q_model.specs.Accounts.{charged, starts_of}
-use Rattle.q_model.specs.Book.{Book, message_of}
+use Rattle.q_model.specs.Book.{message_of}
 use Rattle.q_model.specs.FilesStand.{are_distinct}
 use Rattle.q_model.specs.Ids.{id_eq}
 use Rattle.q_model.specs.Ledger.{Ledger}

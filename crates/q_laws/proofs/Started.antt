@@ -1,18 +1,17 @@
 -- What fits together still does as a delivery begins.
-use Rattle.std.proofs.Common.{◌≡◌, ℕ, zero, suc, ◌+◌, ◌≤◌, Bool, true, false, cond, not, List, [], ◌∷◌, ◌++◌, map, filter, length, count_by, sum_by, Option, Some, ◌⊎◌, inl, inr, refl, sym, ap, ◌∙◌, subst, arith, if◌then◌else◌, eq-eqb, eqb-true, le_trans, leb-true, le-leb, le_refl}
+use Rattle.std.proofs.Common.{◌≡◌, ℕ, ◌+◌, ◌≤◌, Bool, true, false, cond, not, List, [], ◌∷◌, ◌++◌, map, filter, length, refl, sym, ap, ◌∙◌, subst, arith, if◌then◌else◌, eqb-true, leb-true, le-leb}
 use Rattle.std.proofs.lemmas.Bool.{and_from, and_parts}
 use Rattle.std.proofs.lemmas.Grind.{flat_map-append}
 use Rattle.std.proofs.lemmas.List.Sums.{sum_by-append, sum_by-cons}
 use Rattle.std.specs.List.{list_all, list_any}
-use Rattle.std.specs.Prelude.{◌==◌, ◌&&◌, nat_le, nat_lt, slice_get}
-use Rattle.q_laws.proofs.Books.{message_in}
-use Rattle.q_laws.proofs.Counts.{all_fewer, in_times, once_fewer, once_times, times, times_append, times_none, times_once}
+use Rattle.std.specs.Prelude.{◌==◌, ◌&&◌, nat_le, nat_lt}
+use Rattle.q_laws.proofs.Counts.{all_fewer, once_fewer, once_times, times, times_append, times_none, times_once}
 use Rattle.q_laws.proofs.Decided.{Says}
-use Rattle.q_laws.proofs.Delivered.{IsThisRow, this_row}
+use Rattle.q_laws.proofs.Delivered.{this_row}
 use Rattle.q_laws.proofs.Distinct.{gone_listed}
 use Rattle.q_laws.proofs.Members.{IsIn, all_append, all_at, all_from, any_from, any_in, in_dropped, in_unmap}
-use Rattle.q_laws.proofs.Quiet.{LeavesAccount, begun_noted, starts_grow}
-use Rattle.q_laws.proofs.RowCounts.{IsTaken, flight_lengths, row_lengths, row_positions, taken}
+use Rattle.q_laws.proofs.Quiet.{LeavesAccount, begun_noted}
+use Rattle.q_laws.proofs.RowCounts.{IsTaken, flight_lengths, row_positions, taken}
 use Rattle.q_laws.proofs.Rows.{rows_ready, with_rows}
 use Rattle.q_laws.proofs.Settled.{IsReady, after_consistent}
 use Rattle.q_laws.specs.Consistency.{IsConsistent, IsHeld, are_once, flight_positions, held_positions, unsettled_positions, waiting_positions}
@@ -22,7 +21,7 @@ use Rattle.q_model.specs.Ids.{id_eq}
 use Rattle.q_model.specs.Ledger.{Ledger}
 use Rattle.q_model.specs.Lists.{drop_first}
 use Rattle.q_model.specs.Marking.{is_unmarked_at}
-use Rattle.q_model.specs.Memory.{in_memory, is_admitted}
+use Rattle.q_model.specs.Memory.{is_admitted}
 use Rattle.q_model.specs.Message.{Message}
 use Rattle.q_model.specs.Past.{is_start, starts}
 use Rattle.q_model.specs.Settings.{World}
@@ -90,21 +89,21 @@ started_held l number id site ps sv t a m h =
     let k = with_rows l (drop_first (is_row id site ps) l.waiting) (l.flights ++ new_flight number id site ps ∷ []) l.unsettled sv l.sites (entries.Start number id site ps) in
     let this = this_row id site ps t.row t.passes in
     let fewer : (q : ℕ) → times q (held_positions k a.id) ≤ times q (held_positions l a.id) = λ q.
-      let ws = drop_first (is_row id site ps) l.waiting in
-      let fs = l.flights ++ new_flight number id site ps ∷ [] in
-      let mine : List ℕ = if id_eq id a.id then ps else [] in
-      let u = unsettled_positions a.id l.unsettled in
-      let x = times_append q (waiting_positions a.id ws ++ flight_positions a.id fs) u in
-      let y = times_append q (waiting_positions a.id ws) (flight_positions a.id fs) in
-      let z : times q (flight_positions a.id fs) ≡ times q (flight_positions a.id l.flights) + times q (mine ++ []) =
-        ap (times q) (flat_map-append (λ (f : Delivery). row_positions a.id f.row) l.flights (new_flight number id site ps ∷ [])) ∙ times_append q (flight_positions a.id l.flights) (mine ++ []) in
-      let v : times q (mine ++ []) ≡ times q mine + 0 = times_append q mine [] in
-      let x2 = times_append q (waiting_positions a.id l.waiting ++ flight_positions a.id l.flights) u in
-      let y2 = times_append q (waiting_positions a.id l.waiting) (flight_positions a.id l.flights) in
-      let n = t.count a.id q in
-      let same : times q (row_positions a.id t.row) ≡ times q mine =
-        ap (λ (j : Id). times q (if id_eq j a.id then t.row.positions else [])) this.name ∙ ap (λ (qs : List ℕ). times q (if id_eq id a.id then qs else [])) this.positions in
-      omega (arith, x, y, z, v, x2, y2, n, same) in
+    let ws = drop_first (is_row id site ps) l.waiting in
+    let fs = l.flights ++ new_flight number id site ps ∷ [] in
+    let mine : List ℕ = if id_eq id a.id then ps else [] in
+    let u = unsettled_positions a.id l.unsettled in
+    let x = times_append q (waiting_positions a.id ws ++ flight_positions a.id fs) u in
+    let y = times_append q (waiting_positions a.id ws) (flight_positions a.id fs) in
+    let z : times q (flight_positions a.id fs) ≡ times q (flight_positions a.id l.flights) + times q (mine ++ []) =
+    ap (times q) (flat_map-append (λ (f : Delivery). row_positions a.id f.row) l.flights (new_flight number id site ps ∷ [])) ∙ times_append q (flight_positions a.id l.flights) (mine ++ []) in
+    let v : times q (mine ++ []) ≡ times q mine + 0 = times_append q mine [] in
+    let x2 = times_append q (waiting_positions a.id l.waiting ++ flight_positions a.id l.flights) u in
+    let y2 = times_append q (waiting_positions a.id l.waiting) (flight_positions a.id l.flights) in
+    let n = t.count a.id q in
+    let same : times q (row_positions a.id t.row) ≡ times q mine =
+    ap (λ (j : Id). times q (if id_eq j a.id then t.row.positions else [])) this.name ∙ ap (λ (qs : List ℕ). times q (if id_eq id a.id then qs else [])) this.positions in
+    omega (arith, x, y, z, v, x2, y2, n, same) in
     record {
       read = all_fewer (λ q. nat_lt q a.unread) (held_positions l a.id) (held_positions k a.id) fewer h.read;
       once = once_fewer (held_positions l a.id) (held_positions k a.id) fewer h.once;
@@ -135,13 +134,13 @@ start_ready w l number id site ps sv c may inside =
     (λ a m here there. started_held l number id site ps sv t a m (c.memory.held a m here there))
     (numbers_once l f next c.memory.numbers c.memory.begun)
     (all_append (λ (g : Delivery). nat_le g.number (starts (noted e l))) l.flights (f ∷ []) (begun_noted l e c.memory.begun)
-      (and_from (nat_le number (starts (noted e l))) true (le-leb number (starts (noted e l)) (omega (arith, next, s))) refl))
+    (and_from (nat_le number (starts (noted e l))) true (le-leb number (starts (noted e l)) (omega (arith, next, s))) refl))
     (λ i k some gone. other_account l number id site ps inside i k gone)
     (let n = t.lengths in
-     let m : length t.row.positions ≡ length ps = ap length this.positions in
-     let a : flight_lengths (l.flights ++ f ∷ []) ≡ flight_lengths l.flights + flight_lengths (f ∷ []) = sum_by-append (λ (g : Delivery). length g.row.positions) l.flights (f ∷ []) in
-     let b : flight_lengths (f ∷ []) ≡ length ps + 0 = sum_by-cons (λ (g : Delivery). length g.row.positions) f [] in
-     omega (arith, n, m, a, b))
+    let m : length t.row.positions ≡ length ps = ap length this.positions in
+    let a : flight_lengths (l.flights ++ f ∷ []) ≡ flight_lengths l.flights + flight_lengths (f ∷ []) = sum_by-append (λ (g : Delivery). length g.row.positions) l.flights (f ∷ []) in
+    let b : flight_lengths (f ∷ []) ≡ length ps + 0 = sum_by-cons (λ (g : Delivery). length g.row.positions) f [] in
+    omega (arith, n, m, a, b))
 
 -- a delivery begins
 pub start_consistent : (w : World) (l : Ledger) (number : ℕ) (id : Id) (site : Site) (ps : List ℕ) → IsConsistent w l → may_start w l number id site ps ≡ true → Says l (entries.Start number id site ps) → IsConsistent w (after w l (entries.Start number id site ps))

@@ -1,40 +1,23 @@
 -- What fits together still does as a failure is stored.
-use Rattle.std.proofs.Common.{◌≡◌, ℕ, zero, suc, ◌+◌, ◌≤◌, Bool, true, false, not, List, [], ◌∷◌, ◌++◌, map, drop, length, Option, Some, None, option_map, ◌⊎◌, inl, inr, refl, sym, ap, ◌∙◌, subst, if◌then◌else◌, arith, eq-eqb, eqb-true, le_refl}
-use Rattle.std.proofs.lemmas.Bool.{and_from, and_parts, or_cases, or_right}
-use Rattle.std.specs.List.{list_all, list_any}
-use Rattle.std.specs.Option.{option_map_or}
-use Rattle.std.specs.Prelude.{nat_lt, ◌&&◌, ◌||◌, ◌==◌, slice_get}
-use Rattle.q_laws.proofs.Books.{left_active, message_in}
-use Rattle.q_laws.proofs.Counts.{all_fewer, in_times, once_fewer, once_times, times, times_append, times_in}
-use Rattle.q_laws.proofs.Decided.{Says}
-use Rattle.q_laws.proofs.Distinct.{id_cases, id_eq-sym, id_other, id_same}
-use Rattle.std.proofs.lemmas.List.{length-map}
-use Rattle.q_laws.proofs.Mapped.{find_mapped}
-use Rattle.q_laws.proofs.InPlace.{KeepsShape, admitted_not_left, change_ready, changed, changed_ledger, changed_name, changed_other, changed_same, keeps_active, left_change, well_admitted, well_kept, well_other}
-use Rattle.q_laws.proofs.Places.{got_in, length-numbered}
-use Rattle.q_laws.proofs.Members.{IsIn, all_at, all_from, all_weaker, any_from, any_in, in_left, in_right}
-use Rattle.q_laws.proofs.Messages.{sealed_sync, unmarked_sync, written_sync}
-use Rattle.q_laws.proofs.Settled.{IsReady, after_consistent}
-use Rattle.q_laws.proofs.Unmarked.{bare_logged, bare_mark, bare_not_sealed, bare_sync, firm_more, logged_alone, logged_bare, logged_itself, none_logged, none_more, sealed_more}
-use Rattle.q_laws.specs.Consistency.{are_once, IsConsistent, IsHeld, flight_positions, held_positions, is_present, is_synced_well, logged_of, unsettled_positions, waiting_positions}
-use Rattle.q_model.proofs.IdLaws.{id_eq-refl, id_eq-true}
-use Rattle.q_model.specs.Book.{message_of}
-use Rattle.q_model.specs.BookChanges.{change_message}
-use Rattle.q_model.specs.Finishing.{is_clean}
+use Rattle.std.proofs.Common.{◌≡◌, ℕ, true, false, List, [], ◌∷◌, ◌++◌, length, Some, inl, refl, sym, ap, ◌∙◌, subst, arith}
+use Rattle.std.specs.List.{list_all}
+use Rattle.std.specs.Prelude.{nat_lt, slice_get}
+use Rattle.q_laws.proofs.Books.{message_in}
+use Rattle.q_laws.proofs.Distinct.{id_eq-sym}
+use Rattle.q_laws.proofs.InPlace.{KeepsShape, change_ready, changed, changed_ledger, keeps_active, well_kept}
+use Rattle.q_laws.proofs.Members.{IsIn, all_at}
+use Rattle.q_laws.proofs.Settled.{after_consistent}
+use Rattle.q_laws.proofs.Unmarked.{firm_more, logged_alone, logged_itself, sealed_more}
+use Rattle.q_laws.specs.Consistency.{are_once, IsConsistent, IsHeld, flight_positions, held_positions, logged_of, unsettled_positions, waiting_positions}
 use Rattle.q_model.specs.Ids.{id_eq}
 use Rattle.q_model.specs.Ledger.{Ledger}
-use Rattle.q_model.specs.Leftovers.{is_leftover}
-use Rattle.q_model.specs.Lists.{has_none}
-use Rattle.q_model.specs.Logs.{after_log, first_logged, may_log, needs_log, with_failure}
-use Rattle.q_model.specs.Marking.{after_mark, drop_unsettled, is_unmarked_at, marks_first, marks_leftover, may_mark, needs_mark, with_mark}
-use Rattle.q_model.specs.Memory.{admitted_of, is_admitted}
-use Rattle.q_model.specs.Message.{Message, Recipient, is_logged, unmarked_logged, written_marks}
-use Rattle.q_model.specs.Orderly.{has_firm_failures, is_sealed}
-use Rattle.q_model.specs.Places.{is_active}
+use Rattle.q_model.specs.Logs.{first_logged, may_log, needs_log, with_failure}
+use Rattle.q_model.specs.Marking.{is_unmarked_at, needs_mark}
+use Rattle.q_model.specs.Memory.{is_admitted}
+use Rattle.q_model.specs.Message.{Message, is_logged, unmarked_logged}
+use Rattle.q_model.specs.Orderly.{has_firm_failures}
 use Rattle.q_model.specs.Settings.{World}
-use Rattle.q_model.specs.Step.{after, noted}
-use Rattle.q_model.specs.Syncs.{after_sync, may_sync, sync_all}
-use Rattle.q_model.specs.declared.entry.Entry.{Entry}
+use Rattle.q_model.specs.Step.{after}
 use Rattle.q_model.specs.declared.id.Id.{Id}
 use Rattle.q_model.specs.declared.outcome.Failure.{Failure}
 use Rattle.q_model.specs.declared.rows.Admitted.{Admitted}
@@ -42,9 +25,8 @@ use Rattle.q_model.specs.declared.rows.Need.{Need}
 use Rattle.q_model.specs.declared.rows.Unsettled.{Unsettled}
 use Rattle.q_model.specs.declared.entry.Entry.TheVariants as entries
 use Rattle.q_model.specs.declared.rows.Need.TheVariants as needs
-
 use Rattle.q_laws.proofs.First.{first_on, first_positions, not_logged_yet, other_logged, same_logged}
-use Rattle.q_laws.proofs.Synced.{admitted_active, found_admitted, mine_or_not}
+use Rattle.q_laws.proofs.Synced.{admitted_active, mine_or_not}
 
 log_shape : (f : Failure) → KeepsShape (with_failure f)
 log_shape f = record { name = λ m. refl; place = λ m. refl; count = λ m. refl }
@@ -77,15 +59,15 @@ log_held l id f u rest a m e mine at need name h =
     let bare = ap (list_all (is_unmarked_at m)) same ∙ h.unmarked in
     mine_or_not id (with_failure f) m (λ x. IsHeld k a x)
     (λ it.
-      let there : IsIn u.position (held_positions l a.id) = first_positions u rest l a.id e (mine ∙ sym it ∙ name) in
-      let here : is_unmarked_at m f.position ≡ true = subst (λ p. is_unmarked_at m p ≡ true) at (all_at (is_unmarked_at m) u.position (held_positions l a.id) h.unmarked there) in
-      record {
-        read = reads;
-        once = once;
-        unmarked = bare;
-        logged = logged_alone f m none here ∙ ap (λ p. p ∷ []) (sym at)
+    let there : IsIn u.position (held_positions l a.id) = first_positions u rest l a.id e (mine ∙ sym it ∙ name) in
+    let here : is_unmarked_at m f.position ≡ true = subst (λ p. is_unmarked_at m p ≡ true) at (all_at (is_unmarked_at m) u.position (held_positions l a.id) h.unmarked there) in
+    record {
+      read = reads;
+      once = once;
+      unmarked = bare;
+      logged = logged_alone f m none here ∙ ap (λ p. p ∷ []) (sym at)
           ∙ sym (ap (logged_of (with_failure f m)) first ∙ same_logged (with_failure f m) (record u { need = needs.Mark }) (mine ∙ sym it) refl (ap (is_logged (with_failure f m)) at ∙ logged_itself f m));
-      })
+    })
     (λ other. record {
       read = reads;
       once = once;
@@ -102,9 +84,9 @@ log_consistent w l id f c may =
     let mine = admitted_active w l id c adm in
     after_consistent w l (entries.Log id f)
     (change_ready w l id (with_failure f) (first_logged l.unsettled) l.synced (entries.Log id f) c (log_shape f)
-      (keeps_active l.book id (with_failure f) mine.0 c.book.distinct mine.1.there (log_shape f) mine.1.active (sealed_more f mine.0))
-      (λ x inside firm. mine_or_not id (with_failure f) x (λ y. has_firm_failures y ≡ true) (λ same. firm_more f x firm) (λ other. firm))
-      (λ i t. record { admit = refl; start = refl; charge = refl })
-      (same_owners l l.unsettled c.memory.unsettled) (let n : length (first_logged l.unsettled) ≡ length l.unsettled = same_length l.unsettled in omega (arith, n))
-      (λ a x here there. log_held l id f u one.1 a x one.2 one.3 one.4 one.5 (message_in l.book a.id x there).1 (c.memory.held a x here there))
-      (well_kept l id (with_failure f) (first_logged l.unsettled) l.synced (entries.Log id f) (log_shape f) adm c.memory.synced))
+    (keeps_active l.book id (with_failure f) mine.0 c.book.distinct mine.1.there (log_shape f) mine.1.active (sealed_more f mine.0))
+    (λ x inside firm. mine_or_not id (with_failure f) x (λ y. has_firm_failures y ≡ true) (λ same. firm_more f x firm) (λ other. firm))
+    (λ i t. record { admit = refl; start = refl; charge = refl })
+    (same_owners l l.unsettled c.memory.unsettled) (let n : length (first_logged l.unsettled) ≡ length l.unsettled = same_length l.unsettled in omega (arith, n))
+    (λ a x here there. log_held l id f u one.1 a x one.2 one.3 one.4 one.5 (message_in l.book a.id x there).1 (c.memory.held a x here there))
+    (well_kept l id (with_failure f) (first_logged l.unsettled) l.synced (entries.Log id f) (log_shape f) adm c.memory.synced))

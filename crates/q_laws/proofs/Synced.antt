@@ -1,22 +1,21 @@
 -- What fits together still does as the marks of a message are synced.
-use Rattle.std.proofs.Common.{◌≡◌, ℕ, zero, suc, ◌+◌, ◌≤◌, Bool, true, false, not, List, [], ◌∷◌, ◌++◌, map, drop, length, Option, Some, None, option_map, ◌⊎◌, inl, inr, refl, sym, ap, ◌∙◌, subst, if◌then◌else◌, arith, eq-eqb, eqb-true, le_refl}
-use Rattle.std.proofs.lemmas.Bool.{and_from, and_parts, or_cases, or_right}
-use Rattle.std.specs.List.{list_all, list_any}
+use Rattle.std.proofs.Common.{◌≡◌, Bool, true, false, not, List, [], ◌∷◌, length, Option, Some, None, option_map, inl, inr, refl, sym, ap, ◌∙◌, subst, if◌then◌else◌, le_refl}
+use Rattle.std.proofs.lemmas.Bool.{and_from, and_parts, or_right}
+use Rattle.std.specs.List.{list_all}
 use Rattle.std.specs.Option.{option_map_or}
-use Rattle.std.specs.Prelude.{◌&&◌, ◌||◌, ◌==◌, slice_get}
-use Rattle.q_laws.proofs.Books.{left_active, message_in}
-use Rattle.q_laws.proofs.Counts.{all_fewer, in_times, once_fewer, once_times, times, times_append, times_in}
+use Rattle.std.specs.Prelude.{◌&&◌, ◌||◌}
+use Rattle.q_laws.proofs.Books.{message_in}
 use Rattle.q_laws.proofs.Decided.{Says}
-use Rattle.q_laws.proofs.Distinct.{find_named, id_cases, id_eq-sym, id_other, id_same}
+use Rattle.q_laws.proofs.Distinct.{find_named, id_cases, id_same}
 use Rattle.std.proofs.lemmas.List.{length-map}
 use Rattle.q_laws.proofs.Mapped.{find_mapped}
-use Rattle.q_laws.proofs.InPlace.{KeepsShape, admitted_not_left, change_ready, changed, changed_ledger, changed_name, changed_other, changed_same, keeps_active, left_change, well_admitted, well_kept, well_other}
-use Rattle.q_laws.proofs.Members.{IsIn, all_at, all_from, all_weaker, any_from, any_in, in_left, in_right}
+use Rattle.q_laws.proofs.InPlace.{KeepsShape, admitted_not_left, change_ready, changed, changed_ledger, changed_name, changed_other, changed_same, keeps_active, well_kept, well_other}
+use Rattle.q_laws.proofs.Members.{all_at, all_weaker, any_in}
 use Rattle.q_laws.proofs.Messages.{sealed_sync, unmarked_sync, written_sync}
 use Rattle.q_laws.proofs.Settled.{IsReady, after_consistent}
-use Rattle.q_laws.proofs.Unmarked.{bare_logged, bare_mark, bare_not_sealed, bare_sync, firm_more, logged_alone, logged_bare, logged_itself, none_logged, none_more, sealed_more}
-use Rattle.q_laws.specs.Consistency.{IsConsistent, IsHeld, flight_positions, held_positions, is_present, is_synced_well, logged_of, unsettled_positions, waiting_positions}
-use Rattle.q_model.proofs.IdLaws.{id_eq-refl, id_eq-true}
+use Rattle.q_laws.proofs.Unmarked.{bare_sync}
+use Rattle.q_laws.specs.Consistency.{IsConsistent, IsHeld, held_positions, is_present, is_synced_well}
+use Rattle.q_model.proofs.IdLaws.{id_eq-true}
 use Rattle.q_model.specs.Book.{message_of}
 use Rattle.q_model.specs.BookChanges.{change_message}
 use Rattle.q_model.specs.Finishing.{is_clean}
@@ -24,23 +23,19 @@ use Rattle.q_model.specs.Ids.{id_eq}
 use Rattle.q_model.specs.Ledger.{Ledger}
 use Rattle.q_model.specs.Leftovers.{is_leftover}
 use Rattle.q_model.specs.Lists.{has_none}
-use Rattle.q_model.specs.Logs.{after_log, first_logged, may_log, needs_log, with_failure}
-use Rattle.q_model.specs.Marking.{after_mark, drop_unsettled, is_unmarked_at, marks_first, marks_leftover, may_mark, needs_mark, with_mark}
+use Rattle.q_model.specs.Marking.{is_unmarked_at}
 use Rattle.q_model.specs.Memory.{admitted_of, is_admitted}
-use Rattle.q_model.specs.Message.{Message, Recipient, is_logged, unmarked_logged, written_marks}
-use Rattle.q_model.specs.Orderly.{has_firm_failures, is_sealed}
+use Rattle.q_model.specs.Message.{Message, unmarked_logged, written_marks}
+use Rattle.q_model.specs.Orderly.{has_firm_failures}
 use Rattle.q_model.specs.Places.{is_active}
 use Rattle.q_model.specs.Settings.{World}
 use Rattle.q_model.specs.Step.{after, noted}
 use Rattle.q_model.specs.Syncs.{after_sync, may_sync, sync_all}
 use Rattle.q_model.specs.declared.entry.Entry.{Entry}
 use Rattle.q_model.specs.declared.id.Id.{Id}
-use Rattle.q_model.specs.declared.outcome.Failure.{Failure}
 use Rattle.q_model.specs.declared.rows.Admitted.{Admitted}
-use Rattle.q_model.specs.declared.rows.Need.{Need}
 use Rattle.q_model.specs.declared.rows.Unsettled.{Unsettled}
 use Rattle.q_model.specs.declared.entry.Entry.TheVariants as entries
-use Rattle.q_model.specs.declared.rows.Need.TheVariants as needs
 
 -- ---- the message that an entry is of
 

@@ -1,16 +1,15 @@
 -- Which positions have no mark, and which of these are logged, as a message changes.
-use Rattle.std.proofs.Common.{◌≡◌, ℕ, zero, suc, ◌+◌, Bool, true, false, not, List, [], ◌∷◌, ◌++◌, map, Option, Some, None, option_map, ◌⊎◌, inl, inr, refl, sym, ap, ◌∙◌, subst, if◌then◌else◌, arith, length, eq-eqb, eqb-true}
+use Rattle.std.proofs.Common.{◌≡◌, ℕ, Bool, true, false, not, List, [], ◌∷◌, ◌++◌, Option, Some, None, option_map, inl, inr, refl, sym, ap, ◌∙◌, subst, if◌then◌else◌, arith, eq-eqb, eqb-true}
 use Rattle.std.proofs.lemmas.Bool.{and_from, and_parts, or_cases, or_left, or_parts, or_right, not-true, not_from_false}
-use Rattle.std.specs.List.{enumerate_from, list_all, list_any}
+use Rattle.std.specs.List.{list_all, list_any}
 use Rattle.std.specs.Option.{option_map_or}
 use Rattle.std.specs.Prelude.{◌&&◌, ◌||◌, ◌==◌, slice_get}
-use Rattle.q_laws.proofs.Distinct.{id_cases}
 use Rattle.q_model.proofs.IdLaws.{id_eq-true}
-use Rattle.q_laws.proofs.Members.{IsIn, all_at, all_from, any_from, any_in, in_left, in_right, in_either}
-use Rattle.q_laws.proofs.Places.{IsPlaceOf, got_in, got_mapped, got_numbered, in_got, is_place, none_in, none_of, nothing_in, only_place, place_is}
+use Rattle.q_laws.proofs.Members.{IsIn, all_at, all_from, in_either}
+use Rattle.q_laws.proofs.Places.{got_in, got_mapped, got_numbered, in_got, is_place, none_in, nothing_in, only_place, place_is}
 use Rattle.q_laws.specs.Consistency.{logged_of}
 use Rattle.q_model.specs.Finishing.{is_done}
-use Rattle.q_model.specs.Lists.{has_none, places_from}
+use Rattle.q_model.specs.Lists.{has_none}
 use Rattle.q_model.specs.Logs.{with_failure}
 use Rattle.q_model.specs.Marking.{is_unmarked_at, mark_one, needs_mark, with_mark}
 use Rattle.q_model.specs.Marks.{is_marked, is_written, sync_mark}
@@ -187,8 +186,8 @@ done_sealed m done firm =
     let one = and_parts (has_none (pending m)) (has_none (unmarked_logged m)) two.0 in
     and_from (list_all (λ (r : Recipient). is_marked r.mark && not (is_written r.mark)) m.recipients) (has_firm_failures m)
     (all_from (λ (r : Recipient). is_marked r.mark && not (is_written r.mark)) m.recipients (λ r there.
-      let at = in_got r m.recipients there in
-      sealed_mark r.mark (marked one.0 one.1 r at.0 at.1 (is_marked r.mark) refl (is_logged m at.0) refl) (unwritten two.1 r at.0 at.1 (is_written r.mark) refl))) firm
+    let at = in_got r m.recipients there in
+    sealed_mark r.mark (marked one.0 one.1 r at.0 at.1 (is_marked r.mark) refl (is_logged m at.0) refl) (unwritten two.1 r at.0 at.1 (is_written r.mark) refl))) firm
   where
     marked : has_none (pending m) ≡ true → has_none (unmarked_logged m) ≡ true → (r : Recipient) (i : ℕ) → slice_get m.recipients i ≡ Some r → (b : Bool) → is_marked r.mark ≡ b → (c : Bool) → is_logged m i ≡ c → b ≡ true
     marked none half r i there true e c k = refl
@@ -196,6 +195,7 @@ done_sealed m done firm =
         absurd (none_in i (pending m) none (is_place 0 (λ j (x : Recipient). not (is_marked x.mark || is_logged m j)) m.recipients i i r (omega arith) there (ap (λ z. not (z || is_logged m i)) e ∙ ap not k)))
     marked none half r i there false e true k =
         absurd (none_in i (unmarked_logged m) half (is_place 0 (λ j (x : Recipient). not (is_marked x.mark) && is_logged m j) m.recipients i i r (omega arith) there (ap (λ z. not z && is_logged m i) e ∙ k)))
+
     unwritten : has_none (written_marks m) ≡ true → (r : Recipient) (i : ℕ) → slice_get m.recipients i ≡ Some r → (b : Bool) → is_written r.mark ≡ b → b ≡ false
     unwritten none r i there false e = refl
     unwritten none r i there true e = absurd (none_in i (written_marks m) none (is_place 0 (λ j (x : Recipient). is_written x.mark) m.recipients i i r (omega arith) there e))

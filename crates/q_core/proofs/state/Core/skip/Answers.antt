@@ -2,8 +2,7 @@ use Rattle.std.proofs.Common.{◌≡◌, ◌∙◌, sym, subst, Some}
 use Rattle.q_model.specs.Step.{after}
 use Rattle.q_model.specs.declared.entry.Entry.TheVariants as entries
 use Rattle.q_model.specs.declared.rows.Row.{Row}
-use Rattle.q_core.proofs.DecidedLaws.{rule_first}
-use Rattle.q_core.proofs.SkipLaws.{skip_law}
+use Rattle.q_core.proofs.SkipLaws.{rule_first, skip_law}
 use Rattle.q_core.specs.Agrees.{Matches}
 use Rattle.q_core.proofs.state.Core.skip.Goals as goal
 

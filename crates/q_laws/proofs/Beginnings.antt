@@ -1,12 +1,12 @@
 -- A life begins on each orderly book, and nothing is in memory.
-use Rattle.std.proofs.Common.{◌≡◌, ℕ, zero, suc, ◌+◌, ◌≤◌, ◌<◌, Bool, true, false, List, [], ◌∷◌, ◌++◌, map, length, replicate, refl, sym, ap, ◌∙◌, subst, arith, leb-true, lt-ltb}
-use Rattle.std.proofs.lemmas.Bool.{and_from, and_parts, or_left, or_right}
-use Rattle.std.specs.List.{enumerate_from, list_all, list_any}
+use Rattle.std.proofs.Common.{◌≡◌, ℕ, zero, suc, ◌+◌, ◌≤◌, Bool, true, false, [], map, length, replicate, refl, ap, ◌∙◌, subst, arith, leb-true, lt-ltb}
+use Rattle.std.proofs.lemmas.Bool.{and_from, and_parts, or_left}
+use Rattle.std.specs.List.{list_all}
 use Rattle.std.specs.Prelude.{◌&&◌, ◌||◌, nat_le, nat_lt}
 use Rattle.q_laws.proofs.Mapped.{KeepsOrder, all_ids_mapped, mapped, orderly_mapped}
 use Rattle.q_laws.proofs.Members.{all_from, all_weaker, in_unmap}
 use Rattle.q_laws.proofs.Messages.{firm_is, sealed_firm, settled_firm}
-use Rattle.q_laws.proofs.Settled.{IsMemoryReady, IsReady, after_consistent}
+use Rattle.q_laws.proofs.Settled.{IsReady, after_consistent}
 use Rattle.q_laws.specs.Consistency.{IsBookConsistent, IsConsistent, IsUsable, has_come}
 use Rattle.q_model.specs.Book.{Book}
 use Rattle.q_model.specs.FilesStand.{all_ids, are_distinct}
