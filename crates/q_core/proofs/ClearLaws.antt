@@ -49,8 +49,7 @@ marked_left : {w : World} {l : Ledger} → IsConsistent w l → (id : Id) (posit
 marked_left {l = l} k id position h =
     let test : Message → Bool = λ m. is_logged m position && is_unmarked_at m position in
     let parts = and_true_parts (is_leftover l id) (option_map_or test (message_of l.book id) false) h in
-    let m = some_message test (message_of l.book id) parts.1 in
-    (
+    let m = some_message test (message_of l.book id) parts.1 in (
       m.0,
       record {
         there = m.1;

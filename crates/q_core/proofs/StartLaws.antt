@@ -60,7 +60,7 @@ same_for h id t r = ap (λ b. id_eq r.id id && (r.site.transport == t) && b) (sa
 same_can_start : {w : World} {c : Core} {l : Ledger} → Holds w c l → (t : ℕ) (id : Id) → can_start_in c t id ≡ can_start w l t id
 same_can_start {w = w} {c = c} {l = l} h t id = ap (list_any (rows_for c id t)) h.waiting ∙ list_any-same (rows_for c id t) (rows_of w l id t) (same_for h id t) l.waiting
 
-same_rest : {w : World} {c : Core} {l : Ledger} → Holds w c l → (t : ℕ) (id : Id) → rest_in c t id ≡ rest l id t
+pub same_rest : {w : World} {c : Core} {l : Ledger} → Holds w c l → (t : ℕ) (id : Id) → rest_in c t id ≡ rest l id t
 same_rest {c = c} {l = l} h t id =
     ap (λ (rs : List Row). count_by (λ r. id_eq r.id id && (r.site.transport == t)) rs + unread_in c id) h.waiting
     ∙ ap (λ n. count_by (λ r. id_eq r.id id && (r.site.transport == t)) l.waiting + n) (same_unread h id)

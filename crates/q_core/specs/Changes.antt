@@ -1,10 +1,11 @@
 -- How the core changes.
 use Rattle.std.specs.List.{enumerate_from}
 use Rattle.std.specs.Option.{option_map_or}
-use Rattle.std.specs.Prelude.{◌+◌, ◌≡◌, ◌∷◌, Bool, List, false, if◌then◌else◌, is_none, map, nat_le, None, Option, Some, true, ◌||◌, ℕ}
+use Rattle.std.specs.Prelude.{◌+◌, ◌≡◌, ◌∷◌, Bool, filter, List, false, if◌then◌else◌, is_none, map, nat_le, None, not, Option, Some, true, ◌||◌, ℕ}
 use Rattle.q_model.specs.declared.id.Id.{Id}
 use Rattle.q_model.specs.declared.rows.Request.{Request}
 use Rattle.q_model.specs.declared.rows.Unsettled.{Unsettled}
+use Rattle.q_model.specs.Ids.{id_eq}
 use Rattle.q_model.specs.Scans.{joined_request, new_scan}
 use Rattle.q_model.specs.Values.{Site}
 use Rattle.q_model.specs.declared.rows.Request.TheVariants as requests
@@ -12,7 +13,7 @@ use Rattle.q_core.specs.Destinations.{forget_in, is_left_in, revive_dead_in, rev
 use Rattle.q_core.specs.Files.{is_nothing}
 use Rattle.q_core.specs.Lists.{moved_back}
 use Rattle.q_core.specs.Settled.{settled_line, settled_served}
-use Rattle.q_core.specs.Slots.{changed_at}
+use Rattle.q_core.specs.Slots.{changed_at, with_bounce}
 use Rattle.q_core.specs.declared.slot.Slot.{Slot}
 use Rattle.q_core.specs.declared.decision.Found.{Found}
 use Rattle.q_core.specs.declared.state.Core.{Core}
@@ -100,3 +101,22 @@ pub record IsAsBefore (old new : Core) : Type 0 where
 pub record IsNoted (old new : Core) (id : Id) : Type 0 where
   pub rest : new ≡ record old { synced = new.synced; active = Unknown }
   pub synced : new.synced.items ≡ id ∷ old.synced.items
+
+-- the slots of all others
+abbrev pub slots_without : Id → List Slot → List Slot
+slots_without id slots = filter (λ s. not (id_eq s.id id)) slots
+
+-- the slot of this id is gone, and deferred is to be looked at anew
+pub record IsPutOff (old new : Core) (id : Id) : Type 0 where
+  pub rest : new ≡ record old { admitted = new.admitted; deferred = Unknown }
+  pub admitted : new.admitted.items ≡ slots_without id old.admitted.items
+
+-- the slot of this id is gone, and incoming is to be looked at anew
+pub record IsTakenOut (old new : Core) (id : Id) : Type 0 where
+  pub rest : new ≡ record old { admitted = new.admitted; incoming = Unknown }
+  pub admitted : new.admitted.items ≡ slots_without id old.admitted.items
+
+-- the bounce of this message is stored, and incoming is to be looked at anew
+pub record IsBounced (old new : Core) (id : Id) : Type 0 where
+  pub rest : new ≡ record old { admitted = new.admitted; incoming = Unknown }
+  pub admitted : new.admitted.items ≡ map (changed_at id with_bounce) old.admitted.items

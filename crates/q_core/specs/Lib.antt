@@ -16,3 +16,6 @@ pub mod Settled
 pub mod Needs
 pub mod Leaving
 pub mod Changes
+pub mod Taking
+pub mod Beginning
+pub mod Hearing

@@ -25,3 +25,7 @@ abbrev pub with_mark : Slot → Slot
 with_mark s =
     let marks = if nat_lt s.marks s.recipients then s.marks + 1 else s.marks in
     if s.logged then record s { marks = marks; logged = false } else record s { marks = marks; pending = s.pending - 1 }
+
+-- with its bounce stored
+abbrev pub with_bounce : Slot → Slot
+with_bounce s = record s { bounced = true }

@@ -64,10 +64,10 @@ not_later g n h = elim (or_cases (nat_lt g g) (nat_le (n + 1) n) h) [
 arrivals_more : (l : Ledger) (id : Id) (sender : Option (List ℕ)) (to : List (List ℕ)) (content : List ℕ) → arrivals (noted (entries.Arrive id sender to content) l) ≡ 1 + arrivals l
 arrivals_more l id sender to content = sum_by-cons (λ (e : Entry). if is_arrive e then 1 else 0) (entries.Arrive id sender to content) l.past
 
-abbrev new_message : Ledger → Option (List ℕ) → List (List ℕ) → List ℕ → Message
+abbrev pub new_message : Ledger → Option (List ℕ) → List (List ℕ) → List ℕ → Message
 new_message l sender to content = arrived l (next_id l) sender to content
 
-new_addable : (l : Ledger) (sender : Option (List ℕ)) (to : List (List ℕ)) (content : List ℕ) → IsBookConsistent l → IsAddable l.book (new_message l sender to content)
+pub new_addable : (l : Ledger) (sender : Option (List ℕ)) (to : List (List ℕ)) (content : List ℕ) → IsBookConsistent l → IsAddable l.book (new_message l sender to content)
 new_addable l sender to content h = record {
   new = λ inside. not_later l.book.generation (arrivals l) (all_at (has_come l) (next_id l) (all_ids l.book) h.come inside);
   generation = le-leb l.book.generation l.book.generation (le_refl l.book.generation);
@@ -108,7 +108,7 @@ stands_true b id m h = ap (λ (o : Option Message). is_some o || is_some (damage
 paired_there : (a b s o : Bool) → a ≡ true → b ≡ true → (not a || not b || (s && o)) ≡ true → s ≡ true
 paired_there a b s o ea eb h = (and_parts s o (sym (ap (λ x. not x || not b || (s && o)) ea ∙ ap (λ x. not x || (s && o)) eb) ∙ h)).0
 
-bounce_addable : (l : Ledger) (m : Message) → IsBookConsistent l → message_of l.book m.id ≡ Some m → is_active m.place ≡ true → is_done m ≡ true → m.id.bounce ≡ false → has_bounce l m.id ≡ false → IsAddable l.book (bounce_message l.now m)
+pub bounce_addable : (l : Ledger) (m : Message) → IsBookConsistent l → message_of l.book m.id ≡ Some m → is_active m.place ≡ true → is_done m ≡ true → m.id.bounce ≡ false → has_bounce l m.id ≡ false → IsAddable l.book (bounce_message l.now m)
 bounce_addable l m h there active done alone unsaid =
     let b = l.book in
     let inside = (message_in b m.id m there).0 in

@@ -1,6 +1,6 @@
 -- The messages of a book whose ids are distinct, and those that an earlier life left in active.
 use Rattle.std.proofs.Common.{◌≡◌, Bool, true, not, List, map, filter, Some, ◌⊎◌, inl, inr, sym, ◌∙◌, subst}
-use Rattle.q_laws.proofs.Distinct.{distinct_parts, find_named, in_listed, listed_in, same_named}
+use Rattle.q_laws.proofs.Distinct.{distinct_parts, in_listed, listed_in, same_named}
 use Rattle.q_laws.proofs.Members.{IsIn, find_in, in_either, in_filter, in_filtered, in_left, in_map, in_right, in_unmap}
 use Rattle.q_model.proofs.IdLaws.{id_eq-true}
 use Rattle.q_model.specs.Book.{Book, Damaged, ids_at, message_of}
@@ -23,9 +23,6 @@ damaged_names b = map (λ (d : Damaged). d.id) b.damaged
 
 pub message_in : (b : Book) (id : Id) (m : Message) → message_of b id ≡ Some m → IsIn m b.messages × (m.id ≡ id)
 message_in b id m h = let one = find_in (λ (x : Message). id_eq x.id id) m b.messages h in (one.0, id_eq-true m.id id one.1)
-
-pub message_found : (b : Book) → are_distinct (all_ids b) ≡ true → (m : Message) → IsIn m b.messages → message_of b m.id ≡ Some m
-message_found b h m there = find_named (λ (x : Message). x.id) m b.messages (distinct_parts (message_names b) (damaged_names b) h).0 there
 
 pub only_message : (b : Book) → are_distinct (all_ids b) ≡ true → (m x : Message) → IsIn m b.messages → IsIn x b.messages → m.id ≡ x.id → m ≡ x
 only_message b h m x there here e = same_named (λ (y : Message). y.id) m x b.messages (distinct_parts (message_names b) (damaged_names b) h).0 there here e

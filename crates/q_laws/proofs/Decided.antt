@@ -50,7 +50,7 @@ Says l _ = Unit {0}
 abbrev pub Decided : World → Ledger → Entry → Type 0
 Decided w l e = (may w l e ≡ true) × Says l e
 
--- ---- N1
+-- ---- the first unsettled outcome
 
 same_why : (why : Why) → why_eq why why ≡ true
 same_why Refused = refl
@@ -71,11 +71,11 @@ pub settling_decided : (w : World) (l : Ledger) (e : Entry) (us : List Unsettled
 settling_decided w l e [] same h = absurd cc
 settling_decided w l e (u ∷ us) same h = subst (Decided w l) (same_Some (needed u.id u.position u.need) e h) (need_decided w l u.id u.position u.need us same)
 
-pub settling_none : (l : Ledger) (us : List Unsettled) → option_map (λ (u : Unsettled). needed u.id u.position u.need) (slice_get us 0) ≡ None → us ≡ []
-settling_none l [] h = refl
-settling_none l (u ∷ us) h = absurd cc
+pub settling_none : (us : List Unsettled) → option_map (λ (u : Unsettled). needed u.id u.position u.need) (slice_get us 0) ≡ None → us ≡ []
+settling_none [] h = refl
+settling_none (u ∷ us) h = absurd cc
 
--- ---- N2
+-- ---- marks to sync
 
 more_than_none : {A : Type 0} (xs : List A) → 0 < length xs → not (has_none xs) ≡ true
 more_than_none [] h = absurd (omega (arith, h))
@@ -104,7 +104,7 @@ sync_decided w l e (Some a) c f h =
       inl (any_from (λ (x : Admitted). id_eq x.id a.id) a l.admitted one.0 (id_eq-refl a.id)),
     )
 
--- ---- N3
+-- ---- a row at a dead site
 
 pub row_is : (r : Row) → is_row r.id r.site r.positions r ≡ true
 row_is r = rw (id_eq-refl r.id, site_eq-refl r.site, (bytes_eq-Decides r.positions r.positions).1 refl) refl
@@ -116,7 +116,7 @@ skip_decided w l e (Some r) f h =
     subst (Decided w l) (same_Some (entries.Skip r.id r.site r.positions) e h)
     (and_from (list_any (is_row r.id r.site r.positions) l.waiting) (is_dead_site l r.site) (any_from (is_row r.id r.site r.positions) r l.waiting one.0 (row_is r)) one.1, tt)
 
--- ---- N4
+-- ---- an idle message
 
 -- what is taken of some choices is one of them, and its test passes
 pub chosen : {A : Type 0} (choices : List (Bool × A)) (x : A) → first_of choices ≡ Some x → (c : Bool × A) × IsIn c choices × (c.0 ≡ true) × (c.1 ≡ x)

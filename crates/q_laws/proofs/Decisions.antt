@@ -43,7 +43,7 @@ use Rattle.q_model.specs.declared.rows.Admitted.{Admitted}
 use Rattle.q_model.specs.declared.rows.Row.{Row}
 use Rattle.q_model.specs.declared.entry.Entry.TheVariants as entries
 
--- ---- N5
+-- ---- what an earlier life left
 
 marked_apart : (a b : Bool) → (not a && b) ≡ true → (b && not a) ≡ true
 marked_apart true b h = absurd cc
@@ -112,7 +112,7 @@ leftover_decided : (w : World) (l : Ledger) (e : Entry) (o : Option Id) → IsCo
 leftover_decided w l e None c none f h = absurd cc
 leftover_decided w l e (Some id) c none f h = left_decided w l id e (message_of l.book id) c none (in_listed id (leftovers l) (least_in id_before id (leftovers l) f)) refl h
 
--- ---- N6
+-- ---- what is taken next
 
 picked_one : (w : World) (l : Ledger) (id : Id) (c : Bool × Entry) → IsIn c ((may_admit w l id, entries.Admit id) ∷ (may_corrupt w l id, entries.Corrupt id) ∷ []) → c.0 ≡ true → Decided w l c.1
 picked_one w l id c (inl e) h = subst (λ (x : Bool × Entry). x.0 ≡ true → Decided w l x.1) e (λ k. (k, tt)) h
@@ -130,7 +130,7 @@ admission_decided : (w : World) (l : Ledger) (e : Entry) (b : Bool) →
 admission_decided w l e true h = picked w l e (pick l) h
 admission_decided w l e false h = absurd cc
 
--- ---- N7
+-- ---- a load
 
 same_number : (n : ℕ) → (n == n) ≡ true
 same_number n = eq-eqb n n refl
@@ -152,7 +152,7 @@ load_decided w l e (Some a) c f h =
     let one = find_in (may_read w l) a l.admitted f in
     load_on w l a e (message_of l.book a.id) refl (find_named (λ (x : Admitted). x.id) a l.admitted c.memory.admitted one.0) one.1 h
 
--- ---- N8
+-- ---- a transport's choice
 
 first_given : {A B : Type 0} (f : A → Option B) (x : B) (y : A) (ys : List A) (o : Option B) → f y ≡ o → (slice_get (filter_map f ys) 0 ≡ Some x → (z : A) × (f z ≡ Some x)) → slice_get (cons_option o (filter_map f ys)) 0 ≡ Some x → (z : A) × (f z ≡ Some x)
 first_given f x y ys None e later h = later h
@@ -204,7 +204,7 @@ rules_decided : (w : World) (l : Ledger) (e : Entry) → IsConsistent w l → fi
 rules_decided w l e c h =
     elim (either (settling_rule l) _ e h) [
       | inl r ↦ settling_decided w l e l.unsettled refl r
-      | inr a ↦ let none : l.unsettled ≡ [] = settling_none l l.unsettled a.0 in elim (either (sync_rule w l) _ e a.1) [
+      | inr a ↦ let none : l.unsettled ≡ [] = settling_none l.unsettled a.0 in elim (either (sync_rule w l) _ e a.1) [
         | inl r ↦ sync_decided w l e _ c refl r
         | inr b ↦ elim (either (skip_rule l) _ e b.1) [
           | inl r ↦ skip_decided w l e _ refl r

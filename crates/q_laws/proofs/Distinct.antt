@@ -71,9 +71,6 @@ distinct_join (x ∷ xs) ys h k apart =
       | inr there ↦ apart x (inl refl) there
     ]) (distinct_join xs ys two.1 k (λ id g. apart id (inr g)))
 
-pub distinct_one : (id : Id) → are_distinct (id ∷ []) ≡ true
-distinct_one id = refl
-
 filtered_one : (id : Id) (few : List Id) (b : Bool) → (IsIn id few → ⊥) → are_distinct few ≡ true → are_distinct (cond b (id ∷ few) few) ≡ true
 filtered_one id few true h k = distinct_cons id few h k
 filtered_one id few false h k = k

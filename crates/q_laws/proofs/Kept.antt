@@ -80,7 +80,8 @@ outside_says w l (entries.Corrupt id) h = tt
 outside_says w l (entries.Trigger kind) h = tt
 outside_says w l entries.End h = tt
 
-may_be : (w : World) (l : Ledger) (e : Entry) → allowed w l e ≡ true → may w l e ≡ true
+-- what is allowed may be, by its kind
+pub may_be : (w : World) (l : Ledger) (e : Entry) → allowed w l e ≡ true → may w l e ≡ true
 unfolding allowed
 may_be w l e h = (and_parts (is_living l || (is_life e && not (has_entries l))) (may w l e) h).1
 

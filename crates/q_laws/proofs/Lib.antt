@@ -37,6 +37,6 @@ pub mod Entering
 pub mod Kept
 pub mod Lawful
 pub mod Runs
-pub mod Apart
+pub mod SiteLists
+pub mod Sites
 pub mod Destinations
-pub mod DestinationEntries

@@ -9,6 +9,7 @@ use Rattle.std.specs.Prelude.{◌==◌, ◌&&◌, ◌||◌, nat_le, nat_lt}
 use Rattle.q_laws.proofs.Batched.{IsEnd, end_is, rows_count, taken_once, taken_up}
 use Rattle.q_laws.proofs.Counts.{all_fewer, in_times, once_fewer, once_times, times, times_append, times_in, times_none, times_once}
 use Rattle.q_laws.proofs.Distinct.{id_same}
+use Rattle.q_laws.proofs.Mapped.{found_step}
 use Rattle.q_laws.proofs.Members.{IsIn, all_at, all_from, find_in}
 use Rattle.q_laws.specs.Consistency.{IsConsistent, IsHeld, flight_positions, held_positions, is_within, unsettled_positions, waiting_positions}
 use Rattle.q_model.proofs.IdLaws.{id_eq-true}
@@ -57,10 +58,6 @@ names_read id to (a ∷ xs) = ap (λ (i : Id). i ∷ map (λ (x : Admitted). x.i
 pub any_read : (id i : Id) (to : ℕ) (xs : List Admitted) → list_any (λ (a : Admitted). id_eq a.id i) (map (read_to id to) xs) ≡ list_any (λ (a : Admitted). id_eq a.id i) xs
 any_read id i to [] = refl
 any_read id i to (a ∷ xs) = ap (λ (j : Id). id_eq j i || list_any (λ (x : Admitted). id_eq x.id i) (map (read_to id to) xs)) (read_name id to a) ∙ ap (λ b. id_eq a.id i || b) (any_read id i to xs)
-
-found_step : (f : Admitted → Admitted) (b : Bool) (a : Admitted) (o : Option Admitted) → cond b (Some (f a)) (option_map f o) ≡ option_map f (cond b (Some a) o)
-found_step f true a o = refl
-found_step f false a o = refl
 
 pub find_read : (id i : Id) (to : ℕ) (xs : List Admitted) → find (λ (a : Admitted). id_eq a.id i) (map (read_to id to) xs) ≡ option_map (read_to id to) (find (λ (a : Admitted). id_eq a.id i) xs)
 find_read id i to [] = refl

@@ -28,7 +28,7 @@ pub record KeepsOrder (b : Book) (f : Message → Message) : Type 0 where
 
 -- ---- what is found
 
-found_step : {X Y : Type 0} (f : X → Y) (b : Bool) (x : X) (o : Option X) → cond b (Some (f x)) (option_map f o) ≡ option_map f (cond b (Some x) o)
+pub found_step : {X Y : Type 0} (f : X → Y) (b : Bool) (x : X) (o : Option X) → cond b (Some (f x)) (option_map f o) ≡ option_map f (cond b (Some x) o)
 found_step f true x o = refl
 found_step f false x o = refl
 

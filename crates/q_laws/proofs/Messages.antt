@@ -44,7 +44,7 @@ sealed_firm m h =
 
 -- ---- marks that become sure
 
-synced_marked : (k : Mark) → is_marked (sync_mark k) ≡ is_marked k
+pub synced_marked : (k : Mark) → is_marked (sync_mark k) ≡ is_marked k
 synced_marked marks.Unmarked = refl
 synced_marked marks.Written = refl
 synced_marked marks.Synced = refl
@@ -72,13 +72,6 @@ written_sync m =
     places_mapped (λ i (r : Recipient). is_written r.mark) synced_one 0 m.recipients
     ∙ places_same (λ i (r : Recipient). is_written (sync_mark r.mark)) (λ i (r : Recipient). false) (λ i r. synced_written r.mark) 0 m.recipients
     ∙ no_places 0 m.recipients
-
-pub settled_sync : (m : Message) → is_settled m ≡ true → is_settled (sync_all m) ≡ true
-settled_sync m h =
-    let two = and_parts (has_none (unmarked_logged m) && has_none (written_marks m)) (has_firm_failures m) h in
-    let one = and_parts (has_none (unmarked_logged m)) (has_none (written_marks m)) two.0 in
-    and_from (has_none (unmarked_logged (sync_all m)) && has_none (written_marks (sync_all m))) (has_firm_failures m)
-    (and_from (has_none (unmarked_logged (sync_all m))) (has_none (written_marks (sync_all m))) (ap has_none (unmarked_sync m) ∙ one.0) (ap has_none (written_sync m))) two.1
 
 sealed_one : (k : Mark) → (is_marked k && not (is_written k)) ≡ true → (is_marked (sync_mark k) && not (is_written (sync_mark k))) ≡ true
 sealed_one marks.Unmarked h = h

@@ -100,12 +100,13 @@ run_entries w l (item ∷ items) h = entries_append w l (turn w l item) (run w (
 limits_of : (w : World) (l : Ledger) → IsConsistent w l → IsWithinLimits w l
 limits_of w l c = record { messages = c.memory.messages; recipients = c.memory.recipients }
 
+-- at each moment of a run that goes on from a consistent ledger the ledger is consistent
+pub run_consistent : (w : World) (l : Ledger) (items : List Item) → IsConsistent w l → AreAllowed w l items → (es fs : List Entry) → run w l items ≡ es ++ fs → IsConsistent w (after_all w l es)
+run_consistent w l items c h es fs e = front_consistent w l es fs c (subst (AreEntriesOf w l) e (run_entries w l items h))
+
 -- at each moment of a run that goes on from a consistent ledger the limits hold
 pub limits_hold : (w : World) (l : Ledger) (items : List Item) → IsConsistent w l → AreAllowed w l items → (es fs : List Entry) → run w l items ≡ es ++ fs → IsWithinLimits w (after_all w l es)
-limits_hold w l items c h es fs e = limits_of w (after_all w l es) (front_consistent w l es fs c (subst (AreEntriesOf w l) e (run_entries w l items h)))
-
-abbrev begun : World → Mode → Book → Ledger
-begun w mode book = after w (opening mode book) (entries.Life (book.generation + 1) mode)
+limits_hold w l items c h es fs e = limits_of w (after_all w l es) (run_consistent w l items c h es fs e)
 
 -- the first entry of a run on a book
 first_entry : (w : World) (mode : Mode) (book : Book) (items : List Item) → (rest : List Entry) × (run_of w mode book items ≡ entries.Life (book.generation + 1) mode ∷ rest)

@@ -6,6 +6,7 @@ use Rattle.std.specs.Option.{option_map_or}
 use Rattle.std.specs.Prelude.{◌&&◌, ◌||◌, ◌==◌, slice_get}
 use Rattle.q_model.proofs.IdLaws.{id_eq-true}
 use Rattle.q_laws.proofs.Members.{IsIn, all_at, all_from, in_either}
+use Rattle.q_laws.proofs.Messages.{synced_marked}
 use Rattle.q_laws.proofs.Places.{got_in, got_mapped, got_numbered, in_got, is_place, none_in, nothing_in, only_place, place_is}
 use Rattle.q_laws.specs.Consistency.{logged_of}
 use Rattle.q_model.specs.Finishing.{is_done}
@@ -67,14 +68,9 @@ none_logged m (Some u) none h = which (id_eq u.id m.id && needs_mark u.need && i
 
 -- ---- a sync
 
-synced_bare : (k : Mark) → is_marked (sync_mark k) ≡ is_marked k
-synced_bare marks.Unmarked = refl
-synced_bare marks.Written = refl
-synced_bare marks.Synced = refl
-
 bare_mapped : (o : Option Recipient) → option_map_or (λ (r : Recipient). not (is_marked r.mark)) (option_map (λ (r : Recipient). record r { mark = sync_mark r.mark }) o) false ≡ option_map_or (λ (r : Recipient). not (is_marked r.mark)) o false
 bare_mapped None = refl
-bare_mapped (Some r) = ap not (synced_bare r.mark)
+bare_mapped (Some r) = ap not (synced_marked r.mark)
 
 pub bare_sync : (m : Message) (p : ℕ) → is_unmarked_at (sync_all m) p ≡ is_unmarked_at m p
 bare_sync m p = ap (λ o. option_map_or (λ (r : Recipient). not (is_marked r.mark)) o false) (got_mapped (λ (r : Recipient). record r { mark = sync_mark r.mark }) m.recipients p) ∙ bare_mapped (slice_get m.recipients p)

@@ -2,7 +2,7 @@
 //! function with nothing to do.
 #![tactic(auto)]
 
-ghost use Rattle.std.specs.Prelude.{◌+◌, ◌++◌, ◌≡◌, ◌∷◌, List, Some, true};
+ghost use Rattle.std.specs.Prelude.{◌+◌, ◌++◌, ◌≡◌, ◌∷◌, List, Some, true, ℕ};
 ghost use Rattle.q_laws.specs.Consistency.{IsBookConsistent, IsConsistent, IsUsable};
 ghost use Rattle.q_laws.specs.SitesConsistency.{IsOpen, IsSitesConsistent};
 ghost use Rattle.q_laws.specs.Traces.{AreAllowed, IsEntryOf, IsWithinLimits};
@@ -15,7 +15,7 @@ ghost use Rattle.q_model.specs.Ledger.{Ledger, opening};
 ghost use Rattle.q_model.specs.Next.{next};
 ghost use Rattle.q_model.specs.Orderly.{is_lawful, is_orderly};
 ghost use Rattle.q_model.specs.Past.{is_living};
-ghost use Rattle.q_model.specs.Run.{run_of};
+ghost use Rattle.q_model.specs.Run.{run, run_of};
 ghost use Rattle.q_model.specs.Settings.{World};
 ghost use Rattle.q_model.specs.Step.{after, after_all, allowed};
 ghost use Rattle.q_model.specs.declared.entry.Entry.TheVariants as entries;
@@ -42,9 +42,25 @@ pub fn stays_consistent()
     ensures { (w : World) → (l : Ledger) → (e : Entry) → IsConsistent w l → IsEntryOf w l e → IsConsistent w (after w l e) }
 {}
 
-/// Such an entry keeps a lawful book lawful.
+/// After each entry of a run from a consistent ledger the ledger is consistent.
+pub fn runs_stay_consistent()
+    ensures { (w : World) → (l : Ledger) → (list : List Item) → IsConsistent w l → AreAllowed w l list → (es : List Entry) → (fs : List Entry) → run w l list ≡ es ++ fs → IsConsistent w (after_all w l es) }
+{}
+
+/// Such an entry of a consistent ledger keeps a lawful book lawful.
 pub fn stays_lawful()
     ensures { (w : World) → (l : Ledger) → (e : Entry) → IsConsistent w l → IsEntryOf w l e → is_lawful l.book ≡ true → is_lawful (after w l e).book ≡ true }
+{}
+
+/// A life begins with nothing known of destinations, which is consistent where the settings let
+/// windows be open.
+pub fn destinations_begin()
+    ensures { (w : World) → (l : Ledger) → (generation : ℕ) → (mode : Mode) → IsOpen w → IsSitesConsistent w (after w l (entries.Life generation mode)) }
+{}
+
+/// Each entry of a consistent ledger keeps what fits together of its destinations.
+pub fn destinations_stay_consistent()
+    ensures { (w : World) → (l : Ledger) → (e : Entry) → IsConsistent w l → IsSitesConsistent w l → IsEntryOf w l e → IsSitesConsistent w (after w l e) }
 {}
 
 /// After each entry of a run on a lawful book the book is lawful.
@@ -56,15 +72,4 @@ pub fn runs_stay_lawful()
 /// within their limits.
 pub fn stays_within_limits()
     ensures { (w : World) → (mode : Mode) → (book : Book) → (list : List Item) → IsUsable w → are_distinct (all_ids book) ≡ true → is_orderly book ≡ true → AreAllowed w (opening mode book) (items.Begin ∷ list) → (es : List Entry) → (fs : List Entry) → run_of w mode book list ≡ es ++ fs → IsWithinLimits w (after_all w (opening mode book) es) }
-{}
-
-/// A life begins with no destination known.
-pub fn destinations_begin()
-    ensures { (w : World) → (mode : Mode) → (book : Book) → IsOpen w → IsSitesConsistent w (after w (opening mode book) (entries.Life (book.generation + 1) mode)) }
-{}
-
-/// Such an entry keeps one record for each destination, its window open and within the limit, and
-/// no more deliveries to it than that limit.
-pub fn destinations_stay()
-    ensures { (w : World) → (l : Ledger) → (e : Entry) → IsConsistent w l → IsSitesConsistent w l → IsEntryOf w l e → IsSitesConsistent w (after w l e) }
 {}

@@ -48,4 +48,3 @@ returns c = λ w book settings count k s.
       synced = c.new-8.ensures.items;
     }) in
     record { matches = matches; consistent = k; destinations = s }
-
