@@ -1,7 +1,7 @@
 -- A row whose site is dead is put off.
-use Rattle.std.proofs.Common.{◌≡◌, ℕ, ◌+◌, ◌-◌, ◌≤◌, Bool, true, List, ◌++◌, length, length-append, refl, sym, ap, ◌∙◌, subst, arith, Option, Some, None, option_map, sum_by, replicate, IsTrue}
+use Rattle.std.proofs.Common.{◌≡◌, ℕ, ◌+◌, ◌-◌, ◌≤◌, Bool, true, List, ◌++◌, length, length-append, refl, sym, ap, ◌∙◌, subst, arith, Option, Some, sum_by, replicate, IsTrue}
 use Rattle.std.specs.List.{remove}
-use Rattle.std.specs.Prelude.{◌&&◌, ◌==◌, find, not, option_and_then, position, slice_get}
+use Rattle.std.specs.Prelude.{◌&&◌, ◌==◌, find, not, position, slice_get}
 use Rattle.q_core.proofs.DroppedLaws.{drop_first-narrow, found_first, is_row-same, is_row-true, list_any-drop_first, other_site, sum_by-drop_first}
 use Rattle.q_core.proofs.ListLaws.{drop_first-Some, find-all, find-any, find-passes}
 use Rattle.q_core.proofs.NeedsLaws.{needs_few}
@@ -14,8 +14,6 @@ use Rattle.q_core.specs.Changes.{IsLeft, IsSettled, is_looked_at}
 use Rattle.q_core.specs.Destinations.{busy_in}
 use Rattle.q_core.specs.Held.{is_dead_in}
 use Rattle.q_core.specs.Leaving.{IsFirstDead, IsUnqueued, put_off_in}
-use Rattle.q_core.specs.Rules.{next_skip_in, skip_at, skip_of}
-use Rattle.q_core.specs.declared.decision.Decision.TheVariants as decisions
 use Rattle.q_core.specs.declared.state.Core.{Core}
 use Rattle.q_model.proofs.IdLaws.{site_eq-refl}
 use Rattle.q_model.specs.Book.{message_of}
@@ -31,25 +29,12 @@ use Rattle.q_model.specs.Starts.{is_row}
 use Rattle.q_model.specs.Step.{noted, settled}
 use Rattle.q_model.specs.Values.{Site}
 use Rattle.q_model.specs.declared.entry.Entry.{Entry}
-use Rattle.q_model.specs.declared.id.Id.{Id}
 use Rattle.q_model.specs.declared.entry.Entry.TheVariants as entries
 use Rattle.q_model.specs.declared.outcome.Outcome.{Outcome}
 use Rattle.q_model.specs.declared.outcome.Outcome.TheVariants as outcomes
 use Rattle.q_model.specs.declared.rows.Delivery.{Delivery}
 use Rattle.q_model.specs.declared.rows.Row.{Row}
 use Rattle.q_model.specs.declared.rows.Unsettled.{Unsettled}
-
-row_place : (id : Id) (site : Site) (n entry : ℕ) (o : Option Row) → option_map (skip_of n) o ≡ Some (decisions.Skip id site entry) → n ≡ entry
-row_place id site n entry None h = cc
-row_place id site n entry (Some r) h = cc
-
-first_place : (c : Core) (id : Id) (site : Site) (entry : ℕ) (o : Option ℕ) → option_and_then (skip_at c) o ≡ Some (decisions.Skip id site entry) → o ≡ Some entry
-first_place c id site entry None h = cc
-first_place c id site entry (Some n) h = ap (λ k. Some k) (row_place id site n entry (slice_get c.waiting.items n) h)
-
--- the rule names the first row at a dead site
-pub rule_first : (c : Core) (id : Id) (site : Site) (entry : ℕ) → next_skip_in c ≡ Some (decisions.Skip id site entry) → IsFirstDead c entry
-rule_first c id site entry h = first_place c id site entry (position (λ r. is_dead_in c r.site) c.waiting.items) h
 
 -- the row is the first at a dead site
 first_dead : {w : World} {c : Core} {l : Ledger} {entry : ℕ} → HoldsRaw w c l → (r : Row) → IsFirstDead c entry → slice_get c.waiting.items entry ≡ Some r → find (λ x. is_dead_in c x.site) l.waiting ≡ Some r

@@ -3,13 +3,11 @@ ghost use Rattle.std.specs.Prelude.{◌≡◌, ◌<◌, IfOk, IsTrue, length, Li
 ghost use Rattle.q_core.specs.Agrees.{Agrees, Matches};
 ghost use Rattle.q_core.specs.Changes.{IsAsBefore, is_looked_at};
 ghost use Rattle.q_core.specs.Decisions.{IsRowAt};
-ghost use Rattle.q_core.specs.Leaving.{IsUnqueued, put_off_in};
-ghost use Rattle.q_core.specs.Rules.{next_skip_in};
+ghost use Rattle.q_core.specs.Leaving.{IsFirstDead, IsUnqueued, put_off_in};
 ghost use Rattle.q_model.specs.Ledger.{Ledger};
 ghost use Rattle.q_model.specs.Settings.{World};
 ghost use Rattle.q_model.specs.Step.{after};
 
-use crate::decision::Decision;
 use crate::needs::put_off;
 use crate::state::Core;
 use q_model::{Entry, Id, NoMemory, Row, Site, Unsettled};
@@ -44,7 +42,7 @@ impl Core {
     pub(crate) fn skip(&mut self, alloc: Global, entry: usize) -> Result<(), NoMemory>
         requires within { entry < length self.old.waiting.items }
         requires seen { IsTrue (is_looked_at self.old) }
-        ensures ok { OnOk result ((w : World) → (l : Ledger) → (id : Id) → (site : Site) → (positions : List ℕ) → Agrees w self.old l → next_skip_in self.old ≡ Some (Decision.Skip id site entry) → IsRowAt self.old entry id site positions → Matches w self.new (after w l (Entry.Skip id site positions))) }
+        ensures ok { OnOk result ((w : World) → (l : Ledger) → (id : Id) → (site : Site) → (positions : List ℕ) → Agrees w self.old l → IsFirstDead self.old entry → IsRowAt self.old entry id site positions → Matches w self.new (after w l (Entry.Skip id site positions))) }
         ensures err { OnErr result (IsAsBefore self.old self.new) }
     {
         let row = self.unqueue(alloc, entry)?;
