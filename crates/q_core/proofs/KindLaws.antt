@@ -2,9 +2,10 @@
 use Rattle.std.proofs.Common.{◌≡◌, ℕ, zero, suc, ◌+◌, Bool, true, false, List, [], ◌∷◌, refl, sym, ap, ◌∙◌, subst, Option, Some, None, option_map}
 use Rattle.std.specs.Option.{option_map_or, option_or}
 use Rattle.std.specs.Prelude.{◌&&◌, ◌^◌, find, if◌then◌else◌, nat_lt, not, option_and_then, position, slice_get}
+use Rattle.q_core.specs.Changes.{is_known}
 use Rattle.q_core.specs.Choosing.{behind_jobs, best_in, choice_in, choices_from, choose_in, current_in, jobs_at, next_start_in, preempt_or, rest_in}
 use Rattle.q_core.specs.Deciding.{clearing_on, decide_in, first_rule_in, scan_look_in}
-use Rattle.q_core.specs.Files.{file_wants_bounce, picked, taken_found}
+use Rattle.q_core.specs.Files.{file_wants_bounce, picked, shows_damaged, taken_found}
 use Rattle.q_core.specs.Held.{due_in, finish_in, free_in, is_dead_in, is_idle_in, may_read_in, wants_sync_in}
 use Rattle.q_core.specs.Rules.{admission_in, admission_of, admission_seen, clear_found_in, clear_in, clear_marked, decision_of, first_need_in, has_message_room_in, is_synced_in, needed_in, next_admission_in, next_clearing_in, next_finish_in, next_read_in, next_skip_in, next_sync_in, skip_at, skip_of}
 use Rattle.q_core.specs.Slots.{wants_bounce_in}
@@ -20,6 +21,8 @@ use Rattle.q_core.specs.declared.state.Core.{Core}
 use Rattle.q_core.specs.declared.state.Seen.{Seen}
 use Rattle.q_core.specs.declared.state.Seen.TheVariants.{Known, Unknown}
 use Rattle.q_model.specs.declared.id.Id.{Id}
+use Rattle.q_core.proofs.NameLaws.{id_eq-same}
+use Rattle.q_model.specs.Ids.{id_eq}
 use Rattle.q_model.specs.Values.{Site}
 use Rattle.q_model.specs.declared.outcome.Failure.{Failure}
 use Rattle.q_model.specs.declared.rows.Need.{Need}
@@ -312,3 +315,84 @@ begin_first c d h e =
       none_of is_begin (next_read_in c) (next_start_in c) d (reads_avoid is_begin (λ id from max. refl) c) h k.last,
       or_second is_begin (next_read_in c) (next_start_in c) d (reads_avoid is_begin (λ id from max. refl) c) h k.last,
     )
+
+abbrev pub is_corrupt : Decision → Bool
+is_corrupt (decisions.Corrupt id) = true
+is_corrupt _ = false
+
+corrupt_no_start : IsNoStart is_corrupt
+corrupt_no_start = record { preempt = λ child parent transport need. refl; start = λ number id site. refl }
+
+corrupt_slot : (c : Core) (s : Slot) → Avoids is_corrupt (finish_in c s)
+corrupt_slot c s =
+    let p = is_corrupt in
+    if_avoids p (nat_lt 0 s.marks) None (if nat_lt 0 s.pending then Some (decisions.Defer s.id (due_in c s.arrival)) else (if s.logged then None else (if wants_bounce_in s && not s.bounced then Some (decisions.Bounce s.id) else Some (decisions.Remove s.id)))) tt
+    (if_avoids p (nat_lt 0 s.pending) (Some (decisions.Defer s.id (due_in c s.arrival))) (if s.logged then None else (if wants_bounce_in s && not s.bounced then Some (decisions.Bounce s.id) else Some (decisions.Remove s.id))) refl
+    (if_avoids p s.logged None (if wants_bounce_in s && not s.bounced then Some (decisions.Bounce s.id) else Some (decisions.Remove s.id)) tt
+    (if_avoids p (wants_bounce_in s && not s.bounced) (Some (decisions.Bounce s.id)) (Some (decisions.Remove s.id)) refl refl)))
+
+-- a file goes to corrupt by the fifth rule, or behind it by the sixth
+corrupt_behind : (c : Core) (id : Id) → decide_in c ≡ Some (decisions.Corrupt id) → clearing_on c ≡ Some (decisions.Corrupt id)
+corrupt_behind c id e =
+    let d = decisions.Corrupt id in
+    let p = is_corrupt in
+    let from_finish = option_or (next_finish_in c) (clearing_on c) in
+    let from_skip = option_or (next_skip_in c) from_finish in
+    let from_sync = option_or (next_sync_in c) from_skip in
+    let e0 = timed_first c.timed (option_or (scan_look_in c.deferred c.scan) (first_rule_in c)) d e in
+    let e1 = or_second p (scan_look_in c.deferred c.scan) (first_rule_in c) d (scan_avoids p c.deferred c.scan (λ s. refl)) refl e0 in
+    let e2 = or_second p (first_need_in c) from_sync d (need_avoids p (slice_get c.unsettled.items 0) (λ k f. refl) (λ k n. refl)) refl e1 in
+    let e3 = or_second p (next_sync_in c) from_skip d (slot_avoids p (λ s. decisions.Sync s.id) (find (wants_sync_in c) c.admitted.items) (λ s. refl)) refl e2 in
+    let e4 = or_second p (next_skip_in c) from_finish d (skips_avoid p (λ k site n. refl) c) refl e3 in
+    or_second p (next_finish_in c) (clearing_on c) d (finish_avoids p c (find (λ s. is_idle_in c s.id) c.admitted.items) (corrupt_slot c)) refl e4
+
+-- the looks that an admission rests on were made
+pub incoming_known : (c : Core) (d : Decision) (seen : Seen) (b : Bool) → (d ≡ decisions.LookIncoming → ⊥) → (if not b then None else admission_seen c seen) ≡ Some d → is_known seen ≡ true
+incoming_known c d Unknown true n e = let same : decisions.LookIncoming ≡ d = cc in absurd (n (sym same))
+incoming_known c d (Known found) true n e = refl
+incoming_known c d seen false n e = cc
+
+active_known : (c : Core) (seen : Seen) → next_clearing_in c seen ≡ None → is_known seen ≡ true
+active_known c Unknown e = cc
+active_known c (Known found) e = refl
+
+same_decision : (x y : Decision) → ◌≡◌ {A = Option Decision} (Some x) (Some y) → x ≡ y
+same_decision x y e = cc
+
+cleared_damaged : (c : Core) (id : Id) (f : Found) → clear_found_in c f ≡ Some (decisions.Corrupt id) → shows_damaged (Known f) id ≡ true
+cleared_damaged c id Nothing e = cc
+cleared_damaged c id (Damaged k due true) e = let same : k ≡ id = cc in ap (λ i. id_eq i id) same ∙ id_eq-same id
+cleared_damaged c id (Damaged k due false) e = cc
+cleared_damaged c id (Whole k due f) e =
+    let bad = sym (ap is_corrupt (same_decision (option_map_or (λ position. decisions.Mark k position) f.unmarked (clear_marked (is_synced_in c k) k f)) (decisions.Corrupt id) e))
+        ∙ clear_avoids is_corrupt (is_synced_in c k) k f f.unmarked (λ n. refl) (marked_avoids is_corrupt (is_synced_in c k) (nat_lt 0 f.pending) (file_wants_bounce f k && not f.bounced) (decisions.Sync k) (decisions.Back k) (decisions.Bounce k) (decisions.Remove k) refl refl refl refl) in
+    cc
+
+damaged_shown : (c : Core) (id : Id) (seen : Seen) → next_clearing_in c seen ≡ Some (decisions.Corrupt id) → shows_damaged seen id ≡ true
+damaged_shown c id Unknown e = cc
+damaged_shown c id (Known f) e = cleared_damaged c id f e
+
+-- a file that active didn't show was taken from incoming or deferred
+pub record IsCorruptTaken (c : Core) : Type 0 where
+  pub active : is_known c.active ≡ true
+  pub incoming : is_known c.incoming ≡ true
+
+corrupt_at : (c : Core) (id : Id) (o : Option Decision) → next_clearing_in c c.active ≡ o → option_or o (option_or (next_admission_in c c.incoming) (option_or (next_read_in c) (next_start_in c))) ≡ Some (decisions.Corrupt id) →
+    shows_damaged c.active id ≡ false → IsCorruptTaken c
+corrupt_at c id (Some x) e h hidden = let same : x ≡ decisions.Corrupt id = cc in let bad : true ≡ false = sym (damaged_shown c id c.active (e ∙ h)) ∙ hidden in cc
+corrupt_at c id None e h hidden =
+    let p = is_corrupt in
+    let taken = or_first p (next_admission_in c c.incoming) (option_or (next_read_in c) (next_start_in c)) (decisions.Corrupt id)
+        (or_avoids p (next_read_in c) (next_start_in c) (reads_avoid p (λ k from max. refl) c) (starts_avoid p corrupt_no_start c)) refl h in
+    record {
+      active = active_known c c.active e;
+      incoming = incoming_known c (decisions.Corrupt id) c.incoming (has_message_room_in c) (λ s. let bad : true ≡ false = ap is_corrupt s in cc) taken;
+    }
+
+pub corrupt_taken_parts : (c : Core) (id : Id) → decide_in c ≡ Some (decisions.Corrupt id) → shows_damaged c.active id ≡ false → IsCorruptTaken c
+corrupt_taken_parts c id e hidden = corrupt_at c id (next_clearing_in c c.active) refl (corrupt_behind c id e) hidden
+
+-- incoming was looked at before an admission
+pub admit_known : (c : Core) (id : Id) → decide_in c ≡ Some (decisions.Admit id) → is_known c.incoming ≡ true
+admit_known c id e =
+    incoming_known c (decisions.Admit id) c.incoming (has_message_room_in c) (λ s. let bad : true ≡ false = ap is_admit s in cc) (admit_first c (decisions.Admit id) refl e)

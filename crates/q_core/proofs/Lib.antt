@@ -15,6 +15,7 @@ pub mod KindLaws
 pub mod TakenLaws
 pub mod BeginningLaws
 pub mod WholeLaws
+pub mod AskLaws
 pub mod LookLaws
 pub mod StepLaws
 pub mod NoteLaws

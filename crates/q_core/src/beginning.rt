@@ -1,4 +1,4 @@
-//! Decisions by which deliveries begin.
+//! Decisions by which messages come into memory and deliveries begin.
 ghost use Rattle.std.specs.Prelude.{◌≡◌, IsTrue, OnErr, OnOk, Some};
 ghost use Rattle.q_core.specs.Agrees.{Agrees};
 ghost use Rattle.q_core.specs.Changes.{IsAsBefore, is_looked_at};
@@ -11,6 +11,16 @@ use crate::state::{Core, Seen};
 use q_model::{Id, NoMemory, Site};
 
 impl Core {
+    pub(crate) fn take_admit(&mut self, id: Id) -> Result<(), NoMemory>
+        requires seen { IsTrue (is_looked_at self.old) }
+        requires decided { decide_in self.old ≡ Some (Decision.Admit id) }
+        ensures ok { OnOk result ((w : World) → (l : Ledger) → Agrees w self.old l → IsTaken w l self.old (Decision.Admit id) self.new) }
+        ensures err { OnErr result (IsAsBefore self.old self.new) }
+    {
+        self.admit()?;
+        Ok(())
+    }
+
     pub(crate) fn take_start(&mut self, number: u64, id: Id, site: Site) -> Result<(), NoMemory>
         requires seen { IsTrue (is_looked_at self.old) }
         requires decided { decide_in self.old ≡ Some (Decision.Start number id site) }

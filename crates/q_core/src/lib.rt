@@ -10,6 +10,7 @@ mod clearing;
 mod clock;
 mod corrupt;
 
+mod deciding;
 mod decision;
 mod destination;
 mod event;

@@ -51,4 +51,17 @@ impl Core {
     {
         self.back();
     }
+
+    /// A damaged file that active has shown is cleared; else the one that is next to be taken goes.
+    pub(crate) fn take_corrupt(&mut self, id: Id)
+        requires seen { IsTrue (is_looked_at self.old) }
+        requires decided { decide_in self.old ≡ Some (Decision.Corrupt id) }
+        ensures { (w : World) → (l : Ledger) → Agrees w self.old l → IsTaken w l self.old (Decision.Corrupt id) self.new }
+    {
+        if self.shows_damaged(id) {
+            self.corrupt_left();
+        } else {
+            self.corrupt_taken();
+        }
+    }
 }
