@@ -1,10 +1,10 @@
 -- The first that passes leaves a list.
-use Rattle.std.proofs.Common.{◌≡◌, ℕ, ◌+◌, Bool, true, false, cond, List, [], ◌∷◌, refl, sym, ap, ◌∙◌, arith, Option, Some, None, inl, inr, sum_by}
+use Rattle.std.proofs.Common.{◌≡◌, ℕ, ◌+◌, Bool, true, false, cond, List, [], ◌∷◌, refl, sym, ap, ◌∙◌, arith, Some, None, inl, inr, sum_by}
 use Rattle.std.proofs.lemmas.List.Sums.{sum_by-cons}
 use Rattle.std.proofs.lemmas.Slice.Eq.{bytes_eq-Decides}
-use Rattle.std.specs.List.{list_any, list_all}
+use Rattle.std.specs.List.{list_any}
 use Rattle.std.specs.Prelude.{◌&&◌, ◌||◌, bytes_eq, find, position, slice_get}
-use Rattle.q_core.proofs.ListLaws.{IsFoundAt, position-find}
+use Rattle.q_core.proofs.ListLaws.{position-find}
 use Rattle.q_core.proofs.NameLaws.{and_true_parts, id_eq-same, id_eq-true}
 use Rattle.q_model.proofs.IdLaws.{site_eq-refl, site_eq-true}
 use Rattle.q_model.specs.Destinations.{site_eq}

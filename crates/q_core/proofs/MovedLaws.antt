@@ -1,9 +1,9 @@
 -- The first element that passes goes to the end of a list.
-use Rattle.std.proofs.Common.{◌≡◌, ℕ, Bool, true, false, cond, List, [], ◌∷◌, ◌++◌, refl, sym, ap, ◌∙◌, subst, Option, Some, None, inl, inr, arith}
+use Rattle.std.proofs.Common.{◌≡◌, ℕ, Bool, true, false, cond, List, [], ◌∷◌, ◌++◌, refl, sym, ap, ◌∙◌, subst, Option, Some, None, inl, inr}
 use Rattle.std.specs.List.{list_any, remove}
 use Rattle.std.specs.Option.{option_map_or}
-use Rattle.std.specs.Prelude.{◌&&◌, ◌||◌, filter, find, not, position, slice_get}
-use Rattle.q_core.proofs.ListLaws.{drop_first-None, drop_first-Some, IsFoundAt, position-find}
+use Rattle.std.specs.Prelude.{◌||◌, filter, find, not, position, slice_get}
+use Rattle.q_core.proofs.ListLaws.{drop_first-Some, position-find}
 use Rattle.q_core.proofs.NameLaws.{and_true_parts}
 use Rattle.q_core.specs.Lists.{moved_back}
 use Rattle.q_laws.specs.SitesConsistency.{are_apart}

@@ -1,7 +1,7 @@
 -- What outcomes need, added one by one, and in the ledger.
-use Rattle.std.proofs.Common.{◌≡◌, ℕ, ◌+◌, ◌≤◌, ◌<◌, Bool, true, false, List, [], ◌∷◌, ◌++◌, length, take, get_or, refl, sym, ap, ◌∙◌, arith, suc, zero, Option, Some, None, option_map}
+use Rattle.std.proofs.Common.{◌≡◌, ℕ, ◌≤◌, ◌<◌, Bool, List, [], ◌∷◌, ◌++◌, length, take, get_or, refl, ap, ◌∙◌, arith, suc, zero, Option, Some, None, option_map}
 use Rattle.std.specs.List.{cons_option}
-use Rattle.std.specs.Prelude.{if◌then◌else◌, slice_get}
+use Rattle.std.specs.Prelude.{slice_get}
 use Rattle.q_core.specs.Needs.{need_at, need_in, needs_in}
 use Rattle.q_model.specs.Message.{Message}
 use Rattle.q_model.specs.Settings.{World}
@@ -9,7 +9,6 @@ use Rattle.q_model.specs.Settling.{need_of, needs_of, unsettled_row}
 use Rattle.q_model.specs.Times.{is_expired}
 use Rattle.q_model.specs.declared.id.Id.{Id}
 use Rattle.q_model.specs.declared.outcome.Outcome.{Outcome}
-use Rattle.q_model.specs.declared.rows.Unsettled.{Unsettled}
 use Rattle.q_model.specs.declared.outcome.Outcome.TheVariants as outcomes
 
 cons_append : {X : Type 0} (o : Option X) (xs ys : List X) → cons_option o (xs ++ ys) ≡ (cons_option o xs ++ ys)

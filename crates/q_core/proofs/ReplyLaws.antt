@@ -1,22 +1,21 @@
 -- A delivery ends.
-use Rattle.std.proofs.Common.{◌≡◌, ℕ, ◌+◌, ◌-◌, ◌≤◌, Bool, true, false, List, [], ◌∷◌, ◌++◌, cond, length, length-append, map, refl, sym, ap, ◌∙◌, subst, arith, zero-add, Option, Some, None, sum_by, IsTrue}
+use Rattle.std.proofs.Common.{◌≡◌, ℕ, ◌+◌, ◌-◌, ◌≤◌, Bool, true, false, List, ◌++◌, cond, length, length-append, map, refl, sym, ap, ◌∙◌, subst, arith, zero-add, Option, Some, None, sum_by, IsTrue}
 use Rattle.std.proofs.lemmas.Bool.{eqb-true}
-use Rattle.std.specs.List.{list_all}
 use Rattle.std.specs.Option.{option_map_or}
-use Rattle.std.specs.Prelude.{◌&&◌, ◌||◌, ◌==◌, count_by, filter, find, not}
+use Rattle.std.specs.Prelude.{◌&&◌, ◌||◌, ◌==◌, filter, find, not}
 use Rattle.q_core.proofs.DroppedLaws.{other_site}
 use Rattle.q_core.proofs.FlightLaws.{apart_state, sum_by-taken}
 use Rattle.q_core.proofs.ListLaws.{find-all, find-passes}
 use Rattle.q_core.proofs.NameLaws.{and_true_parts}
 use Rattle.q_core.proofs.NeedsLaws.{needs_few}
 use Rattle.q_core.proofs.NoteLaws.{IsQuiet, note_law}
-use Rattle.q_core.proofs.RowsLaws.{HasRows, needs_law, rows_law, settle_is, stands}
+use Rattle.q_core.proofs.RowsLaws.{needs_law, rows_law, settle_is, stands}
 use Rattle.q_core.proofs.SiteLaws.{LeavesFrom, settle_left_law, sites_law}
 use Rattle.q_core.proofs.StepLaws.{HoldsRaw, raw_law}
 use Rattle.q_core.proofs.WindowLaws.{heard_law}
 use Rattle.q_core.specs.Agrees.{Agrees, Matches}
 use Rattle.q_core.specs.Changes.{IsLeft, IsSettled, is_looked_at}
-use Rattle.q_core.specs.Destinations.{busy_in, is_unused_in, waits_at_in}
+use Rattle.q_core.specs.Destinations.{busy_in, waits_at_in}
 use Rattle.q_core.specs.Leaving.{IsHeard, IsLanded, IsReplied, replied_in}
 use Rattle.q_core.specs.Queries.{flight_in}
 use Rattle.q_core.specs.Windows.{heard_at}

@@ -1,6 +1,5 @@
 -- The records of sites change by an entry.
-use Rattle.std.proofs.Common.{◌≡◌, ℕ, Bool, true, false, List, [], ◌∷◌, ◌++◌, map, refl, sym, ap, ◌∙◌, subst, append-nil}
-use Rattle.std.specs.List.{list_any}
+use Rattle.std.proofs.Common.{◌≡◌, Bool, true, false, List, ◌++◌, refl, sym, ap, ◌∙◌, subst, append-nil}
 use Rattle.std.specs.Prelude.{◌&&◌, filter, not}
 use Rattle.q_core.proofs.ListLaws.{filter-same, filter_each, filter_none}
 use Rattle.q_core.proofs.MovedLaws.{moved_is}

@@ -1,21 +1,20 @@
 -- A row whose site is dead is put off.
-use Rattle.std.proofs.Common.{◌≡◌, ℕ, ◌+◌, ◌-◌, ◌≤◌, Bool, true, false, List, [], ◌∷◌, ◌++◌, length, length-append, refl, sym, ap, ◌∙◌, subst, arith, Option, Some, None, sum_by, replicate, IsTrue}
-use Rattle.std.specs.List.{list_all, list_any, remove}
+use Rattle.std.proofs.Common.{◌≡◌, ℕ, ◌+◌, ◌-◌, ◌≤◌, Bool, true, List, ◌++◌, length, length-append, refl, sym, ap, ◌∙◌, subst, arith, Option, Some, sum_by, replicate, IsTrue}
+use Rattle.std.specs.List.{remove}
 use Rattle.std.specs.Prelude.{◌&&◌, ◌==◌, find, not, position, slice_get}
 use Rattle.q_core.proofs.DroppedLaws.{drop_first-narrow, found_first, is_row-same, is_row-true, list_any-drop_first, other_site, sum_by-drop_first}
 use Rattle.q_core.proofs.ListLaws.{drop_first-Some, find-all, find-any, find-passes}
 use Rattle.q_core.proofs.NeedsLaws.{needs_few}
 use Rattle.q_core.proofs.NoteLaws.{IsQuiet, note_law}
-use Rattle.q_core.proofs.RowsLaws.{HasRows, needs_law, rows_law, settle_is, stands}
+use Rattle.q_core.proofs.RowsLaws.{needs_law, rows_law, settle_is, stands}
 use Rattle.q_core.proofs.SiteLaws.{LeavesFrom, settle_left_law}
 use Rattle.q_core.proofs.StepLaws.{HoldsRaw, raw_law}
 use Rattle.q_core.specs.Agrees.{Agrees, Matches}
 use Rattle.q_core.specs.Changes.{IsLeft, IsSettled, is_looked_at}
-use Rattle.q_core.specs.Destinations.{busy_in, is_unused_in, waits_at_in}
+use Rattle.q_core.specs.Destinations.{busy_in}
 use Rattle.q_core.specs.Held.{is_dead_in}
 use Rattle.q_core.specs.Leaving.{IsFirstDead, IsUnqueued, put_off_in}
 use Rattle.q_core.specs.declared.state.Core.{Core}
-use Rattle.q_laws.specs.Consistency.{IsConsistent}
 use Rattle.q_model.proofs.IdLaws.{site_eq-refl}
 use Rattle.q_model.specs.Book.{message_of}
 use Rattle.q_model.specs.Destinations.{site_eq}

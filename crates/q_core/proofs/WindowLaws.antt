@@ -1,10 +1,10 @@
 -- A window that is open changes by a reply as the core's record does.
-use Rattle.std.proofs.Common.{◌≡◌, ℕ, ◌≤◌, ◌+◌, ◌-◌, ◌*◌, ◌/◌, Bool, true, false, List, [], ◌∷◌, map, refl, sym, ap, ◌∙◌, arith}
-use Rattle.std.specs.Prelude.{◌&&◌, ◌==◌, if◌then◌else◌, max, min, nat_le, nat_lt, not}
+use Rattle.std.proofs.Common.{◌≡◌, ℕ, ◌≤◌, ◌+◌, ◌-◌, ◌/◌, true, List, [], ◌∷◌, map, refl, ap, ◌∙◌, arith}
+use Rattle.std.specs.Prelude.{◌==◌, if◌then◌else◌, max, nat_le, nat_lt}
 use Rattle.std.specs.List.{list_all}
 use Rattle.std.proofs.lemmas.Bool.{leb-true}
 use Rattle.q_core.proofs.NameLaws.{and_true_parts}
-use Rattle.q_core.specs.Windows.{down_in, heard_at, heard_in, is_too_much, may_widen_in, open_window, up_in}
+use Rattle.q_core.specs.Windows.{down_in, heard_at, is_too_much, may_widen_in, open_window, up_in}
 use Rattle.q_laws.specs.SitesConsistency.{is_window}
 use Rattle.q_model.specs.Deliveries.{busy}
 use Rattle.q_model.specs.Destinations.{site_eq}

@@ -1,5 +1,4 @@
-use Rattle.std.proofs.Common.{◌≡◌, ◌∙◌, ◌++◌, ap, sym, add-one, take, get_or}
-use Rattle.std.specs.Prelude.{slice_get}
+use Rattle.std.proofs.Common.{◌∙◌, ◌++◌, ap, sym, add-one, take, get_or}
 use Rattle.std.specs.Option.{option_copied}
 use Rattle.q_core.proofs.NeedsLaws.{needs_more}
 use Rattle.q_core.specs.Needs.{need_at, needs_in}
