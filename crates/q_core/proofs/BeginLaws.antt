@@ -8,6 +8,9 @@ use Rattle.q_core.specs.declared.line.Job.{Job}
 use Rattle.q_core.specs.declared.state.Core.{Core}
 use Rattle.q_core.specs.declared.state.Seen.TheVariants.{Unknown}
 use Rattle.q_core.specs.declared.state.Question.TheVariants.{Nothing}
+use Rattle.q_laws.specs.Consistency.{IsUsable}
+use Rattle.q_laws.specs.SitesConsistency.{IsOpen}
+use Rattle.q_params.specs.Ranges.{IsInRange}
 use Rattle.q_model.specs.Book.{Book}
 use Rattle.q_model.specs.Ledger.{Ledger, opening}
 use Rattle.q_model.specs.Settings.{World}
@@ -85,3 +88,11 @@ begin_law w mode book c t settings given count e = record {
   };
   scan = record { settles = refl; seen = tt };
 }
+
+-- the ranges of parameters let messages be read and marks be synced
+pub usable : (w : World) → IsInRange w.settings → IsUsable w
+usable w r = record { recipient_minimum = r.recipient_minimum.0; mark_sync_limit = r.mark_sync_limit.0 }
+
+-- and windows be open
+pub open_windows : (w : World) → IsInRange w.settings → IsOpen w
+open_windows w r = record { initial_concurrency = r.initial_concurrency.0; concurrency_limit = r.concurrency_limit }

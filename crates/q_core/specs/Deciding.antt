@@ -89,3 +89,19 @@ is_look Active = true
 is_look Incoming = true
 is_look Deferred = true
 is_look (Recipients id from max) = false
+
+-- the core waits for recipients that are read
+abbrev pub is_reading : Question → Bool
+is_reading Nothing = false
+is_reading Active = false
+is_reading Incoming = false
+is_reading Deferred = false
+is_reading (Recipients id from max) = true
+
+-- a look or a read
+abbrev pub is_asking : Decision → Bool
+is_asking (decisions.Read id from max) = true
+is_asking decisions.LookActive = true
+is_asking decisions.LookIncoming = true
+is_asking (decisions.LookDeferred after until) = true
+is_asking _ = false

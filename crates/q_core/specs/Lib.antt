@@ -21,3 +21,4 @@ pub mod Beginning
 pub mod Loading
 pub mod Hearing
 pub mod Answers
+pub mod Looking

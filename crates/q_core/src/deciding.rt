@@ -2,7 +2,8 @@
 ghost use Rattle.std.specs.Prelude.{◌≡◌, IfOk, IsTrue, None, OnErr, OnOk, Some, true};
 ghost use Rattle.q_core.specs.Agrees.{Agrees};
 ghost use Rattle.q_core.specs.Changes.{IsAsBefore, is_looked_at};
-ghost use Rattle.q_core.specs.Deciding.{IsDecided, IsTaken, decide_in, is_answered, question_for, question_of};
+ghost use Rattle.q_core.specs.Deciding.{IsDecided, IsTaken, decide_in, is_answered, is_look, is_reading, question_for, question_of};
+ghost use Rattle.q_core.specs.Looking.{is_unseen, looks_left};
 ghost use Rattle.q_model.specs.Ledger.{Ledger};
 ghost use Rattle.q_model.specs.Settings.{World};
 
@@ -62,32 +63,52 @@ impl Core {
         Ok(())
     }
 
-    /// Decides, and changes what the decision changes. A scan whose next name isn't known is
-    /// looked at before anything is taken.
-    fn decide_next(&mut self, alloc: Global, decision: &Decision) -> Result<(), NoMemory>
-        requires { decide_in self.old ≡ Some decision.now }
-        ensures ok { OnOk result ((w : World) → (l : Ledger) → Agrees w self.old l → IsTaken w l self.old decision.now self.new) }
-        ensures err { OnErr result (IsAsBefore self.old self.new) }
+    /// Whether no look and no read waits for its answer.
+    pub fn is_answered(&self) -> bool
+        ensures { result ≡ is_answered self.now.question }
     {
-        if self.is_looked_at() {
-            self.carry_out(alloc, decision)?;
+        match self.question {
+            Question::Nothing => true,
+            _ => false,
         }
-        Ok(())
+    }
+
+    /// Whether a look waits for its answer.
+    pub fn is_looking(&self) -> bool
+        ensures { result ≡ is_look self.now.question }
+    {
+        match self.question {
+            Question::Active => true,
+            Question::Incoming => true,
+            Question::Deferred => true,
+            Question::Nothing => false,
+            Question::Recipients { .. } => false,
+        }
     }
 
     /// The next decision of the ledger, which the core takes as carried out; or the look or the
     /// read that is wanted before it is known, which waits for `found` or `loaded`. It is None
     /// exactly where the ledger is quiet. After want of memory the core is as it was.
+    ///
+    /// Of each look what it asks for is unseen, and an answer leaves fewer unseen: at most four
+    /// looks come in a row.
     pub fn next_decision(&mut self, alloc: Global) -> Result<Option<Decision>, NoMemory>
         requires { is_answered self.old.question ≡ true }
         ensures ok { IfOk result (λ d. (w : World) → (l : Ledger) → Agrees w self.old l → IsDecided w l self.old d self.new) }
         ensures question { IfOk result (λ d. self.new.question ≡ question_for d) }
+        ensures looks { IfOk result (λ d. (w : World) → (l : Ledger) → Agrees w self.old l → is_look (question_for d) ≡ true → (is_unseen self.new.question self.new ≡ true) × (looks_left self.new ≡ looks_left self.old)) }
+        ensures reads { IfOk result (λ d. is_reading (question_for d) ≡ true → IsTrue (is_looked_at self.new)) }
+        ensures quiet { IfOk result (λ d. d ≡ None → self.old.timed ≡ true → IsTrue (is_looked_at self.new)) }
         ensures err { OnErr result ((w : World) → (l : Ledger) → Agrees w self.old l → Agrees w self.new l) }
     {
         let Some(decision) = self.decide() else {
             return Ok(None);
         };
-        self.decide_next(alloc, &decision)?;
+        if decision.is_asking() {
+            self.ask(&decision);
+            return Ok(Some(decision));
+        }
+        self.carry_out(alloc, &decision)?;
         self.ask(&decision);
         Ok(Some(decision))
     }

@@ -1,10 +1,13 @@
 //! The state of the core.
-ghost use Rattle.std.specs.Prelude.{◌≡◌, ◌+◌, find, length, IfOk, IsTrue};
+ghost use Rattle.std.specs.Prelude.{◌≡◌, ◌+◌, find, length, IfOk, true};
 ghost use Rattle.std.specs.Option.{option_copied};
 ghost use Rattle.q_core.specs.Agrees.{Agrees};
+ghost use Rattle.q_core.specs.Changes.{is_looked_at};
+ghost use Rattle.q_core.specs.Deciding.{is_answered};
 ghost use Rattle.q_laws.specs.Consistency.{IsConsistent};
 ghost use Rattle.q_laws.specs.SitesConsistency.{IsSitesConsistent};
 ghost use Rattle.q_core.specs.Held.{destination_in, is_dead_in, slot_in};
+ghost use Rattle.q_params.specs.Ranges.{IsInRange};
 ghost use Rattle.q_model.specs.Book.{Book};
 ghost use Rattle.q_model.specs.FilesStand.{all_ids, are_distinct};
 ghost use Rattle.q_model.specs.Ledger.{opening};
@@ -78,7 +81,11 @@ impl Core {
     /// A core at the beginning of a life, for a table of so many transports. It agrees with the
     /// ledger of that life on every book that is fit to begin with, and so on every orderly one.
     pub fn new(alloc: Global, params: Params, transports: u8, mode: Mode) -> Result<Core, NoMemory>
-        ensures { IfOk result (λ core. (w : World) → (book : Book) → params ≡ w.settings → transports ≡ length w.table.transports → IsConsistent w (after w (opening mode book) (Entry.Life (book.generation + 1) mode)) → IsSitesConsistent w (after w (opening mode book) (Entry.Life (book.generation + 1) mode)) → Agrees w core (after w (opening mode book) (Entry.Life (book.generation + 1) mode))) }
+        requires { IsInRange params }
+        ensures consistent { IfOk result (λ core. (w : World) → (book : Book) → params ≡ w.settings → transports ≡ length w.table.transports → IsConsistent w (after w (opening mode book) (Entry.Life (book.generation + 1) mode)) → IsSitesConsistent w (after w (opening mode book) (Entry.Life (book.generation + 1) mode)) → Agrees w core (after w (opening mode book) (Entry.Life (book.generation + 1) mode))) }
+        ensures orderly { IfOk result (λ core. (w : World) → (book : Book) → params ≡ w.settings → transports ≡ length w.table.transports → are_distinct (all_ids book) ≡ true → is_orderly book ≡ true → Agrees w core (after w (opening mode book) (Entry.Life (book.generation + 1) mode))) }
+        ensures answered { IfOk result (λ core. is_answered core.question ≡ true) }
+        ensures looked { IfOk result (λ core. is_looked_at core ≡ true) }
     {
         let lines = empty_lines(alloc, transports)?;
         Ok(Core {
