@@ -3,11 +3,14 @@ use Rattle.std.proofs.Common.{◌≡◌, ℕ, zero, suc, ◌+◌, Bool, true, fa
 use Rattle.std.specs.Prelude.{if◌then◌else◌, nat_lt}
 use Rattle.std.specs.List.{enumerate_from}
 use Rattle.q_core.proofs.ListLaws.{length-numbered}
-use Rattle.q_core.specs.Agrees.{Agrees, jobs_of}
-use Rattle.q_core.specs.Fitting.{IsFit}
+use Rattle.q_core.specs.Agrees.{Matches, jobs_of}
 use Rattle.q_core.specs.declared.line.Job.{Job}
 use Rattle.q_core.specs.declared.state.Core.{Core}
 use Rattle.q_core.specs.declared.state.Seen.TheVariants.{Unknown}
+use Rattle.q_core.specs.declared.state.Question.TheVariants.{Nothing}
+use Rattle.q_laws.specs.Consistency.{IsUsable}
+use Rattle.q_laws.specs.SitesConsistency.{IsOpen}
+use Rattle.q_params.specs.Ranges.{IsInRange}
 use Rattle.q_model.specs.Book.{Book}
 use Rattle.q_model.specs.Ledger.{Ledger, opening}
 use Rattle.q_model.specs.Settings.{World}
@@ -32,7 +35,7 @@ pub record IsEmptyCore (c : Core) (mode : Mode) (transports : ℕ) : Type 0 wher
 
 -- so is nothing of the plain fields
 abbrev pub blank : Core → Core
-blank c = record c { timed = false; next_run = 0; scan = None; asked = None; ignores = false; deferred_turn = false; in_memory = 0; starts = 0; active = Unknown; incoming = Unknown; deferred = Unknown }
+blank c = record c { timed = false; next_run = 0; scan = None; asked = None; ignores = false; deferred_turn = false; in_memory = 0; starts = 0; active = Unknown; incoming = Unknown; deferred = Unknown; question = Nothing }
 
 abbrev pub begun : World → Mode → Book → Ledger
 begun w mode book = after w (opening mode book) (entries.Life (book.generation + 1) mode)
@@ -57,9 +60,9 @@ no_sites true = refl
 no_sites false = refl
 
 pub begin_law : (w : World) (mode : Mode) (book : Book) (c : Core) (t : ℕ) → c.params ≡ w.settings → c.transports ≡ t → t ≡ length w.table.transports → IsEmptyCore c mode t →
-    IsFit (begun w mode book) → Agrees w (blank c) (begun w mode book)
+    Matches w (blank c) (begun w mode book)
 unfolding after
-begin_law w mode book c t settings given count e fit = record {
+begin_law w mode book c t settings given count e = record {
   parts = record {
     settings = settings;
     count = given ∙ count ∙ sym (length-numbered (settle_line (raw w mode book)) 0 (replicate (length w.table.transports) []) ∙ same_length (length w.table.transports));
@@ -71,27 +74,25 @@ begin_law w mode book c t settings given count e fit = record {
     ignores = refl;
     deferred_turn = refl;
     admitted = e.admitted;
-    present = refl;
     waiting = e.waiting;
     flights = e.flights;
     memory = refl;
     served = e.served;
     unsettled = e.unsettled;
     lines = e.lines ∙ ap (λ n. replicate n []) count ∙ sym (lines_begin (begun w mode book) (raw w mode book) 0 (length w.table.transports));
-    fresh = λ id transport some gone. cc;
     sites = e.sites ∙ no_sites (nat_lt w.settings.recipient_limit 0);
     synced = e.synced;
     starts = refl;
     active = tt;
     incoming = tt;
-    leftovers_stand = fit.leftovers_stand;
-    synced_well = refl;
-    orderly = fit.orderly;
   };
   scan = record { settles = refl; seen = tt };
 }
 
--- on an empty book a new core agrees without a premise
-pub empty_fits : (w : World) (mode : Mode) (generation : ℕ) → IsFit (begun w mode (record { generation = generation; messages = []; damaged = [] }))
-unfolding after
-empty_fits w mode generation = record { leftovers_stand = λ id m left there. cc; orderly = refl }
+-- the ranges of parameters let messages be read and marks be synced
+pub usable : (w : World) → IsInRange w.settings → IsUsable w
+usable w r = record { recipient_minimum = r.recipient_minimum.0; mark_sync_limit = r.mark_sync_limit.0 }
+
+-- and windows be open
+pub open_windows : (w : World) → IsInRange w.settings → IsOpen w
+open_windows w r = record { initial_concurrency = r.initial_concurrency.0; concurrency_limit = r.concurrency_limit }

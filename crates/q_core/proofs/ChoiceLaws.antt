@@ -27,6 +27,15 @@ least_down before p xs i x best result some within at is step =
     ∙ prefer_cons before (p x) x (filter p (drop (suc (i - 1)) xs))
     ∙ ap (λ ys. least before (filter p ys)) (ap (λ y. y ∷ drop (suc (i - 1)) xs) at ∙ sym (drop-cons xs (i - 1) x lt))
 
+-- the search from the end without a test
+pub least_back : {A : Type 0} (before : A → A → Bool) (xs : List A) (i : ℕ) (x : A) (best : Option A) →
+    0 < i → i ≤ length xs → x ≡ get_or xs (i - 1) x → best ≡ least before (drop i xs) → Some (over before x best) ≡ least before (drop (i - 1) xs)
+least_back before xs i x best some within at is =
+    let next : i ≡ suc (i - 1) = omega arith in
+    let lt : i - 1 < length xs = omega arith in
+    ap (λ o. Some (over before x o)) (is ∙ ap (λ n. least before (drop n xs)) next)
+    ∙ ap (least before) (ap (λ y. y ∷ drop (suc (i - 1)) xs) at ∙ sym (drop-cons xs (i - 1) x lt))
+
 choices_at : (c : Core) (t n : ℕ) → t < n → choices_from c t (n - t) ≡ option_or (choice_in c t) (choices_from c (t + 1) (n - (t + 1)))
 choices_at c t n h = let e : n - t ≡ suc (n - (t + 1)) = omega arith in ap (choices_from c t) e
 

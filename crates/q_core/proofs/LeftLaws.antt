@@ -6,9 +6,11 @@ use Rattle.std.specs.List.{list_any, list_all}
 use Rattle.std.proofs.lemmas.List.Folds.{list_all-map}
 use Rattle.q_core.proofs.ChoiceLaws.{least-all, list_all-filter}
 use Rattle.q_core.proofs.ListLaws.{find-passes}
-use Rattle.q_core.proofs.NameLaws.{id_eq-same, id_eq-true}
+use Rattle.q_core.proofs.NameLaws.{and_true_parts, id_eq-same, id_eq-true, or_right}
 use Rattle.q_core.proofs.RuleLaws.{kept_wants, no_length}
-use Rattle.q_core.specs.Agrees.{Holds, IsSeen, file_of, found_active, found_at, is_synced_well}
+use Rattle.q_core.specs.Agrees.{Holds, IsSeen, file_of, found_active, found_at}
+use Rattle.q_laws.specs.Consistency.{IsConsistent, is_synced_well}
+use Rattle.q_core.proofs.StandingLaws.{leftover_active}
 use Rattle.q_core.specs.Decisions.{IsRule, IsRuleOrLook}
 use Rattle.q_core.specs.Rules.{clear_found_in, clear_in, clear_marked, is_synced_in, next_clearing_in}
 use Rattle.q_core.specs.declared.decision.Decision.{Decision}
@@ -50,10 +52,6 @@ pub in_all : (q : Id → Bool) (id : Id) (xs : List Id) → list_all q xs ≡ tr
 in_all q id [] all any = cc
 in_all q id (x ∷ xs) all any = any_of_all q id x xs (id_eq id x) (q x) refl refl all (in_all q id xs) any
 
-pub or_right : (a b : Bool) → b ≡ true → (a || b) ≡ true
-or_right true b h = refl
-or_right false b h = h
-
 -- each of a list is in it, and in a longer one
 each_in : (xs ys : List Id) → ((k : Id) → list_any (id_eq k) xs ≡ true → list_any (id_eq k) ys ≡ true) → list_all (λ k. list_any (id_eq k) ys) xs ≡ true
 each_in [] ys h = refl
@@ -64,10 +62,6 @@ each_in (x ∷ xs) ys h =
 -- the least is in the list
 pub least_in : (before : Id → Id → Bool) (xs : List Id) (id : Id) → least before xs ≡ Some id → list_any (id_eq id) xs ≡ true
 least_in before xs id e = least-all before (λ k. list_any (id_eq k) xs) xs id (each_in xs xs (λ k g. g)) e
-
-pub and_true_parts : (a b : Bool) → (a && b) ≡ true → (a ≡ true) × (b ≡ true)
-and_true_parts true b h = (refl, h)
-and_true_parts false b h = cc
 
 pub all_append : (q : Id → Bool) (xs ys : List Id) → list_all q xs ≡ true → list_all q ys ≡ true → list_all q (xs ++ ys) ≡ true
 all_append q [] ys h k = k
@@ -218,43 +212,43 @@ left_unsynced : (c : Core) (l : Ledger) (id : Id) (m : Message) → was_synced l
 left_unsynced c l id m s = (entries.Sync id, refl, ap (λ b. clear_choice id (not b) (may_bounce l id) (may_remove l id) (may_back l id)) s)
 
 -- a leftover that was synced in this life has each mark synced
-left_well : {w : World} {c : Core} {l : Ledger} → Holds w c l → (id : Id) (m : Message) → message_of l.book id ≡ Some m → is_leftover l id ≡ true → was_synced l id ≡ true →
+left_well : {w : World} {c : Core} {l : Ledger} → Holds w c l → IsConsistent w l → (id : Id) (m : Message) → message_of l.book id ≡ Some m → is_leftover l id ≡ true → was_synced l id ≡ true →
     (is_clean m && has_none (unmarked_logged m)) ≡ true
-left_well {l = l} h id m e left synced =
+left_well {l = l} h k id m e left synced =
     let well : Message → Bool = λ (x : Message). is_clean x && has_none (unmarked_logged x) in
     sym (ap (λ o. option_map_or well o true) e)
     ∙ sym (ap (λ b. not b || option_map_or well (message_of l.book id) true) left)
-    ∙ in_all (is_synced_well l) id l.synced h.synced_well synced
+    ∙ in_all (is_synced_well l) id l.synced k.memory.synced synced
 
-left_none : {w : World} {c : Core} {l : Ledger} → Holds w c l → (id : Id) (m : Message) (s : Bool) → was_synced l id ≡ s → message_of l.book id ≡ Some m → m.id ≡ id → is_leftover l id ≡ true →
+left_none : {w : World} {c : Core} {l : Ledger} → Holds w c l → IsConsistent w l → (id : Id) (m : Message) (s : Bool) → was_synced l id ≡ s → message_of l.book id ≡ Some m → m.id ≡ id → is_leftover l id ≡ true →
     unmarked_logged m ≡ [] → IsRule c (Some (clear_marked s id (file_of l id m))) (clear_tests l id)
-left_none {c = c} {l = l} h id m false s e name left none = left_unsynced c l id m s
-left_none {c = c} {l = l} h id m true s e name left none =
-    let well = and_true_parts (is_clean m) (has_none (unmarked_logged m)) (left_well h id m e left s) in
-    left_synced c l id m (record { there = e; name = name; left = left; active = h.leftovers_stand id m left e; synced = s; clean = well.0; marked = well.1 })
+left_none {c = c} {l = l} h k id m false s e name left none = left_unsynced c l id m s
+left_none {c = c} {l = l} h k id m true s e name left none =
+    let well = and_true_parts (is_clean m) (has_none (unmarked_logged m)) (left_well h k id m e left s) in
+    left_synced c l id m (record { there = e; name = name; left = left; active = leftover_active l k.book.distinct id m left e; synced = s; clean = well.0; marked = well.1 })
 
-left_list : {w : World} {c : Core} {l : Ledger} → Holds w c l → (id : Id) (m : Message) → message_of l.book id ≡ Some m → m.id ≡ id → is_leftover l id ≡ true →
+left_list : {w : World} {c : Core} {l : Ledger} → Holds w c l → IsConsistent w l → (id : Id) (m : Message) → message_of l.book id ≡ Some m → m.id ≡ id → is_leftover l id ≡ true →
     (xs : List ℕ) → unmarked_logged m ≡ xs → IsRule c (Some (option_map_or (λ position. decisions.Mark id position) (slice_get xs 0) (clear_marked (was_synced l id) id (file_of l id m)))) (option_or (mark_of id xs) (clear_tests l id))
-left_list h id m e name left [] none = left_none h id m _ refl e name left none
-left_list {c = c} h id m e name left (p ∷ ps) some = (entries.Mark id p, refl, refl)
+left_list h k id m e name left [] none = left_none h k id m _ refl e name left none
+left_list {c = c} h k id m e name left (p ∷ ps) some = (entries.Mark id p, refl, refl)
 
-left_whole : {w : World} {c : Core} {l : Ledger} → Holds w c l → (id : Id) (m : Message) → message_of l.book id ≡ Some m → is_leftover l id ≡ true →
+left_whole : {w : World} {c : Core} {l : Ledger} → Holds w c l → IsConsistent w l → (id : Id) (m : Message) → message_of l.book id ≡ Some m → is_leftover l id ≡ true →
     IsRule c (Some (clear_in (is_synced_in c id) id (file_of l id m))) (leftover_decision w l id)
-left_whole {w = w} {c = c} {l = l} h id m e left =
+left_whole {w = w} {c = c} {l = l} h k id m e left =
     let name : m.id ≡ id = id_eq-true m.id id (find-passes (λ x. id_eq x.id id) l.book.messages m e) in
     let rule : leftover_decision w l id ≡ option_or (mark_of id (unmarked_logged m)) (clear_tests l id) =
-    ap (decision_on w l id) e ∙ ap (λ k. option_or (mark_of k (unmarked_logged m)) (clear_tests l k)) name in
+    ap (decision_on w l id) e ∙ ap (λ i. option_or (mark_of i (unmarked_logged m)) (clear_tests l i)) name in
     subst (λ (xs : List Id). IsRule c (Some (clear_in (list_any (id_eq id) xs) id (file_of l id m))) (leftover_decision w l id)) (sym h.synced)
     (subst (λ o. IsRule c (Some (clear_in (was_synced l id) id (file_of l id m))) o) (sym rule)
-    (left_list h id m e name left (unmarked_logged m) refl))
+    (left_list h k id m e name left (unmarked_logged m) refl))
 
 abbrev found_on : Ledger → ℕ → Id → Option Message → Found
 found_on l due id o = option_map_or (λ m. Whole id due (file_of l id m)) o (Damaged id due (cause_gone l.book id))
 
-left_at : {w : World} {c : Core} {l : Ledger} → Holds w c l → (id : Id) → next_leftover l ≡ Some id → (o : Option Message) → message_of l.book id ≡ o →
+left_at : {w : World} {c : Core} {l : Ledger} → Holds w c l → IsConsistent w l → (id : Id) → next_leftover l ≡ Some id → (o : Option Message) → message_of l.book id ≡ o →
     IsRule c (clear_found_in c (found_on l 0 id o)) (leftover_decision w l id)
-left_at {w = w} {c = c} {l = l} h id next None e = left_damaged w c l id next e
-left_at {l = l} h id next (Some m) e = left_whole h id m e (least_in id_before (leftovers l) id next)
+left_at {w = w} {c = c} {l = l} h k id next None e = left_damaged w c l id next e
+left_at {l = l} h k id next (Some m) e = left_whole h k id m e (least_in id_before (leftovers l) id next)
 
 abbrev active_on : Ledger → Option Id → Found
 active_on l o = option_map_or (λ id. found_at l 0 id) o Nothing
@@ -262,13 +256,13 @@ active_on l o = option_map_or (λ id. found_at l 0 id) o Nothing
 abbrev rule_on : World → Ledger → Option Id → Option Entry
 rule_on w l o = option_and_then (λ id. leftover_decision w l id) o
 
-left_found : {w : World} {c : Core} {l : Ledger} → Holds w c l → (o : Option Id) → next_leftover l ≡ o → IsRule c (clear_found_in c (active_on l o)) (rule_on w l o)
-left_found h None e = refl
-left_found {l = l} h (Some id) e = left_at h id e (message_of l.book id) refl
+left_found : {w : World} {c : Core} {l : Ledger} → Holds w c l → IsConsistent w l → (o : Option Id) → next_leftover l ≡ o → IsRule c (clear_found_in c (active_on l o)) (rule_on w l o)
+left_found h k None e = refl
+left_found {l = l} h k (Some id) e = left_at h k id e (message_of l.book id) refl
 
-left_seen : {w : World} {c : Core} {l : Ledger} → Holds w c l → (seen : Seen) → IsSeen seen (found_active l) → IsRuleOrLook c decisions.LookActive seen (next_clearing_in c seen) (leftover_rule w l)
-left_seen h Unknown e = inr (refl, refl)
-left_seen {w = w} {c = c} {l = l} h (Known found) e = inl (subst (λ f. IsRule c (clear_found_in c f) (leftover_rule w l)) (sym e) (left_found h (next_leftover l) refl))
+left_seen : {w : World} {c : Core} {l : Ledger} → Holds w c l → IsConsistent w l → (seen : Seen) → IsSeen seen (found_active l) → IsRuleOrLook c decisions.LookActive seen (next_clearing_in c seen) (leftover_rule w l)
+left_seen h k Unknown e = inr (refl, refl)
+left_seen {w = w} {c = c} {l = l} h k (Known found) e = inl (subst (λ f. IsRule c (clear_found_in c f) (leftover_rule w l)) (sym e) (left_found h k (next_leftover l) refl))
 
-pub leftover_law : {w : World} {c : Core} {l : Ledger} → Holds w c l → IsRuleOrLook c decisions.LookActive c.active (next_clearing_in c c.active) (leftover_rule w l)
-leftover_law {c = c} h = left_seen h c.active h.active
+pub leftover_law : {w : World} {c : Core} {l : Ledger} → Holds w c l → IsConsistent w l → IsRuleOrLook c decisions.LookActive c.active (next_clearing_in c c.active) (leftover_rule w l)
+leftover_law {c = c} h k = left_seen h k c.active h.active

@@ -2,7 +2,7 @@
 use Rattle.std.proofs.Common.{◌≡◌, ℕ, Bool, true, false, refl, sym, ap, ◌∙◌, Option, Some, None}
 use Rattle.std.specs.Prelude.{if◌then◌else◌, option_and_then}
 use Rattle.q_core.proofs.TakeLaws.{next_of, some_found}
-use Rattle.q_core.specs.Agrees.{Agrees, found_active, found_incoming, found_next}
+use Rattle.q_core.specs.Agrees.{Matches, found_active, found_incoming, found_next}
 use Rattle.q_core.specs.Changes.{looked_at, scan_ended}
 use Rattle.q_core.specs.Files.{is_nothing}
 use Rattle.q_core.specs.Lists.{over}
@@ -18,7 +18,7 @@ use Rattle.q_model.specs.declared.rows.DeferredName.{DeferredName}
 use Rattle.q_model.specs.declared.rows.Request.{Request}
 use Rattle.q_model.specs.declared.rows.Scan.{Scan}
 
-pub active_law : {w : World} {c : Core} {l : Ledger} (found : Found) → Agrees w c l → found ≡ found_active l → Agrees w (record c { active = Known found }) l
+pub active_law : {w : World} {c : Core} {l : Ledger} (found : Found) → Matches w c l → found ≡ found_active l → Matches w (record c { active = Known found }) l
 active_law found a e = let h = a.parts in record {
   parts = record {
     settings = h.settings;
@@ -31,27 +31,22 @@ active_law found a e = let h = a.parts in record {
     ignores = h.ignores;
     deferred_turn = h.deferred_turn;
     admitted = h.admitted;
-    present = h.present;
     waiting = h.waiting;
     flights = h.flights;
     memory = h.memory;
     served = h.served;
     unsettled = h.unsettled;
     lines = h.lines;
-    fresh = h.fresh;
     sites = h.sites;
     synced = h.synced;
     starts = h.starts;
     active = e;
     incoming = h.incoming;
-    leftovers_stand = h.leftovers_stand;
-    synced_well = h.synced_well;
-    orderly = h.orderly;
   };
   scan = record { settles = a.scan.settles; seen = a.scan.seen };
 }
 
-pub incoming_law : {w : World} {c : Core} {l : Ledger} (found : Found) → Agrees w c l → found ≡ found_incoming l → Agrees w (record c { incoming = Known found }) l
+pub incoming_law : {w : World} {c : Core} {l : Ledger} (found : Found) → Matches w c l → found ≡ found_incoming l → Matches w (record c { incoming = Known found }) l
 incoming_law found a e = let h = a.parts in record {
   parts = record {
     settings = h.settings;
@@ -64,29 +59,24 @@ incoming_law found a e = let h = a.parts in record {
     ignores = h.ignores;
     deferred_turn = h.deferred_turn;
     admitted = h.admitted;
-    present = h.present;
     waiting = h.waiting;
     flights = h.flights;
     memory = h.memory;
     served = h.served;
     unsettled = h.unsettled;
     lines = h.lines;
-    fresh = h.fresh;
     sites = h.sites;
     synced = h.synced;
     starts = h.starts;
     active = h.active;
     incoming = e;
-    leftovers_stand = h.leftovers_stand;
-    synced_well = h.synced_well;
-    orderly = h.orderly;
   };
   scan = record { settles = a.scan.settles; seen = a.scan.seen };
 }
 
 -- where the walk has a next name, it is the ledger's scan
-known_law : {w : World} {c : Core} {l : Ledger} (found : Found) (walk : Scan) (o : Option DeferredName) → Agrees w c l → c.scan ≡ Some walk → scan_next l.book walk ≡ o →
-    scan_at l.book l.now walk c.asked o ≡ (l.scan, l.asked) → found ≡ found_next l o → is_nothing found ≡ false → Agrees w (record c { deferred = Known found }) l
+known_law : {w : World} {c : Core} {l : Ledger} (found : Found) (walk : Scan) (o : Option DeferredName) → Matches w c l → c.scan ≡ Some walk → scan_next l.book walk ≡ o →
+    scan_at l.book l.now walk c.asked o ≡ (l.scan, l.asked) → found ≡ found_next l o → is_nothing found ≡ false → Matches w (record c { deferred = Known found }) l
 known_law found walk None a s e h f some = let bad : true ≡ false = ap is_nothing (sym f) ∙ some in cc
 known_law {c = c} {l = l} found walk (Some n) a s e at f some =
     let h = a.parts in
@@ -103,22 +93,17 @@ known_law {c = c} {l = l} found walk (Some n) a s e at f some =
         ignores = h.ignores;
         deferred_turn = h.deferred_turn;
         admitted = h.admitted;
-        present = h.present;
         waiting = h.waiting;
         flights = h.flights;
         memory = h.memory;
         served = h.served;
         unsettled = h.unsettled;
         lines = h.lines;
-        fresh = h.fresh;
         sites = h.sites;
         synced = h.synced;
         starts = h.starts;
         active = h.active;
         incoming = h.incoming;
-        leftovers_stand = h.leftovers_stand;
-        synced_well = h.synced_well;
-        orderly = h.orderly;
       };
       scan = record { settles = a.scan.settles; seen = (s ∙ same, ap (λ (p : Option Scan × Option Request). p.1) at, f ∙ ap (found_next l) (sym e ∙ ap (next_of l.book) same)) };
     }
@@ -131,7 +116,7 @@ live_at b n s None = refl
 live_at b n s (Some x) = refl
 
 -- where it has none, the scan is over
-ended_law : {w : World} {l : Ledger} (c : Core) (q : Option Request) → Agrees w (record c { asked = q }) l → scan_over l.book l.now q ≡ (l.scan, l.asked) → Agrees w (scan_ended (record c { asked = q }) q) l
+ended_law : {w : World} {l : Ledger} (c : Core) (q : Option Request) → Matches w (record c { asked = q }) l → scan_over l.book l.now q ≡ (l.scan, l.asked) → Matches w (scan_ended (record c { asked = q }) q) l
 ended_law c None a over = let h = a.parts in record {
   parts = record {
     settings = h.settings;
@@ -144,22 +129,17 @@ ended_law c None a over = let h = a.parts in record {
     ignores = h.ignores;
     deferred_turn = h.deferred_turn;
     admitted = h.admitted;
-    present = h.present;
     waiting = h.waiting;
     flights = h.flights;
     memory = h.memory;
     served = h.served;
     unsettled = h.unsettled;
     lines = h.lines;
-    fresh = h.fresh;
     sites = h.sites;
     synced = h.synced;
     starts = h.starts;
     active = h.active;
     incoming = h.incoming;
-    leftovers_stand = h.leftovers_stand;
-    synced_well = h.synced_well;
-    orderly = h.orderly;
   };
   scan = record { settles = over; seen = tt };
 }
@@ -178,34 +158,29 @@ ended_law {l = l} c (Some r) a over =
         ignores = h.ignores;
         deferred_turn = h.deferred_turn;
         admitted = h.admitted;
-        present = h.present;
         waiting = h.waiting;
         flights = h.flights;
         memory = h.memory;
         served = h.served;
         unsettled = h.unsettled;
         lines = h.lines;
-        fresh = h.fresh;
         sites = h.sites;
         synced = h.synced;
         starts = h.starts;
         active = h.active;
         incoming = h.incoming;
-        leftovers_stand = h.leftovers_stand;
-        synced_well = h.synced_well;
-        orderly = h.orderly;
       };
       scan = record { settles = ap (λ s. scan_at l.book l.now s None (scan_next l.book s)) walk ∙ live_at l.book l.now (new_scan l.now r) (scan_next l.book (new_scan l.now r)) ∙ over; seen = tt };
     }
 
-looked_case : {w : World} {c : Core} {l : Ledger} (found : Found) (walk : Scan) (o : Option DeferredName) → Agrees w c l → c.scan ≡ Some walk → scan_next l.book walk ≡ o →
+looked_case : {w : World} {c : Core} {l : Ledger} (found : Found) (walk : Scan) (o : Option DeferredName) → Matches w c l → c.scan ≡ Some walk → scan_next l.book walk ≡ o →
     scan_at l.book l.now walk c.asked o ≡ (l.scan, l.asked) → found ≡ found_next l o → (b : Bool) → is_nothing found ≡ b →
-    Agrees w (if b then scan_ended c c.asked else record c { deferred = Known found }) l
+    Matches w (if b then scan_ended c c.asked else record c { deferred = Known found }) l
 looked_case found walk o a s e h f false b = known_law found walk o a s e h f b
 looked_case {c = c} found walk None a s e h f true b = ended_law c c.asked a h
 looked_case {l = l} found walk (Some n) a s e h f true b = let bad : false ≡ true = sym (some_found l n.due n.id (message_of l.book n.id)) ∙ ap is_nothing (sym f) ∙ b in cc
 
-pub deferred_law : {w : World} {c : Core} {l : Ledger} (found : Found) (walk : Scan) → Agrees w c l → c.scan ≡ Some walk → found ≡ found_next l (scan_next l.book walk) → Agrees w (looked_at c found) l
+pub deferred_law : {w : World} {c : Core} {l : Ledger} (found : Found) (walk : Scan) → Matches w c l → c.scan ≡ Some walk → found ≡ found_next l (scan_next l.book walk) → Matches w (looked_at c found) l
 deferred_law {c = c} {l = l} found walk a e f =
     looked_case found walk (scan_next l.book walk) a e refl
     (ap (λ (o : Option Scan). scan_after l.book l.now o c.asked) (sym e) ∙ a.scan.settles) f (is_nothing found) refl

@@ -1,6 +1,6 @@
 -- Ids and sites that pass for equal are equal.
 use Rattle.std.proofs.Common.{◌≡◌, ℕ, Bool, true, false, refl, sym, ap, ◌∙◌, arith}
-use Rattle.std.specs.Prelude.{◌&&◌, ◌==◌}
+use Rattle.std.specs.Prelude.{◌&&◌, ◌==◌, ◌||◌}
 use Rattle.std.proofs.lemmas.Grind.{common_steps}
 use Rattle.q_model.specs.Ids.{bool_eq, id_eq}
 use Rattle.q_model.specs.declared.id.Id.{Id}
@@ -40,3 +40,13 @@ id_eq-same a =
     ap (λ b. b && (a.serial == a.serial) && bool_eq a.bounce a.bounce) (same_number a.generation)
     ∙ ap (λ b. true && b && bool_eq a.bounce a.bounce) (same_number a.serial)
     ∙ same_bool a.bounce
+
+-- both hold
+pub and_true_parts : (a b : Bool) → (a && b) ≡ true → (a ≡ true) × (b ≡ true)
+and_true_parts true b h = (refl, h)
+and_true_parts false b h = cc
+
+-- the second holds
+pub or_right : (a b : Bool) → b ≡ true → (a || b) ≡ true
+or_right true b h = refl
+or_right false b h = h

@@ -66,23 +66,23 @@ syncs_on w l = option_or (sync_rule w l) (skips_on w l)
 
 last_law : {w : World} {c : Core} {l : Ledger} → Agrees w c l → IsNext w l c (clearing_on c) (leftovers_on w l)
 last_law {w = w} {c = c} {l = l} a =
-    let h = a.parts in
+    let h = a.matches.parts in
     let from_read = option_or (next_read_in c) (next_start_in c) in
     let from_admission = option_or (next_admission_in c c.incoming) from_read in
-    next_or w l c (next_clearing_in c c.active) from_admission (leftover_rule w l) (admissions_on w l) (of_look w l c (next_clearing_in c c.active) (leftover_rule w l) (leftover_law h))
-    (next_or w l c (next_admission_in c c.incoming) from_read (admission_rule w l) (loads_on w l) (of_looks w l c (next_admission_in c c.incoming) (admission_rule w l) (admission_law a))
-    (next_or w l c (next_read_in c) (next_start_in c) (load_rule w l) (start_rule w l) (inr (inl (load_law h))) (inl (start_law h))))
+    next_or w l c (next_clearing_in c c.active) from_admission (leftover_rule w l) (admissions_on w l) (of_look w l c (next_clearing_in c c.active) (leftover_rule w l) (leftover_law h a.consistent))
+    (next_or w l c (next_admission_in c c.incoming) from_read (admission_rule w l) (loads_on w l) (of_looks w l c (next_admission_in c c.incoming) (admission_rule w l) (admission_law a.matches))
+    (next_or w l c (next_read_in c) (next_start_in c) (load_rule w l) (start_rule w l) (inr (inl (load_law h a.consistent.memory.present))) (inl (start_law h a.consistent.memory.present))))
 
 first_law : {w : World} {c : Core} {l : Ledger} → Agrees w c l → IsNext w l c (first_rule_in c) (first_rule w l)
 first_law {w = w} {c = c} {l = l} a =
-    let h = a.parts in
+    let h = a.matches.parts in
     let from_finish = option_or (next_finish_in c) (clearing_on c) in
     let from_skip = option_or (next_skip_in c) from_finish in
     let from_sync = option_or (next_sync_in c) from_skip in
     next_or w l c (first_need_in c) from_sync (settling_rule l) (syncs_on w l) (inl (settling_law h))
     (next_or w l c (next_sync_in c) from_skip (sync_rule w l) (skips_on w l) (inl (sync_law h))
     (next_or w l c (next_skip_in c) from_finish (skip_rule l) (finishings_on w l) (inl (skip_law h))
-    (next_or w l c (next_finish_in c) (clearing_on c) (finishing_rule w l) (leftovers_on w l) (inl (finishing_law h)) (last_law a))))
+    (next_or w l c (next_finish_in c) (clearing_on c) (finishing_rule w l) (leftovers_on w l) (inl (finishing_law h a.consistent.memory.present)) (last_law a))))
 
 look_or : (w : World) (l : Ledger) (c : Core) (r : Option Entry) → IsNext w l c (first_rule_in c) r → (o : Option Scan) → c.scan ≡ o → (seen : Seen) → c.deferred ≡ seen →
     IsNext w l c (option_or (scan_look_in seen o) (first_rule_in c)) r
@@ -98,4 +98,4 @@ timed_law {w = w} {c = c} {l = l} a true = look_or w l c (first_rule w l) (first
 pub next_law : {w : World} {c : Core} {l : Ledger} → Agrees w c l → IsNext w l c (decide_in c) (next w l)
 unfolding next
 next_law {w = w} {c = c} {l = l} a =
-    subst (λ b. IsNext w l c (if not b then None else option_or (scan_look_in c.deferred c.scan) (first_rule_in c)) (next w l)) (sym a.parts.timed) (timed_law a l.timed)
+    subst (λ b. IsNext w l c (if not b then None else option_or (scan_look_in c.deferred c.scan) (first_rule_in c)) (next w l)) (sym a.matches.parts.timed) (timed_law a l.timed)

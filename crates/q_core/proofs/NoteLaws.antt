@@ -78,22 +78,17 @@ note_law {w = w} {c = c} {l = l} e q r = let h = r.parts in record {
     ignores = h.ignores;
     deferred_turn = h.deferred_turn;
     admitted = h.admitted;
-    present = h.present;
     waiting = h.waiting;
     flights = h.flights;
     memory = h.memory;
     served = h.served;
     unsettled = h.unsettled;
     lines = (h.lines ∙ same_jobs e l q (enumerate_from 0 l.lines));
-    fresh = (λ id t some gone. (same_starts e l id t q ∙ (h.fresh id t some gone).0, same_charged e l id t q ∙ (h.fresh id t some gone).1));
     sites = h.sites;
     synced = h.synced;
     starts = (h.starts ∙ sym (count_quiet is_start e l.past q.no_start));
     active = h.active;
     incoming = h.incoming;
-    leftovers_stand = h.leftovers_stand;
-    synced_well = h.synced_well;
-    orderly = h.orderly;
   };
   scan = r.scan;
   asked = r.asked;
@@ -117,22 +112,17 @@ ignore_law {c = c} {l = l} r = let h = r.parts in record {
     ignores = refl;
     deferred_turn = h.deferred_turn;
     admitted = h.admitted;
-    present = h.present;
     waiting = h.waiting;
     flights = h.flights;
     memory = h.memory;
     served = h.served;
     unsettled = h.unsettled;
     lines = h.lines;
-    fresh = h.fresh;
     sites = h.sites;
     synced = h.synced;
     starts = h.starts;
     active = h.active;
     incoming = h.incoming;
-    leftovers_stand = h.leftovers_stand;
-    synced_well = h.synced_well;
-    orderly = h.orderly;
   };
   scan = r.scan;
   asked = r.asked;
@@ -169,22 +159,17 @@ revive_law {w = w} {c = c} {d = d} {l = l} r revives =
       ignores = h.ignores;
       deferred_turn = h.deferred_turn;
       admitted = h.admitted;
-      present = h.present;
       waiting = h.waiting;
       flights = h.flights;
       memory = h.memory;
       served = h.served;
       unsettled = h.unsettled;
       lines = h.lines;
-      fresh = h.fresh;
       sites = sites;
       synced = h.synced;
       starts = h.starts;
       active = h.active;
       incoming = h.incoming;
-      leftovers_stand = h.leftovers_stand;
-      synced_well = h.synced_well;
-      orderly = h.orderly;
     } in
     let raw : HoldsRaw w (record c { sites = d.sites }) later = record { parts = kept; scan = r.scan; asked = r.asked; seen = still_revived c.deferred l (revive_all w l) r.seen } in
     subst (λ k. HoldsRaw w k later) (sym revives.rest) raw

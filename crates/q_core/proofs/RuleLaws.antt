@@ -1,11 +1,13 @@
 -- The rules by what the core holds are those of the ledger.
-use Rattle.std.proofs.Common.{◌≡◌, ℕ, ◌-◌, Bool, true, false, List, [], ◌∷◌, length, refl, sym, ap, ◌∙◌, subst, arith, Option, Some, None, option_map, inl, inr}
+use Rattle.std.proofs.Common.{◌≡◌, ℕ, ◌-◌, Bool, true, false, List, [], ◌∷◌, length, refl, sym, ap, ◌∙◌, subst, arith, Option, Some, None, option_map, inl, inr, IsTrue}
+use Rattle.std.specs.List.{list_all}
 use Rattle.std.specs.Option.{option_map_or}
 use Rattle.std.specs.Prelude.{find, not, ◌&&◌, ◌||◌, ◌==◌, ◌+◌, min, max, is_none, nat_lt, nat_le, option_and_then, if◌then◌else◌, slice_get}
 use Rattle.q_core.proofs.AgreesLaws.{recipients_on, same_dead, same_idle, same_waiting, unread_same}
 use Rattle.q_core.proofs.ListLaws.{IsFoundAt, find-all, find-map, find-passes, find-same, position-find}
 use Rattle.q_core.proofs.NameLaws.{id_eq-true}
-use Rattle.q_core.specs.Agrees.{Holds, is_present, slot_from, slot_of}
+use Rattle.q_core.specs.Agrees.{Holds, slot_from, slot_of}
+use Rattle.q_laws.specs.Consistency.{is_present}
 use Rattle.q_core.specs.Decisions.{IsReadRule, IsRule}
 use Rattle.q_core.specs.Held.{due_in, finish_in, free_in, is_dead_in, is_idle_in, may_read_in, wants_sync_in}
 use Rattle.q_core.specs.Rules.{decision_of, first_need_in, needed_in, next_finish_in, next_read_in, next_skip_in, next_sync_in, skip_at, skip_of}
@@ -164,11 +166,10 @@ kept_is : {w : World} {c : Core} {l : Ledger} → Holds w c l → (x : Admitted)
     finish_in c (slot_of l x) ≡ finish_kept x.id (due w l.now m) (not (is_clean m)) (not (has_none (pending m))) (not (has_none (unmarked_logged m))) (wants_bounce m) (has_bounce l x.id)
 kept_is {w = w} {c = c} {l = l} a x m e same =
     ap (λ o. finish_in c (slot_from x (has_bounce l x.id) o)) e
-    ∙ ap (λ t. finish_kept x.id t (nat_lt 0 (length (written_marks m))) (nat_lt 0 (length (pending m))) (nat_lt 0 (length (unmarked_logged m))) (nat_lt 0 (length m.failures) && not (is_none m.sender) && not x.id.bounce) (has_bounce l x.id)) (same_due a m)
-    ∙ ap (λ b. finish_kept x.id (due w l.now m) b (nat_lt 0 (length (pending m))) (nat_lt 0 (length (unmarked_logged m))) (nat_lt 0 (length m.failures) && not (is_none m.sender) && not x.id.bounce) (has_bounce l x.id)) (no_length (written_marks m))
-    ∙ ap (λ b. finish_kept x.id (due w l.now m) (not (is_clean m)) b (nat_lt 0 (length (unmarked_logged m))) (nat_lt 0 (length m.failures) && not (is_none m.sender) && not x.id.bounce) (has_bounce l x.id)) (no_length (pending m))
-    ∙ ap (λ b. finish_kept x.id (due w l.now m) (not (is_clean m)) (not (has_none (pending m))) b (nat_lt 0 (length m.failures) && not (is_none m.sender) && not x.id.bounce) (has_bounce l x.id)) (no_length (unmarked_logged m))
-    ∙ ap (λ b. finish_kept x.id (due w l.now m) (not (is_clean m)) (not (has_none (pending m))) (not (has_none (unmarked_logged m))) b (has_bounce l x.id)) (kept_wants m x.id same)
+    ∙ ap (λ t. finish_kept x.id t (nat_lt 0 (length (written_marks m))) (nat_lt 0 (length (pending m))) (not (has_none (unmarked_logged m))) (not (has_none m.failures) && not (is_none m.sender) && not x.id.bounce) (has_bounce l x.id)) (same_due a m)
+    ∙ ap (λ b. finish_kept x.id (due w l.now m) b (nat_lt 0 (length (pending m))) (not (has_none (unmarked_logged m))) (not (has_none m.failures) && not (is_none m.sender) && not x.id.bounce) (has_bounce l x.id)) (no_length (written_marks m))
+    ∙ ap (λ b. finish_kept x.id (due w l.now m) (not (is_clean m)) b (not (has_none (unmarked_logged m))) (not (has_none m.failures) && not (is_none m.sender) && not x.id.bounce) (has_bounce l x.id)) (no_length (pending m))
+    ∙ ap (λ b. finish_kept x.id (due w l.now m) (not (is_clean m)) (not (has_none (pending m))) (not (has_none (unmarked_logged m))) b (has_bounce l x.id)) (ap (λ (i : Id). not (has_none m.failures) && not (is_none m.sender) && not i.bounce) (sym same))
 
 finish_same : {w : World} {c : Core} {l : Ledger} → Holds w c l → (x : Admitted) (m : Message) → message_of l.book x.id ≡ Some m → m.id ≡ x.id → is_idle l x.id ≡ true → is_active m.place ≡ true → IsRule c (finish_in c (slot_of l x)) (finish w l x.id)
 finish_same {w = w} {c = c} {l = l} a x m e same idle active =
@@ -181,17 +182,17 @@ stands_there : (l : Ledger) (x : Admitted) (o : Option Message) → message_of l
 stands_there l x None e h = cc
 stands_there l x (Some m) e h = (m, e, id_eq-true m.id x.id (find-passes (λ m'. id_eq m'.id x.id) l.book.messages m e), h)
 
-finish_found : {w : World} {c : Core} {l : Ledger} → Holds w c l → (o : Option Admitted) → find (λ x. is_idle l x.id) l.admitted ≡ o → IsRule c (option_and_then (finish_in c) (option_map (slot_of l) o)) (option_and_then (λ (x : Admitted). finish w l x.id) o)
-finish_found a None e = refl
-finish_found {l = l} a (Some x) e =
-    let there = stands_there l x (message_of l.book x.id) refl (find-all (λ y. is_idle l y.id) (is_present l) l.admitted x a.present e) in
+finish_found : {w : World} {c : Core} {l : Ledger} → Holds w c l → IsTrue (list_all (is_present l) l.admitted) → (o : Option Admitted) → find (λ x. is_idle l x.id) l.admitted ≡ o → IsRule c (option_and_then (finish_in c) (option_map (slot_of l) o)) (option_and_then (λ (x : Admitted). finish w l x.id) o)
+finish_found a p None e = refl
+finish_found {l = l} a p (Some x) e =
+    let there = stands_there l x (message_of l.book x.id) refl (find-all (λ y. is_idle l y.id) (is_present l) l.admitted x p e) in
     finish_same a x there.0 there.1 there.2 (find-passes (λ y. is_idle l y.id) l.admitted x e) there.3
 
-pub finishing_law : {w : World} {c : Core} {l : Ledger} → Holds w c l → IsRule c (next_finish_in c) (finishing_rule w l)
-finishing_law {w = w} {c = c} {l = l} a =
+pub finishing_law : {w : World} {c : Core} {l : Ledger} → Holds w c l → IsTrue (list_all (is_present l) l.admitted) → IsRule c (next_finish_in c) (finishing_rule w l)
+finishing_law {w = w} {c = c} {l = l} a p =
     subst (λ (o : Option Slot). IsRule c (option_and_then (finish_in c) o) (finishing_rule w l))
     (sym (found_slot a (λ s. is_idle_in c s.id) (λ x. is_idle l x.id) (λ x. same_idle a x.id)))
-    (finish_found a (find (λ x. is_idle l x.id) l.admitted) refl)
+    (finish_found a p (find (λ x. is_idle l x.id) l.admitted) refl)
 
 pub same_free : {w : World} {c : Core} {l : Ledger} → Holds w c l → free_in c ≡ free w l
 same_free {w = w} {c = c} {l = l} a = ap (λ n. c.params.recipient_limit - n) a.memory ∙ ap (λ (s : Settings). s.recipient_limit - in_memory l) a.settings
@@ -210,18 +211,18 @@ same_read {w = w} {c = c} {l = l} a x =
 abbrev load_on : World → Ledger → Admitted → Option Message → Option Entry
 load_on w l x o = option_and_then (λ (m : Message). Some (entries.Load x.id x.unread (load_end m x.unread (free w l)))) o
 
-read_found : {w : World} {c : Core} {l : Ledger} → Holds w c l → (o : Option Admitted) → find (may_read w l) l.admitted ≡ o →
+read_found : {w : World} {c : Core} {l : Ledger} → Holds w c l → IsTrue (list_all (is_present l) l.admitted) → (o : Option Admitted) → find (may_read w l) l.admitted ≡ o →
     IsReadRule w l (option_map (λ s. decisions.Read s.id s.unread (free_in c)) (option_map (slot_of l) o)) (option_and_then (λ (x : Admitted). load_of w l x) o)
-read_found a None e = refl
-read_found {w = w} {c = c} {l = l} a (Some x) e =
-    let there = stands_there l x (message_of l.book x.id) refl (find-all (may_read w l) (is_present l) l.admitted x a.present e) in
+read_found a p None e = refl
+read_found {w = w} {c = c} {l = l} a p (Some x) e =
+    let there = stands_there l x (message_of l.book x.id) refl (find-all (may_read w l) (is_present l) l.admitted x p e) in
     (there.0, there.1, same_free a, ap (load_on w l x) there.1 ∙ ap (λ n. Some (entries.Load x.id x.unread (load_end there.0 x.unread n))) (sym (same_free a)))
 
-pub load_law : {w : World} {c : Core} {l : Ledger} → Holds w c l → IsReadRule w l (next_read_in c) (load_rule w l)
-load_law {w = w} {c = c} {l = l} a =
+pub load_law : {w : World} {c : Core} {l : Ledger} → Holds w c l → IsTrue (list_all (is_present l) l.admitted) → IsReadRule w l (next_read_in c) (load_rule w l)
+load_law {w = w} {c = c} {l = l} a p =
     subst (λ (o : Option Slot). IsReadRule w l (option_map (λ s. decisions.Read s.id s.unread (free_in c)) o) (load_rule w l))
     (sym (found_slot a (may_read_in c) (may_read w l) (same_read a)))
-    (read_found a (find (may_read w l) l.admitted) refl)
+    (read_found a p (find (may_read w l) l.admitted) refl)
 
 need_of : (c : Core) (id : Id) (position : ℕ) (n : Need) → IsRule c (Some (needed_in id position n)) (Some (needed id position n))
 need_of c id position (needs.Log why code) = (entries.Log id (record { position = position; why = why; code = code }), refl, refl)

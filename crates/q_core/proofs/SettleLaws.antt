@@ -7,7 +7,7 @@ use Rattle.q_core.proofs.AgreesLaws.{same_unread}
 use Rattle.q_core.proofs.ListLaws.{filter-map, filter-same, filter_each, filter_none, length-numbered, slice_get-numbered}
 use Rattle.q_core.proofs.NameLaws.{id_eq-true}
 use Rattle.q_core.proofs.StepLaws.{HoldsRaw, IsStillSeen}
-use Rattle.q_core.specs.Agrees.{Agrees, Holds, IsFresh, IsScan, IsSeenScan, found_deferred, job_of, jobs_of}
+use Rattle.q_core.specs.Agrees.{Matches, Holds, IsScan, IsSeenScan, found_deferred, job_of, jobs_of}
 use Rattle.q_core.specs.Changes.{IsSettled}
 use Rattle.q_core.specs.Destinations.{forget_in, is_kept_in, is_unused_in, used_in}
 use Rattle.q_core.specs.Scanning.{scan_after, scan_at}
@@ -100,11 +100,6 @@ line_filtered l t (Some ids) = refl
 line_settled : (l : Ledger) (t : ℕ) → line_at (slice_get (map (settle_line l) (enumerate_from 0 l.lines)) t) ≡ filter (stays l t) (line_of l t)
 line_settled l t = ap line_at (slice_get-numbered (settle_line l) 0 t t l.lines (omega arith)) ∙ line_filtered l t (slice_get l.lines t)
 
-fresh_settled : (l : Ledger) (id : Id) (t : ℕ) → IsFresh l id t → (unread_of l id == 0) ≡ false → list_any (id_eq id) (line_at (slice_get (map (settle_line l) (enumerate_from 0 l.lines)) t)) ≡ false → (starts_of l id t ≡ 0) × (charged l id t ≡ 0)
-fresh_settled l id t fresh some gone =
-    fresh some (still_gone (stays l t) id (line_of l t) (ap (λ b. not b || list_any (λ r. id_eq r.id id && (r.site.transport == t)) l.waiting) some)
-    (ap (list_any (id_eq id)) (sym (line_settled l t)) ∙ gone))
-
 -- where no row left its site, no record comes to be unused
 not_newly : (b : Bool) → (b && not b) ≡ false
 not_newly true = refl
@@ -124,7 +119,7 @@ ordered_same l =
     ∙ ap (λ xs. l.sites ++ xs) (filter_none (λ r. is_unused l r && not (is_unused l r)) (λ r. not_newly (is_unused l r)) l.sites)
     ∙ append-nil l.sites
 
-abbrev kept_alive : Ledger → List SiteRecord → List SiteRecord
+abbrev pub kept_alive : Ledger → List SiteRecord → List SiteRecord
 kept_alive l rs = filter (λ r. not (is_unused l r && is_alive r.health)) rs
 
 sites_settled : {w : World} {c : Core} {l : Ledger} → Holds w c l →
@@ -138,7 +133,7 @@ sites_settled {w = w} {c = c} {l = l} h =
     (filter-same (is_kept_in l.waiting l.flights) (λ r. not (is_unused l r && is_alive r.health)) (λ r. twice_not (is_unused l r) (is_alive r.health)) l.sites)
 
 -- the ledger after its scan, lines, served rows and sites are settled, where no row left its site
-abbrev settled_by : World → Ledger → List SiteRecord → Ledger
+abbrev pub settled_by : World → Ledger → List SiteRecord → Ledger
 settled_by w l sites = record l {
   scan = (scan_after l.book l.now l.scan l.asked).0;
   asked = (scan_after l.book l.now l.scan l.asked).1;
@@ -158,18 +153,22 @@ abbrev sites_since : World → Ledger → List Row → List Delivery → List Si
 sites_since w l rows flights = forget_oldest w l (kept_alive l
     (filter (λ r. not (is_unused l r && not (is_unused_in rows flights r.site))) l.sites ++ filter (λ r. is_unused l r && not (is_unused_in rows flights r.site)) l.sites))
 
-settled_is : (w : World) (before l : Ledger) → before.waiting ≡ l.waiting → before.flights ≡ l.flights → settled w before l ≡ settled_by w l (forget_oldest w l (kept_alive l l.sites))
-settled_is w before l rows flights =
+pub settled_as : (w : World) (before l : Ledger) → settled w before l ≡ settled_by w l (settled_sites w before l)
+settled_as w before l =
     ap (λ (k : Ledger). record k {
       lines = map (settle_line l) (enumerate_from 0 l.lines);
       served = filter (λ (s : Served). list_any (λ (r : Row). id_eq r.id s.id && site_eq r.site s.site) l.waiting) l.served;
       sites = settled_sites w before l;
     }) (settle_scan_is l)
+
+settled_is : (w : World) (before l : Ledger) → before.waiting ≡ l.waiting → before.flights ≡ l.flights → settled w before l ≡ settled_by w l (forget_oldest w l (kept_alive l l.sites))
+settled_is w before l rows flights =
+    settled_as w before l
     ∙ ap (settled_by w l)
     (ap (λ rs. sites_since w l rs before.flights) rows ∙ ap (sites_since w l l.waiting) flights ∙ ap (λ xs. forget_oldest w l (kept_alive l xs)) (ordered_same l))
 
 -- settling keeps the agreement; the entry took no row from a site
-pub settle_law : {w : World} {c d : Core} {l : Ledger} (before : Ledger) → before.waiting ≡ l.waiting → before.flights ≡ l.flights → HoldsRaw w c l → IsSettled c d → Agrees w d (settled w before l)
+pub settle_law : {w : World} {c d : Core} {l : Ledger} (before : Ledger) → before.waiting ≡ l.waiting → before.flights ≡ l.flights → HoldsRaw w c l → IsSettled c d → Matches w d (settled w before l)
 settle_law {w = w} {c = c} {d = d} {l = l} before rows flights r s =
     let h = r.parts in
     let kept : Core = record c { lines = d.lines; served = d.served; sites = d.sites } in
@@ -189,26 +188,21 @@ settle_law {w = w} {c = c} {d = d} {l = l} before rows flights r s =
       ignores = h.ignores;
       deferred_turn = h.deferred_turn;
       admitted = h.admitted;
-      present = h.present;
       waiting = h.waiting;
       flights = h.flights;
       memory = h.memory;
       served = served;
       unsettled = h.unsettled;
       lines = lines;
-      fresh = (λ id t. fresh_settled l id t (h.fresh id t));
       sites = (s.sites ∙ sites_settled h);
       synced = h.synced;
       starts = h.starts;
       active = h.active;
       incoming = h.incoming;
-      leftovers_stand = h.leftovers_stand;
-      synced_well = h.synced_well;
-      orderly = h.orderly;
     } in
     let scan : IsScan kept after = record {
       settles = ap (λ x. scan_after l.book l.now x c.asked) r.scan ∙ ap (scan_after l.book l.now l.scan) r.asked;
       seen = seen_settled c.deferred w kept l (forget_oldest w l (kept_alive l l.sites)) r.scan r.asked r.seen;
     } in
-    let agrees : Agrees w d after = subst (λ k. Agrees w k after) (sym s.rest) (record { parts = parts; scan = scan }) in
-    subst (λ k. Agrees w d k) (sym (settled_is w before l rows flights)) agrees
+    let agrees : Matches w d after = subst (λ k. Matches w k after) (sym s.rest) (record { parts = parts; scan = scan }) in
+    subst (λ k. Matches w d k) (sym (settled_is w before l rows flights)) agrees

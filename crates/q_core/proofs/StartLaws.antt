@@ -1,5 +1,5 @@
 -- The choice by what the core holds is the ledger's.
-use Rattle.std.proofs.Common.{◌≡◌, ℕ, ◌+◌, ◌-◌, ◌*◌, ◌^◌, Bool, true, false, List, [], ◌∷◌, length, map, refl, suc, sym, ap, ◌∙◌, subst, arith, Option, Some, None, option_map}
+use Rattle.std.proofs.Common.{◌≡◌, ℕ, ◌+◌, ◌-◌, ◌*◌, ◌^◌, Bool, true, false, List, [], ◌∷◌, length, map, refl, suc, sym, ap, ◌∙◌, subst, arith, Option, Some, None, option_map, IsTrue}
 use Rattle.std.specs.Prelude.{find, filter, not, ◌&&◌, ◌||◌, ◌==◌, nat_lt, nat_le, count_by, option_and_then, if◌then◌else◌, slice_get, filter_map}
 use Rattle.std.specs.List.{list_any, list_all, enumerate_from, cons_option}
 use Rattle.std.specs.Option.{option_map_or, option_or}
@@ -7,7 +7,8 @@ use Rattle.q_core.proofs.AgreesLaws.{same_unread}
 use Rattle.q_core.proofs.ChoiceLaws.{least-map, least-same, list_all-filter}
 use Rattle.q_core.proofs.ListLaws.{filter-map, filter-same, find-map, find-same, list_any-same, slice_get-numbered}
 use Rattle.q_core.proofs.NameLaws.{id_eq-true}
-use Rattle.q_core.specs.Agrees.{Holds, is_present, job_of, jobs_of, slot_of}
+use Rattle.q_core.specs.Agrees.{Holds, job_of, jobs_of, slot_of}
+use Rattle.q_laws.specs.Consistency.{is_present}
 use Rattle.q_core.specs.Choosing.{behind_jobs, best_in, choice_in, choices_from, choose_in, current_in, is_better_in, is_candidate_in, is_fresh_among, jobs_at, next_start_in, pays_in, preempt_or, rest_in}
 use Rattle.q_core.specs.Decisions.{IsRule}
 use Rattle.q_core.specs.Held.{unread_in}
@@ -59,7 +60,7 @@ same_for h id t r = ap (λ b. id_eq r.id id && (r.site.transport == t) && b) (sa
 same_can_start : {w : World} {c : Core} {l : Ledger} → Holds w c l → (t : ℕ) (id : Id) → can_start_in c t id ≡ can_start w l t id
 same_can_start {w = w} {c = c} {l = l} h t id = ap (list_any (rows_for c id t)) h.waiting ∙ list_any-same (rows_for c id t) (rows_of w l id t) (same_for h id t) l.waiting
 
-same_rest : {w : World} {c : Core} {l : Ledger} → Holds w c l → (t : ℕ) (id : Id) → rest_in c t id ≡ rest l id t
+pub same_rest : {w : World} {c : Core} {l : Ledger} → Holds w c l → (t : ℕ) (id : Id) → rest_in c t id ≡ rest l id t
 same_rest {c = c} {l = l} h t id =
     ap (λ (rs : List Row). count_by (λ r. id_eq r.id id && (r.site.transport == t)) rs + unread_in c id) h.waiting
     ∙ ap (λ n. count_by (λ r. id_eq r.id id && (r.site.transport == t)) l.waiting + n) (same_unread h id)
@@ -157,16 +158,16 @@ same_better {c = c} {l = l} h t x y px py =
 abbrev best_admitted : World → Ledger → ℕ → Id → Option Admitted
 best_admitted w l t parent = least (λ (a b : Admitted). is_better l t a.id b.id) (filter (λ (a : Admitted). is_candidate w l t parent a.id) l.admitted)
 
-same_best : {w : World} {c : Core} {l : Ledger} → Holds w c l → (t : ℕ) (parent : Id) →
+same_best : {w : World} {c : Core} {l : Ledger} → Holds w c l → IsTrue (list_all (is_present l) l.admitted) → (t : ℕ) (parent : Id) →
     best_in c t (behind_jobs parent (jobs_at c t)) (job_of l t parent) ≡ option_map (slot_of l) (best_admitted w l t parent)
-same_best {w = w} {c = c} {l = l} h t parent =
+same_best {w = w} {c = c} {l = l} h p t parent =
     let test : Slot → Bool = λ (s : Slot). is_candidate_in c t (behind_jobs parent (jobs_at c t)) (job_of l t parent) s.id in
     let passes : Admitted → Bool = λ (a : Admitted). is_candidate w l t parent a.id in
     ap (λ (ss : List Slot). least (is_better_in c t) (filter test ss)) h.admitted
     ∙ ap (least (is_better_in c t)) (filter-map test (slot_of l) l.admitted ∙ ap (map (slot_of l)) (filter-same (λ a. test (slot_of l a)) passes (λ (a : Admitted). same_candidate h t parent a.id) l.admitted))
     ∙ least-map (is_better_in c t) (slot_of l) (filter passes l.admitted)
     ∙ ap (option_map (slot_of l)) (least-same (λ a b. is_better_in c t (slot_of l a) (slot_of l b)) (λ (a b : Admitted). is_better l t a.id b.id) (is_present l) (same_better h t)
-    (filter passes l.admitted) (list_all-filter (is_present l) passes l.admitted h.present))
+    (filter passes l.admitted) (list_all-filter (is_present l) passes l.admitted p))
 
 best_is : (w : World) (l : Ledger) (t : ℕ) (parent : Id) → best w l t parent ≡ option_map (λ (a : Admitted). a.id) (best_admitted w l t parent)
 best_is w l t parent =
@@ -203,28 +204,28 @@ start_of_job {w = w} {c = c} {l = l} h t id =
 abbrev preempt_on : World → Ledger → ℕ → Id → Option Id → Option Entry
 preempt_on w l t parent o = option_map_or (λ child. Some (entries.Preempt child parent t (rest l child t))) o (option_map (start_of l) (next_row w l t parent))
 
-preempt_found : {w : World} {c : Core} {l : Ledger} → Holds w c l → (t : ℕ) (parent : Id) (o : Option Admitted) →
+preempt_found : {w : World} {c : Core} {l : Ledger} → Holds w c l → IsTrue (list_all (is_present l) l.admitted) → (t : ℕ) (parent : Id) (o : Option Admitted) →
     IsRule c (preempt_or c t (job_of l t parent) (option_map (slot_of l) o)) (preempt_on w l t parent (option_map (λ (a : Admitted). a.id) o))
-preempt_found h t parent None = start_of_job h t parent
-preempt_found {c = c} {l = l} h t parent (Some x) =
+preempt_found h p t parent None = start_of_job h t parent
+preempt_found {c = c} {l = l} h p t parent (Some x) =
     (entries.Preempt x.id parent t (rest_in c t x.id), refl, ap (λ n. Some (entries.Preempt x.id parent t n)) (sym (same_rest h t x.id)))
 
-choose_law : {w : World} {c : Core} {l : Ledger} → Holds w c l → (t : ℕ) (parent : Id) → IsRule c (choose_in c t (job_of l t parent)) (preempt_on w l t parent (best w l t parent))
-choose_law {w = w} {c = c} {l = l} h t parent =
-    subst (λ o. IsRule c (preempt_or c t (job_of l t parent) o) (preempt_on w l t parent (best w l t parent))) (sym (same_best h t parent))
+choose_law : {w : World} {c : Core} {l : Ledger} → Holds w c l → IsTrue (list_all (is_present l) l.admitted) → (t : ℕ) (parent : Id) → IsRule c (choose_in c t (job_of l t parent)) (preempt_on w l t parent (best w l t parent))
+choose_law {w = w} {c = c} {l = l} h p t parent =
+    subst (λ o. IsRule c (preempt_or c t (job_of l t parent) o) (preempt_on w l t parent (best w l t parent))) (sym (same_best h p t parent))
     (subst (λ o. IsRule c (preempt_or c t (job_of l t parent) (option_map (slot_of l) (best_admitted w l t parent))) (preempt_on w l t parent o)) (sym (best_is w l t parent))
-    (preempt_found h t parent (best_admitted w l t parent)))
+    (preempt_found h p t parent (best_admitted w l t parent)))
 
 abbrev choice_on : World → Ledger → ℕ → Option Id → Option Entry
 choice_on w l t o = option_and_then (λ parent. preempt_on w l t parent (best w l t parent)) o
 
-choice_found : {w : World} {c : Core} {l : Ledger} → Holds w c l → (t : ℕ) (o : Option Id) → IsRule c (option_and_then (choose_in c t) (option_map (job_of l t) o)) (choice_on w l t o)
-choice_found h t None = refl
-choice_found h t (Some parent) = choose_law h t parent
+choice_found : {w : World} {c : Core} {l : Ledger} → Holds w c l → IsTrue (list_all (is_present l) l.admitted) → (t : ℕ) (o : Option Id) → IsRule c (option_and_then (choose_in c t) (option_map (job_of l t) o)) (choice_on w l t o)
+choice_found h p t None = refl
+choice_found h p t (Some parent) = choose_law h p t parent
 
-choice_law : {w : World} {c : Core} {l : Ledger} → Holds w c l → (t : ℕ) → IsRule c (choice_in c t) (choice w l t)
-choice_law {w = w} {c = c} {l = l} h t =
-    subst (λ o. IsRule c (option_and_then (choose_in c t) o) (choice w l t)) (sym (same_current h t)) (choice_found h t (current w l t))
+choice_law : {w : World} {c : Core} {l : Ledger} → Holds w c l → IsTrue (list_all (is_present l) l.admitted) → (t : ℕ) → IsRule c (choice_in c t) (choice w l t)
+choice_law {w = w} {c = c} {l = l} h p t =
+    subst (λ o. IsRule c (option_and_then (choose_in c t) o) (choice w l t)) (sym (same_current h t)) (choice_found h p t (current w l t))
 
 -- of two rules the first that has something
 rule_or : (c : Core) (d f : Option Decision) (r s : Option Entry) → IsRule c d r → IsRule c f s → IsRule c (option_or d f) (option_or r s)
@@ -239,18 +240,18 @@ first_step (Some e) rest = refl
 abbrev line_choice : World → Ledger → (ℕ × List Id) → Option Entry
 line_choice w l line = choice w l line.0
 
-choices_law : {w : World} {c : Core} {l : Ledger} → Holds w c l → (n : ℕ) (ls : List (List Id)) → IsRule c (choices_from c n (length ls)) (first_some (line_choice w l) (enumerate_from n ls))
-choices_law h n [] = refl
-choices_law {w = w} {c = c} {l = l} h n (ids ∷ ls) =
+choices_law : {w : World} {c : Core} {l : Ledger} → Holds w c l → IsTrue (list_all (is_present l) l.admitted) → (n : ℕ) (ls : List (List Id)) → IsRule c (choices_from c n (length ls)) (first_some (line_choice w l) (enumerate_from n ls))
+choices_law h p n [] = refl
+choices_law {w = w} {c = c} {l = l} h p n (ids ∷ ls) =
     subst (λ o. IsRule c (choices_from c n (suc (length ls))) o) (sym (first_step (choice w l n) (filter_map (line_choice w l) (enumerate_from (n + 1) ls))))
-    (rule_or c (choice_in c n) (choices_from c (n + 1) (length ls)) (choice w l n) (first_some (line_choice w l) (enumerate_from (n + 1) ls)) (choice_law h n) (choices_law h (n + 1) ls))
+    (rule_or c (choice_in c n) (choices_from c (n + 1) (length ls)) (choice w l n) (first_some (line_choice w l) (enumerate_from (n + 1) ls)) (choice_law h p n) (choices_law h p (n + 1) ls))
 
 limit_law : (c : Core) (b : Bool) (d : Option Decision) (r : Option Entry) → IsRule c d r → IsRule c (if b then d else None) (if b then r else None)
 limit_law c true d r h = h
 limit_law c false d r h = refl
 
-pub start_law : {w : World} {c : Core} {l : Ledger} → Holds w c l → IsRule c (next_start_in c) (start_rule w l)
-start_law {w = w} {c = c} {l = l} h =
+pub start_law : {w : World} {c : Core} {l : Ledger} → Holds w c l → IsTrue (list_all (is_present l) l.admitted) → IsRule c (next_start_in c) (start_rule w l)
+start_law {w = w} {c = c} {l = l} h p =
     subst (λ n. IsRule c (if nat_lt n (2 ^ 48) then choices_from c 0 c.transports else None) (start_rule w l)) (sym h.starts)
     (subst (λ n. IsRule c (if nat_lt (starts l) (2 ^ 48) then choices_from c 0 n else None) (start_rule w l)) (sym h.count)
-    (limit_law c (nat_lt (starts l) (2 ^ 48)) (choices_from c 0 (length l.lines)) (first_some (line_choice w l) (enumerate_from 0 l.lines)) (choices_law h 0 l.lines)))
+    (limit_law c (nat_lt (starts l) (2 ^ 48)) (choices_from c 0 (length l.lines)) (first_some (line_choice w l) (enumerate_from 0 l.lines)) (choices_law h p 0 l.lines)))

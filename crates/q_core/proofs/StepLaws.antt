@@ -1,7 +1,7 @@
 -- How agreement goes on from step to step.
 use Rattle.std.proofs.Common.{◌≡◌, ℕ, ◌+◌, Bool, true, false, List, map, refl, sym, ap, ◌∙◌, subst, Option, Some, None, IsTrue}
 use Rattle.std.specs.Prelude.{◌||◌, nat_le, if◌then◌else◌, is_none}
-use Rattle.q_core.specs.Agrees.{Agrees, Holds, IsScan, IsSeenScan, found_deferred}
+use Rattle.q_core.specs.Agrees.{Matches, Holds, IsScan, IsSeenScan, found_deferred}
 use Rattle.q_core.specs.Changes.{IsWoken, asked_scan, asked_when_due, is_known, is_looked_at, request_by}
 use Rattle.q_core.specs.Destinations.{busy_in, revive_due_in}
 use Rattle.q_core.specs.Scanning.{scan_after, scan_at}
@@ -65,7 +65,7 @@ still_later : (seen : Seen) (l : Ledger) (t : ℕ) (b : Bool) (sites : List Site
 still_later Unknown l t b sites h = tt
 still_later (Known found) l t b sites h = (h.0, stays_at l.book l.now t l.scan l.asked h.1)
 
-pub wake_law : {w : World} {c d : Core} {l : Ledger} {t : ℕ} → Agrees w c l → IsTrue (is_looked_at c) → IsWoken c d t →
+pub wake_law : {w : World} {c d : Core} {l : Ledger} {t : ℕ} → Matches w c l → IsTrue (is_looked_at c) → IsWoken c d t →
     HoldsRaw w d (woken w l t)
 wake_law {w = w} {c = c} {d = d} {l = l} {t = t} a t' wakes =
     let h = a.parts in
@@ -87,22 +87,17 @@ wake_law {w = w} {c = c} {d = d} {l = l} {t = t} a t' wakes =
       ignores = h.ignores;
       deferred_turn = h.deferred_turn;
       admitted = h.admitted;
-      present = h.present;
       waiting = h.waiting;
       flights = h.flights;
       memory = h.memory;
       served = h.served;
       unsettled = h.unsettled;
       lines = h.lines;
-      fresh = h.fresh;
       sites = sites;
       synced = h.synced;
       starts = h.starts;
       active = h.active;
       incoming = h.incoming;
-      leftovers_stand = h.leftovers_stand;
-      synced_well = h.synced_well;
-      orderly = h.orderly;
     } in
     let raw : HoldsRaw w (record c { clock = d.clock; timed = true; sites = d.sites }) later =
     record { parts = kept; scan = scan.0; asked = scan.1; seen = still_later c.deferred l t true (revive_due w (record l { now = t })) scan.2 } in
@@ -138,22 +133,17 @@ ask_case {w = w} l c None r = let h = r.parts in record {
     ignores = refl;
     deferred_turn = h.deferred_turn;
     admitted = h.admitted;
-    present = h.present;
     waiting = h.waiting;
     flights = h.flights;
     memory = h.memory;
     served = h.served;
     unsettled = h.unsettled;
     lines = h.lines;
-    fresh = h.fresh;
     sites = h.sites;
     synced = h.synced;
     starts = h.starts;
     active = h.active;
     incoming = h.incoming;
-    leftovers_stand = h.leftovers_stand;
-    synced_well = h.synced_well;
-    orderly = h.orderly;
   };
   scan = refl;
   asked = refl;
@@ -171,22 +161,17 @@ ask_case {w = w} l c (Some x) r = let h = r.parts in record {
     ignores = refl;
     deferred_turn = h.deferred_turn;
     admitted = h.admitted;
-    present = h.present;
     waiting = h.waiting;
     flights = h.flights;
     memory = h.memory;
     served = h.served;
     unsettled = h.unsettled;
     lines = h.lines;
-    fresh = h.fresh;
     sites = h.sites;
     synced = h.synced;
     starts = h.starts;
     active = h.active;
     incoming = h.incoming;
-    leftovers_stand = h.leftovers_stand;
-    synced_well = h.synced_well;
-    orderly = h.orderly;
   };
   scan = refl;
   asked = refl;
@@ -219,22 +204,17 @@ due_case {w = w} {c = c} {l = l} r true =
         ignores = h.ignores;
         deferred_turn = h.deferred_turn;
         admitted = h.admitted;
-        present = h.present;
         waiting = h.waiting;
         flights = h.flights;
         memory = h.memory;
         served = h.served;
         unsettled = h.unsettled;
         lines = h.lines;
-        fresh = h.fresh;
         sites = h.sites;
         synced = h.synced;
         starts = h.starts;
         active = h.active;
         incoming = h.incoming;
-        leftovers_stand = h.leftovers_stand;
-        synced_well = h.synced_well;
-        orderly = h.orderly;
       };
       scan = r.scan;
       asked = r.asked;
@@ -266,5 +246,5 @@ due_rows l n true = let r = ask_rows (record l { next_run = n }) in record { wai
 due_rows l n false = record { waiting = refl; flights = refl }
 
 -- nothing was changed yet
-pub raw_law : {w : World} {c : Core} {l : Ledger} → Agrees w c l → IsTrue (is_looked_at c) → HoldsRaw w c l
+pub raw_law : {w : World} {c : Core} {l : Ledger} → Matches w c l → IsTrue (is_looked_at c) → HoldsRaw w c l
 raw_law a t = let scan = looked a.scan t in record { parts = a.parts; scan = scan.0; asked = scan.1; seen = scan.2 }

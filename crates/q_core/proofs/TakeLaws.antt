@@ -5,10 +5,10 @@ use Rattle.std.specs.Prelude.{filter, filter_map, not, ◌&&◌, ◌||◌, nat_l
 use Rattle.std.specs.Option.{option_map_or}
 use Rattle.std.specs.List.{list_all, cons_option}
 use Rattle.q_core.proofs.ChoiceLaws.{least-all, list_all-filter}
-use Rattle.q_core.proofs.LeftLaws.{and_true_parts, damaged_there, or_right, stand_each, stands_all}
-use Rattle.q_core.proofs.NameLaws.{id_eq-same}
+use Rattle.q_core.proofs.LeftLaws.{damaged_there, stand_each, stands_all}
+use Rattle.q_core.proofs.NameLaws.{and_true_parts, id_eq-same, or_right}
 use Rattle.q_core.proofs.RuleLaws.{same_free}
-use Rattle.q_core.specs.Agrees.{Agrees, Holds, IsSeen, IsSeenScan, file_of, found_at, found_deferred, found_incoming, found_next, slot_of}
+use Rattle.q_core.specs.Agrees.{Matches, Holds, IsSeen, IsSeenScan, file_of, found_at, found_deferred, found_incoming, found_next, slot_of}
 use Rattle.q_core.specs.Decisions.{IsRule, IsRuleOrLooks}
 use Rattle.q_core.specs.Files.{is_nothing, picked, taken_found}
 use Rattle.q_core.specs.Held.{free_in}
@@ -227,20 +227,20 @@ admission_scanning : {w : World} {c : Core} {l : Ledger} → Holds w c l → has
 admission_scanning h room found i scan e Unknown u s = inr (inr (scan, refl, e, u))
 admission_scanning h room found i scan e (Known deferred) u s = inl (admission_known h room found deferred i s.2)
 
-admission_scan : {w : World} {c : Core} {l : Ledger} → Agrees w c l → has_room w l ≡ true → (found : Found) → found ≡ found_incoming l → (o : Option Scan) → c.scan ≡ o →
+admission_scan : {w : World} {c : Core} {l : Ledger} → Matches w c l → has_room w l ≡ true → (found : Found) → found ≡ found_incoming l → (o : Option Scan) → c.scan ≡ o →
     IsRuleOrLooks c (admission_in c found c.deferred o) (admission_rule w l)
 admission_scan {c = c} {l = l} a room found i None e =
     inl (admission_known a.parts room found Nothing i (no_deferred c l (ap (λ (o : Option Scan). scan_after l.book l.now o c.asked) (sym e) ∙ a.scan.settles)))
 admission_scan {c = c} {l = l} a room found i (Some scan) e = admission_scanning a.parts room found i scan e c.deferred refl a.scan.seen
 
-admission_told : {w : World} {c : Core} {l : Ledger} → Agrees w c l → has_room w l ≡ true → (seen : Seen) → c.incoming ≡ seen → IsSeen seen (found_incoming l) → IsRuleOrLooks c (admission_seen c seen) (admission_rule w l)
+admission_told : {w : World} {c : Core} {l : Ledger} → Matches w c l → has_room w l ≡ true → (seen : Seen) → c.incoming ≡ seen → IsSeen seen (found_incoming l) → IsRuleOrLooks c (admission_seen c seen) (admission_rule w l)
 admission_told a room Unknown e h = inr (inl (refl, e))
 admission_told {c = c} a room (Known found) e h = admission_scan a room found h c.scan refl
 
-room_law : {w : World} {c : Core} {l : Ledger} → Agrees w c l → (b : Bool) → has_room w l ≡ b → IsRuleOrLooks c (if not b then None else admission_seen c c.incoming) (admission_rule w l)
+room_law : {w : World} {c : Core} {l : Ledger} → Matches w c l → (b : Bool) → has_room w l ≡ b → IsRuleOrLooks c (if not b then None else admission_seen c c.incoming) (admission_rule w l)
 room_law {w = w} {c = c} {l = l} a false e = inl (ap (room_on w l) e)
 room_law {c = c} a true e = admission_told a e c.incoming refl a.parts.incoming
 
-pub admission_law : {w : World} {c : Core} {l : Ledger} → Agrees w c l → IsRuleOrLooks c (next_admission_in c c.incoming) (admission_rule w l)
+pub admission_law : {w : World} {c : Core} {l : Ledger} → Matches w c l → IsRuleOrLooks c (next_admission_in c c.incoming) (admission_rule w l)
 admission_law {w = w} {c = c} {l = l} a =
     subst (λ b. IsRuleOrLooks c (if not b then None else admission_seen c c.incoming) (admission_rule w l)) (sym (same_room a.parts)) (room_law a (has_room w l) refl)

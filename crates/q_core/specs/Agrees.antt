@@ -22,6 +22,8 @@ use Rattle.q_model.specs.Places.{is_active}
 use Rattle.q_model.specs.Settings.{World}
 use Rattle.q_model.specs.Startable.{line_of}
 use Rattle.q_model.specs.Turns.{deferred_next, incoming_next}
+use Rattle.q_laws.specs.Consistency.{IsConsistent}
+use Rattle.q_laws.specs.SitesConsistency.{IsSitesConsistent}
 use Rattle.q_core.specs.Scanning.{scan_after}
 use Rattle.q_core.specs.declared.decision.FileFacts.{FileFacts}
 use Rattle.q_core.specs.declared.decision.Found.{Found}
@@ -42,8 +44,8 @@ slot_from a bounced o = record {
   unread = a.unread;
   marks = option_map_or (λ m. length (written_marks m)) o 0;
   pending = option_map_or (λ m. length (pending m)) o 0;
-  unmarked = option_map_or (λ m. length (unmarked_logged m)) o 0;
-  failures = option_map_or (λ m. length m.failures) o 0;
+  logged = option_map_or (λ m. not (has_none (unmarked_logged m))) o false;
+  failed = option_map_or (λ m. not (has_none m.failures)) o false;
   bounced = bounced;
 }
 
@@ -58,10 +60,6 @@ job_of l transport id = record { id = id; starts = starts_of l id transport; cha
 -- the jobs of a line
 abbrev pub jobs_of : Ledger → (ℕ × List Id) → List Job
 jobs_of l line = map (job_of l line.0) line.1
-
--- the message stands in active
-abbrev pub is_present : Ledger → Admitted → Bool
-is_present l a = option_map_or (λ m. is_active m.place) (message_of l.book a.id) false
 
 -- what a look tells of a message
 abbrev pub file_of : Ledger → Id → Message → FileFacts
@@ -109,18 +107,6 @@ pub record IsScan (c : Core) (l : Ledger) : Type 0 where
   pub settles : scan_after l.book l.now c.scan c.asked ≡ (l.scan, l.asked)
   pub seen : IsSeenScan c.deferred c.scan c.asked l
 
--- a leftover that was synced has each failure marked and each mark synced
-abbrev pub is_synced_well : Ledger → Id → Bool
-is_synced_well l id = not (is_leftover l id) || option_map_or (λ m. is_clean m && has_none (unmarked_logged m)) (message_of l.book id) true
-
--- outside active each failure is marked and each mark is synced
-abbrev pub is_orderly : Message → Bool
-is_orderly m = is_active m.place || (is_clean m && has_none (unmarked_logged m))
-
--- an id that has something unread and isn't in the line has no account there
-abbrev pub IsFresh : Ledger → Id → ℕ → Type 0
-IsFresh l id transport = (unread_of l id == 0) ≡ false → list_any (id_eq id) (line_of l transport) ≡ false → (starts_of l id transport ≡ 0) × (charged l id transport ≡ 0)
-
 -- all but the scan
 pub record Holds (w : World) (c : Core) (l : Ledger) : Type 0 where
   pub settings : c.params ≡ w.settings
@@ -133,24 +119,25 @@ pub record Holds (w : World) (c : Core) (l : Ledger) : Type 0 where
   pub ignores : c.ignores ≡ l.ignores
   pub deferred_turn : c.deferred_turn ≡ l.deferred_turn
   pub admitted : c.admitted.items ≡ map (slot_of l) l.admitted
-  pub present : IsTrue (list_all (is_present l) l.admitted)
   pub waiting : c.waiting.items ≡ l.waiting
   pub flights : c.flights.items ≡ l.flights
   pub memory : c.in_memory ≡ in_memory l
   pub served : c.served.items ≡ l.served
   pub unsettled : c.unsettled.items ≡ l.unsettled
   pub lines : c.lines.items ≡ map (jobs_of l) (enumerate_from 0 l.lines)
-  pub fresh : (id : Id) (transport : ℕ) → IsFresh l id transport
   pub sites : c.sites.items ≡ l.sites
   pub synced : c.synced.items ≡ l.synced
   pub starts : c.starts ≡ starts l
   pub active : IsSeen c.active (found_active l)
   pub incoming : IsSeen c.incoming (found_incoming l)
-  pub leftovers_stand : (id : Id) (m : Message) → is_leftover l id ≡ true → message_of l.book id ≡ Some m → is_active m.place ≡ true
-  pub synced_well : IsTrue (list_all (is_synced_well l) l.synced)
-  pub orderly : IsTrue (list_all is_orderly l.book.messages)
 
--- the core agrees with the ledger
-pub record Agrees (w : World) (c : Core) (l : Ledger) : Type 0 where
+-- what the core holds is what the ledger says
+pub record Matches (w : World) (c : Core) (l : Ledger) : Type 0 where
   pub parts : Holds w c l
   pub scan : IsScan c l
+
+-- the core agrees with the ledger, of which all fits together
+pub record Agrees (w : World) (c : Core) (l : Ledger) : Type 0 where
+  pub matches : Matches w c l
+  pub consistent : IsConsistent w l
+  pub destinations : IsSitesConsistent w l

@@ -1,15 +1,20 @@
 -- How the core changes.
 use Rattle.std.specs.List.{enumerate_from}
 use Rattle.std.specs.Option.{option_map_or}
-use Rattle.std.specs.Prelude.{◌+◌, ◌≡◌, Bool, false, if◌then◌else◌, is_none, map, nat_le, None, Option, Some, true, ◌||◌, ℕ}
+use Rattle.std.specs.Prelude.{◌+◌, ◌≡◌, ◌∷◌, Bool, filter, List, false, if◌then◌else◌, is_none, map, nat_le, None, not, Option, Some, true, ◌||◌, ℕ}
 use Rattle.q_model.specs.declared.id.Id.{Id}
 use Rattle.q_model.specs.declared.rows.Request.{Request}
+use Rattle.q_model.specs.declared.rows.Unsettled.{Unsettled}
+use Rattle.q_model.specs.Ids.{id_eq}
 use Rattle.q_model.specs.Scans.{joined_request, new_scan}
+use Rattle.q_model.specs.Values.{Site}
 use Rattle.q_model.specs.declared.rows.Request.TheVariants as requests
-use Rattle.q_core.specs.Destinations.{forget_in, revive_dead_in, revive_due_in, used_in}
+use Rattle.q_core.specs.Destinations.{forget_in, is_left_in, revive_dead_in, revive_due_in, used_in}
 use Rattle.q_core.specs.Files.{is_nothing}
+use Rattle.q_core.specs.Lists.{moved_back}
 use Rattle.q_core.specs.Settled.{settled_line, settled_served}
-use Rattle.q_core.specs.Slots.{without_marks}
+use Rattle.q_core.specs.Slots.{changed_at, with_bounce}
+use Rattle.q_core.specs.declared.slot.Slot.{Slot}
 use Rattle.q_core.specs.declared.decision.Found.{Found}
 use Rattle.q_core.specs.declared.state.Core.{Core}
 use Rattle.q_core.specs.declared.state.Seen.{Seen}
@@ -53,6 +58,11 @@ pub record IsSettled (old new : Core) : Type 0 where
   pub served : new.served.items ≡ settled_served old.waiting.items old.served.items
   pub sites : new.sites.items ≡ forget_in old.waiting.items old.flights.items old.params.recipient_limit (used_in old.waiting.items old.flights.items old.sites.items)
 
+-- The record of a site that a row left goes to the end, where the site is unused now.
+pub record IsLeft (old new : Core) (site : Site) : Type 0 where
+  pub rest : new ≡ record old { sites = new.sites }
+  pub sites : new.sites.items ≡ moved_back (is_left_in old.waiting.items old.flights.items site) old.sites.items
+
 -- the time is set, and the sites whose time has come are alive
 pub record IsWoken (old new : Core) (moment : ℕ) : Type 0 where
   pub rest : new ≡ record old { clock = new.clock; timed = true; sites = new.sites }
@@ -64,7 +74,49 @@ pub record IsRevived (old new : Core) : Type 0 where
   pub rest : new ≡ record old { sites = new.sites }
   pub sites : new.sites.items ≡ map (revive_dead_in old.params old.flights.items) old.sites.items
 
--- no mark of the message may be lost any more
-pub record IsSyncedCore (old new : Core) (id : Id) : Type 0 where
+-- the slot of this id is changed
+pub record IsSlotChange (old new : Core) (id : Id) (change : Slot → Slot) : Type 0 where
   pub rest : new ≡ record old { admitted = new.admitted }
-  pub admitted : new.admitted.items ≡ map (without_marks id) old.admitted.items
+  pub admitted : new.admitted.items ≡ map (changed_at id change) old.admitted.items
+
+-- these outcomes are to be settled
+pub record IsUnsettledChange (old new : Core) (us : List Unsettled) : Type 0 where
+  pub rest : new ≡ record old { unsettled = new.unsettled; in_memory = new.in_memory }
+  pub unsettled : new.unsettled.items ≡ us
+
+-- the core is as it was, but for the room of its lists
+pub record IsAsBefore (old new : Core) : Type 0 where
+  pub rest : new ≡ record old { admitted = new.admitted; waiting = new.waiting; flights = new.flights; unsettled = new.unsettled; served = new.served; lines = new.lines; sites = new.sites; synced = new.synced; named = new.named }
+  pub admitted : new.admitted.items ≡ old.admitted.items
+  pub waiting : new.waiting.items ≡ old.waiting.items
+  pub flights : new.flights.items ≡ old.flights.items
+  pub unsettled : new.unsettled.items ≡ old.unsettled.items
+  pub served : new.served.items ≡ old.served.items
+  pub lines : new.lines.items ≡ old.lines.items
+  pub sites : new.sites.items ≡ old.sites.items
+  pub synced : new.synced.items ≡ old.synced.items
+  pub named : new.named.items ≡ old.named.items
+
+-- the message was synced in this life, and active is to be looked at anew
+pub record IsNoted (old new : Core) (id : Id) : Type 0 where
+  pub rest : new ≡ record old { synced = new.synced; active = Unknown }
+  pub synced : new.synced.items ≡ id ∷ old.synced.items
+
+-- the slots of all others
+abbrev pub slots_without : Id → List Slot → List Slot
+slots_without id slots = filter (λ s. not (id_eq s.id id)) slots
+
+-- the slot of this id is gone, and deferred is to be looked at anew
+pub record IsPutOff (old new : Core) (id : Id) : Type 0 where
+  pub rest : new ≡ record old { admitted = new.admitted; deferred = Unknown }
+  pub admitted : new.admitted.items ≡ slots_without id old.admitted.items
+
+-- the slot of this id is gone, and incoming is to be looked at anew
+pub record IsTakenOut (old new : Core) (id : Id) : Type 0 where
+  pub rest : new ≡ record old { admitted = new.admitted; incoming = Unknown }
+  pub admitted : new.admitted.items ≡ slots_without id old.admitted.items
+
+-- the bounce of this message is stored, and incoming is to be looked at anew
+pub record IsBounced (old new : Core) (id : Id) : Type 0 where
+  pub rest : new ≡ record old { admitted = new.admitted; incoming = Unknown }
+  pub admitted : new.admitted.items ≡ map (changed_at id with_bounce) old.admitted.items

@@ -1,15 +1,20 @@
 -- The next decision, by what the core holds.
 use Rattle.std.specs.Option.{option_or}
-use Rattle.std.specs.Prelude.{◌≡◌, ◌⊎◌, if◌then◌else◌, None, not, Option, Some}
+use Rattle.std.specs.Prelude.{◌≡◌, ◌⊎◌, Bool, false, true, if◌then◌else◌, None, not, Option, Some}
 use Rattle.q_model.specs.declared.entry.Entry.{Entry}
 use Rattle.q_model.specs.declared.rows.Scan.{Scan}
 use Rattle.q_model.specs.Ledger.{Ledger}
+use Rattle.q_model.specs.Next.{next}
 use Rattle.q_model.specs.Settings.{World}
+use Rattle.q_model.specs.Step.{after}
+use Rattle.q_core.specs.Agrees.{Agrees, Matches}
 use Rattle.q_core.specs.Choosing.{next_start_in}
-use Rattle.q_core.specs.Decisions.{IsReadRule, IsRule}
+use Rattle.q_core.specs.Decisions.{IsOf, IsReadRule, IsRule}
 use Rattle.q_core.specs.Rules.{first_need_in, next_admission_in, next_clearing_in, next_finish_in, next_read_in, next_skip_in, next_sync_in}
 use Rattle.q_core.specs.declared.decision.Decision.{Decision}
 use Rattle.q_core.specs.declared.state.Core.{Core}
+use Rattle.q_core.specs.declared.state.Question.{Question}
+use Rattle.q_core.specs.declared.state.Question.TheVariants.{Active, Deferred, Incoming, Nothing, Recipients}
 use Rattle.q_core.specs.declared.state.Seen.{Seen}
 use Rattle.q_core.specs.declared.decision.Decision.TheVariants as decisions
 use Rattle.q_core.specs.declared.state.Seen.TheVariants.{Known, Unknown}
@@ -45,3 +50,58 @@ IsLooking c d = ((d ≡ Some decisions.LookActive) × (c.active ≡ Unknown))
 -- the rule has the entry of the decision, which may be a read; or the decision is a look
 abbrev pub IsNext : World → Ledger → Core → Option Decision → Option Entry → Type 0
 IsNext w l c d rule = IsRule c d rule ⊎ (IsReadRule w l d rule ⊎ IsLooking c d)
+
+-- The decision has an entry, the ledger's next, and the core says what the ledger is after it. Or it is a look or a read, and the ledger is as it was.
+abbrev pub IsTaken : World → Ledger → Core → Decision → Core → Type 0
+IsTaken w l old d new = ((e : Entry) × IsOf old d e × (next w l ≡ Some e) × Matches w new (after w l e))
+    ⊎ ((IsReadRule w l (Some d) (next w l) ⊎ IsLooking old (Some d)) × Matches w new l)
+
+-- the same where there may be no decision; the core agrees with the ledger then
+abbrev pub IsDecided : World → Ledger → Core → Option Decision → Core → Type 0
+IsDecided w l old None new = (next w l ≡ None) × Agrees w new l
+IsDecided w l old (Some d) new = ((e : Entry) × IsOf old d e × (next w l ≡ Some e) × Agrees w new (after w l e))
+    ⊎ ((IsReadRule w l (Some d) (next w l) ⊎ IsLooking old (Some d)) × Agrees w new l)
+
+-- the core waits for no answer
+abbrev pub is_answered : Question → Bool
+is_answered Nothing = true
+is_answered Active = false
+is_answered Incoming = false
+is_answered Deferred = false
+is_answered (Recipients id from max) = false
+
+-- what a look or a read asks for
+abbrev pub question_of : Decision → Question
+question_of decisions.LookActive = Active
+question_of decisions.LookIncoming = Incoming
+question_of (decisions.LookDeferred after until) = Deferred
+question_of (decisions.Read id from max) = Recipients id from max
+question_of _ = Nothing
+
+abbrev pub question_for : Option Decision → Question
+question_for None = Nothing
+question_for (Some d) = question_of d
+
+-- the core waits for the answer to a look
+abbrev pub is_look : Question → Bool
+is_look Nothing = false
+is_look Active = true
+is_look Incoming = true
+is_look Deferred = true
+is_look (Recipients id from max) = false
+
+-- the core waits for recipients that are read
+abbrev pub is_reading : Question → Bool
+is_reading Nothing = false
+is_reading Active = false
+is_reading Incoming = false
+is_reading Deferred = false
+is_reading (Recipients id from max) = true
+
+-- a look or a read
+abbrev pub is_asking : Decision → Bool
+is_asking (decisions.Read id from max) = true
+is_asking decisions.LookActive = true
+is_asking decisions.LookIncoming = true
+is_asking (decisions.LookDeferred after until) = true
+is_asking _ = false

@@ -28,6 +28,10 @@ is_unused_in waiting flights site = not (waits_at_in waiting site) && (busy_in f
 abbrev pub is_kept_dead_in : List Row → List Delivery → SiteRecord → Bool
 is_kept_dead_in waiting flights r = is_unused_in waiting flights r.site && not (is_alive r.health)
 
+-- the record of this site, where nothing waits or is in flight any more
+abbrev pub is_left_in : List Row → List Delivery → Site → SiteRecord → Bool
+is_left_in waiting flights site r = is_unused_in waiting flights r.site && site_eq r.site site
+
 -- a dead site whose time has come is alive again
 abbrev pub revive_due_in : Settings → List Delivery → ℕ → SiteRecord → SiteRecord
 revive_due_in p flights moment r = if is_due moment r.health then revived (world_of p) (busy_in flights r.site) r else r

@@ -65,7 +65,7 @@ wants_sync_in c s = nat_le c.params.mark_sync_limit s.marks || (nat_lt 0 s.marks
 abbrev pub finish_in : Core → Slot → Option Decision
 finish_in c s = if nat_lt 0 s.marks then None
     else (if nat_lt 0 s.pending then Some (Defer s.id (due_in c s.arrival))
-    else (if nat_lt 0 s.unmarked then None
+    else (if s.logged then None
     else (if wants_bounce_in s && not s.bounced then Some (Bounce s.id) else Some (Remove s.id))))
 
 -- how many more recipients may be in memory

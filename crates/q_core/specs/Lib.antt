@@ -2,10 +2,10 @@ pub mod Slots
 pub mod Files
 pub mod Lists
 pub mod Destinations
+pub mod Windows
 pub mod Held
 pub mod Scanning
 pub mod Agrees
-pub mod Fitting
 pub mod Rules
 pub mod Starting
 pub mod Choosing
@@ -13,4 +13,12 @@ pub mod Decisions
 pub mod Queries
 pub mod Deciding
 pub mod Settled
+pub mod Needs
+pub mod Leaving
 pub mod Changes
+pub mod Taking
+pub mod Beginning
+pub mod Loading
+pub mod Hearing
+pub mod Answers
+pub mod Looking

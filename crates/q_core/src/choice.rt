@@ -1,6 +1,6 @@
 //! What a transport does next: a delivery of the current job begins, or another job preempts it
 //! (SCHEDULER_README, "Preemptive scheduling").
-ghost use Rattle.std.specs.Prelude.{◌≡◌, ◌<◌, ◌^◌, ◌&&◌, ◌==◌, count_by};
+ghost use Rattle.std.specs.Prelude.{◌≡◌, ◌≤◌, ◌<◌, ◌+◌, ◌^◌, ◌&&◌, ◌==◌, count_by};
 ghost use Rattle.std.specs.Option.{option_copied};
 ghost use Rattle.q_core.specs.Choosing.{behind_jobs, best_in, choice_in, choices_from, choose_in, current_in, is_better_in, is_candidate_in, is_fresh_among, jobs_at, next_start_in, pays_in, rest_in};
 ghost use Rattle.q_core.specs.Lists.{prefer};
@@ -66,8 +66,9 @@ impl Core {
 
     /// The deliveries that the message has left at the transport, where each unread recipient
     /// counts as one.
-    fn rest(&self, id: Id, transport: u8) -> u64
-        ensures { result ≡ rest_in self.now transport id }
+    pub(crate) fn rest(&self, id: Id, transport: u8) -> u64
+        ensures value { result ≡ rest_in self.now transport id }
+        ensures few { result ≤ 2 ^ 63 + 2 ^ 32 }
     {
         self.waiting_for(id, transport) as u64 + u64::from(self.unread(id))
     }

@@ -1,5 +1,6 @@
 //! Decisions, and what was found on disk.
 ghost use Rattle.std.specs.Prelude.{◌≡◌};
+ghost use Rattle.q_core.specs.Deciding.{is_asking};
 ghost use Rattle.q_core.specs.Files.{file_wants_bounce, is_nothing, taken_found};
 
 use q_model::{DeferredName, Failure, Id, Moment, Site};
@@ -103,6 +104,21 @@ pub enum Found {
         due: Moment,
         file: FileFacts,
     },
+}
+
+impl Decision {
+    /// Whether it is a look or a read.
+    pub(crate) fn is_asking(&self) -> bool
+        ensures { result ≡ is_asking self.now }
+    {
+        match self {
+            Decision::Read { .. } => true,
+            Decision::LookActive => true,
+            Decision::LookIncoming => true,
+            Decision::LookDeferred { .. } => true,
+            _ => false,
+        }
+    }
 }
 
 impl FileFacts {

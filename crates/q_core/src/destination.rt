@@ -1,10 +1,13 @@
 //! What the core knows of destinations.
-ghost use Rattle.std.specs.Prelude.{◌≡◌, ◌&&◌, filter, length, map, nat_lt, not, position};
-ghost use Rattle.q_core.specs.Destinations.{busy_in, forget_in, is_kept_dead_in, is_kept_in, is_unused_in, revive_dead_in, revive_due_in, used_in, waits_at_in};
+ghost use Rattle.std.specs.Prelude.{◌≡◌, ◌<◌, ◌&&◌, ◌++◌, [], ◌∷◌, filter, length, map, nat_lt, not, position, slice_get, Some};
+ghost use Rattle.std.specs.List.{remove};
+ghost use Rattle.q_core.specs.Lists.{moved_back};
+ghost use Rattle.q_core.specs.Destinations.{busy_in, forget_in, is_kept_dead_in, is_kept_in, is_left_in, is_unused_in, revive_dead_in, revive_due_in, used_in, waits_at_in};
 ghost use Rattle.q_model.specs.Lists.{drop_first};
 ghost use Rattle.q_model.specs.Revival.{is_due};
 ghost use Rattle.q_model.specs.Routes.{world_of};
 ghost use Rattle.q_model.specs.SiteRecords.{is_alive};
+ghost use Rattle.q_model.specs.Values.{SiteRecord};
 ghost use Rattle.q_model.specs.Windows.{revived};
 
 use crate::names::same_site;
@@ -16,12 +19,12 @@ use std::marker::Model;
 /// the ledger's record.
 #[derive(Debug, Drop)]
 pub struct Destination {
-    site: Site,
-    window: u64,
-    success: u128,
-    failure: u128,
-    cohorts: u128,
-    health: Health,
+    pub(crate) site: Site,
+    pub(crate) window: u64,
+    pub(crate) success: u128,
+    pub(crate) failure: u128,
+    pub(crate) cohorts: u128,
+    pub(crate) health: Health,
 }
 
 impl Model for Destination {
@@ -29,7 +32,12 @@ impl Model for Destination {
 
     ghost Value = { SiteRecord };
 
+    ghost use Rattle.std.specs.Prelude.{◌≡◌, ◌≤◌, ◌^◌, true};
+    ghost use Rattle.q_model.specs.SiteRecords.{is_alive};
+
     ghost view = { λ d. record { site = d.site; window = d.window; success = d.success; failure = d.failure; cohorts = d.cohorts; health = d.health } };
+
+    ghost invariant = { λ d. (d.success ≤ 2 ^ 64) × (d.failure ≤ 2 ^ 64) × (d.cohorts ≤ 2 ^ 64) × (is_alive d.health ≡ true → d.cohorts ≤ 2 ^ 63) };
 }
 
 impl Destination {
@@ -66,7 +74,7 @@ impl Destination {
     }
 
     /// Makes it alive again, with so many deliveries in flight.
-    fn revive(&mut self, params: &Params, busy: u64)
+    pub(crate) fn revive(&mut self, params: &Params, busy: u64)
         ensures { self.new ≡ revived (world_of params.now) busy self.old }
     {
         let initial = params
@@ -200,5 +208,47 @@ pub(crate) fn forget_oldest(
 {
     if kept_dead_count(sites, waiting, flights) > limit {
         drop_first_kept_dead(sites, waiting, flights);
+    }
+}
+
+/// Whether the record is of this site, where nothing waits or is in flight any more.
+fn is_left(waiting: &[Row], flights: &[Delivery], site: &Site, known: &Destination) -> bool
+    ensures { result ≡ is_left_in waiting.now flights.now site.now known.now }
+{
+    is_unused(waiting, flights, known.site()) && same_site(known.site(), site)
+}
+
+fn first_left(
+    sites: &[Destination],
+    waiting: &[Row],
+    flights: &[Delivery],
+    site: &Site,
+) -> Option<usize>
+    ensures { result ≡ position (is_left_in waiting.now flights.now site.now) sites.now }
+{
+    sites
+        .iter()
+        .position(|known| is_left(waiting, flights, site, known))
+}
+
+fn move_to_end(sites: &mut Vec<Destination>, place: usize)
+    requires { place < length sites.old.items }
+    ensures { (r : SiteRecord) → slice_get sites.old.items place ≡ Some r → sites.new.items ≡ remove sites.old.items place ++ r ∷ [] }
+{
+    let known = sites.remove(place);
+    let _ = sites.push(known);
+}
+
+/// Moves the record of a site that a row left to the end, where the site is unused now.
+pub(crate) fn put_last(
+    sites: &mut Vec<Destination>,
+    waiting: &[Row],
+    flights: &[Delivery],
+    site: &Site,
+)
+    ensures { sites.new.items ≡ moved_back (is_left_in waiting.now flights.now site.now) sites.old.items }
+{
+    if let Some(place) = first_left(sites, waiting, flights, site) {
+        move_to_end(sites, place);
     }
 }

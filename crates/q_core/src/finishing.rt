@@ -28,7 +28,7 @@ impl Core {
                 id: slot.id,
                 due: self.due(slot.arrival),
             })
-        } else if slot.unmarked > 0 {
+        } else if slot.logged {
             None
         } else if slot.wants_bounce() && !slot.bounced {
             Some(Decision::Bounce { id: slot.id })

@@ -1,6 +1,6 @@
 //! Events without a row: the clock and the triggers (qmgr(8)).
 ghost use Rattle.std.specs.Prelude.{◌≡◌, ◌≤◌, IsTrue};
-ghost use Rattle.q_core.specs.Agrees.{Agrees};
+ghost use Rattle.q_core.specs.Agrees.{Agrees, Matches};
 ghost use Rattle.q_core.specs.Changes.{IsRevived, IsWoken, asked_when_due, is_looked_at};
 ghost use Rattle.q_model.specs.Ledger.{Ledger};
 ghost use Rattle.q_model.specs.Settings.{World};
@@ -12,8 +12,9 @@ use crate::state::{Core, Seen};
 use q_model::{Entry, Moment, Trigger};
 
 impl Core {
-    /// Whether the next name of the scan was looked at, or there is no scan.
-    pub(crate) fn is_looked_at(&self) -> bool
+    /// Whether the next name of the scan was looked at, or there is no scan. It is so where the
+    /// ledger is quiet and where recipients are to be read.
+    pub fn is_looked_at(&self) -> bool
         ensures { result ≡ is_looked_at self.now }
     {
         match (&self.scan, &self.deferred) {
@@ -47,7 +48,7 @@ impl Core {
     pub(crate) fn hear_at(&mut self, moment: Moment)
         requires early { moment ≤ 999990000000 }
         requires seen { IsTrue (is_looked_at self.old) }
-        ensures { (w : World) → (l : Ledger) → Agrees w self.old l → Agrees w self.new (after w l (Entry.At moment)) }
+        ensures { (w : World) → (l : Ledger) → Agrees w self.old l → Matches w self.new (after w l (Entry.At moment)) }
     {
         self.wake(moment);
         self.ask_when_due();
@@ -62,7 +63,7 @@ impl Core {
 
     fn hear_scan(&mut self)
         requires { IsTrue (is_looked_at self.old) }
-        ensures { (w : World) → (l : Ledger) → Agrees w self.old l → Agrees w self.new (after w l (Entry.Trigger Trigger.D)) }
+        ensures { (w : World) → (l : Ledger) → Agrees w self.old l → Matches w self.new (after w l (Entry.Trigger Trigger.D)) }
     {
         self.ask_scan();
         self.settle();
@@ -70,7 +71,7 @@ impl Core {
 
     fn hear_ignore(&mut self)
         requires { IsTrue (is_looked_at self.old) }
-        ensures { (w : World) → (l : Ledger) → Agrees w self.old l → Agrees w self.new (after w l (Entry.Trigger Trigger.A)) }
+        ensures { (w : World) → (l : Ledger) → Agrees w self.old l → Matches w self.new (after w l (Entry.Trigger Trigger.A)) }
     {
         self.ignores = true;
         self.settle();
@@ -78,7 +79,7 @@ impl Core {
 
     fn hear_revival(&mut self)
         requires { IsTrue (is_looked_at self.old) }
-        ensures { (w : World) → (l : Ledger) → Agrees w self.old l → Agrees w self.new (after w l (Entry.Trigger Trigger.F)) }
+        ensures { (w : World) → (l : Ledger) → Agrees w self.old l → Matches w self.new (after w l (Entry.Trigger Trigger.F)) }
     {
         self.revive_all();
         self.settle();
@@ -87,7 +88,7 @@ impl Core {
     /// Takes the event of a trigger.
     pub(crate) fn hear_trigger(&mut self, kind: Trigger)
         requires { IsTrue (is_looked_at self.old) }
-        ensures { (w : World) → (l : Ledger) → Agrees w self.old l → Agrees w self.new (after w l (Entry.Trigger kind)) }
+        ensures { (w : World) → (l : Ledger) → Agrees w self.old l → Matches w self.new (after w l (Entry.Trigger kind)) }
     {
         match kind {
             Trigger::D => self.hear_scan(),

@@ -4,30 +4,52 @@
 #![tactic(auto)]
 
 mod admission;
+mod beginning;
 mod choice;
+mod clearing;
 mod clock;
+mod corrupt;
+mod deciding;
 mod decision;
 mod destination;
+mod event;
 mod finishing;
+mod found;
+mod grouping;
 mod heard;
 mod idle;
+mod incoming;
+mod joining;
 pub mod laws;
+mod leaving;
 mod leftover;
 mod line;
+mod loading;
+mod marking;
+mod moving;
 mod names;
+mod needs;
 mod next;
+mod preempting;
 mod queries;
 mod reading;
+mod reply;
 mod scan;
 mod settle;
+mod settling;
+mod skip;
 mod slot;
 mod start;
+mod starting;
 mod state;
 mod sync;
+mod taking;
 #[cfg(test)]
 mod tests;
 mod unsettled;
+mod window;
 
 pub use decision::{Decision, FileFacts, Found};
+pub use event::Heard;
 pub use queries::Flight;
 pub use state::Core;

@@ -10,9 +10,9 @@ use std::marker::Model;
 pub struct Job {
     pub(crate) id: Id,
     /// Deliveries begun.
-    pub(crate) starts: u32,
+    pub(crate) starts: u64,
     /// The needs of the jobs that preempted it.
-    pub(crate) charged: u32,
+    pub(crate) charged: u64,
 }
 
 /// The jobs of a transport in their order. A contract sees them as their list.

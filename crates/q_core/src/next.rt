@@ -63,7 +63,7 @@ impl Core {
 
     /// The next decision, or the look that is wanted before it is known. A scan is looked at before
     /// anything else, since one without a next message is over at once.
-    fn decide(&self) -> Option<Decision>
+    pub(crate) fn decide(&self) -> Option<Decision>
         ensures { result ≡ decide_in self.now }
     {
         if !self.timed {

@@ -1,12 +1,14 @@
 //! What the core tells of the life: its clock, and the deliveries in flight.
-ghost use Rattle.std.specs.Prelude.{◌≡◌, ◌<◌, IsTrue, length, option_map, slice_get, Some};
+ghost use Rattle.std.specs.Prelude.{◌≡◌, ◌<◌, IsTrue, length, map, nat_lt, option_map, slice_get, Some};
 ghost use Rattle.std.specs.Option.{option_copied};
 ghost use Rattle.q_core.specs.Agrees.{Agrees};
 ghost use Rattle.q_core.specs.Held.{is_admitted_in};
+ghost use Rattle.q_core.specs.Lists.{over};
 ghost use Rattle.q_core.specs.Queries.{expired_in, flight_in, flight_shown, slot_expired_in};
 ghost use Rattle.q_model.specs.Book.{message_of};
 ghost use Rattle.q_model.specs.Deliveries.{flight_of};
 ghost use Rattle.q_model.specs.Ledger.{Ledger};
+ghost use Rattle.q_model.specs.Lists.{least};
 ghost use Rattle.q_model.specs.Message.{Message};
 ghost use Rattle.q_model.specs.Past.{starts};
 ghost use Rattle.q_model.specs.Settings.{World};
@@ -36,6 +38,35 @@ impl Model for Flight {
     ghost inverse = { λ v. record { id = v.id; site = v.site } };
 }
 
+/// Of two deliveries the one with the smaller number.
+fn smaller<'a>(flight: &'a Delivery, least: Option<&'a Delivery>) -> &'a Delivery
+    ensures { result.now ≡ over (λ a b. nat_lt a.number b.number) flight.now (option_copied least.entry) }
+{
+    match least {
+        Some(other) => {
+            if other.number < flight.number {
+                other
+            } else {
+                flight
+            }
+        }
+        None => flight,
+    }
+}
+
+/// The delivery with the least number.
+fn first_flight(flights: &[Delivery]) -> Option<&Delivery>
+    ensures { option_copied result ≡ least (λ a b. nat_lt a.number b.number) flights.now }
+{
+    let mut first = None;
+    let mut i = flights.len();
+    while i > 0 {
+        i -= 1;
+        first = Some(smaller(&flights[i], first));
+    }
+    first
+}
+
 impl Core {
     /// The greatest moment that was given in this life, 0 for none.
     pub fn now(&self) -> Moment
@@ -51,7 +82,7 @@ impl Core {
         self.starts
     }
 
-    fn delivery(&self, number: u64) -> Option<&Delivery>
+    pub(crate) fn delivery(&self, number: u64) -> Option<&Delivery>
         ensures { option_copied result ≡ flight_in self.now number }
     {
         self.flights.iter().find(|flight| flight.number == number)
@@ -68,6 +99,22 @@ impl Core {
             }),
             None => None,
         }
+    }
+
+    fn first_number(&self) -> Option<u64>
+        ensures { result ≡ option_map (λ f. f.number) (least (λ a b. nat_lt a.number b.number) self.now.flights.items) }
+    {
+        match first_flight(&self.flights) {
+            Some(flight) => Some(flight.number),
+            None => None,
+        }
+    }
+
+    /// The least number of a delivery in flight.
+    pub fn least_flight(&self) -> Option<u64>
+        ensures { (w : World) → (l : Ledger) → Agrees w self.now l → result ≡ least nat_lt (map (λ f. f.number) l.flights) }
+    {
+        self.first_number()
     }
 
     /// The positions of the delivery of this number, where it is in flight.
@@ -99,7 +146,7 @@ impl Core {
         )
     }
 
-    fn id_expired(&self, id: Id) -> bool
+    pub(crate) fn id_expired(&self, id: Id) -> bool
         ensures { result ≡ expired_in self.now id }
     {
         match self.slot(id) {

@@ -57,14 +57,16 @@ impl Core {
 
     /// What a look at active has shown.
     pub(crate) fn found_active(&mut self, found: Found)
-        ensures { (w : World) → (l : Ledger) → Agrees w self.old l → found ≡ found_active l → Agrees w self.new l }
+        ensures change { self.new ≡ record self.old { active = Seen.Known found } }
+        ensures agrees { (w : World) → (l : Ledger) → Agrees w self.old l → found ≡ found_active l → Agrees w self.new l }
     {
         self.active = Seen::Known { found };
     }
 
     /// What a look at incoming has shown.
     pub(crate) fn found_incoming(&mut self, found: Found)
-        ensures { (w : World) → (l : Ledger) → Agrees w self.old l → found ≡ found_incoming l → Agrees w self.new l }
+        ensures change { self.new ≡ record self.old { incoming = Seen.Known found } }
+        ensures agrees { (w : World) → (l : Ledger) → Agrees w self.old l → found ≡ found_incoming l → Agrees w self.new l }
     {
         self.incoming = Seen::Known { found };
     }
@@ -97,7 +99,8 @@ impl Core {
 
     /// What a look at deferred has shown.
     pub(crate) fn found_deferred(&mut self, found: Found)
-        ensures { (w : World) → (l : Ledger) → (scan : Scan) → Agrees w self.old l → self.old.scan ≡ Some scan → found ≡ found_next l (scan_next l.book scan) → Agrees w self.new l }
+        ensures change { self.new ≡ looked_at self.old found }
+        ensures agrees { (w : World) → (l : Ledger) → (scan : Scan) → Agrees w self.old l → self.old.scan ≡ Some scan → found ≡ found_next l (scan_next l.book scan) → Agrees w self.new l }
     {
         self.look_at(found);
     }

@@ -2,10 +2,10 @@
 ghost use Rattle.std.specs.Prelude.{◌≡◌, find, map};
 ghost use Rattle.std.specs.List.{enumerate_from};
 ghost use Rattle.std.specs.Option.{option_copied};
-ghost use Rattle.q_core.specs.Changes.{IsSettled};
+ghost use Rattle.q_core.specs.Changes.{IsLeft, IsSettled};
 ghost use Rattle.q_core.specs.Settled.{settled_jobs, settled_line, settled_served, slot_among, stays_among, unread_among, waits_at_site, waits_for};
 
-use crate::destination::{drop_unused, forget_oldest};
+use crate::destination::{drop_unused, forget_oldest, put_last};
 use crate::line::{Job, Line};
 use crate::names::{same_id, same_site};
 use crate::slot::Slot;
@@ -89,6 +89,13 @@ fn settle_served(served: &mut Vec<Served>, waiting: &[Row])
 }
 
 impl Core {
+    /// Notes that a row left the site, before the settling of that entry.
+    pub(crate) fn leave(&mut self, site: &Site)
+        ensures { IsLeft self.old self.new site.now }
+    {
+        put_last(&mut self.sites, &self.waiting, &self.flights, site);
+    }
+
     /// Settles after an entry that takes no row from a site.
     pub(crate) fn settle(&mut self)
         ensures { IsSettled self.old self.new }

@@ -17,9 +17,10 @@ pub struct Slot {
     pub(crate) marks: u32,
     /// Recipients that are neither marked nor logged.
     pub(crate) pending: u32,
-    /// Recipients that are logged and not marked.
-    pub(crate) unmarked: u32,
-    pub(crate) failures: u32,
+    /// Whether a recipient is logged and not marked.
+    pub(crate) logged: bool,
+    /// Whether it has a failure.
+    pub(crate) failed: bool,
     /// Whether incoming has the bounce.
     pub(crate) bounced: bool,
 }
@@ -29,6 +30,6 @@ impl Slot {
     pub(crate) fn wants_bounce(&self) -> bool
         ensures { result ≡ wants_bounce_in self.now }
     {
-        self.failures > 0 && !self.null_sender && !self.id.bounce
+        self.failed && !self.null_sender && !self.id.bounce
     }
 }

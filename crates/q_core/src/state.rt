@@ -1,9 +1,13 @@
 //! The state of the core.
-ghost use Rattle.std.specs.Prelude.{◌≡◌, ◌+◌, find, length, IfOk, IsTrue};
+ghost use Rattle.std.specs.Prelude.{◌≡◌, ◌+◌, find, length, IfOk, true};
 ghost use Rattle.std.specs.Option.{option_copied};
 ghost use Rattle.q_core.specs.Agrees.{Agrees};
-ghost use Rattle.q_core.specs.Fitting.{IsFit};
+ghost use Rattle.q_core.specs.Changes.{is_looked_at};
+ghost use Rattle.q_core.specs.Deciding.{is_answered};
+ghost use Rattle.q_laws.specs.Consistency.{IsConsistent};
+ghost use Rattle.q_laws.specs.SitesConsistency.{IsSitesConsistent};
 ghost use Rattle.q_core.specs.Held.{destination_in, is_dead_in, slot_in};
+ghost use Rattle.q_params.specs.Ranges.{IsInRange};
 ghost use Rattle.q_model.specs.Book.{Book};
 ghost use Rattle.q_model.specs.FilesStand.{all_ids, are_distinct};
 ghost use Rattle.q_model.specs.Ledger.{opening};
@@ -28,6 +32,17 @@ use std::alloc::Global;
 pub enum Seen {
     Unknown,
     Known { found: Found },
+}
+
+/// What the last decision asks for, until it is answered.
+#[derive(Clone, Copy, Debug)]
+pub enum Question {
+    Nothing,
+    Active,
+    Incoming,
+    Deferred,
+    /// At most `max` recipients of the message from the position `from` on.
+    Recipients { id: Id, from: u32, max: u32 },
 }
 
 /// What is known in one life of a queue manager, without names on disk and without texts.
@@ -57,14 +72,20 @@ pub struct Core {
     pub(crate) active: Seen,
     pub(crate) incoming: Seen,
     pub(crate) deferred: Seen,
+    pub(crate) question: Question,
+    /// The destinations of the recipients that were read since the last `Read`, in order.
+    pub(crate) named: Vec<Site>,
 }
 
 impl Core {
     /// A core at the beginning of a life, for a table of so many transports. It agrees with the
     /// ledger of that life on every book that is fit to begin with, and so on every orderly one.
     pub fn new(alloc: Global, params: Params, transports: u8, mode: Mode) -> Result<Core, NoMemory>
-        ensures fit { IfOk result (λ core. (w : World) → (book : Book) → params ≡ w.settings → transports ≡ length w.table.transports → IsFit (after w (opening mode book) (Entry.Life (book.generation + 1) mode)) → Agrees w core (after w (opening mode book) (Entry.Life (book.generation + 1) mode))) }
-        ensures orderly { IfOk result (λ core. (w : World) → (book : Book) → params ≡ w.settings → transports ≡ length w.table.transports → IsTrue (are_distinct (all_ids book)) → IsTrue (is_orderly book) → Agrees w core (after w (opening mode book) (Entry.Life (book.generation + 1) mode))) }
+        requires { IsInRange params }
+        ensures consistent { IfOk result (λ core. (w : World) → (book : Book) → params ≡ w.settings → transports ≡ length w.table.transports → IsConsistent w (after w (opening mode book) (Entry.Life (book.generation + 1) mode)) → IsSitesConsistent w (after w (opening mode book) (Entry.Life (book.generation + 1) mode)) → Agrees w core (after w (opening mode book) (Entry.Life (book.generation + 1) mode))) }
+        ensures orderly { IfOk result (λ core. (w : World) → (book : Book) → params ≡ w.settings → transports ≡ length w.table.transports → are_distinct (all_ids book) ≡ true → is_orderly book ≡ true → Agrees w core (after w (opening mode book) (Entry.Life (book.generation + 1) mode))) }
+        ensures answered { IfOk result (λ core. is_answered core.question ≡ true) }
+        ensures looked { IfOk result (λ core. is_looked_at core ≡ true) }
     {
         let lines = empty_lines(alloc, transports)?;
         Ok(Core {
@@ -91,6 +112,8 @@ impl Core {
             active: Seen::Unknown,
             incoming: Seen::Unknown,
             deferred: Seen::Unknown,
+            question: Question::Nothing,
+            named: Vec::new(alloc),
         })
     }
 

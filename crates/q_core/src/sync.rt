@@ -1,9 +1,9 @@
 //! The marks of a message in memory are synced.
 ghost use Rattle.std.specs.Prelude.{◌≡◌, IsTrue, map};
-ghost use Rattle.q_core.specs.Agrees.{Agrees};
-ghost use Rattle.q_core.specs.Changes.{IsSyncedCore, is_looked_at};
+ghost use Rattle.q_core.specs.Agrees.{Agrees, Matches};
+ghost use Rattle.q_core.specs.Changes.{IsSlotChange, is_looked_at};
 ghost use Rattle.q_core.specs.Held.{is_admitted_in};
-ghost use Rattle.q_core.specs.Slots.{without_marks};
+ghost use Rattle.q_core.specs.Slots.{changed_at, cleared};
 ghost use Rattle.q_model.specs.Ledger.{Ledger};
 ghost use Rattle.q_model.specs.Settings.{World};
 ghost use Rattle.q_model.specs.Step.{after};
@@ -15,7 +15,7 @@ use q_model::{Entry, Id};
 
 impl Slot {
     fn clear_marks(&mut self, id: Id)
-        ensures { self.new ≡ without_marks id self.old }
+        ensures { self.new ≡ changed_at id cleared self.old }
     {
         if same_id(self.id, id) {
             self.marks = 0;
@@ -25,7 +25,7 @@ impl Slot {
 
 /// Notes that no mark of the message may be lost any more.
 fn clear_marks(slots: &mut [Slot], id: Id)
-    ensures { slots.new ≡ map (without_marks id) slots.old }
+    ensures { slots.new ≡ map (changed_at id cleared) slots.old }
 {
     for slot in slots.iter_mut() {
         slot.clear_marks(id);
@@ -34,7 +34,7 @@ fn clear_marks(slots: &mut [Slot], id: Id)
 
 impl Core {
     fn clear_marks(&mut self, id: Id)
-        ensures { IsSyncedCore self.old self.new id }
+        ensures { IsSlotChange self.old self.new id cleared }
     {
         clear_marks(&mut self.admitted, id);
     }
@@ -43,7 +43,7 @@ impl Core {
     pub(crate) fn sync(&mut self, id: Id)
         requires admitted { IsTrue (is_admitted_in self.old id) }
         requires seen { IsTrue (is_looked_at self.old) }
-        ensures { (w : World) → (l : Ledger) → Agrees w self.old l → Agrees w self.new (after w l (Entry.Sync id)) }
+        ensures { (w : World) → (l : Ledger) → Agrees w self.old l → Matches w self.new (after w l (Entry.Sync id)) }
     {
         self.clear_marks(id);
         self.settle();

@@ -5,4 +5,4 @@ use Rattle.q_model.specs.Next.{skip_rule}
 use Rattle.q_core.proofs.laws.n3.Goals as goal
 
 pub returns : goal.returns
-returns c = λ w l a. subst (λ d. IsRule c.args.core.now d (skip_rule l)) (sym c.next_skip.ensures) (skip_law a.parts)
+returns c = λ w l a. subst (λ d. IsRule c.args.core.now d (skip_rule l)) (sym c.next_skip.ensures) (skip_law a.matches.parts)

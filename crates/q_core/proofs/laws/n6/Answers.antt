@@ -5,4 +5,4 @@ use Rattle.q_model.specs.Next.{admission_rule}
 use Rattle.q_core.proofs.laws.n6.Goals as goal
 
 pub returns : goal.returns
-returns c = λ w l a. subst (λ d. IsRuleOrLooks c.args.core.now d (admission_rule w l)) (sym c.next_admission.ensures) (admission_law a)
+returns c = λ w l a. subst (λ d. IsRuleOrLooks c.args.core.now d (admission_rule w l)) (sym c.next_admission.ensures) (admission_law a.matches)

@@ -5,4 +5,4 @@ use Rattle.q_model.specs.Next.{load_rule}
 use Rattle.q_core.proofs.laws.n7.Goals as goal
 
 pub returns : goal.returns
-returns c = λ w l a. subst (λ d. IsReadRule w l d (load_rule w l)) (sym c.next_read.ensures) (load_law a.parts)
+returns c = λ w l a. subst (λ d. IsReadRule w l d (load_rule w l)) (sym c.next_read.ensures) (load_law a.matches.parts a.consistent.memory.present)

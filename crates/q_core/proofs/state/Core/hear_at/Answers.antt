@@ -11,6 +11,6 @@ pub returns : goal.returns
 unfolding after
 returns c = λ w l a.
     let asked : HoldsRaw w c.ask_when_due.new.self (after_at w l c.args.moment) =
-    subst (λ k. HoldsRaw w k (after_at w l c.args.moment)) (sym c.ask_when_due.ensures) (due_law (wake_law a c.requires.seen c.wake.ensures)) in
+    subst (λ k. HoldsRaw w k (after_at w l c.args.moment)) (sym c.ask_when_due.ensures) (due_law (wake_law a.matches c.requires.seen c.wake.ensures)) in
     let rows = due_rows (woken w l c.args.moment) (c.args.moment + w.settings.run_delay) (nat_le l.next_run c.args.moment) in
     settle_law l rows.waiting rows.flights (note_law (entries.At c.args.moment) (record { no_admit = λ id. refl; no_start_of = λ id t. refl; no_charge = λ id t. refl; no_start = refl }) asked) c.settle.ensures

@@ -10,4 +10,4 @@ use Rattle.q_core.proofs.state.Core.hear_revival.Goals as goal
 pub returns : goal.returns
 unfolding after
 returns c = λ w l a.
-    settle_law l refl refl (note_law (entries.Trigger triggers.F) (record { no_admit = λ id. refl; no_start_of = λ id t. refl; no_charge = λ id t. refl; no_start = refl }) (revive_law (raw_law a c.requires) c.revive_all.ensures)) c.settle.ensures
+    settle_law l refl refl (note_law (entries.Trigger triggers.F) (record { no_admit = λ id. refl; no_start_of = λ id t. refl; no_charge = λ id t. refl; no_start = refl }) (revive_law (raw_law a.matches c.requires) c.revive_all.ensures)) c.settle.ensures

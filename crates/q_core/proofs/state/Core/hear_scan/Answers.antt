@@ -12,6 +12,6 @@ pub returns : goal.returns
 unfolding after
 returns c = λ w l a.
     let asked : HoldsRaw w c.ask_scan.new.self (ask_scan l) =
-    subst (λ k. HoldsRaw w k (ask_scan l)) (sym c.ask_scan.ensures) (ask_law (raw_law a c.requires)) in
+    subst (λ k. HoldsRaw w k (ask_scan l)) (sym c.ask_scan.ensures) (ask_law (raw_law a.matches c.requires)) in
     let rows = ask_rows l in
     settle_law l rows.waiting rows.flights (note_law (entries.Trigger triggers.D) (record { no_admit = λ id. refl; no_start_of = λ id t. refl; no_charge = λ id t. refl; no_start = refl }) asked) c.settle.ensures

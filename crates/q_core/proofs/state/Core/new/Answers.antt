@@ -1,12 +1,17 @@
-use Rattle.std.proofs.Common.{false, None, refl}
+use Rattle.q_params.specs.Ranges.{IsInRange}
+use Rattle.q_laws.proofs.Beginnings.{begins_consistent}
+use Rattle.q_laws.proofs.Destinations.{life_destinations}
+use Rattle.q_model.specs.Ledger.{opening}
+use Rattle.q_core.proofs.BeginLaws.{open_windows, usable}
+use Rattle.std.proofs.Common.{◌+◌, subst, false, None, refl}
 use Rattle.q_core.proofs.BeginLaws.{begin_law}
-use Rattle.q_core.proofs.FitLaws.{fit_law}
 use Rattle.q_core.specs.declared.state.Core.{Core}
 use Rattle.q_core.specs.declared.state.Seen.TheVariants.{Unknown}
+use Rattle.q_core.specs.declared.state.Question.TheVariants.{Nothing}
 use Rattle.q_core.proofs.state.Core.new.Goals as goal
 
-pub returns-clause-fit : goal.returns-clause-fit
-returns-clause-fit c = λ w book settings count fit.
+pub returns-clause-consistent : goal.returns-clause-consistent
+returns-clause-consistent c = λ w book settings count k s.
     let core : Core = record {
       params = c.args.params;
       transports = c.args.transports;
@@ -31,8 +36,10 @@ returns-clause-fit c = λ w book settings count fit.
       active = Unknown;
       incoming = Unknown;
       deferred = Unknown;
+      question = Nothing;
+      named = c.new-9.result;
     } in
-    begin_law w c.args.mode book core c.args.transports settings refl count
+    let matches = begin_law w c.args.mode book core c.args.transports settings refl count
     (record {
       mode_is = refl;
       clock = c.new.ensures;
@@ -44,7 +51,10 @@ returns-clause-fit c = λ w book settings count fit.
       lines = c.in_ok-lines.ensures;
       sites = c.new-7.ensures.items;
       synced = c.new-8.ensures.items;
-    }) fit
+    }) in
+    record { matches = matches; consistent = k; destinations = s }
 
 pub returns-clause-orderly : goal.returns-clause-orderly
-returns-clause-orderly c = λ w book settings count distinct orderly. returns-clause-fit c w book settings count (fit_law w c.args.mode book distinct orderly)
+returns-clause-orderly c = λ w book settings count distinct orderly.
+    let held : IsInRange w.settings = subst IsInRange settings c.requires in
+    returns-clause-consistent c w book settings count (begins_consistent w c.args.mode book (usable w held) distinct orderly) (life_destinations w (opening c.args.mode book) (book.generation + 1) c.args.mode (open_windows w held))

@@ -13,5 +13,5 @@ unfolding after
 returns c = λ w l a.
     settle_law l refl refl
     (note_law (entries.Sync c.args.id) (record { no_admit = λ id. refl; no_start_of = λ id t. refl; no_charge = λ id t. refl; no_start = refl })
-    (marks_law c.args.id (raw_law a c.requires.seen) (sym (same_admitted a.parts c.args.id) ∙ c.requires.admitted) c.clear_marks.ensures))
+    (marks_law c.args.id (raw_law a.matches c.requires.seen) a.consistent (sym (same_admitted a.matches.parts c.args.id) ∙ c.requires.admitted) c.clear_marks.ensures))
     c.settle.ensures

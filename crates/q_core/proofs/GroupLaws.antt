@@ -1,0 +1,79 @@
+-- Recipients are grouped in rows; lines and destinations are gone through one by one.
+use Rattle.std.proofs.Common.{◌≡◌, ℕ, ◌+◌, ◌<◌, Bool, true, false, cond, List, [], ◌∷◌, ◌++◌, length, map, take, set, refl, sym, ap, ◌∙◌, subst, Some, None, inl, inr, position, arith, zero, suc, if◌then◌else◌}
+use Rattle.std.proofs.lemmas.Grind.{common_steps}
+use Rattle.std.specs.List.{enumerate_from, position_or_len}
+use Rattle.std.specs.Prelude.{find, not, slice_get}
+use Rattle.q_core.proofs.ListLaws.{position-find}
+use Rattle.q_core.specs.Loading.{joined_at, new_sites, rows_in, takes_more, with_site}
+use Rattle.q_model.specs.Batches.{join_rows}
+use Rattle.q_model.specs.Settings.{Settings}
+use Rattle.q_model.specs.Values.{Site, SiteRecord, Taken}
+use Rattle.q_model.specs.declared.id.Id.{Id}
+use Rattle.q_model.specs.declared.rows.Row.{Row}
+
+-- ---- a position joins a row
+
+-- the row with the position
+abbrev more : ℕ → Row → Row
+more position r = record r { positions = r.positions ++ position ∷ [] }
+
+same_Some : {A : Type 0} (x y : A) → Some x ≡ Some y → x ≡ y
+same_Some x y h = cc
+
+join_step : (limit : ℕ) (id : Id) (site : Site) (p : ℕ) (r x : Row) (xs : List Row) (n : ℕ) → (slice_get xs n ≡ Some r → set xs n (more p r) ≡ join_rows limit id site p xs) → (b : Bool) →
+    slice_get (x ∷ xs) (cond (not b) (1 + n) 0) ≡ Some r → set (x ∷ xs) (cond (not b) (1 + n) 0) (more p r) ≡ (if b then more p x ∷ xs else x ∷ join_rows limit id site p xs)
+join_step limit id site p r x xs n rest true h = ap (λ y. more p y ∷ xs) (sym (same_Some x r h))
+join_step limit id site p r x xs n rest false h =
+    let e : 1 + n ≡ suc n = omega arith in
+    ap (λ k. set (x ∷ xs) k (more p r)) e ∙ ap (λ ys. x ∷ ys) (rest (ap (slice_get (x ∷ xs)) (sym e) ∙ h))
+
+join_at_first : (limit : ℕ) (id : Id) (site : Site) (p : ℕ) (r : Row) (xs : List Row) → slice_get xs (position_or_len (takes_more limit site) xs) ≡ Some r → set xs (position_or_len (takes_more limit site) xs) (more p r) ≡ join_rows limit id site p xs
+join_at_first limit id site p r [] h = cc
+join_at_first limit id site p r (x ∷ xs) h = join_step limit id site p r x xs (position_or_len (takes_more limit site) xs) (join_at_first limit id site p r xs) (takes_more limit site x) h
+
+pub join_Some : (limit : ℕ) (id : Id) (site : Site) (p : ℕ) (xs ys : List Row) (place : ℕ) → position (takes_more limit site) xs ≡ Some place → ((r : Row) → slice_get xs place ≡ Some r → ys ≡ set xs place (record r { positions = r.positions ++ p ∷ [] })) → ys ≡ join_rows limit id site p xs
+join_Some limit id site p xs ys place h k = elim (position-find (takes_more limit site) xs) [
+  | inl n ↦ let bad : None ≡ Some place = sym n.0 ∙ h in cc
+  | inr f ↦ let same : Some f.0 ≡ Some place = sym f.2.place ∙ h in
+      let at : f.0 ≡ place = cc in
+      let e : place ≡ position_or_len (takes_more limit site) xs = grind (arith, common_steps, h) in
+      let there : slice_get xs place ≡ Some f.1 = subst (λ n. slice_get xs n ≡ Some f.1) at f.2.there in
+      k f.1 there ∙ ap (λ n. set xs n (more p f.1)) e ∙ join_at_first limit id site p f.1 xs (ap (slice_get xs) (sym e) ∙ there)
+]
+
+new_step : (limit : ℕ) (id : Id) (site : Site) (p : ℕ) (x new : Row) (xs : List Row) → (find (takes_more limit site) xs ≡ None → (xs ++ new ∷ []) ≡ join_rows limit id site p xs) → (b : Bool) → cond b (Some x) (find (takes_more limit site) xs) ≡ None →
+    (x ∷ xs ++ new ∷ []) ≡ (if b then more p x ∷ xs else x ∷ join_rows limit id site p xs)
+new_step limit id site p x new xs rest true h = cc
+new_step limit id site p x new xs rest false h = ap (λ ys. x ∷ ys) (rest h)
+
+join_new : (limit : ℕ) (id : Id) (site : Site) (p : ℕ) (xs : List Row) → find (takes_more limit site) xs ≡ None → (xs ++ record { id = id; site = site; positions = p ∷ [] } ∷ []) ≡ join_rows limit id site p xs
+join_new limit id site p [] h = refl
+join_new limit id site p (x ∷ xs) h = new_step limit id site p x (record { id = id; site = site; positions = p ∷ [] }) xs (join_new limit id site p xs) (takes_more limit site x) h
+
+pub join_None : (limit : ℕ) (id : Id) (site : Site) (p : ℕ) (xs : List Row) → position (takes_more limit site) xs ≡ None → (xs ++ record { id = id; site = site; positions = p ∷ [] } ∷ []) ≡ join_rows limit id site p xs
+join_None limit id site p xs h = elim (position-find (takes_more limit site) xs) [
+  | inl n ↦ join_new limit id site p xs n.1
+  | inr f ↦ let bad : None ≡ Some f.0 = sym h ∙ f.2.place in cc
+]
+
+-- ---- one more each time
+
+pub rows_more : (limit : ℕ) (id : Id) (i : ℕ) (rows : List Row) (ts : List Taken) (ss : List Site) (p : ℕ) → i < length ts → ((t : Taken) → slice_get ts i ≡ Some t → p ≡ t.position) →
+    rows_in limit id rows (take (suc i) ts) ss ≡ joined_at limit id (rows_in limit id rows (take i ts) ss) p (slice_get ss i)
+rows_more limit id i rows [] ss p h k = absurd (omega (arith, h))
+rows_more limit id zero rows (x ∷ ts) [] p h k = refl
+rows_more limit id zero rows (x ∷ ts) (s ∷ ss) p h k = ap (λ n. join_rows limit id s n rows) (sym (k x refl))
+rows_more limit id (suc i) rows (x ∷ ts) [] p h k = refl
+rows_more limit id (suc i) rows (x ∷ ts) (s ∷ ss) p h k = rows_more limit id i (join_rows limit id s x.position rows) ts ss p (omega (arith, h)) k
+
+pub sites_more : (p : Settings) (known : List SiteRecord) (i : ℕ) (fresh : List SiteRecord) (rs : List Row) (site : Site) → i < length rs → ((r : Row) → slice_get rs i ≡ Some r → site ≡ r.site) →
+    new_sites p known fresh (take (suc i) rs) ≡ with_site p known site (new_sites p known fresh (take i rs))
+sites_more p known i fresh [] site h k = absurd (omega (arith, h))
+sites_more p known zero fresh (r ∷ rs) site h k = ap (λ s. with_site p known s fresh) (sym (k r refl))
+sites_more p known (suc i) fresh (r ∷ rs) site h k = sites_more p known i (with_site p known r.site fresh) rs site (omega (arith, h)) k
+
+pub numbered_step : {X Y : Type 0} (f : (ℕ × X) → Y) (n i j : ℕ) (xs : List X) (y : Y) → j ≡ n + i → i < length xs → ((x : X) → slice_get xs i ≡ Some x → y ≡ f (j, x)) →
+    (map f (enumerate_from n (take i xs)) ++ y ∷ []) ≡ map f (enumerate_from n (take (suc i) xs))
+numbered_step f n i j [] y e h k = absurd (omega (arith, h))
+numbered_step f n zero j (x ∷ xs) y e h k = let same : j ≡ n = omega (arith, e) in ap (λ z. z ∷ []) (k x refl ∙ ap (λ m. f (m, x)) same)
+numbered_step f n (suc i) j (x ∷ xs) y e h k = ap (λ ys. f (n, x) ∷ ys) (numbered_step f (n + 1) i j xs y (omega (arith, e)) (omega (arith, h)) k)

@@ -1,0 +1,20 @@
+-- What comes from outside, as entries.
+use Rattle.std.specs.Prelude.{◌≡◌, ◌≤◌, List, Option, ℕ}
+use Rattle.q_model.specs.declared.entry.Entry.{Entry}
+use Rattle.q_model.specs.declared.entry.Entry.TheVariants as entries
+use Rattle.q_core.specs.declared.event.Heard.{Heard}
+use Rattle.q_core.specs.declared.event.Heard.TheVariants.{At, Mail, Reply, Trigger}
+
+-- the entry of an event; that of a mail has its texts besides
+abbrev pub IsHeard : Heard → Entry → Type 0
+IsHeard (At moment) e = e ≡ entries.At moment
+IsHeard (Mail id) e = (sender : Option (List ℕ)) × (to : List (List ℕ)) × (content : List ℕ) × (e ≡ entries.Arrive id sender to content)
+IsHeard (Reply number site outcomes) e = e ≡ entries.Reply number site outcomes.now
+IsHeard (Trigger kind) e = e ≡ entries.Trigger kind
+
+-- a moment in input
+abbrev pub IsInTime : Heard → Type 0
+IsInTime (At moment) = moment ≤ 999990000000
+IsInTime (Mail id) = Unit {0}
+IsInTime (Reply number site outcomes) = Unit {0}
+IsInTime (Trigger kind) = Unit {0}

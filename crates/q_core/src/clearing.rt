@@ -1,0 +1,53 @@
+//! Messages that an earlier life left in active: a failure is marked, and marks are synced.
+ghost use Rattle.std.specs.Prelude.{◌≡◌, IsTrue, OnErr, OnOk, [], false, true, ℕ};
+ghost use Rattle.q_core.specs.Agrees.{Agrees, Matches};
+ghost use Rattle.q_core.specs.Held.{is_admitted_in};
+ghost use Rattle.q_core.specs.Changes.{IsAsBefore, IsNoted, is_looked_at};
+ghost use Rattle.q_model.specs.Ledger.{Ledger};
+ghost use Rattle.q_model.specs.Marking.{marks_leftover};
+ghost use Rattle.q_model.specs.Settings.{World};
+ghost use Rattle.q_model.specs.Step.{after};
+ghost use Rattle.q_model.specs.Syncs.{may_sync};
+
+use crate::state::{Core, Seen};
+use q_model::{Entry, Id, NoMemory};
+use std::alloc::Global;
+
+impl Core {
+    /// Active is to be looked at anew.
+    pub(crate) fn forget_active(&mut self)
+        ensures { self.new ≡ record self.old { active = Seen.Unknown } }
+    {
+        self.active = Seen::Unknown;
+    }
+
+    /// A failure of an earlier life is marked.
+    pub(crate) fn mark_left(&mut self)
+        requires { IsTrue (is_looked_at self.old) }
+        ensures { (w : World) → (l : Ledger) → (id : Id) → (position : ℕ) → Agrees w self.old l → self.old.unsettled.items ≡ [] → marks_leftover l id position ≡ true → Matches w self.new (after w l (Entry.Mark id position)) }
+    {
+        self.forget_active();
+        self.settle();
+    }
+
+    /// The message counts as synced in this life.
+    fn note_synced(&mut self, id: Id) -> Result<(), NoMemory>
+        ensures ok { OnOk result (IsNoted self.old self.new id) }
+        ensures err { OnErr result (IsAsBefore self.old self.new) }
+    {
+        self.synced.insert(0, id)?;
+        self.active = Seen::Unknown;
+        Ok(())
+    }
+
+    /// The marks of a message of an earlier life are synced.
+    pub(crate) fn sync_left(&mut self, id: Id) -> Result<(), NoMemory>
+        requires { IsTrue (is_looked_at self.old) }
+        ensures ok { OnOk result ((w : World) → (l : Ledger) → Agrees w self.old l → is_admitted_in self.old id ≡ false → may_sync l id ≡ true → Matches w self.new (after w l (Entry.Sync id))) }
+        ensures err { OnErr result (IsAsBefore self.old self.new) }
+    {
+        self.note_synced(id)?;
+        self.settle();
+        Ok(())
+    }
+}

@@ -1,0 +1,72 @@
+//! Events: what comes to the core from outside.
+ghost use Rattle.std.specs.Prelude.{◌≡◌, IsTrue, OnErr, OnOk, true};
+ghost use Rattle.q_core.specs.Agrees.{Agrees, Matches};
+ghost use Rattle.q_core.specs.Changes.{IsAsBefore, is_looked_at};
+ghost use Rattle.q_core.specs.Deciding.{is_answered};
+ghost use Rattle.q_core.specs.Hearing.{IsHeard, IsInTime};
+ghost use Rattle.q_model.specs.declared.entry.Entry.{Entry};
+ghost use Rattle.q_model.specs.Ledger.{Ledger};
+ghost use Rattle.q_model.specs.Settings.{World};
+ghost use Rattle.q_model.specs.Step.{after, allowed};
+
+use crate::state::{Core, Seen};
+use q_model::{Id, Moment, NoMemory, Outcomes, SiteState, Trigger};
+use std::alloc::Global;
+
+/// What comes from outside, without its texts.
+#[derive(Clone, Copy, Debug)]
+pub enum Heard<'a> {
+    At {
+        moment: Moment,
+    },
+    /// A message was stored in incoming under this id.
+    Mail {
+        id: Id,
+    },
+    /// The delivery of this number ended, with an outcome for each of its recipients in order.
+    Reply {
+        number: u64,
+        site: SiteState,
+        outcomes: &'a Outcomes,
+    },
+    Trigger {
+        kind: Trigger,
+    },
+}
+
+impl Core {
+    fn hear(&mut self, alloc: Global, heard: Heard<'_>) -> Result<(), NoMemory>
+        requires time { IsInTime heard }
+        requires seen { IsTrue (is_looked_at self.old) }
+        ensures ok { OnOk result ((w : World) → (l : Ledger) → (e : Entry) → Agrees w self.old l → IsHeard heard.entry e → allowed w l e ≡ true → Matches w self.new (after w l e)) }
+        ensures err { OnErr result (IsAsBefore self.old self.new) }
+    {
+        match heard {
+            Heard::At { moment } => self.hear_at(moment),
+            Heard::Mail { .. } => self.arrive(),
+            Heard::Reply {
+                number,
+                site,
+                outcomes,
+            } => self.hear_reply(alloc, number, site, outcomes.as_slice())?,
+            Heard::Trigger { kind } => self.hear_trigger(kind),
+        }
+        Ok(())
+    }
+
+    /// Takes an event. The decisions that follow are those that `next_decision` then gives.
+    ///
+    /// A ledger allows an `At` that isn't before its clock, and after the first `At` of a life a
+    /// `Mail` with the next id, a `Reply` of a delivery in flight with an outcome for each of its
+    /// recipients, which are delays where the site is down, and each `Trigger`.
+    pub fn event(&mut self, alloc: Global, heard: Heard<'_>) -> Result<(), NoMemory>
+        requires time { IsInTime heard }
+        requires answered { is_answered self.old.question ≡ true }
+        requires seen { IsTrue (is_looked_at self.old) }
+        ensures ok { OnOk result ((w : World) → (l : Ledger) → (e : Entry) → Agrees w self.old l → IsHeard heard.entry e → allowed w l e ≡ true → Agrees w self.new (after w l e)) }
+        ensures err { OnErr result ((w : World) → (l : Ledger) → Agrees w self.old l → Agrees w self.new l) }
+    {
+        self.hear(alloc, heard)?;
+        Ok(())
+    }
+}

@@ -1,0 +1,132 @@
+//! Recipients that were read are grouped in rows, as many in one as a delivery may have.
+ghost use Rattle.std.specs.Prelude.{◌≡◌, ◌<◌, ◌&&◌, ◌++◌, [], ◌∷◌, IfOk, length, OnOk, position, set, slice_get, Some};
+ghost use Rattle.std.specs.Option.{option_copied};
+ghost use Rattle.q_core.specs.Loading.{joined_at, rows_in, takes_more};
+ghost use Rattle.q_model.specs.Batches.{join_rows};
+ghost use Rattle.q_model.specs.declared.rows.Row.{Row};
+ghost use Rattle.q_model.specs.Values.{Taken};
+
+use crate::names::same_site;
+use q_model::{Batch, Id, NoMemory, Positions, Row, Site};
+use std::alloc::Global;
+
+/// Whether the row is of this site, and not full.
+fn takes_more(row: &Row, site: &Site, limit: u32) -> bool
+    ensures { result ≡ takes_more limit site.now row.now }
+{
+    same_site(&row.site, site) && row.positions.len() < limit as usize
+}
+
+fn row_for(rows: &[Row], site: &Site, limit: u32) -> Option<usize>
+    ensures { result ≡ position (takes_more limit site.now) rows.now }
+{
+    rows.iter().position(|row| takes_more(row, site, limit))
+}
+
+fn add_position(rows: &mut Vec<Row>, place: usize, position: u32) -> Result<(), NoMemory>
+    requires { place < length rows.old.items }
+    ensures { OnOk result ((r : Row) → slice_get rows.old.items place ≡ Some r → rows.new.items ≡ set rows.old.items place (record r { positions = r.positions ++ position ∷ [] })) }
+{
+    let row = &mut rows[place];
+    row.positions.push(position)?;
+    Ok(())
+}
+
+/// A row of one position.
+fn row_of(alloc: Global, id: Id, site: Site, position: u32) -> Result<Row, NoMemory>
+    ensures { IfOk result (λ r. r ≡ record { id = id; site = site; positions = position ∷ [] }) }
+{
+    let mut positions = Positions::new(alloc);
+    positions.push(position)?;
+    Ok(Row {
+        id,
+        site,
+        positions,
+    })
+}
+
+fn begin_row(
+    alloc: Global,
+    rows: &mut Vec<Row>,
+    id: Id,
+    site: &Site,
+    position: u32,
+) -> Result<(), NoMemory>
+    ensures { OnOk result (rows.new.items ≡ rows.old.items ++ record { id = id; site = site.now; positions = position ∷ [] } ∷ []) }
+{
+    let row = row_of(alloc, id, *site, position)?;
+    rows.push(row)?;
+    Ok(())
+}
+
+/// The position joins the row of its site that isn't full, or begins one.
+fn join_row(
+    alloc: Global,
+    rows: &mut Vec<Row>,
+    limit: u32,
+    id: Id,
+    site: &Site,
+    position: u32,
+) -> Result<(), NoMemory>
+    ensures { OnOk result (rows.new.items ≡ join_rows limit id site.now position rows.old.items) }
+{
+    if let Some(place) = row_for(rows, site, limit) {
+        add_position(rows, place, position)?;
+        return Ok(());
+    }
+    begin_row(alloc, rows, id, site, position)?;
+    Ok(())
+}
+
+fn join_at(
+    alloc: Global,
+    rows: &mut Vec<Row>,
+    limit: u32,
+    id: Id,
+    site: Option<&Site>,
+    position: u32,
+) -> Result<(), NoMemory>
+    ensures { OnOk result (rows.new.items ≡ joined_at limit id rows.old.items position (option_copied site.entry)) }
+{
+    match site {
+        Some(site) => join_row(alloc, rows, limit, id, site, position),
+        None => Ok(()),
+    }
+}
+
+fn site_at(sites: &[Site], i: usize) -> Option<&Site>
+    ensures { option_copied result ≡ slice_get sites.now i }
+{
+    sites.get(i)
+}
+
+fn position_at(taken: &Batch, i: usize) -> u32
+    requires { i < length taken.now.items }
+    ensures { (t : Taken) → slice_get taken.now.items i ≡ Some t → result ≡ t.position }
+{
+    taken.get(i).position
+}
+
+/// The rows of recipients that were read, whose sites are these in the same order.
+pub(crate) fn rows_of(
+    alloc: Global,
+    limit: u32,
+    id: Id,
+    taken: &Batch,
+    sites: &[Site],
+) -> Result<Vec<Row>, NoMemory>
+    ensures { IfOk result (λ rows. rows.items ≡ rows_in limit id [] taken.now.items sites.now) }
+{
+    let mut rows = Vec::new(alloc);
+    for i in 0..taken.len() {
+        join_at(
+            alloc,
+            &mut rows,
+            limit,
+            id,
+            site_at(sites, i),
+            position_at(taken, i),
+        )?;
+    }
+    Ok(rows)
+}

@@ -1,0 +1,89 @@
+//! Messages come to incoming: they arrive, bounces are stored, and messages that an earlier life
+//! left in active go back.
+ghost use Rattle.std.specs.Prelude.{◌≡◌, IsTrue, List, Option, false, map, true, ℕ};
+ghost use Rattle.q_core.specs.Agrees.{Agrees, Matches};
+ghost use Rattle.q_core.specs.Changes.{IsBounced, is_looked_at};
+ghost use Rattle.q_core.specs.Held.{is_admitted_in};
+ghost use Rattle.q_core.specs.Slots.{changed_at, with_bounce};
+ghost use Rattle.q_model.specs.Arrivals.{may_arrive};
+ghost use Rattle.q_model.specs.Bounces.{may_bounce};
+ghost use Rattle.q_model.specs.Leaving.{may_back};
+ghost use Rattle.q_model.specs.Ledger.{Ledger};
+ghost use Rattle.q_model.specs.Settings.{World};
+ghost use Rattle.q_model.specs.Step.{after};
+
+use crate::names::same_id;
+use crate::slot::Slot;
+use crate::state::{Core, Seen};
+use q_model::{Entry, Id};
+
+impl Slot {
+    /// The bounce of the message is stored.
+    fn note_bounce(&mut self, id: Id)
+        ensures { self.new ≡ changed_at id with_bounce self.old }
+    {
+        if same_id(self.id, id) {
+            self.bounced = true;
+        }
+    }
+}
+
+fn note_bounce(slots: &mut [Slot], id: Id)
+    ensures { slots.new ≡ map (changed_at id with_bounce) slots.old }
+{
+    for slot in slots.iter_mut() {
+        slot.note_bounce(id);
+    }
+}
+
+impl Core {
+    fn note_bounce(&mut self, id: Id)
+        ensures { IsBounced self.old self.new id }
+    {
+        note_bounce(&mut self.admitted, id);
+        self.incoming = Seen::Unknown;
+    }
+
+    /// The bounce of an idle message is stored.
+    pub(crate) fn bounce(&mut self, id: Id)
+        requires { IsTrue (is_looked_at self.old) }
+        ensures { (w : World) → (l : Ledger) → Agrees w self.old l → is_admitted_in self.old id ≡ true → may_bounce l id ≡ true → Matches w self.new (after w l (Entry.Bounce id)) }
+    {
+        self.note_bounce(id);
+        self.settle();
+    }
+
+    /// The bounce of a message that an earlier life left is stored.
+    pub(crate) fn bounce_left(&mut self)
+        requires { IsTrue (is_looked_at self.old) }
+        ensures { (w : World) → (l : Ledger) → (id : Id) → Agrees w self.old l → is_admitted_in self.old id ≡ false → may_bounce l id ≡ true → Matches w self.new (after w l (Entry.Bounce id)) }
+    {
+        self.forget_mail();
+        self.settle();
+    }
+
+    /// Incoming is to be looked at anew.
+    fn forget_incoming(&mut self)
+        ensures { self.new ≡ record self.old { incoming = Seen.Unknown } }
+    {
+        self.incoming = Seen::Unknown;
+    }
+
+    /// A message arrives.
+    pub(crate) fn arrive(&mut self)
+        requires { IsTrue (is_looked_at self.old) }
+        ensures { (w : World) → (l : Ledger) → (id : Id) → (sender : Option (List ℕ)) → (to : List (List ℕ)) → (content : List ℕ) → Agrees w self.old l → may_arrive l id ≡ true → Matches w self.new (after w l (Entry.Arrive id sender to content)) }
+    {
+        self.forget_incoming();
+        self.settle();
+    }
+
+    /// A message that an earlier life left goes back.
+    pub(crate) fn back(&mut self)
+        requires { IsTrue (is_looked_at self.old) }
+        ensures { (w : World) → (l : Ledger) → (id : Id) → Agrees w self.old l → may_back l id ≡ true → Matches w self.new (after w l (Entry.Back id)) }
+    {
+        self.forget_mail();
+        self.settle();
+    }
+}

@@ -1,0 +1,81 @@
+//! Idle messages leave memory: they are deferred or removed.
+ghost use Rattle.std.specs.Prelude.{◌≡◌, IsTrue, false, not, true, ℕ};
+ghost use Rattle.q_core.specs.Agrees.{Agrees, Matches};
+ghost use Rattle.q_core.specs.Changes.{IsPutOff, IsTakenOut, is_looked_at, slots_without};
+ghost use Rattle.q_core.specs.Held.{is_admitted_in};
+ghost use Rattle.q_model.specs.Ids.{id_eq};
+ghost use Rattle.q_model.specs.Leaving.{may_defer, may_remove};
+ghost use Rattle.q_model.specs.Ledger.{Ledger};
+ghost use Rattle.q_model.specs.Settings.{World};
+ghost use Rattle.q_model.specs.Step.{after};
+
+use crate::names::same_id;
+use crate::slot::Slot;
+use crate::state::{Core, Seen};
+use q_model::{Entry, Id};
+
+fn is_another(slot: &Slot, id: Id) -> bool
+    ensures { result ≡ not (id_eq slot.now.id id) }
+{
+    !same_id(slot.id, id)
+}
+
+/// Takes the message out of those in memory.
+fn drop_slot(slots: &mut Vec<Slot>, id: Id)
+    ensures { slots.new.items ≡ slots_without id slots.old.items }
+{
+    slots.retain(|slot| is_another(slot, id));
+}
+
+impl Core {
+    /// The message isn't in memory, and deferred is to be looked at anew.
+    fn put_off(&mut self, id: Id)
+        ensures { IsPutOff self.old self.new id }
+    {
+        drop_slot(&mut self.admitted, id);
+        self.deferred = Seen::Unknown;
+    }
+
+    /// An idle message is deferred.
+    pub(crate) fn defer(&mut self, id: Id)
+        requires { IsTrue (is_looked_at self.old) }
+        ensures { (w : World) → (l : Ledger) → (due : ℕ) → Agrees w self.old l → may_defer w l id due ≡ true → Matches w self.new (after w l (Entry.Defer id due)) }
+    {
+        self.put_off(id);
+        self.settle();
+    }
+
+    /// The message isn't in memory, and incoming is to be looked at anew, where its bounce is.
+    fn take_out(&mut self, id: Id)
+        ensures { IsTakenOut self.old self.new id }
+    {
+        drop_slot(&mut self.admitted, id);
+        self.incoming = Seen::Unknown;
+    }
+
+    /// An idle message is removed.
+    pub(crate) fn remove(&mut self, id: Id)
+        requires { IsTrue (is_looked_at self.old) }
+        ensures { (w : World) → (l : Ledger) → Agrees w self.old l → is_admitted_in self.old id ≡ true → may_remove l id ≡ true → Matches w self.new (after w l (Entry.Remove id)) }
+    {
+        self.take_out(id);
+        self.settle();
+    }
+
+    /// Active and incoming are to be looked at anew.
+    pub(crate) fn forget_mail(&mut self)
+        ensures { self.new ≡ record self.old { active = Seen.Unknown; incoming = Seen.Unknown } }
+    {
+        self.active = Seen::Unknown;
+        self.incoming = Seen::Unknown;
+    }
+
+    /// A message that an earlier life left is removed.
+    pub(crate) fn remove_left(&mut self)
+        requires { IsTrue (is_looked_at self.old) }
+        ensures { (w : World) → (l : Ledger) → (id : Id) → Agrees w self.old l → is_admitted_in self.old id ≡ false → may_remove l id ≡ true → Matches w self.new (after w l (Entry.Remove id)) }
+    {
+        self.forget_mail();
+        self.settle();
+    }
+}

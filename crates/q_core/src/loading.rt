@@ -1,0 +1,142 @@
+//! Recipients come into memory.
+ghost use Rattle.std.specs.Prelude.{◌≡◌, ◌+◌, ◌++◌, ◌∷◌, [], IfOk, IsTrue, true, length, List, map, min, OnErr, OnOk, Some, ℕ};
+ghost use Rattle.q_core.specs.Agrees.{Agrees, Matches};
+ghost use Rattle.q_core.specs.Changes.{IsAsBefore, IsSlotChange, is_looked_at};
+ghost use Rattle.q_core.specs.Deciding.{is_answered};
+ghost use Rattle.q_core.specs.Loading.{IsLoaded, IsTakenIn, read_up, rows_in};
+ghost use Rattle.q_core.specs.Slots.{changed_at};
+ghost use Rattle.q_model.specs.Batches.{load_positions};
+ghost use Rattle.q_model.specs.Book.{message_of};
+ghost use Rattle.q_model.specs.Ledger.{Ledger};
+ghost use Rattle.q_model.specs.Loads.{may_load};
+ghost use Rattle.q_model.specs.Message.{Message, address_at};
+ghost use Rattle.q_model.specs.Next.{next};
+ghost use Rattle.q_model.specs.Settings.{World};
+ghost use Rattle.q_model.specs.Step.{after};
+
+use crate::grouping::rows_of;
+use crate::joining::{joined_lines, new_sites};
+use crate::names::same_id;
+use crate::slot::Slot;
+use crate::state::{Core, Question};
+use q_model::{Batch, Cursor, Entry, Id, NoMemory, Row, Site};
+use std::alloc::Global;
+
+impl Slot {
+    /// Notes that the message was read up to this position, where it is of this id.
+    fn note_read(&mut self, id: Id, to: u32)
+        ensures { self.new ≡ changed_at id (read_up to) self.old }
+    {
+        if same_id(self.id, id) {
+            self.unread = to;
+        }
+    }
+}
+
+fn note_read(slots: &mut [Slot], id: Id, to: u32)
+    ensures { slots.new ≡ map (changed_at id (read_up to)) slots.old }
+{
+    for slot in slots.iter_mut() {
+        slot.note_read(id, to);
+    }
+}
+
+impl Core {
+    /// The rows of the recipients that were read, whose sites were named.
+    fn read_rows(&self, alloc: Global, id: Id, taken: &Batch) -> Result<Vec<Row>, NoMemory>
+        ensures { IfOk result (λ rows. rows.items ≡ rows_in self.now.params.entry_limit id [] taken.now.items self.now.named.items) }
+    {
+        let limit = self.params.default_destination_recipient_limit;
+        rows_of(alloc, limit, id, taken, &self.named)
+    }
+
+    /// So many recipients more are in memory, within the limit.
+    fn count_read(&mut self, count: usize)
+        ensures rest { self.new ≡ record self.old { in_memory = self.new.in_memory } }
+        ensures memory { self.new.in_memory ≡ min (self.old.in_memory + count) self.old.params.recipient_limit }
+    {
+        let limit = u64::from(self.params.qmgr_message_recipient_limit);
+        self.in_memory = self.in_memory.saturating_add(count as u64).min(limit);
+    }
+
+    fn note_read(&mut self, id: Id, to: u32)
+        ensures { IsSlotChange self.old self.new id (read_up to) }
+    {
+        note_read(&mut self.admitted, id, to);
+    }
+
+    /// Takes the rows of the message in.
+    fn take_rows(&mut self, alloc: Global, id: Id, rows: Vec<Row>) -> Result<(), NoMemory>
+        ensures ok { OnOk result (IsTakenIn self.old self.new id rows.items) }
+        ensures err { OnErr result (IsAsBefore self.old self.new) }
+    {
+        let mut rows = rows;
+        let mut fresh = new_sites(alloc, &self.sites, &rows, &self.params)?;
+        let lines = joined_lines(alloc, &self.lines, id, &rows)?;
+        self.sites.reserve(fresh.len())?;
+        self.waiting.append(&mut rows)?;
+        let _ = self.sites.append(&mut fresh);
+        self.lines = lines;
+        Ok(())
+    }
+
+    /// Ends the question that was answered.
+    fn end_question(&mut self)
+        ensures rest { self.new ≡ record self.old { question = Question.Nothing; named = self.new.named } }
+        ensures named { self.new.named.items ≡ [] }
+    {
+        self.question = Question::Nothing;
+        self.named.clear();
+    }
+
+    /// Notes the site of the next recipient that was read.
+    pub fn sited(&mut self, site: &Site) -> Result<(), NoMemory>
+        ensures rest { self.new ≡ record self.old { named = self.new.named } }
+        ensures ok { OnOk result (self.new.named.items ≡ self.old.named.items ++ site.now ∷ []) }
+        ensures err { OnErr result (self.new.named.items ≡ self.old.named.items) }
+    {
+        self.named.push(*site)?;
+        Ok(())
+    }
+
+    fn load(&mut self, alloc: Global, id: Id, to: u32, taken: &Batch) -> Result<(), NoMemory>
+        ensures ok { OnOk result ((rows : List Row) → rows ≡ rows_in self.old.params.entry_limit id [] taken.now.items self.old.named.items → IsLoaded self.old self.new id to taken.now.items rows) }
+        ensures err { OnErr result (IsAsBefore self.old self.new) }
+    {
+        let rows = self.read_rows(alloc, id, taken)?;
+        self.take_rows(alloc, id, rows)?;
+        self.note_read(id, to);
+        self.count_read(taken.len());
+        self.end_question();
+        Ok(())
+    }
+
+    /// Takes in the recipients that were read, up to this place.
+    fn take_read(&mut self, alloc: Global, taken: &Batch, to: u32) -> Result<(), NoMemory>
+        requires { IsTrue (is_looked_at self.old) }
+        ensures ok { OnOk result ((w : World) → (l : Ledger) → (m : Message) → (id : Id) → (from max : ℕ) → Agrees w self.old l → self.old.question ≡ Question.Recipients id from max → message_of l.book id ≡ Some m → may_load w l id from to ≡ true → map (λ t. t.position) taken.now.items ≡ load_positions m from to → self.old.named.items ≡ map (λ p. w.table.route (address_at m p)) (load_positions m from to) → Matches w self.new (after w l (Entry.Load id from to))) }
+        ensures err { OnErr result (IsAsBefore self.old self.new) }
+    {
+        let Question::Recipients { id, .. } = self.question else {
+            return Ok(());
+        };
+        self.load(alloc, id, to, taken)?;
+        self.settle();
+        Ok(())
+    }
+
+    /// The answer to the read that waits for it: the pending recipients from the read's place on,
+    /// in order, as many as it may have, whose sites were named by `sited` in the same order. The
+    /// cursor stands just behind the last of them where there were so many, else behind the last
+    /// recipient.
+    pub fn loaded(&mut self, alloc: Global, taken: &Batch, cursor: Cursor) -> Result<(), NoMemory>
+        requires seen { IsTrue (is_looked_at self.old) }
+        ensures ok { OnOk result ((w : World) → (l : Ledger) → (m : Message) → (id : Id) → (from max : ℕ) → Agrees w self.old l → self.old.question ≡ Question.Recipients id from max → message_of l.book id ≡ Some m → next w l ≡ Some (Entry.Load id from cursor.position) → map (λ t. t.position) taken.now.items ≡ load_positions m from cursor.position → self.old.named.items ≡ map (λ p. w.table.route (address_at m p)) (load_positions m from cursor.position) → Agrees w self.new (after w l (Entry.Load id from cursor.position))) }
+        ensures answered { OnOk result (is_answered self.new.question ≡ true) }
+        ensures err { OnErr result ((w : World) → (l : Ledger) → Agrees w self.old l → Agrees w self.new l) }
+    {
+        self.take_read(alloc, taken, cursor.position)?;
+        self.question = Question::Nothing;
+        Ok(())
+    }
+}

@@ -1,0 +1,122 @@
+//! Outcomes come to disk: a failure is logged, a recipient is marked.
+ghost use Rattle.std.specs.Prelude.{◌≡◌, ◌<◌, ◌-◌, IsTrue, Some, drop, length, map, ℕ};
+ghost use Rattle.q_core.specs.Agrees.{Agrees, Matches};
+ghost use Rattle.q_core.specs.Changes.{IsSlotChange, IsUnsettledChange, is_looked_at};
+ghost use Rattle.q_core.specs.Slots.{changed_at, with_log, with_mark};
+ghost use Rattle.q_model.specs.Ledger.{Ledger};
+ghost use Rattle.q_model.specs.Logs.{first_logged};
+ghost use Rattle.q_model.specs.Next.{settling_rule};
+ghost use Rattle.q_model.specs.Settings.{World};
+ghost use Rattle.q_model.specs.Step.{after};
+ghost use Rattle.q_model.specs.declared.outcome.Failure.{Failure};
+
+use crate::names::same_id;
+use crate::slot::Slot;
+use crate::state::{Core, Seen};
+use q_model::{Entry, Id, Need};
+
+impl Slot {
+    /// A failure of a pending recipient is logged.
+    fn note_log(&mut self, id: Id)
+        ensures { self.new ≡ changed_at id with_log self.old }
+    {
+        if same_id(self.id, id) {
+            self.pending = self.pending.saturating_sub(1);
+            self.logged = true;
+            self.failed = true;
+        }
+    }
+
+    /// The recipient that is logged, or else a pending one, is marked.
+    fn add_mark(&mut self)
+        ensures { self.new ≡ with_mark self.old }
+    {
+        if self.marks < self.recipients {
+            self.marks += 1;
+        }
+        if self.logged {
+            self.logged = false;
+        } else {
+            self.pending = self.pending.saturating_sub(1);
+        }
+    }
+
+    fn note_mark(&mut self, id: Id)
+        ensures { self.new ≡ changed_at id with_mark self.old }
+    {
+        if same_id(self.id, id) {
+            self.add_mark();
+        }
+    }
+}
+
+fn note_log(slots: &mut [Slot], id: Id)
+    ensures { slots.new ≡ map (changed_at id with_log) slots.old }
+{
+    for slot in slots.iter_mut() {
+        slot.note_log(id);
+    }
+}
+
+fn note_mark(slots: &mut [Slot], id: Id)
+    ensures { slots.new ≡ map (changed_at id with_mark) slots.old }
+{
+    for slot in slots.iter_mut() {
+        slot.note_mark(id);
+    }
+}
+
+impl Core {
+    fn note_log(&mut self, id: Id)
+        ensures { IsSlotChange self.old self.new id with_log }
+    {
+        note_log(&mut self.admitted, id);
+    }
+
+    /// The first outcome needs its mark next.
+    fn want_mark(&mut self)
+        ensures change { IsUnsettledChange self.old self.new (first_logged self.old.unsettled.items) }
+        ensures memory { self.new.in_memory ≡ self.old.in_memory }
+    {
+        if let [first, ..] = self.unsettled.as_mut_slice() {
+            first.need = Need::Mark;
+        }
+    }
+
+    /// The first outcome's failure is logged.
+    pub(crate) fn log(&mut self, id: Id)
+        requires seen { IsTrue (is_looked_at self.old) }
+        ensures { (w : World) → (l : Ledger) → (failure : Failure) → Agrees w self.old l → settling_rule l ≡ Some (Entry.Log id failure) → Matches w self.new (after w l (Entry.Log id failure)) }
+    {
+        self.note_log(id);
+        self.want_mark();
+        self.settle();
+    }
+
+    fn note_mark(&mut self, id: Id)
+        ensures { IsSlotChange self.old self.new id with_mark }
+    {
+        note_mark(&mut self.admitted, id);
+    }
+
+    /// The first outcome is settled.
+    fn settle_first(&mut self)
+        requires { 0 < length self.old.unsettled.items }
+        ensures change { IsUnsettledChange self.old self.new (drop 1 self.old.unsettled.items) }
+        ensures memory { self.new.in_memory ≡ self.old.in_memory - 1 }
+    {
+        self.unsettled.remove(0);
+        self.in_memory = self.in_memory.saturating_sub(1);
+    }
+
+    /// The first outcome's recipient is marked.
+    pub(crate) fn mark_first(&mut self, id: Id)
+        requires some { 0 < length self.old.unsettled.items }
+        requires seen { IsTrue (is_looked_at self.old) }
+        ensures { (w : World) → (l : Ledger) → (position : ℕ) → Agrees w self.old l → settling_rule l ≡ Some (Entry.Mark id position) → Matches w self.new (after w l (Entry.Mark id position)) }
+    {
+        self.note_mark(id);
+        self.settle_first();
+        self.settle();
+    }
+}

@@ -1,0 +1,108 @@
+//! A delivery in flight ends.
+ghost use Rattle.std.specs.Prelude.{◌≡◌, ◌==◌, filter, IfOk, IsTrue, not, OnErr, OnOk, true};
+ghost use Rattle.q_core.specs.Agrees.{Agrees, Matches};
+ghost use Rattle.q_core.specs.Changes.{IsAsBefore, is_looked_at};
+ghost use Rattle.q_core.specs.Leaving.{AreAdded, IsHeard, IsLanded, replied_in};
+ghost use Rattle.q_model.specs.Ledger.{Ledger};
+ghost use Rattle.q_model.specs.Settings.{World};
+ghost use Rattle.q_model.specs.Step.{after, allowed};
+
+use crate::destination::busy;
+use crate::needs::needs;
+use crate::state::Core;
+use crate::window::hear_state;
+use q_model::{Delivery, Entry, NoMemory, Outcome, Site, SiteState, Unsettled};
+use std::alloc::Global;
+
+fn is_other(flight: &Delivery, number: u64) -> bool
+    ensures { result ≡ not (flight.now.number == number) }
+{
+    flight.number != number
+}
+
+/// Takes the delivery of this number out of those in flight.
+fn land(flights: &mut Vec<Delivery>, number: u64)
+    ensures { flights.new.items ≡ filter (λ f. not (f.number == number)) flights.old.items }
+{
+    flights.retain(|flight| is_other(flight, number));
+}
+
+impl Core {
+    /// What the outcomes of the delivery need.
+    fn outcome_needs(
+        &self,
+        alloc: Global,
+        delivery: &Delivery,
+        outcomes: &[Outcome],
+    ) -> Result<Vec<Unsettled>, NoMemory>
+        ensures { IfOk result (λ needs. needs.items ≡ replied_in self.now delivery.now outcomes.now) }
+    {
+        let row = &delivery.row;
+        let expired = self.id_expired(row.id);
+        needs(alloc, row.id, expired, row.positions.as_slice(), outcomes)
+    }
+
+    /// Adds what the outcomes of the delivery of this number need, and gives its destination.
+    fn add_outcomes(
+        &mut self,
+        alloc: Global,
+        number: u64,
+        outcomes: &[Outcome],
+    ) -> Result<Option<Site>, NoMemory>
+        ensures ok { IfOk result (λ site. AreAdded self.old self.new number outcomes.now site) }
+        ensures err { OnErr result (IsAsBefore self.old self.new) }
+    {
+        let Some(delivery) = self.delivery(number) else {
+            return Ok(None);
+        };
+        let site = delivery.row.site;
+        let needs = self.outcome_needs(alloc, delivery, outcomes)?;
+        let done = delivery.row.positions.len().saturating_sub(needs.len());
+        self.unsettled.extend_from_slice(&needs)?;
+        self.in_memory = self.in_memory.saturating_sub(done as u64);
+        Ok(Some(site))
+    }
+
+    /// Lets the destination hear of a delivery that is still in flight.
+    fn hear_site(&mut self, site: &Site, state: SiteState)
+        ensures { IsHeard self.old self.new site.now state }
+    {
+        let deliveries = busy(&self.flights, site) as u64;
+        hear_state(
+            &mut self.sites,
+            site,
+            &self.params,
+            deliveries,
+            self.clock,
+            state,
+        );
+    }
+
+    fn land(&mut self, number: u64)
+        ensures { IsLanded self.old self.new number }
+    {
+        land(&mut self.flights, number);
+    }
+
+    /// Takes the reply of the delivery of this number, with an outcome for each recipient.
+    pub(crate) fn hear_reply(
+        &mut self,
+        alloc: Global,
+        number: u64,
+        state: SiteState,
+        outcomes: &[Outcome],
+    ) -> Result<(), NoMemory>
+        requires seen { IsTrue (is_looked_at self.old) }
+        ensures ok { OnOk result ((w : World) → (l : Ledger) → Agrees w self.old l → allowed w l (Entry.Reply number state outcomes.now) ≡ true → Matches w self.new (after w l (Entry.Reply number state outcomes.now))) }
+        ensures err { OnErr result (IsAsBefore self.old self.new) }
+    {
+        let Some(site) = self.add_outcomes(alloc, number, outcomes)? else {
+            return Ok(());
+        };
+        self.hear_site(&site, state);
+        self.land(number);
+        self.leave(&site);
+        self.settle();
+        Ok(())
+    }
+}

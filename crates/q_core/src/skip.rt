@@ -1,0 +1,53 @@
+//! Recipients whose destination is dead are put off.
+ghost use Rattle.std.specs.Prelude.{◌≡◌, ◌<◌, IfOk, IsTrue, length, List, OnErr, OnOk, slice_get, Some, ℕ};
+ghost use Rattle.q_core.specs.Agrees.{Agrees, Matches};
+ghost use Rattle.q_core.specs.Changes.{IsAsBefore, is_looked_at};
+ghost use Rattle.q_core.specs.Decisions.{IsRowAt};
+ghost use Rattle.q_core.specs.Leaving.{IsFirstDead, IsUnqueued, put_off_in};
+ghost use Rattle.q_model.specs.Ledger.{Ledger};
+ghost use Rattle.q_model.specs.Settings.{World};
+ghost use Rattle.q_model.specs.Step.{after};
+
+use crate::needs::put_off;
+use crate::state::Core;
+use q_model::{Entry, Id, NoMemory, Row, Site, Unsettled};
+use std::alloc::Global;
+
+impl Core {
+    /// What the recipients of the row at this place need that are put off.
+    fn row_needs(&self, alloc: Global, entry: usize) -> Result<Vec<Unsettled>, NoMemory>
+        requires { entry < length self.now.waiting.items }
+        ensures { IfOk result (λ needs. (r : Row) → slice_get self.now.waiting.items entry ≡ Some r → needs.items ≡ put_off_in self.now r) }
+    {
+        let row = &self.waiting[entry];
+        let expired = self.id_expired(row.id);
+        put_off(alloc, row.id, expired, row.positions.as_slice())
+    }
+
+    /// Takes the row at this place out, and adds what its recipients need.
+    fn unqueue(&mut self, alloc: Global, entry: usize) -> Result<Row, NoMemory>
+        requires { entry < length self.old.waiting.items }
+        ensures ok { IfOk result (λ r. IsUnqueued self.old self.new entry r) }
+        ensures err { OnErr result (IsAsBefore self.old self.new) }
+    {
+        let needs = self.row_needs(alloc, entry)?;
+        self.unsettled.extend_from_slice(&needs)?;
+        let row = self.waiting.remove(entry);
+        let done = row.positions.len().saturating_sub(needs.len());
+        self.in_memory = self.in_memory.saturating_sub(done as u64);
+        Ok(row)
+    }
+
+    /// Puts off the recipients of the row at this place, the first whose destination is dead.
+    pub(crate) fn skip(&mut self, alloc: Global, entry: usize) -> Result<(), NoMemory>
+        requires within { entry < length self.old.waiting.items }
+        requires seen { IsTrue (is_looked_at self.old) }
+        ensures ok { OnOk result ((w : World) → (l : Ledger) → (id : Id) → (site : Site) → (positions : List ℕ) → Agrees w self.old l → IsFirstDead self.old entry → IsRowAt self.old entry id site positions → Matches w self.new (after w l (Entry.Skip id site positions))) }
+        ensures err { OnErr result (IsAsBefore self.old self.new) }
+    {
+        let row = self.unqueue(alloc, entry)?;
+        self.leave(&row.site);
+        self.settle();
+        Ok(())
+    }
+}

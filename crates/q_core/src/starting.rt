@@ -1,0 +1,135 @@
+//! A delivery begins.
+ghost use Rattle.std.specs.Prelude.{◌≡◌, ◌≤◌, ◌<◌, ◌&&◌, filter, IsTrue, length, List, map, not, OnErr, OnOk, position, Some, ℕ, vec_capacity, vec_len};
+ghost use Rattle.std.specs.List.{enumerate_from};
+ghost use Rattle.q_core.specs.Agrees.{Agrees, Matches};
+ghost use Rattle.q_core.specs.Beginning.{begun_job, begun_line, is_for, IsBegun, IsSent, served_now};
+ghost use Rattle.q_core.specs.Changes.{IsAsBefore, is_looked_at};
+ghost use Rattle.q_core.specs.Queries.{flight_in};
+ghost use Rattle.q_model.specs.Destinations.{site_eq};
+ghost use Rattle.q_model.specs.Ids.{id_eq};
+ghost use Rattle.q_model.specs.Ledger.{Ledger};
+ghost use Rattle.q_model.specs.Next.{start_rule};
+ghost use Rattle.q_model.specs.Settings.{World};
+ghost use Rattle.q_model.specs.Step.{after};
+
+use crate::line::{Job, Line};
+use crate::names::{same_id, same_site};
+use crate::state::Core;
+use q_model::{Delivery, Entry, Id, NoMemory, Served, Site};
+
+impl Job {
+    /// Counts a delivery that the message begins at the transport, where this is its job there.
+    fn begin(&mut self, id: Id, transport: u8, at: usize)
+        ensures { self.new ≡ begun_job id transport at self.old }
+    {
+        if same_id(id, self.id) && usize::from(transport) == at && self.starts < 1 << 48 {
+            self.starts += 1;
+        }
+    }
+}
+
+fn begin_job(jobs: &mut [Job], id: Id, transport: u8, at: usize)
+    ensures { jobs.new ≡ map (begun_job id transport at) jobs.old }
+{
+    for job in jobs.iter_mut() {
+        job.begin(id, transport, at);
+    }
+}
+
+impl Line {
+    fn begin(&mut self, id: Id, transport: u8, at: usize)
+        ensures { self.new ≡ begun_line id transport (at, self.old) }
+    {
+        begin_job(&mut self.jobs, id, transport, at);
+    }
+}
+
+/// Counts a delivery that the message begins at the transport.
+fn begin_at(lines: &mut [Line], id: Id, transport: u8)
+    ensures { lines.new ≡ map (begun_line id transport) (enumerate_from 0 lines.old) }
+{
+    for (at, line) in lines.iter_mut().enumerate() {
+        line.begin(id, transport, at);
+    }
+}
+
+fn is_of_others(served: &Served, id: Id, site: &Site) -> bool
+    ensures { result ≡ not (id_eq served.now.id id && site_eq served.now.site site.now) }
+{
+    !(same_id(served.id, id) && same_site(&served.site, site))
+}
+
+/// Forgets when the message was last sent to the site.
+fn forget_served(served: &mut Vec<Served>, id: Id, site: &Site)
+    ensures items { served.new.items ≡ filter (λ s. not (id_eq s.id id && site_eq s.site site.now)) served.old.items }
+    ensures len { vec_len served.new ≤ vec_len served.old }
+    ensures capacity { vec_capacity served.new ≡ vec_capacity served.old }
+{
+    served.retain(|last| is_of_others(last, id, site));
+}
+
+/// Notes the number of the message's last delivery to the site.
+fn note_served(served: &mut Vec<Served>, id: Id, site: Site, number: u64) -> Result<(), NoMemory>
+    ensures ok { OnOk result (served.new.items ≡ served_now id site number served.old.items) }
+    ensures err { OnErr result (served.new.items ≡ served.old.items) }
+{
+    served.reserve(1)?;
+    forget_served(served, id, &site);
+    let _ = served.insert(
+        0,
+        Served {
+            id,
+            site,
+            last: number,
+        },
+    );
+    Ok(())
+}
+
+impl Core {
+    /// The place of the message's first row for the site.
+    fn row_for(&self, id: Id, site: &Site) -> Option<usize>
+        ensures { result ≡ position (is_for id site.now) self.now.waiting.items }
+    {
+        self.waiting
+            .iter()
+            .position(|row| same_id(row.id, id) && same_site(&row.site, site))
+    }
+
+    /// Sends the row at this place, which is of the message and for the site.
+    fn send(&mut self, number: u64, id: Id, site: Site, entry: usize) -> Result<(), NoMemory>
+        requires { entry < length self.old.waiting.items }
+        ensures ok { OnOk result (IsSent self.old self.new number id site entry) }
+        ensures err { OnErr result (IsAsBefore self.old self.new) }
+    {
+        self.flights.reserve(1)?;
+        note_served(&mut self.served, id, site, number)?;
+        let row = self.waiting.remove(entry);
+        let _ = self.flights.push(Delivery { number, row });
+        self.starts = number;
+        Ok(())
+    }
+
+    /// Counts the delivery to the site in the account of its job.
+    fn count_start(&mut self, id: Id, site: &Site)
+        ensures { IsBegun self.old self.new id site.now.transport }
+    {
+        begin_at(&mut self.lines, id, site.transport);
+    }
+
+    /// Begins the delivery of this number: of the row of the message that is next for the site.
+    pub(crate) fn begin(&mut self, number: u64, id: Id, site: Site) -> Result<(), NoMemory>
+        requires seen { IsTrue (is_looked_at self.old) }
+        ensures ok { OnOk result ((w : World) → (l : Ledger) → (positions : List ℕ) → Agrees w self.old l → start_rule w l ≡ Some (Entry.Start number id site positions) → Matches w self.new (after w l (Entry.Start number id site positions))) }
+        ensures flight { OnOk result ((w : World) → (l : Ledger) → (positions : List ℕ) → Agrees w self.old l → start_rule w l ≡ Some (Entry.Start number id site positions) → flight_in self.new number ≡ Some (record { number = number; row = record { id = id; site = site; positions = positions } })) }
+        ensures err { OnErr result (IsAsBefore self.old self.new) }
+    {
+        let Some(entry) = self.row_for(id, &site) else {
+            return Ok(());
+        };
+        self.send(number, id, site, entry)?;
+        self.count_start(id, &site);
+        self.settle();
+        Ok(())
+    }
+}

@@ -1,0 +1,152 @@
+//! How a destination's window follows from replies, and when it is dead (SCHEDULER_README,
+//! "Concurrency scheduling").
+ghost use Rattle.std.specs.Prelude.{◌≡◌, ◌≤◌, ◌+◌, min, map, nat_lt, true};
+ghost use Rattle.q_core.specs.Windows.{down_in, heard_at, heard_in, is_too_much, more_cohorts_in, narrowed_in, open_window, up_in, widened_in};
+ghost use Rattle.q_model.specs.SiteRecords.{is_alive};
+
+use crate::clock::Clock;
+use crate::destination::Destination;
+use crate::names::same_site;
+use q_model::{Health, Site, SiteState};
+use q_params::Params;
+
+/// A whole cohort, in parts that each window divides.
+const PARTS: u64 = 5_342_931_457_063_200;
+
+impl Destination {
+    /// The window, from 1 to 40.
+    fn open_window(&self) -> u8
+        ensures exact { result ≡ open_window self.now.window }
+        ensures low { 1 ≤ result }
+        ensures high { result ≤ 40 }
+    {
+        self.window.clamp(1, 40) as u8
+    }
+
+    /// Whether so many deliveries in flight fill the window.
+    fn is_filled(&self, params: &Params, busy: u64) -> bool
+        ensures { result ≡ nat_lt self.now.window (busy + min params.now.initial_concurrency params.now.concurrency_limit) }
+    {
+        let initial = params
+            .initial_destination_concurrency
+            .min(params.default_destination_concurrency_limit);
+        u128::from(self.window) < u128::from(busy) + u128::from(initial)
+    }
+
+    /// Adds one success, which widens the window where it comes to 1.
+    fn widen(&mut self, params: &Params)
+        requires { self.old.window ≤ 40 }
+        ensures { self.new ≡ widened_in params.now self.old }
+    {
+        let feedback = params.default_destination_concurrency_positive_feedback;
+        let success = self.success + u128::from(feedback.amount(self.open_window()));
+        let unit = u128::from(feedback.units());
+        if success >= unit {
+            self.window += 1;
+            self.success = success - unit;
+            self.failure = 0;
+        } else {
+            self.success = success;
+        }
+    }
+
+    /// Hears that a delivery reached it, with so many in flight.
+    pub(crate) fn hear_up(&mut self, params: &Params, busy: u64)
+        ensures { self.new ≡ up_in params.now busy self.old }
+    {
+        if self.is_dead() {
+            self.revive(params, busy);
+            return;
+        }
+        self.cohorts = 0;
+        let limit = u64::from(params.default_destination_concurrency_limit);
+        if self.window < limit && self.is_filled(params, busy) {
+            self.widen(params);
+        }
+    }
+
+    /// Adds one failure, which narrows the window where it falls below 0.
+    fn narrow(&mut self, params: &Params)
+        ensures { self.new ≡ narrowed_in params.now self.old }
+    {
+        let feedback = params.default_destination_concurrency_negative_feedback;
+        let fall = u128::from(feedback.amount(self.open_window()));
+        if self.failure < fall {
+            self.window = self.window.saturating_sub(1).max(1);
+            self.failure = self.failure + u128::from(feedback.units()) - fall;
+            self.success = 0;
+        } else {
+            self.failure -= fall;
+        }
+    }
+
+    /// The failed cohorts with one failure more, at a destination that is alive.
+    fn more_cohorts(&self, params: &Params) -> u128
+        requires { is_alive self.now.health ≡ true }
+        ensures { result ≡ more_cohorts_in params.now self.now }
+    {
+        if params.default_destination_concurrency_failed_cohort_limit == 0 {
+            0
+        } else {
+            self.cohorts + u128::from(PARTS / u64::from(self.open_window()))
+        }
+    }
+
+    /// Hears that a delivery didn't reach it.
+    pub(crate) fn hear_down(&mut self, params: &Params, clock: Clock)
+        ensures { self.new ≡ down_in params.now clock.seconds self.old }
+    {
+        if self.is_dead() {
+            return;
+        }
+        let cohorts = self.more_cohorts(params);
+        if is_too_much(params, cohorts) {
+            self.cohorts = cohorts;
+            self.health = Health::DeadUntil(clock.seconds + u64::from(params.minimal_backoff_time));
+        } else {
+            self.cohorts = cohorts;
+            self.narrow(params);
+        }
+    }
+
+    fn hear(&mut self, params: &Params, busy: u64, clock: Clock, state: SiteState)
+        ensures { self.new ≡ heard_in params.now busy clock.seconds state self.old }
+    {
+        match state {
+            SiteState::Up => self.hear_up(params, busy),
+            SiteState::Down => self.hear_down(params, clock),
+        }
+    }
+
+    fn hear_at(&mut self, site: &Site, params: &Params, busy: u64, clock: Clock, state: SiteState)
+        ensures { self.new ≡ heard_at params.now site.now busy clock.seconds state self.old }
+    {
+        if same_site(self.site(), site) {
+            self.hear(params, busy, clock, state);
+        }
+    }
+}
+
+/// The site hears that a delivery reached it, with so many in flight, or didn't.
+pub(crate) fn hear_state(
+    sites: &mut [Destination],
+    site: &Site,
+    params: &Params,
+    busy: u64,
+    clock: Clock,
+    state: SiteState,
+)
+    ensures { sites.new ≡ map (heard_at params.now site.now busy clock.seconds state) sites.old }
+{
+    for known in sites.iter_mut() {
+        known.hear_at(site, params, busy, clock, state);
+    }
+}
+
+/// Whether so many failed cohorts make a destination dead.
+fn is_too_much(params: &Params, cohorts: u128) -> bool
+    ensures { result ≡ is_too_much params.now cohorts }
+{
+    let limit = params.default_destination_concurrency_failed_cohort_limit;
+    limit != 0 && u128::from(limit) * u128::from(PARTS) <= cohorts
+}

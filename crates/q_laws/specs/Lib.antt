@@ -1,0 +1,3 @@
+pub mod Consistency
+pub mod SitesConsistency
+pub mod Traces
