@@ -12,6 +12,16 @@ mod corrupt;
 mod deciding;
 mod decision;
 mod destination;
+#[cfg(test)]
+mod drive;
+#[cfg(test)]
+mod drive_decisions;
+#[cfg(test)]
+mod drive_list;
+#[cfg(test)]
+mod drive_script;
+#[cfg(test)]
+mod drive_text;
 mod event;
 mod finishing;
 mod found;
@@ -48,6 +58,8 @@ mod taking;
 mod tests;
 mod unsettled;
 mod window;
+#[cfg(test)]
+mod worked;
 
 pub use decision::{Decision, FileFacts, Found};
 pub use event::Heard;
