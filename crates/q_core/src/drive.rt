@@ -71,7 +71,6 @@ impl Driver {
         self.serial = 0;
         self.mail.end_life(loses);
         self.core = Core::new(alloc, self.params, 1, Mode::Deliver)?;
-        self.text.counted("life", u64::from(self.life))?;
         Ok(())
     }
 
@@ -101,7 +100,6 @@ impl Driver {
     }
 
     fn at(&mut self, alloc: Global, moment: Moment) -> Result<(), Stop> {
-        self.text.counted("at", moment)?;
         self.hear(alloc, Heard::At { moment })?;
         self.run(alloc)
     }
@@ -123,7 +121,6 @@ impl Driver {
             in_memory: false,
         };
         self.mail.add(message)?;
-        self.text.line("mail", id, &[count])?;
         self.hear(alloc, Heard::Mail { id })?;
         self.run(alloc)
     }
@@ -147,13 +144,15 @@ impl Driver {
         Ok(outcomes)
     }
 
-    /// The delivery with the least number ends.
-    fn reply(&mut self, alloc: Global, site: SiteState, outcome: Outcome) -> Result<(), Stop> {
-        let Some(number) = self.core.least_flight() else {
-            return Err(Stop::Wrong);
-        };
+    /// The delivery of this number ends.
+    fn reply(
+        &mut self,
+        alloc: Global,
+        number: u64,
+        site: SiteState,
+        outcome: Outcome,
+    ) -> Result<(), Stop> {
         let outcomes = self.outcomes(alloc, number, outcome)?;
-        self.text.counted("reply", number)?;
         let heard = Heard::Reply {
             number,
             site,
@@ -163,6 +162,7 @@ impl Driver {
         self.run(alloc)
     }
 
+    /// So many times the delivery with the least number ends.
     fn replies(
         &mut self,
         alloc: Global,
@@ -171,14 +171,15 @@ impl Driver {
         outcome: Outcome,
     ) -> Result<(), Stop> {
         for _ in 0..count {
-            self.reply(alloc, site, outcome)?;
+            let Some(number) = self.core.least_flight() else {
+                return Err(Stop::Wrong);
+            };
+            self.reply(alloc, number, site, outcome)?;
         }
         Ok(())
     }
 
     fn trigger(&mut self, alloc: Global, kind: Trigger) -> Result<(), Stop> {
-        self.text.begin("trigger")?;
-        self.text.end()?;
         self.hear(alloc, Heard::Trigger { kind })?;
         self.run(alloc)
     }
@@ -193,6 +194,11 @@ impl Driver {
             } => self.mail(alloc, count, first, domains),
             Step::Mails { count, first } => self.mails(alloc, count, first),
             Step::Reply {
+                number,
+                state,
+                outcome,
+            } => self.reply(alloc, u64::from(number), state, outcome),
+            Step::Replies {
                 count,
                 state,
                 outcome,
@@ -206,13 +212,22 @@ impl Driver {
         }
     }
 
-    /// Takes the steps of a script, a line each.
-    pub(crate) fn play(&mut self, alloc: Global, script: &str) -> Result<(), Stop> {
-        for line in script.lines() {
-            let Some(step) = read_step(line) else {
-                return Err(Stop::Wrong);
-            };
-            self.take(alloc, step)?;
+    /// Takes the step of a line, and writes the line.
+    fn follow(&mut self, alloc: Global, line: &str, words: &str) -> Result<(), Stop> {
+        self.text.begin(line)?;
+        self.text.end()?;
+        let Some(step) = read_step(words) else {
+            return Err(Stop::Wrong);
+        };
+        self.take(alloc, step)
+    }
+
+    /// Takes the steps of a case, which stand in it behind `> `.
+    pub(crate) fn play(&mut self, alloc: Global, case: &str) -> Result<(), Stop> {
+        for line in case.lines() {
+            if let Some(words) = line.strip_prefix("> ") {
+                self.follow(alloc, line, words)?;
+            }
         }
         Ok(())
     }

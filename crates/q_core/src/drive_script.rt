@@ -21,9 +21,15 @@ pub(crate) enum Step {
         count: u32,
         first: u32,
     },
-    /// `reply COUNT STATE OUTCOME`: so many times the delivery with the least number ends, with
-    /// this outcome for each of its recipients.
+    /// `reply NUMBER STATE OUTCOME`: the delivery of this number ends, with this outcome for each
+    /// of its recipients.
     Reply {
+        number: u32,
+        state: SiteState,
+        outcome: Outcome,
+    },
+    /// `replies COUNT STATE OUTCOME`: so many times the delivery with the least number ends.
+    Replies {
         count: u32,
         state: SiteState,
         outcome: Outcome,
@@ -97,6 +103,11 @@ pub(crate) fn read_step(line: &str) -> Option<Step> {
             first: number(third)?,
         }),
         "reply" => Some(Step::Reply {
+            number: number(second)?,
+            state: state(third)?,
+            outcome: outcome(fourth)?,
+        }),
+        "replies" => Some(Step::Replies {
             count: number(second)?,
             state: state(third)?,
             outcome: outcome(fourth)?,

@@ -63,11 +63,4 @@ impl TraceText {
         self.numbers(numbers)?;
         self.end()
     }
-
-    /// Adds a line of a word and a number.
-    pub(crate) fn counted(&mut self, word: &str, number: u64) -> Result<(), AllocError> {
-        self.begin(word)?;
-        self.number(number)?;
-        self.end()
-    }
 }

@@ -60,6 +60,10 @@ mod unsettled;
 mod window;
 #[cfg(test)]
 mod worked;
+#[cfg(test)]
+mod worked_messages;
+#[cfg(test)]
+mod worked_sites;
 
 pub use decision::{Decision, FileFacts, Found};
 pub use event::Heard;
