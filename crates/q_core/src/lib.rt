@@ -12,6 +12,16 @@ mod corrupt;
 mod deciding;
 mod decision;
 mod destination;
+#[cfg(test)]
+mod drive;
+#[cfg(test)]
+mod drive_decisions;
+#[cfg(test)]
+mod drive_list;
+#[cfg(test)]
+mod drive_script;
+#[cfg(test)]
+mod drive_text;
 mod event;
 mod finishing;
 mod found;
@@ -48,6 +58,12 @@ mod taking;
 mod tests;
 mod unsettled;
 mod window;
+#[cfg(test)]
+mod worked;
+#[cfg(test)]
+mod worked_messages;
+#[cfg(test)]
+mod worked_sites;
 
 pub use decision::{Decision, FileFacts, Found};
 pub use event::Heard;
