@@ -9,7 +9,7 @@ use crate::drive_script::{Step, read_step};
 use crate::drive_text::TraceText;
 use crate::{Core, Heard};
 use q_model::{Id, Mode, Moment, NoMemory, Outcome, Outcomes, Place, SiteState, Trigger};
-use q_params::Params;
+use q_params::read_params;
 use std::alloc::{AllocError, Global};
 
 /// Why a case doesn't go on.
@@ -35,7 +35,8 @@ impl From<AllocError> for Stop {
 #[derive(Debug, Drop)]
 pub(crate) struct Driver {
     pub(crate) core: Core,
-    params: Params,
+    /// The text of the parameter file.
+    settings: &'static str,
     pub(crate) mail: MailList,
     pub(crate) text: TraceText,
     life: u32,
@@ -51,12 +52,20 @@ const ALL: u32 = 100_000;
 /// The domain of the sender of each mail.
 pub(crate) const SENDER_DOMAIN: u32 = 0;
 
+/// The core of a life on an empty spool.
+fn begun(alloc: Global, settings: &str) -> Result<Core, Stop> {
+    let Ok(params) = read_params(settings.as_bytes()) else {
+        return Err(Stop::Wrong);
+    };
+    Ok(Core::new(alloc, params, 1, Mode::Deliver)?)
+}
+
 impl Driver {
-    pub(crate) fn new(alloc: Global, params: Params) -> Result<Driver, Stop> {
-        let core = Core::new(alloc, params, 1, Mode::Deliver)?;
+    pub(crate) fn new(alloc: Global, settings: &'static str) -> Result<Driver, Stop> {
+        let core = begun(alloc, settings)?;
         Ok(Driver {
             core,
-            params,
+            settings,
             mail: MailList::new(alloc),
             text: TraceText::new(alloc),
             life: 1,
@@ -70,7 +79,7 @@ impl Driver {
         self.life = self.life.saturating_add(1);
         self.serial = 0;
         self.mail.end_life(loses);
-        self.core = Core::new(alloc, self.params, 1, Mode::Deliver)?;
+        self.core = begun(alloc, self.settings)?;
         Ok(())
     }
 

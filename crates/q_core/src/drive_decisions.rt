@@ -179,7 +179,7 @@ impl Driver {
 
     /// Answers a look.
     fn show(&mut self, found: Found) -> Result<(), Stop> {
-        if !self.core.is_asked_to_look() {
+        if !self.core.is_looking() {
             return Err(Stop::Wrong);
         }
         self.core.found(found);

@@ -2,7 +2,6 @@
 ghost use Rattle.std.specs.Prelude.{◌≡◌, ◌<◌, IsTrue, length, map, nat_lt, option_map, slice_get, Some};
 ghost use Rattle.std.specs.Option.{option_copied};
 ghost use Rattle.q_core.specs.Agrees.{Agrees};
-ghost use Rattle.q_core.specs.Deciding.{is_answered, is_look};
 ghost use Rattle.q_core.specs.Held.{is_admitted_in};
 ghost use Rattle.q_core.specs.Lists.{over};
 ghost use Rattle.q_core.specs.Queries.{expired_in, flight_in, flight_shown, slot_expired_in};
@@ -69,27 +68,6 @@ fn first_flight(flights: &[Delivery]) -> Option<&Delivery>
 }
 
 impl Core {
-    /// Whether no look or read waits for its answer.
-    pub fn is_answered(&self) -> bool
-        ensures { result ≡ is_answered self.now.question }
-    {
-        match self.question {
-            Question::Nothing => true,
-            _ => false,
-        }
-    }
-
-    /// Whether a look waits for its answer.
-    pub fn is_asked_to_look(&self) -> bool
-        ensures { result ≡ is_look self.now.question }
-    {
-        match self.question {
-            Question::Active | Question::Incoming | Question::Deferred => true,
-            Question::Nothing => false,
-            Question::Recipients { .. } => false,
-        }
-    }
-
     /// The greatest moment that was given in this life, 0 for none.
     pub fn now(&self) -> Moment
         ensures { (w : World) → (l : Ledger) → Agrees w self.now l → result ≡ l.now }

@@ -58,7 +58,13 @@ impl Core {
         Ok(())
     }
 
-    pub(crate) fn take_skip(&mut self, alloc: Global, id: Id, site: Site, entry: usize) -> Result<(), NoMemory>
+    pub(crate) fn take_skip(
+        &mut self,
+        alloc: Global,
+        id: Id,
+        site: Site,
+        entry: usize,
+    ) -> Result<(), NoMemory>
         requires seen { IsTrue (is_looked_at self.old) }
         requires decided { decide_in self.old ≡ Some (Decision.Skip id site entry) }
         ensures ok { OnOk result ((w : World) → (l : Ledger) → Agrees w self.old l → IsTaken w l self.old (Decision.Skip id site entry) self.new) }

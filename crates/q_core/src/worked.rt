@@ -2,13 +2,12 @@
 //! the decisions that follow it.
 use crate::drive::{Driver, Stop};
 use crate::{worked_messages, worked_sites};
-use q_params::{Params, read_params};
 use std::alloc::Global;
 use std::test::Fail;
 
 /// What the core does at the steps of a case.
-fn played(alloc: Global, params: Params, case: &str) -> Result<Driver, Stop> {
-    let mut driver = Driver::new(alloc, params)?;
+fn played(alloc: Global, settings: &'static str, case: &str) -> Result<Driver, Stop> {
+    let mut driver = Driver::new(alloc, settings)?;
     driver.play(alloc, case)?;
     Ok(driver)
 }
@@ -16,8 +15,7 @@ fn played(alloc: Global, params: Params, case: &str) -> Result<Driver, Stop> {
 #[test]
 fn messages_are_decided_on(rt: HostRuntime) -> Result<(), Fail> {
     for (name, settings, case) in worked_messages::CASES {
-        let params = read_params(settings.as_bytes())?;
-        let driver = played(rt.alloc(), params, case)?;
+        let driver = played(rt.alloc(), settings, case)?;
         let trace = driver.text.as_str();
         assert!(rt; trace == case, "{name}:\n{trace}");
     }
@@ -27,8 +25,7 @@ fn messages_are_decided_on(rt: HostRuntime) -> Result<(), Fail> {
 #[test]
 fn destinations_are_decided_on(rt: HostRuntime) -> Result<(), Fail> {
     for (name, settings, case) in worked_sites::CASES {
-        let params = read_params(settings.as_bytes())?;
-        let driver = played(rt.alloc(), params, case)?;
+        let driver = played(rt.alloc(), settings, case)?;
         let trace = driver.text.as_str();
         assert!(rt; trace == case, "{name}:\n{trace}");
     }
@@ -70,8 +67,7 @@ start 11 2 d101 0
 
 #[test]
 fn saved_slots_let_a_job_preempt(rt: HostRuntime) -> Result<(), Fail> {
-    let params = read_params(b"default_process_limit = 1")?;
-    let driver = played(rt.alloc(), params, SLOW)?;
+    let driver = played(rt.alloc(), "default_process_limit = 1", SLOW)?;
     let trace = driver.text.as_str();
     assert!(rt; trace.ends_with(SLOW_END), "{trace}");
     assert_eq!(rt; lines_of(trace, "preempt"), 1);
@@ -100,7 +96,7 @@ const LARGE_COUNTS: [(&str, u32); 8] = [
 
 #[test]
 fn large_and_small_mails_are_all_delivered(rt: HostRuntime) -> Result<(), Fail> {
-    let driver = played(rt.alloc(), Params::defaults(), LARGE)?;
+    let driver = played(rt.alloc(), "", LARGE)?;
     let trace = driver.text.as_str();
     for (word, count) in LARGE_COUNTS {
         assert_eq!(rt; lines_of(trace, word), count, "{word}");

@@ -9,6 +9,6 @@ loop-i-preserved c =
     let flights = c.args.flights.now in
     let within : c.loop-i.i - 1 ≤ length flights = omega (arith, c.loop-i.invariant.1) in (
       ap (λ x. Some x) c.smaller.ensures
-      ∙ least_back (λ a b. nat_lt a.number b.number) flights c.loop-i.i c.index-flights-i.result (option_copied c.loop-i.first) c.loop-i-test.true c.loop-i.invariant.1 c.index-flights-i.is c.loop-i.invariant.0,
+          ∙ least_back (λ a b. nat_lt a.number b.number) flights c.loop-i.i c.index-flights-i.result (option_copied c.loop-i.first) c.loop-i-test.true c.loop-i.invariant.1 c.index-flights-i.is c.loop-i.invariant.0,
       within,
     )
