@@ -1,8 +1,5 @@
 //! A driver of the core alone: it keeps the messages of a case in a list, hears the steps of a
 //! script, and writes each event and each decision as a line.
-ghost use Rattle.std.specs.Prelude.{◌≡◌, IsTrue, OnTrue, true};
-ghost use Rattle.q_core.specs.Changes.{is_looked_at};
-ghost use Rattle.q_core.specs.Deciding.{is_answered};
 
 use crate::drive_list::{MailList, Message, recipients};
 use crate::drive_script::{Step, read_step};

@@ -18,11 +18,8 @@ fn site_of(alloc: Global, domain: u32) -> Result<Site, Stop> {
 }
 
 impl Driver {
-    /// Writes the line of the row that is put off next, where one is.
-    fn write_skip(&mut self) -> Result<(), Stop> {
-        let Some(Decision::Skip { id, site, entry }) = self.core.decision() else {
-            return Ok(());
-        };
+    /// Writes the line of the row that is put off next.
+    fn write_row(&mut self, id: Id, site: &Site, entry: usize) -> Result<(), Stop> {
         if entry >= self.core.waiting.len() {
             return Err(Stop::Wrong);
         }
@@ -32,6 +29,15 @@ impl Driver {
         self.text.numbers(self.core.row_positions(entry))?;
         self.text.end()?;
         Ok(())
+    }
+
+    /// Writes what is put off next, where something is, since the row is gone once that is
+    /// decided.
+    fn write_skip(&mut self) -> Result<(), Stop> {
+        match self.core.decision() {
+            Some(Decision::Skip { id, site, entry }) => self.write_row(id, &site, entry),
+            _ => Ok(()),
+        }
     }
 
     /// Takes the next decision and carries it out; false where there is none.

@@ -145,11 +145,7 @@ impl MailList {
     }
 
     pub(crate) fn recipient(&mut self, id: Id, position: u32) -> Option<&mut Recipient> {
-        let message = self.get_mut(id)?;
-        message
-            .recipients
-            .iter_mut()
-            .find(|recipient| recipient.position == position)
+        self.get_mut(id)?.recipients.get_mut(position as usize)
     }
 
     /// The life is over. Marks that aren't synced may be lost.
