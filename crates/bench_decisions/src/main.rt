@@ -1,8 +1,9 @@
 //! How fast the next decision is found: `bench_decisions N` brings N messages of one recipient
-//! each into the memory of a decision core, at 40 next hops by turns. Then it replies `up ok` to
-//! the delivery with the least number, takes the decisions that follow, and brings a new message
-//! for each that went: 2,000 times, or for ten seconds. It prints the decisions in a second of
-//! that part, looks and reads not counted. 19990 are the most.
+//! each into the memory of a decision core, at 40 next hops by turns, which may take longer than
+//! the rest and isn't measured. Then it replies `up ok` to the delivery with the least number,
+//! takes the decisions that follow, and brings a new message for the one that went: 2,000 times,
+//! or for ten seconds. It prints the decisions in a second of that part, looks and reads not
+//! counted. 19990 are the most.
 #![tactic(auto)]
 
 mod files;
