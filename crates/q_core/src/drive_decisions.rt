@@ -48,10 +48,10 @@ impl Driver {
 
     /// Takes the next decision and carries it out; false where there is none.
     pub(crate) fn decide(&mut self, alloc: Global) -> Result<bool, Stop> {
+        self.write_skip()?;
         if !self.core.is_answered() {
             return Err(Stop::Wrong);
         }
-        self.write_skip()?;
         let Some(decision) = self.core.next_decision(alloc)? else {
             return Ok(false);
         };
