@@ -31,21 +31,27 @@ impl Driver {
         Ok(())
     }
 
-    /// Writes what is put off next, where something is, since the row is gone once that is
-    /// decided.
-    fn write_skip(&mut self) -> Result<(), Stop> {
-        match self.core.decision() {
-            Some(Decision::Skip { id, site, entry }) => self.write_row(id, &site, entry),
+    fn write_where_skipped(&mut self, decision: Decision) -> Result<(), Stop> {
+        match decision {
+            Decision::Skip { id, site, entry } => self.write_row(id, &site, entry),
             _ => Ok(()),
         }
     }
 
+    /// Writes what is put off next, where something is: once that is decided, the row is gone.
+    fn write_skip(&mut self) -> Result<(), Stop> {
+        let Some(decision) = self.core.decision() else {
+            return Ok(());
+        };
+        self.write_where_skipped(decision)
+    }
+
     /// Takes the next decision and carries it out; false where there is none.
     pub(crate) fn decide(&mut self, alloc: Global) -> Result<bool, Stop> {
+        self.write_skip()?;
         if !self.core.is_answered() {
             return Err(Stop::Wrong);
         }
-        self.write_skip()?;
         let Some(decision) = self.core.next_decision(alloc)? else {
             return Ok(false);
         };
