@@ -190,6 +190,20 @@ impl Driver {
         self.run(alloc)
     }
 
+    fn write_jobs(&mut self) -> Result<(), Stop> {
+        for line in &self.core.lines {
+            self.text.jobs(line.jobs())?;
+        }
+        Ok(())
+    }
+
+    fn write_sites(&mut self) -> Result<(), Stop> {
+        for site in &self.core.sites {
+            self.text.site(site)?;
+        }
+        Ok(())
+    }
+
     fn take(&mut self, alloc: Global, step: Step) -> Result<(), Stop> {
         match step {
             Step::At { moment } => self.at(alloc, moment),
@@ -214,6 +228,8 @@ impl Driver {
                 self.allowed = count;
                 Ok(())
             }
+            Step::Jobs => self.write_jobs(),
+            Step::Sites => self.write_sites(),
             Step::Restart { loses } => self.restart(alloc, loses),
         }
     }

@@ -42,6 +42,10 @@ pub(crate) enum Step {
     Halt {
         count: u32,
     },
+    /// `jobs`: the jobs of each line are written, with their starts and what was charged to them.
+    Jobs,
+    /// `sites`: what is known of destinations is written: the window, or that it is dead.
+    Sites,
     /// `restart`, or `crash`, which loses the marks that aren't synced
     Restart {
         loses: bool,
@@ -118,6 +122,8 @@ pub(crate) fn read_step(line: &str) -> Option<Step> {
         "halt" => Some(Step::Halt {
             count: number(second)?,
         }),
+        "jobs" => Some(Step::Jobs),
+        "sites" => Some(Step::Sites),
         "restart" => Some(Step::Restart { loses: false }),
         "crash" => Some(Step::Restart { loses: true }),
         _ => None,

@@ -1,4 +1,6 @@
 //! What happened in a worked case, as lines of words.
+use crate::destination::Destination;
+use crate::line::Job;
 use q_model::Id;
 use std::alloc::{AllocError, Global};
 use std::fmt::Write;
@@ -61,6 +63,31 @@ impl TraceText {
         self.begin(word)?;
         self.id(id)?;
         self.numbers(numbers)?;
+        self.end()
+    }
+
+    fn job(&mut self, job: &Job) -> Result<(), AllocError> {
+        self.begin("job")?;
+        self.id(job.id)?;
+        self.number(job.starts)?;
+        self.number(job.charged)?;
+        self.end()
+    }
+
+    pub(crate) fn jobs(&mut self, jobs: &[Job]) -> Result<(), AllocError> {
+        for job in jobs {
+            self.job(job)?;
+        }
+        Ok(())
+    }
+
+    pub(crate) fn site(&mut self, known: &Destination) -> Result<(), AllocError> {
+        let word = if known.is_dead() { "dead" } else { "window" };
+        self.begin(word)?;
+        self.name(known.site().hop.bytes())?;
+        if !known.is_dead() {
+            self.number(known.window)?;
+        }
         self.end()
     }
 }

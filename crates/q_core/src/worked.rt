@@ -51,6 +51,7 @@ const SLOW: &str = "\
 > mail 10 101 10
 > replies 9 up ok
 > reply 10 up ok
+> jobs
 ";
 
 /// The end of what happens then.
@@ -63,6 +64,9 @@ mark 1 9
 sync 1
 preempt 2 1 10
 start 11 2 d101 0
+> jobs
+job 2 1 0
+job 1 10 10
 ";
 
 #[test]

@@ -16,16 +16,25 @@ start 3 1 d1 2
 start 4 1 d1 3
 start 5 1 d1 4
 > reply 1 down later
+> sites
+window d1 4
 > reply 2 down later
+> sites
+window d1 3
 > reply 3 down later
+> sites
+window d1 2
 > reply 4 down later
 skip 1 d1 5
 skip 1 d1 6
 skip 1 d1 7
+> sites
+dead d1
 > reply 5 up ok
 mark 1 4
 sync 1
 defer 1 1300
+> sites
 ",
     ),
     (
@@ -65,6 +74,8 @@ mark 1 4
 sync 1
 start 10 1 d1 9
 start 11 1 d1 10
+> sites
+window d1 6
 ",
     ),
     (
@@ -88,6 +99,8 @@ skip 1 d1 5
 skip 1 d1 6
 skip 1 d1 7
 > trigger F
+> sites
+window d1 1
 > mail 1 1 1
 admit 2
 load 2 0 1
@@ -200,6 +213,10 @@ mark 3 0
 sync 3
 preempt 4 3 10
 start 3 4 d62 0
+> jobs
+job 4 1 0
+job 3 1 10
+job 2 0 20
 ",
     ),
     (
