@@ -23,7 +23,7 @@ pub(crate) fn found(serial: u32) -> Found {
         arrival: 1000,
         null_sender: false,
         recipients: 1,
-        pending: 1,
+        marked: 0,
         failures: 0,
         unmarked: None,
         bounced: false,
@@ -43,7 +43,7 @@ fn hop(number: u8) -> Option<Hop> {
     Hop::new(&text)
 }
 
-/// The destinations.
+/// The sites.
 pub(crate) fn sites(alloc: Global) -> Option<Vec<Site>> {
     let mut sites = Vec::new(alloc);
     for number in 0..HOPS {

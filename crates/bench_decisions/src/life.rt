@@ -77,9 +77,15 @@ impl Life {
     fn load(&mut self, alloc: Global, id: Id) -> Option<()> {
         let place = id.serial as usize % self.sites.len().max(1);
         let site = self.sites.get(place)?;
+        if !self.core.may_name() {
+            return None;
+        }
         self.core.sited(site).ok()?;
         take_recipient(&mut self.batch)?;
-        if !self.core.is_looked_at() {
+        if !self.core.is_looked_at()
+            || !self.core.is_reading()
+            || self.core.named() != self.batch.len()
+        {
             return None;
         }
         let behind = Cursor { position: 1, at: 0 };
@@ -93,7 +99,7 @@ impl Life {
             Decision::LookIncoming => self.tell(self.incoming()),
             Decision::LookDeferred { .. } => self.tell(Found::Nothing),
             Decision::Read { id, .. } => self.load(alloc, id),
-            Decision::Admit { id } => {
+            Decision::Admit { id, .. } => {
                 self.admitted = id.serial;
                 self.count()
             }

@@ -11,7 +11,8 @@ use q_params::Params;
 /// the minimal and at most the maximal back-off. The age of a message that arrives later is 0.
 pub fn due(now: Moment, arrival: Moment, params: &Params) -> Moment
     requires { now ≤ 999990000000 }
-    ensures { (w : World) → (m : Message) → w.settings ≡ params.now → m.arrival ≡ arrival → result ≡ due w now m }
+    ensures { (w : World) → (m : Message) → w.settings ≡ params.now → m.arrival ≡ arrival
+        → result ≡ due w now m }
 {
     let shortest = u64::from(params.minimal_backoff_time);
     let longest = u64::from(params.maximal_backoff_time);
@@ -22,7 +23,8 @@ pub fn due(now: Moment, arrival: Moment, params: &Params) -> Moment
 /// Whether a message that arrived then has reached its lifetime. A bounce, whose sender is null,
 /// has a lifetime of its own.
 pub fn expired(now: Moment, arrival: Moment, null_sender: bool, params: &Params) -> bool
-    ensures { (w : World) → (m : Message) → w.settings ≡ params.now → m.arrival ≡ arrival → is_none m.sender ≡ null_sender → result ≡ is_expired w now m }
+    ensures { (w : World) → (m : Message) → w.settings ≡ params.now → m.arrival ≡ arrival
+        → is_none m.sender ≡ null_sender → result ≡ is_expired w now m }
 {
     let lifetime = if null_sender {
         params.bounce_queue_lifetime

@@ -4,7 +4,7 @@ use Rattle.std.specs.Prelude.{not, ◌&&◌, ◌==◌, count_by, nat_lt, sum_by,
 use Rattle.std.specs.List.{enumerate_from}
 use Rattle.std.proofs.lemmas.List.Sums.{take_while-cons, sum_by-cons}
 use Rattle.q_core.specs.Agrees.{job_of, jobs_of}
-use Rattle.q_core.specs.Beginning.{begun_job, begun_line, with_start}
+use Rattle.q_core.specs.Sending.{started_job, started_line, with_start}
 use Rattle.q_core.specs.declared.line.Job.{Job}
 use Rattle.q_model.specs.Accounts.{is_admit_of, is_start_of, charge_of, charged, since_admit, starts_of}
 use Rattle.q_model.specs.Ids.{id_eq}
@@ -80,7 +80,7 @@ started_is true j h = ap (λ c. if c then record j { starts = j.starts + 1 } els
 started_is false j h = ap (λ n. record j { starts = n }) (sym (zero-add j.starts))
 
 job_begun : (l : Ledger) (number : ℕ) (id : Id) (site : Site) (positions : List ℕ) (t : ℕ) → starts l < 2 ^ 48 → (k : Id) →
-    begun_job id site.transport t (job_of l t k) ≡ job_of (noted (entries.Start number id site positions) l) t k
+    started_job id site.transport t (job_of l t k) ≡ job_of (noted (entries.Start number id site positions) l) t k
 job_begun l number id site positions t few k =
     let less = starts_of-le l k t in
     started_is (id_eq id k && (site.transport == t)) (job_of l t k) (lt-ltb (starts_of l k t) (2 ^ 48) (omega (arith, few, less)))
@@ -95,12 +95,12 @@ map-twice f g k same [] = refl
 map-twice f g k same (x ∷ xs) = ap (λ y. y ∷ map f (map g xs)) (same x) ∙ ap (λ ys. k x ∷ ys) (map-twice f g k same xs)
 
 pub lines_begun : (l : Ledger) (number : ℕ) (id : Id) (site : Site) (positions : List ℕ) → starts l < 2 ^ 48 → (n : ℕ) (ls : List (List Id)) →
-    map (begun_line id site.transport) (enumerate_from n (map (jobs_of l) (enumerate_from n ls))) ≡ map (jobs_of (noted (entries.Start number id site positions) l)) (enumerate_from n ls)
+    map (started_line id site.transport) (enumerate_from n (map (jobs_of l) (enumerate_from n ls))) ≡ map (jobs_of (noted (entries.Start number id site positions) l)) (enumerate_from n ls)
 lines_begun l number id site positions few n [] = refl
 lines_begun l number id site positions few n (ids ∷ ls) =
     let e : Entry = entries.Start number id site positions in
-    ap (λ js. js ∷ map (begun_line id site.transport) (enumerate_from (n + 1) (map (jobs_of l) (enumerate_from (n + 1) ls))))
-    (map-twice (begun_job id site.transport n) (job_of l n) (job_of (noted e l) n) (job_begun l number id site positions n few) ids)
+    ap (λ js. js ∷ map (started_line id site.transport) (enumerate_from (n + 1) (map (jobs_of l) (enumerate_from (n + 1) ls))))
+    (map-twice (started_job id site.transport n) (job_of l n) (job_of (noted e l) n) (job_begun l number id site positions n few) ids)
     ∙ ap (λ rest. map (job_of (noted e l) n) ids ∷ rest) (lines_begun l number id site positions few (n + 1) ls)
 
 -- ---- a job is charged

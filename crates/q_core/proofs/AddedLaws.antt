@@ -12,9 +12,8 @@ use Rattle.q_laws.proofs.Added.{IsAddable, other_found}
 use Rattle.q_laws.proofs.Members.{IsIn}
 use Rattle.q_model.proofs.IdLaws.{id_eq-true}
 use Rattle.q_model.specs.Admissions.{cause_gone}
-use Rattle.q_model.specs.Book.{Book, Damaged, damaged_of, ids_at, stands, stands_in}
+use Rattle.q_model.specs.Book.{Book, Damaged, all_ids, damaged_of, ids_at, stands, stands_in}
 use Rattle.q_model.specs.BookChanges.{add_message}
-use Rattle.q_model.specs.FilesStand.{all_ids}
 use Rattle.q_model.specs.Ids.{bounce_of, cause_of, id_eq}
 use Rattle.q_model.specs.Ledger.{Ledger}
 use Rattle.q_model.specs.Leftovers.{leftovers}

@@ -14,10 +14,9 @@ use Rattle.q_laws.proofs.Members.{IsIn, any_from, in_filtered, in_right, in_unma
 use Rattle.q_laws.proofs.Moved.{move_to}
 use Rattle.q_model.proofs.IdLaws.{id_eq-true}
 use Rattle.q_model.specs.Admissions.{cause_gone}
-use Rattle.q_model.specs.Book.{Damaged, ids_at, message_of}
+use Rattle.q_model.specs.Book.{Damaged, all_ids, ids_at, message_of}
 use Rattle.q_model.specs.BookChanges.{move_message}
-use Rattle.q_model.specs.FilesStand.{all_ids, are_distinct}
-use Rattle.q_model.specs.Ids.{id_eq}
+use Rattle.q_model.specs.Ids.{are_distinct, id_eq}
 use Rattle.q_model.specs.Ledger.{Ledger}
 use Rattle.q_model.specs.Leftovers.{leftovers}
 use Rattle.q_model.specs.Memory.{is_admitted}

@@ -9,7 +9,7 @@ use Rattle.q_core.specs.Held.{has_flight_in, has_rows_in, has_unsettled_in, has_
 use Rattle.q_core.specs.declared.slot.Slot.{Slot}
 use Rattle.q_core.specs.declared.state.Core.{Core}
 use Rattle.q_model.specs.Book.{message_of}
-use Rattle.q_model.specs.Destinations.{site_eq}
+use Rattle.q_model.specs.Sites.{site_eq}
 use Rattle.q_model.specs.Ids.{id_eq}
 use Rattle.q_model.specs.Ledger.{Ledger}
 use Rattle.q_model.specs.Memory.{has_rows, has_waiting, is_admitted, is_idle, unread_count, unread_of}

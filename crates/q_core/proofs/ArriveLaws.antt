@@ -17,9 +17,8 @@ use Rattle.q_laws.proofs.Members.{IsIn, in_filtered}
 use Rattle.q_laws.specs.Consistency.{IsConsistent}
 use Rattle.q_model.proofs.IdLaws.{id_eq-true}
 use Rattle.q_model.specs.Arrivals.{after_arrive, may_arrive, next_id}
-use Rattle.q_model.specs.Book.{ids_at}
+use Rattle.q_model.specs.Book.{all_ids, ids_at}
 use Rattle.q_model.specs.BookChanges.{add_message}
-use Rattle.q_model.specs.FilesStand.{all_ids}
 use Rattle.q_model.specs.Ids.{bounce_of, id_eq}
 use Rattle.q_model.specs.Ledger.{Ledger}
 use Rattle.q_model.specs.Memory.{is_admitted}
@@ -38,7 +37,7 @@ arrive_next {w = w} {c = c} {l = l} sender to content r k =
     let b = add_message l.book x in
     let next : Ledger = with_files l b l.admitted in
     let same : (i : Id) → IsIn i (all_ids l.book) → IsSameOf l.book b i = λ i inside. added_same l.book x (new_addable l sender to content k.book) i inside (no_bounce l i) in
-    let slots : c.admitted.items ≡ map (slot_of next) l.admitted = h.admitted ∙ slots_same l b l.admitted l.admitted (λ a inside. same a.id (placed_listed is_active l.book a.id (admitted_active k a inside))) in
+    let slots : c.admitted ≡ map (slot_of next) l.admitted = h.admitted ∙ slots_same l b l.admitted l.admitted (λ a inside. same a.id (placed_listed is_active l.book a.id (admitted_active k a inside))) in
     let active : IsSeen c.active (found_active next) = seen_same c.active (found_active next) (found_active l) (active_same l b l.admitted (added_left l x refl) (λ i inside.
     same i (placed_listed is_active l.book i (in_filtered (λ j. not (is_admitted l j)) i (ids_at is_active l.book) inside).0))) h.active in
     files_law b l.admitted r refl slots active tt (added_still c.deferred l x refl (λ i inside. same i (placed_listed is_deferred l.book i inside)) r.seen)

@@ -1,25 +1,27 @@
 -- Looks and reads change no ledger.
-use Rattle.std.proofs.Common.{◌≡◌, ◌<◌, arith, ℕ, Bool, true, false, refl, sym, ap, ◌∙◌, subst, Option, Some, None, inl, inr, ◌⊎◌, IsTrue}
+use Rattle.std.proofs.Common.{◌≡◌, ◌<◌, arith, ℕ, Bool, true, false, refl, sym, ap, ◌∙◌, subst, Option, Some, None, inl, inr, IsTrue, List, ◌≤◌}
 use Rattle.std.specs.Prelude.{◌&&◌, ◌||◌, if◌then◌else◌, is_none, is_some, not}
 use Rattle.std.specs.Option.{option_or}
 use Rattle.q_core.proofs.BeginningLaws.{next_is_load}
 use Rattle.q_core.proofs.NextLaws.{next_law}
-use Rattle.q_core.proofs.WholeLaws.{whole_law}
-use Rattle.q_core.specs.Agrees.{Agrees, Holds, IsScan, Matches}
+use Rattle.q_laws.specs.Traces.{is_inner}
+use Rattle.q_core.proofs.WholeLaws.{inner_goes_on, inner_moment, still_agrees, whole_law}
+use Rattle.q_core.specs.Agrees.{Agrees, Matches}
 use Rattle.q_core.specs.Changes.{is_known, is_looked_at, looked_at, scan_ended}
-use Rattle.q_core.specs.Files.{is_nothing}
+use Rattle.q_core.specs.Facts.{is_nothing}
 use Rattle.q_core.specs.declared.decision.Found.{Found}
-use Rattle.q_core.specs.Deciding.{IsDecided, IsLooking, IsNext, IsTaken, decide_in, first_rule_in, is_asking, is_look, is_reading, question_for, question_of, scan_look_in}
-use Rattle.q_core.specs.Decisions.{IsOf, IsReadRule, IsRule}
+use Rattle.q_core.specs.Deciding.{IsDecided, IsNext, IsApplied, decide_in, first_rule_in, is_asking, is_reading, question_of, scan_look_in}
+use Rattle.q_core.specs.Decisions.{IsOf}
 use Rattle.q_core.specs.declared.decision.Decision.{Decision}
 use Rattle.q_core.specs.declared.decision.Decision.TheVariants as decisions
 use Rattle.q_core.specs.declared.state.Core.{Core}
-use Rattle.q_core.specs.Looking.{is_unseen, looks_left, unseen}
+use Rattle.q_core.specs.Looking.{is_unseen, looks_left, unseen, unseen_scan}
 use Rattle.q_core.specs.declared.state.Question.{Question}
 use Rattle.q_core.specs.declared.state.Question.TheVariants.{Active, Deferred, Incoming, Nothing, Recipients}
 use Rattle.q_core.specs.declared.state.Seen.{Seen}
 use Rattle.q_core.specs.declared.state.Seen.TheVariants.{Known, Unknown}
 use Rattle.q_model.specs.Ledger.{Ledger}
+use Rattle.q_model.specs.Values.{Site}
 use Rattle.q_model.specs.Next.{next}
 use Rattle.q_model.specs.Settings.{World}
 use Rattle.q_model.specs.Step.{after}
@@ -55,32 +57,60 @@ question_law q m = let h = m.parts in record {
     active = h.active;
     incoming = h.incoming;
   };
-  scan = record { settles = m.scan.settles; seen = m.scan.seen };
+  scan = record { goes_on = m.scan.goes_on; seen = m.scan.seen };
 }
 
-pub look_active_taken : {w : World} {c : Core} {l : Ledger} → Agrees w c l → decide_in c ≡ Some decisions.LookActive → IsTaken w l c decisions.LookActive c
-look_active_taken {w = w} {c = c} {l = l} a e = on (subst (λ o. IsNext w l c o (next w l)) e (next_law a))
+named_law : {w : World} {c : Core} {l : Ledger} (xs : List Site) → Matches w c l → Matches w (record c { named = xs }) l
+named_law xs m = let h = m.parts in record {
+  parts = record {
+    settings = h.settings;
+    count = h.count;
+    transports = h.transports;
+    mode = h.mode;
+    clock = h.clock;
+    timed = h.timed;
+    next_run = h.next_run;
+    ignores = h.ignores;
+    deferred_turn = h.deferred_turn;
+    admitted = h.admitted;
+    waiting = h.waiting;
+    flights = h.flights;
+    memory = h.memory;
+    served = h.served;
+    unsettled = h.unsettled;
+    lines = h.lines;
+    sites = h.sites;
+    synced = h.synced;
+    starts = h.starts;
+    active = h.active;
+    incoming = h.incoming;
+  };
+  scan = record { goes_on = m.scan.goes_on; seen = m.scan.seen };
+}
+
+pub look_active_applied : {w : World} {c : Core} {l : Ledger} → Agrees w c l → decide_in c ≡ Some decisions.LookActive → IsApplied w l c decisions.LookActive c
+look_active_applied {w = w} {c = c} {l = l} a e = on (subst (λ o. IsNext w l c o (next w l)) e (next_law a))
   where
-    on : IsNext w l c (Some decisions.LookActive) (next w l) → IsTaken w l c decisions.LookActive c
+    on : IsNext w l c (Some decisions.LookActive) (next w l) → IsApplied w l c decisions.LookActive c
     on (inl h) = absurd h.1
     on (inr h) = inr (h, a.matches)
 
-pub look_incoming_taken : {w : World} {c : Core} {l : Ledger} → Agrees w c l → decide_in c ≡ Some decisions.LookIncoming → IsTaken w l c decisions.LookIncoming c
-look_incoming_taken {w = w} {c = c} {l = l} a e = on (subst (λ o. IsNext w l c o (next w l)) e (next_law a))
+pub look_incoming_applied : {w : World} {c : Core} {l : Ledger} → Agrees w c l → decide_in c ≡ Some decisions.LookIncoming → IsApplied w l c decisions.LookIncoming c
+look_incoming_applied {w = w} {c = c} {l = l} a e = on (subst (λ o. IsNext w l c o (next w l)) e (next_law a))
   where
-    on : IsNext w l c (Some decisions.LookIncoming) (next w l) → IsTaken w l c decisions.LookIncoming c
+    on : IsNext w l c (Some decisions.LookIncoming) (next w l) → IsApplied w l c decisions.LookIncoming c
     on (inl h) = absurd h.1
     on (inr h) = inr (h, a.matches)
 
-pub look_deferred_taken : {w : World} {c : Core} {l : Ledger} → Agrees w c l → (place : Option DeferredName) (until : ℕ) → decide_in c ≡ Some (decisions.LookDeferred place until) → IsTaken w l c (decisions.LookDeferred place until) c
-look_deferred_taken {w = w} {c = c} {l = l} a place until e = on (subst (λ o. IsNext w l c o (next w l)) e (next_law a))
+pub look_deferred_applied : {w : World} {c : Core} {l : Ledger} → Agrees w c l → (place : Option DeferredName) (until : ℕ) → decide_in c ≡ Some (decisions.LookDeferred place until) → IsApplied w l c (decisions.LookDeferred place until) c
+look_deferred_applied {w = w} {c = c} {l = l} a place until e = on (subst (λ o. IsNext w l c o (next w l)) e (next_law a))
   where
-    on : IsNext w l c (Some (decisions.LookDeferred place until)) (next w l) → IsTaken w l c (decisions.LookDeferred place until) c
+    on : IsNext w l c (Some (decisions.LookDeferred place until)) (next w l) → IsApplied w l c (decisions.LookDeferred place until) c
     on (inl h) = absurd h.1
     on (inr h) = inr (h, a.matches)
 
-pub read_taken : {w : World} {c : Core} {l : Ledger} → Agrees w c l → (id : Id) (from max : ℕ) → decide_in c ≡ Some (decisions.Read id from max) → IsTaken w l c (decisions.Read id from max) c
-read_taken a id from max e = inr (inl (next_is_load a id from max e), a.matches)
+pub read_applied : {w : World} {c : Core} {l : Ledger} → Agrees w c l → (id : Id) (from max : ℕ) → decide_in c ≡ Some (decisions.Read id from max) → IsApplied w l c (decisions.Read id from max) c
+read_applied a id from max e = inr (inl (next_is_load a id from max e), a.matches)
 
 -- where the scan wasn't looked at, its look is the decision
 scan_unknown : (c : Core) (d : Decision) (seen : Seen) (o : Option Scan) (b : Bool) → (is_none o || is_known seen) ≡ false → (if not b then None else option_or (scan_look_in seen o) (first_rule_in c)) ≡ Some d →
@@ -114,59 +144,61 @@ pub quiet_looked : (c : Core) → decide_in c ≡ None → c.timed ≡ true → 
 quiet_looked c e t = no_scan_look c.deferred c.scan (first_rule_in c) (timed_only c.timed (option_or (scan_look_in c.deferred c.scan) (first_rule_in c)) t e)
 
 -- a look or a read changes nothing
-pub asking_taken : {w : World} {c : Core} {l : Ledger} → Agrees w c l → (d : Decision) → is_asking d ≡ true → decide_in c ≡ Some d → IsTaken w l c d c
-asking_taken a (decisions.Log id failure) p e = cc
-asking_taken a (decisions.Mark id position) p e = cc
-asking_taken a (decisions.Sync id) p e = cc
-asking_taken a (decisions.Skip id site entry) p e = cc
-asking_taken a (decisions.Defer id due) p e = cc
-asking_taken a (decisions.Back id) p e = cc
-asking_taken a (decisions.Bounce id) p e = cc
-asking_taken a (decisions.Remove id) p e = cc
-asking_taken a (decisions.Corrupt id) p e = cc
-asking_taken a (decisions.Admit id) p e = cc
-asking_taken a (decisions.Preempt child parent transport need) p e = cc
-asking_taken a (decisions.Start number id site) p e = cc
-asking_taken a (decisions.Read id from max) p e = read_taken a id from max e
-asking_taken a decisions.LookActive p e = look_active_taken a e
-asking_taken a decisions.LookIncoming p e = look_incoming_taken a e
-asking_taken a (decisions.LookDeferred place until) p e = look_deferred_taken a place until e
+pub asking_applied : {w : World} {c : Core} {l : Ledger} → Agrees w c l → (d : Decision) → is_asking d ≡ true → decide_in c ≡ Some d → IsApplied w l c d c
+asking_applied a (decisions.Log id failure) p e = cc
+asking_applied a (decisions.Mark id position) p e = cc
+asking_applied a (decisions.Sync id) p e = cc
+asking_applied a (decisions.Skip id site entry) p e = cc
+asking_applied a (decisions.Defer id due) p e = cc
+asking_applied a (decisions.Back id) p e = cc
+asking_applied a (decisions.Bounce id) p e = cc
+asking_applied a (decisions.Remove id) p e = cc
+asking_applied a (decisions.Corrupt id place) p e = cc
+asking_applied a (decisions.Admit id place) p e = cc
+asking_applied a (decisions.Preempt child parent transport need) p e = cc
+asking_applied a (decisions.Start number id site) p e = cc
+asking_applied a (decisions.Read id from max) p e = read_applied a id from max e
+asking_applied a decisions.LookActive p e = look_active_applied a e
+asking_applied a decisions.LookIncoming p e = look_incoming_applied a e
+asking_applied a (decisions.LookDeferred place until) p e = look_deferred_applied a place until e
 
--- what a look asks for isn't known
-unknown_not : (seen : Seen) → seen ≡ Unknown → not (is_known seen) ≡ true
-unknown_not seen e = ap (λ s. not (is_known s)) e
+pub same_unseen : (q : Question) (c : Core) (x : Question) (xs : List Site) → is_unseen q (record c { question = x; named = xs }) ≡ is_unseen q c
+same_unseen Nothing c x xs = refl
+same_unseen Active c x xs = refl
+same_unseen Incoming c x xs = refl
+same_unseen Deferred c x xs = refl
+same_unseen (Recipients id from max) c x xs = refl
 
-unseen_looking : (c : Core) (d : Decision) → IsLooking c (Some d) → is_unseen (question_of d) c ≡ true
-unseen_looking c d (inl h) = ap (λ o. is_unseen (question_for o) c) h.0 ∙ unknown_not c.active h.1
-unseen_looking c d (inr (inl h)) = ap (λ o. is_unseen (question_for o) c) h.0 ∙ unknown_not c.incoming h.1
-unseen_looking c d (inr (inr h)) = ap (λ o. is_unseen (question_for o) c) h.1 ∙ ap (λ o. is_some o && not (is_known c.deferred)) h.2 ∙ unknown_not c.deferred h.3
+-- the entry of a decision is none of those that come from outside
+inner : (c : Core) (d : Decision) (e : Entry) → IsOf c d e → is_inner e ≡ true
+inner c (decisions.Log id failure) e h = ap is_inner h
+inner c (decisions.Mark id position) e h = ap is_inner h
+inner c (decisions.Sync id) e h = ap is_inner h
+inner c (decisions.Skip id site entry) e h = ap is_inner h.2
+inner c (decisions.Defer id due) e h = ap is_inner h
+inner c (decisions.Back id) e h = ap is_inner h
+inner c (decisions.Bounce id) e h = ap is_inner h
+inner c (decisions.Remove id) e h = ap is_inner h
+inner c (decisions.Corrupt id place) e h = ap is_inner h
+inner c (decisions.Admit id place) e h = ap is_inner h
+inner c (decisions.Preempt child parent transport need) e h = ap is_inner h
+inner c (decisions.Start number id site) e h = ap is_inner h.1
+inner c (decisions.Read id from max) e h = ap is_inner h.1
+inner c decisions.LookActive e h = absurd h
+inner c decisions.LookIncoming e h = absurd h
+inner c (decisions.LookDeferred after until) e h = absurd h
 
-unseen_next : (w : World) (l : Ledger) (c : Core) (d : Decision) (r : Option Entry) → IsNext w l c (Some d) r → is_look (question_of d) ≡ true → is_unseen (question_of d) c ≡ true
-unseen_next w l c decisions.LookActive r (inl h) p = absurd h.1
-unseen_next w l c decisions.LookIncoming r (inl h) p = absurd h.1
-unseen_next w l c (decisions.LookDeferred place until) r (inl h) p = absurd h.1
-unseen_next w l c decisions.LookActive r (inr (inl h)) p = absurd h
-unseen_next w l c decisions.LookIncoming r (inr (inl h)) p = absurd h
-unseen_next w l c (decisions.LookDeferred place until) r (inr (inl h)) p = absurd h
-unseen_next w l c d r (inr (inr h)) p = unseen_looking c d h
-unseen_next w l c d r h p = cc
-
-pub look_unseen : {w : World} {c : Core} {l : Ledger} → Agrees w c l → (d : Decision) → decide_in c ≡ Some d → is_look (question_of d) ≡ true → is_unseen (question_of d) c ≡ true
-look_unseen {w = w} {c = c} {l = l} a d e p = unseen_next w l c d (next w l) (subst (λ o. IsNext w l c o (next w l)) e (next_law a)) p
-
-pub same_unseen : (q : Question) (c : Core) (x : Question) → is_unseen q (record c { question = x }) ≡ is_unseen q c
-same_unseen Nothing c x = refl
-same_unseen Active c x = refl
-same_unseen Incoming c x = refl
-same_unseen Deferred c x = refl
-same_unseen (Recipients id from max) c x = refl
+-- what the core waits for, and which sites are named, is no part of a ledger
+asking_law : {w : World} {c : Core} {l : Ledger} (q : Question) (xs : List Site) → Matches w c l → Matches w (record c { question = q; named = xs }) l
+asking_law q xs m = question_law q (named_law xs m)
 
 -- the decision is known, and the core waits for what it asks
-pub decided_law : {w : World} {c d k : Core} {l : Ledger} (x : Decision) → Agrees w c l → IsTaken w l c x d → k ≡ record d { question = question_of x } → IsDecided w l c (Some x) k
+pub decided_law : {w : World} {c d k : Core} {l : Ledger} (x : Decision) → Agrees w c l → IsApplied w l c x d → k ≡ record d { question = question_of x; named = k.named } → IsDecided w l c (Some x) k
 decided_law {w = w} {c = c} {d = d} {k = k} {l = l} x a (inl h) same =
-    inl (h.0, h.1, h.2, subst (λ y. Agrees w y (after w l h.0)) (sym same) (whole_law h.0 a (inr h.2) (question_law (question_of x) h.3)))
+    let within = inner c x h.0 h.1 in
+    inl (h.0, h.1, h.2, subst (λ y. Agrees w y (after w l h.0)) (sym same) (whole_law h.0 a (inr h.2) (inner_goes_on h.0 within) (inner_moment w l h.0 within a.moment) (asking_law (question_of x) k.named h.3)))
 decided_law {w = w} {c = c} {d = d} {k = k} {l = l} x a (inr h) same =
-    inr (h.0, subst (λ y. Agrees w y l) (sym same) (record { matches = question_law (question_of x) h.1; consistent = a.consistent; destinations = a.destinations }))
+    inr (h.0, subst (λ y. Agrees w y l) (sym same) (still_agrees a (asking_law (question_of x) k.named h.1)))
 
 none_next : (w : World) (l : Ledger) (c : Core) (r : Option Entry) → IsNext w l c None r → r ≡ None
 none_next w l c r (inl h) = h
@@ -222,3 +254,17 @@ fewer_at c d found (Some s) Unknown e f h k =
 
 pub fewer_deferred : (c d : Core) (found : Found) → (is_some c.scan && not (is_known c.deferred)) ≡ true → d ≡ looked_at c found → looks_left d < looks_left c
 fewer_deferred c d found h k = fewer_at c d found c.scan c.deferred refl refl h k
+
+-- at most four looks are left
+unseen_few : (seen : Seen) → unseen seen ≤ 1
+unseen_few Unknown = omega arith
+unseen_few (Known found) = omega arith
+
+scan_few : (seen : Seen) (o : Option Scan) (q : Option Request) → unseen_scan seen o q ≤ 2
+scan_few seen None q = omega arith
+scan_few (Known found) (Some s) q = omega arith
+scan_few Unknown (Some s) None = omega arith
+scan_few Unknown (Some s) (Some r) = omega arith
+
+pub looks_few : (c : Core) → looks_left c ≤ 4
+looks_few c = let a = unseen_few c.active in let b = unseen_few c.incoming in let d = scan_few c.deferred c.scan c.asked in omega (arith, a, b, d)

@@ -18,11 +18,10 @@ use Rattle.q_laws.proofs.Members.{IsIn, none_at}
 use Rattle.q_laws.proofs.Moved.{move_to}
 use Rattle.q_laws.specs.Consistency.{IsConsistent}
 use Rattle.q_model.proofs.IdLaws.{id_eq-true}
-use Rattle.q_model.specs.Book.{Book, ids_at, message_of}
+use Rattle.q_model.specs.Book.{Book, all_ids, ids_at, message_of}
 use Rattle.q_model.specs.BookChanges.{move_message}
-use Rattle.q_model.specs.FilesStand.{all_ids, are_distinct}
 use Rattle.q_model.specs.Finishing.{is_clean}
-use Rattle.q_model.specs.Ids.{id_eq}
+use Rattle.q_model.specs.Ids.{are_distinct, id_eq}
 use Rattle.q_model.specs.Leaving.{after_back, may_back}
 use Rattle.q_model.specs.Ledger.{Ledger}
 use Rattle.q_model.specs.Leftovers.{is_leftover, was_synced}
@@ -69,7 +68,7 @@ back_law {w = w} {c = c} {l = l} id r k may =
     let t = both.0 in
     let out = not_bool (is_incoming t.message.place) (active_not_incoming t.message.place t.active) in
     let same : (i : Id) → IsIn i (all_ids l.book) → id_eq i id ≡ false → IsSameOf l.book b i = λ i inside other. moved_same l.book id places.Incoming i other (no_bounce_of l.book k.book.orderly k.book.distinct id t.message t.there out i inside other) in
-    let slots : c.admitted.items ≡ map (slot_of (with_files l b l.admitted)) l.admitted = h.admitted ∙ slots_same l b l.admitted l.admitted (λ a inside.
+    let slots : c.admitted ≡ map (slot_of (with_files l b l.admitted)) l.admitted = h.admitted ∙ slots_same l b l.admitted l.admitted (λ a inside.
     same a.id (placed_listed is_active l.book a.id (admitted_active k a inside)) (none_at (λ (x : Admitted). id_eq x.id id) a l.admitted both.1 inside)) in
     let names = moved_names l.book id places.Incoming t.message k.book.distinct t.there (active_has_none t.message t.message.place t.active) refl in
     files_law b l.admitted r refl slots tt tt (still_same c.deferred l b l.admitted names (λ n inside. same n.id (placed_listed is_deferred l.book n.id (due_listed l.book n inside)) (not_bool (id_eq n.id id) (λ e. apart t n inside (id_eq-true n.id id e)))) r.seen)

@@ -1,5 +1,5 @@
 -- A new core agrees with the ledger in which a life has begun.
-use Rattle.std.proofs.Common.{◌≡◌, ℕ, zero, suc, ◌+◌, Bool, true, false, List, [], ◌∷◌, length, map, replicate, refl, sym, ap, ◌∙◌, None}
+use Rattle.std.proofs.Common.{◌≡◌, ◌≤◌, ℕ, zero, suc, ◌+◌, arith, Bool, true, false, List, [], ◌∷◌, length, map, replicate, refl, sym, ap, ◌∙◌, None}
 use Rattle.std.specs.Prelude.{if◌then◌else◌, nat_lt}
 use Rattle.std.specs.List.{enumerate_from}
 use Rattle.q_core.proofs.ListLaws.{length-numbered}
@@ -13,8 +13,9 @@ use Rattle.q_laws.specs.SitesConsistency.{IsOpen}
 use Rattle.q_params.specs.Ranges.{IsInRange}
 use Rattle.q_model.specs.Book.{Book}
 use Rattle.q_model.specs.Ledger.{Ledger, opening}
+use Rattle.q_model.specs.Past.{is_living}
 use Rattle.q_model.specs.Settings.{World}
-use Rattle.q_model.specs.Step.{after, change, noted, settle_line}
+use Rattle.q_model.specs.Step.{after, change, noted, tidy_line}
 use Rattle.q_model.specs.Values.{SiteRecord}
 use Rattle.q_model.specs.declared.event.Mode.{Mode}
 use Rattle.q_model.specs.declared.id.Id.{Id}
@@ -24,14 +25,14 @@ use Rattle.q_model.specs.declared.entry.Entry.TheVariants as entries
 pub record IsEmptyCore (c : Core) (mode : Mode) (transports : ℕ) : Type 0 where
   pub mode_is : c.mode ≡ mode
   pub clock : c.clock.seconds ≡ 0
-  pub admitted : c.admitted.items ≡ []
-  pub waiting : c.waiting.items ≡ []
-  pub flights : c.flights.items ≡ []
-  pub served : c.served.items ≡ []
-  pub unsettled : c.unsettled.items ≡ []
-  pub lines : c.lines.items ≡ replicate transports []
-  pub sites : c.sites.items ≡ []
-  pub synced : c.synced.items ≡ []
+  pub admitted : c.admitted ≡ []
+  pub waiting : c.waiting ≡ []
+  pub flights : c.flights ≡ []
+  pub served : c.served ≡ []
+  pub unsettled : c.unsettled ≡ []
+  pub lines : c.lines ≡ replicate transports []
+  pub sites : c.sites ≡ []
+  pub synced : c.synced ≡ []
 
 -- so is nothing of the plain fields
 abbrev pub blank : Core → Core
@@ -40,7 +41,7 @@ blank c = record c { timed = false; next_run = 0; scan = None; asked = None; ign
 abbrev pub begun : World → Mode → Book → Ledger
 begun w mode book = after w (opening mode book) (entries.Life (book.generation + 1) mode)
 
--- before it is settled
+-- before it is tidied
 abbrev raw : World → Mode → Book → Ledger
 raw w mode book = noted (entries.Life (book.generation + 1) mode) (change w (opening mode book) (entries.Life (book.generation + 1) mode))
 
@@ -48,7 +49,7 @@ same_length : (t : ℕ) → length (replicate {A = List Id} t []) ≡ t
 same_length zero = refl
 same_length (suc t) = ap suc (same_length t)
 
-lines_begin : (l k : Ledger) (n t : ℕ) → map (jobs_of l) (enumerate_from n (map (settle_line k) (enumerate_from n (replicate t [])))) ≡ replicate t []
+lines_begin : (l k : Ledger) (n t : ℕ) → map (jobs_of l) (enumerate_from n (map (tidy_line k) (enumerate_from n (replicate t [])))) ≡ replicate t []
 lines_begin l k n zero = refl
 lines_begin l k n (suc t) = ap (λ (js : List (List Job)). [] ∷ js) (lines_begin l k (n + 1) t)
 
@@ -65,8 +66,8 @@ unfolding after
 begin_law w mode book c t settings given count e = record {
   parts = record {
     settings = settings;
-    count = given ∙ count ∙ sym (length-numbered (settle_line (raw w mode book)) 0 (replicate (length w.table.transports) []) ∙ same_length (length w.table.transports));
-    transports = length-numbered (settle_line (raw w mode book)) 0 (replicate (length w.table.transports) []) ∙ same_length (length w.table.transports);
+    count = given ∙ count ∙ sym (length-numbered (tidy_line (raw w mode book)) 0 (replicate (length w.table.transports) []) ∙ same_length (length w.table.transports));
+    transports = length-numbered (tidy_line (raw w mode book)) 0 (replicate (length w.table.transports) []) ∙ same_length (length w.table.transports);
     mode = e.mode_is;
     clock = e.clock;
     timed = refl;
@@ -86,7 +87,7 @@ begin_law w mode book c t settings given count e = record {
     active = tt;
     incoming = tt;
   };
-  scan = record { settles = refl; seen = tt };
+  scan = record { goes_on = refl; seen = tt };
 }
 
 -- the ranges of parameters let messages be read and marks be synced
@@ -96,3 +97,11 @@ usable w r = record { recipient_minimum = r.recipient_minimum.0; mark_sync_limit
 -- and windows be open
 pub open_windows : (w : World) → IsInRange w.settings → IsOpen w
 open_windows w r = record { initial_concurrency = r.initial_concurrency.0; concurrency_limit = r.concurrency_limit }
+
+pub begin_living : (w : World) (mode : Mode) (book : Book) → is_living (begun w mode book) ≡ true
+unfolding after
+begin_living w mode book = refl
+
+pub begin_moment : (w : World) (mode : Mode) (book : Book) → (begun w mode book).now ≤ 999990000000
+unfolding after
+begin_moment w mode book = omega arith

@@ -1,12 +1,12 @@
 -- Where a decision is one of the last two rules, these are the ledger's next.
-use Rattle.std.proofs.Common.{◌≡◌, ℕ, Bool, true, false, refl, sym, ap, ◌∙◌, subst, Option, Some, None, inl, inr, ◌⊎◌}
+use Rattle.std.proofs.Common.{◌≡◌, ℕ, true, refl, sym, ap, ◌∙◌, subst, Option, Some, None, inl, inr}
 use Rattle.std.specs.Option.{option_or}
 use Rattle.std.specs.Prelude.{if◌then◌else◌}
-use Rattle.q_core.proofs.KindLaws.{IsBehind, begin_first, is_begin, is_read, read_first}
+use Rattle.q_core.proofs.KindLaws.{IsBehind, begin_first, is_begin, read_first}
 use Rattle.q_core.proofs.LeftLaws.{leftover_law}
 use Rattle.q_core.proofs.RuleLaws.{finishing_law, load_law, settling_law, skip_law, sync_law}
 use Rattle.q_core.proofs.StartLaws.{start_law}
-use Rattle.q_core.proofs.TakeLaws.{admission_law}
+use Rattle.q_core.proofs.PickLaws.{admission_law}
 use Rattle.q_core.specs.Agrees.{Agrees}
 use Rattle.q_core.specs.Deciding.{decide_in}
 use Rattle.q_core.specs.Decisions.{IsReadRule, IsRule, IsRuleOrLook, IsRuleOrLooks}
@@ -58,7 +58,7 @@ next_is_start {w = w} {c = c} {l = l} a d h e =
     let k = begin_first c d h e in
     let present = a.consistent.memory.present in
     let none : load_rule w l ≡ None = subst (λ o. IsReadRule w l o (load_rule w l)) k.1 (load_law a.matches.parts present) in
-    (next_behind a d k.0 ∙ ap (λ o. option_or o (start_rule w l)) none, subst (λ o. IsRule c o (start_rule w l)) k.2 (start_law a.matches.parts present))
+    (next_behind a d k.0 ∙ ap (λ o. option_or o (start_rule w l)) none, subst (λ o. IsRule c o (start_rule w l)) k.2 (start_law a.matches.parts a.consistent.memory))
 
 some_first : (o q : Option Entry) (x : Entry) → o ≡ Some x → option_or o q ≡ o
 some_first o q x e = ap (λ z. option_or z q) e ∙ sym e

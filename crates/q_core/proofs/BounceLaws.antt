@@ -24,10 +24,9 @@ use Rattle.q_laws.proofs.Distinct.{id_other, id_same}
 use Rattle.q_laws.proofs.Members.{IsIn, any_from, in_right, none_at}
 use Rattle.q_laws.specs.Consistency.{IsConsistent}
 use Rattle.q_model.proofs.IdLaws.{id_eq-true}
-use Rattle.q_model.specs.Book.{Damaged, ids_at, message_of}
+use Rattle.q_model.specs.Book.{Damaged, all_ids, ids_at, message_of}
 use Rattle.q_model.specs.BookChanges.{add_message}
 use Rattle.q_model.specs.Bounces.{after_bounce, may_bounce}
-use Rattle.q_model.specs.FilesStand.{all_ids}
 use Rattle.q_model.specs.Finishing.{has_bounce, is_at_rest, is_done, wants_bounce}
 use Rattle.q_model.specs.Ids.{bounce_of, cause_of, id_eq}
 use Rattle.q_model.specs.Ledger.{Ledger}
@@ -129,7 +128,7 @@ bounce_law {w = w} {c = c} {d = d} {l = l} id r k adm may p =
     let m = bounceable k id may in
     let b = add_message l.book (bounce_message l.now m.message) in
     let next : Ledger = with_files l b l.admitted in
-    let slots : d.admitted.items ≡ map (slot_of next) l.admitted = p.admitted ∙ ap (map (changed_at id with_bounce)) h.admitted ∙ bounced_slots l id m l.admitted (admitted_active k) in
+    let slots : d.admitted ≡ map (slot_of next) l.admitted = p.admitted ∙ ap (map (changed_at id with_bounce)) h.admitted ∙ bounced_slots l id m l.admitted (admitted_active k) in
     let active : IsSeen c.active (found_active next) = seen_same c.active (found_active next) (found_active l) (rest_active l id b l.admitted adm (bounced_listed l id m) (added_left l (bounce_message l.now m.message) refl)) h.active in
     let raw : HoldsRaw w (record c { admitted = d.admitted; incoming = Unknown }) next = files_law b l.admitted r refl slots active tt (bounced_still c.deferred l k id m r.seen) in
     subst (λ x. HoldsRaw w d x) (sym (bounced_is l id m)) (subst (λ x. HoldsRaw w x next) (sym p.rest) raw)
@@ -141,7 +140,7 @@ bounce_left_law {w = w} {c = c} {l = l} id r k gone may =
     let m = bounceable k id may in
     let b = add_message l.book (bounce_message l.now m.message) in
     let next : Ledger = with_files l b l.admitted in
-    let slots : c.admitted.items ≡ map (slot_of next) l.admitted = h.admitted ∙ slots_same l b l.admitted l.admitted (λ a inside. bounced_listed l id m a.id (admitted_active k a inside) (none_at (λ (x : Admitted). id_eq x.id id) a l.admitted gone inside)) in
+    let slots : c.admitted ≡ map (slot_of next) l.admitted = h.admitted ∙ slots_same l b l.admitted l.admitted (λ a inside. bounced_listed l id m a.id (admitted_active k a inside) (none_at (λ (x : Admitted). id_eq x.id id) a l.admitted gone inside)) in
     let raw : HoldsRaw w (record c { active = Unknown; incoming = Unknown }) next = files_law b l.admitted r refl slots tt tt (bounced_still c.deferred l k id m r.seen) in
     subst (λ x. HoldsRaw w (record c { active = Unknown; incoming = Unknown }) x) (sym (bounced_is l id m)) raw
 

@@ -17,11 +17,10 @@ use Rattle.q_core.specs.Slots.{changed_at}
 use Rattle.q_core.specs.declared.slot.Slot.{Slot}
 use Rattle.q_core.specs.declared.state.Seen.{Seen}
 use Rattle.q_core.specs.declared.state.Seen.TheVariants.{Known, Unknown}
-use Rattle.q_model.specs.Book.{Book, ids_at, message_of}
+use Rattle.q_model.specs.Book.{Book, all_ids, ids_at, message_of}
 use Rattle.q_model.specs.BookChanges.{change_message}
-use Rattle.q_model.specs.FilesStand.{all_ids, are_distinct}
 use Rattle.q_model.specs.Finishing.{has_bounce}
-use Rattle.q_model.specs.Ids.{bounce_of, cause_of, id_eq}
+use Rattle.q_model.specs.Ids.{are_distinct, bounce_of, cause_of, id_eq}
 use Rattle.q_model.specs.Ledger.{Ledger}
 use Rattle.q_model.specs.Memory.{is_admitted}
 use Rattle.q_model.specs.Message.{Message}

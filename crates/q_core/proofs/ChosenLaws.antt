@@ -4,12 +4,12 @@ use Rattle.std.specs.List.{cons_option, enumerate_from}
 use Rattle.std.specs.Option.{option_map_or}
 use Rattle.std.specs.Prelude.{◌&&◌, ◌==◌, filter, filter_map, find, nat_lt, slice_get}
 use Rattle.q_core.proofs.NameLaws.{and_true_parts, id_eq-same, id_eq-true}
-use Rattle.q_core.specs.Beginning.{is_for}
+use Rattle.q_core.specs.Sending.{is_for}
 use Rattle.q_laws.proofs.Members.{in_filtered, least_in}
 use Rattle.q_model.proofs.IdLaws.{site_eq-refl, site_eq-true}
 use Rattle.q_model.specs.Candidates.{best}
 use Rattle.q_model.specs.Choice.{choice, last_start, next_row, start_of}
-use Rattle.q_model.specs.Destinations.{site_eq}
+use Rattle.q_model.specs.Sites.{site_eq}
 use Rattle.q_model.specs.Accounts.{rest}
 use Rattle.q_model.specs.Ids.{id_eq}
 use Rattle.q_model.specs.Ledger.{Ledger}

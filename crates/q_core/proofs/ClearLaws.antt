@@ -2,7 +2,7 @@
 use Rattle.std.proofs.Common.{◌≡◌, ℕ, Bool, true, false, List, [], ◌∷◌, refl, sym, ap, ◌∙◌, subst, Option, Some, None}
 use Rattle.std.specs.Option.{option_map_or}
 use Rattle.std.specs.Prelude.{◌&&◌, ◌||◌, ◌==◌, drop, if◌then◌else◌, not, slice_get}
-use Rattle.q_core.proofs.ChangeLaws.{IsBookChange, changed_ledger}
+use Rattle.q_core.proofs.ChangeLaws.{changed_ledger}
 use Rattle.q_core.proofs.HeldLaws.{apart_law}
 use Rattle.q_core.proofs.MarkLaws.{keeps_mark}
 use Rattle.q_core.proofs.MarksLaws.{keeps_sync}
@@ -69,7 +69,7 @@ synced_left {l = l} id apart h =
     (m.0, record { there = m.1; active = active; apart = apart; left = listed })
 
 -- a failure of a leftover is marked
-pub mark_left_law : {w : World} {c : Core} {l : Ledger} (id : Id) (position : ℕ) → HoldsRaw w c l → IsConsistent w l → c.unsettled.items ≡ [] → marks_leftover l id position ≡ true →
+pub mark_left_law : {w : World} {c : Core} {l : Ledger} (id : Id) (position : ℕ) → HoldsRaw w c l → IsConsistent w l → c.unsettled ≡ [] → marks_leftover l id position ≡ true →
     HoldsRaw w (record c { active = Unknown }) (after_mark l id position)
 mark_left_law {w = w} {c = c} {l = l} id position r k none h =
     let found = marked_left k id position h in

@@ -10,9 +10,9 @@ use Rattle.q_core.proofs.QueueLaws.{IsSameOf, files_law, slots_same, with_files}
 use Rattle.q_core.proofs.RestLaws.{admitted_active}
 use Rattle.q_core.proofs.SameLaws.{listed_stands, not_bool}
 use Rattle.q_core.proofs.StepLaws.{HasRowsOf, HoldsRaw}
-use Rattle.q_core.proofs.TakeLaws.{found_on}
+use Rattle.q_core.proofs.PickLaws.{found_on}
 use Rattle.q_core.specs.Agrees.{IsSeen, found_active, found_at, slot_of}
-use Rattle.q_core.specs.Files.{shows_damaged}
+use Rattle.q_core.specs.Facts.{shows_damaged}
 use Rattle.q_core.specs.declared.state.Core.{Core}
 use Rattle.q_core.specs.declared.state.Seen.{Seen}
 use Rattle.q_core.specs.declared.state.Seen.TheVariants.{Known, Unknown}
@@ -23,16 +23,15 @@ use Rattle.q_laws.proofs.Members.{IsIn, find_in, none_at}
 use Rattle.q_laws.specs.Consistency.{IsConsistent}
 use Rattle.q_model.proofs.IdLaws.{id_eq-true}
 use Rattle.q_model.specs.Admissions.{cause_gone, has_room}
-use Rattle.q_model.specs.Book.{Book, Damaged, damaged_of, message_of, stands, stands_in}
+use Rattle.q_model.specs.Book.{Book, Damaged, all_ids, damaged_of, message_of, stands, stands_in}
 use Rattle.q_model.specs.BookChanges.{move_damaged}
-use Rattle.q_model.specs.FilesStand.{all_ids}
 use Rattle.q_model.specs.Ids.{bounce_of, cause_of, id_eq}
 use Rattle.q_model.specs.Ledger.{Ledger}
 use Rattle.q_model.specs.Leaving.{after_corrupt, may_corrupt}
 use Rattle.q_model.specs.Leftovers.{is_next_leftover, next_leftover}
 use Rattle.q_model.specs.Memory.{is_admitted}
 use Rattle.q_model.specs.Message.{Message}
-use Rattle.q_model.specs.Turns.{Pick, is_pick, passed, pick, taken}
+use Rattle.q_model.specs.Turns.{Pick, is_pick, passed, pick, after_pick}
 use Rattle.q_model.specs.Turns.Pick.{from_deferred, from_incoming}
 use Rattle.q_model.specs.Places.{is_active, is_incoming}
 use Rattle.q_model.specs.Settings.{World}
@@ -118,7 +117,7 @@ pub corrupt_law : {w : World} {c : Core} {l : Ledger} (id : Id) → HoldsRaw w c
 corrupt_law {w = w} {c = c} {l = l} id r k out gone =
     let h = r.parts in
     let b = move_damaged l.book id places.Corrupt in
-    let slots : c.admitted.items ≡ map (slot_of (with_files l b l.admitted)) l.admitted = h.admitted ∙ slots_same l b l.admitted l.admitted (λ a inside.
+    let slots : c.admitted ≡ map (slot_of (with_files l b l.admitted)) l.admitted = h.admitted ∙ slots_same l b l.admitted l.admitted (λ a inside.
     shifted_same l.book id places.Corrupt gone a.id (placed_listed is_active l.book a.id (admitted_active k a inside)) (none_at (λ (x : Admitted). id_eq x.id id) a l.admitted out inside)) in
     files_law b l.admitted r refl slots tt tt tt
 
@@ -140,7 +139,7 @@ pub corrupt_left_law : {w : World} {c : Core} {l : Ledger} (id : Id) → HoldsRa
     HoldsRaw w (record c { active = Unknown; incoming = Unknown; deferred = Unknown }) (after_corrupt l id)
 corrupt_left_law {w = w} {c = c} {l = l} id r k shown may =
     let parts = corrupt_parts k id may in
-    subst (λ (b : Bool). HoldsRaw w (record c { active = Unknown; incoming = Unknown; deferred = Unknown }) (let t : Ledger = if b then l else taken l in record t { book = move_damaged l.book id places.Corrupt })) (sym (shown_next c.active l id r.parts.active shown))
+    subst (λ (b : Bool). HoldsRaw w (record c { active = Unknown; incoming = Unknown; deferred = Unknown }) (let t : Ledger = if b then l else after_pick l in record t { book = move_damaged l.book id places.Corrupt })) (sym (shown_next c.active l id r.parts.active shown))
     (corrupt_law id r k parts.0 parts.1)
 
 rows_taken : (l : Ledger) (o : Option Pick) → HasRowsOf l (option_map_or (λ p. passed p l) o l)
@@ -149,10 +148,10 @@ rows_taken l (Some (from_incoming id)) = record { waiting = refl; flights = refl
 rows_taken l (Some (from_deferred name)) = record { waiting = refl; flights = refl }
 
 -- taking a file moves no row
-pub taken_rows : (l : Ledger) → HasRowsOf l (taken l)
+pub taken_rows : (l : Ledger) → HasRowsOf l (after_pick l)
 taken_rows l = rows_taken l (pick l)
 
-rows_either : (l : Ledger) (b : Bool) → HasRowsOf l (if b then l else taken l)
+rows_either : (l : Ledger) (b : Bool) → HasRowsOf l (if b then l else after_pick l)
 rows_either l true = record { waiting = refl; flights = refl }
 rows_either l false = taken_rows l
 

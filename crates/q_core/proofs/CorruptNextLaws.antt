@@ -7,12 +7,12 @@ use Rattle.q_core.proofs.CorruptLaws.{corrupt_law, corrupt_parts}
 use Rattle.q_core.proofs.NameLaws.{id_eq-true}
 use Rattle.q_core.proofs.SameLaws.{not_bool}
 use Rattle.q_core.proofs.StepLaws.{HoldsRaw}
-use Rattle.q_core.proofs.TakeLaws.{found_on}
+use Rattle.q_core.proofs.PickLaws.{found_on}
 use Rattle.q_core.proofs.TurnLaws.{pick_by, picks, turn_law}
 use Rattle.q_core.specs.Agrees.{IsSeen, found_active, found_at}
 use Rattle.q_core.specs.Changes.{is_known, is_looked_at}
-use Rattle.q_core.specs.Files.{shows_damaged}
-use Rattle.q_core.specs.Taking.{found_name, from_deferred_in, passed_in, picked_in}
+use Rattle.q_core.specs.Facts.{shows_damaged}
+use Rattle.q_core.specs.Picking.{found_name, from_deferred_in, passed_in, picked_in}
 use Rattle.q_core.specs.declared.state.Core.{Core}
 use Rattle.q_core.specs.declared.state.Seen.{Seen}
 use Rattle.q_core.specs.declared.decision.Found.TheVariants.{Nothing}
@@ -21,16 +21,15 @@ use Rattle.q_laws.proofs.Books.{message_in, not_damaged}
 use Rattle.q_laws.proofs.Members.{find_in}
 use Rattle.q_laws.specs.Consistency.{IsConsistent}
 use Rattle.q_model.specs.Admissions.{cause_gone, has_room}
-use Rattle.q_model.specs.Book.{Book, Damaged, damaged_of, message_of}
+use Rattle.q_model.specs.Book.{Book, Damaged, all_ids, damaged_of, message_of}
 use Rattle.q_model.specs.BookChanges.{move_damaged}
-use Rattle.q_model.specs.FilesStand.{all_ids, are_distinct}
-use Rattle.q_model.specs.Ids.{id_eq}
+use Rattle.q_model.specs.Ids.{are_distinct, id_eq}
 use Rattle.q_model.specs.Leaving.{after_corrupt, may_corrupt}
 use Rattle.q_model.specs.Ledger.{Ledger}
 use Rattle.q_model.specs.Leftovers.{is_next_leftover, next_leftover}
 use Rattle.q_model.specs.Message.{Message}
 use Rattle.q_model.specs.Settings.{World}
-use Rattle.q_model.specs.Turns.{Pick, is_pick, passed, pick, pick_id, taken}
+use Rattle.q_model.specs.Turns.{Pick, is_pick, passed, pick, pick_id, after_pick}
 use Rattle.q_model.specs.Turns.Pick.{from_deferred, from_incoming}
 use Rattle.q_model.specs.declared.id.Id.{Id}
 use Rattle.q_model.specs.declared.rows.Place.TheVariants as places
@@ -69,15 +68,15 @@ or_second false b e h = h
 abbrev corrupted : Id → Ledger → Ledger
 corrupted id l = record l { book = move_damaged l.book id places.Corrupt }
 
--- the file that is picked is taken
+-- the file that is picked is picked
 pass_as : {w : World} {d : Core} (l : Ledger) (id : Id) (o : Option Pick) (p : Pick) → o ≡ Some p → HoldsRaw w d (record (passed p l) { book = move_damaged l.book id places.Corrupt }) →
     HoldsRaw w d (record (option_map_or (λ q. passed q l) o l) { book = move_damaged l.book id places.Corrupt })
 pass_as l id None p e h = absurd cc
 pass_as {w = w} {d = d} l id (Some q) p e h = let same : p ≡ q = cc in subst (λ x. HoldsRaw w d (record (passed x l) { book = move_damaged l.book id places.Corrupt })) same h
 
 -- where it isn't a leftover
-pass_else : {w : World} {d : Core} (l : Ledger) (id : Id) (b : Bool) → b ≡ false → HoldsRaw w d (record (taken l) { book = move_damaged l.book id places.Corrupt }) →
-    HoldsRaw w d (let t : Ledger = if b then l else taken l in record t { book = move_damaged l.book id places.Corrupt })
+pass_else : {w : World} {d : Core} (l : Ledger) (id : Id) (b : Bool) → b ≡ false → HoldsRaw w d (record (after_pick l) { book = move_damaged l.book id places.Corrupt }) →
+    HoldsRaw w d (let t : Ledger = if b then l else after_pick l in record t { book = move_damaged l.book id places.Corrupt })
 pass_else l id true e h = absurd cc
 pass_else l id false e h = h
 
@@ -86,9 +85,9 @@ pass_apart : {w : World} {d : Core} (l : Ledger) (id : Id) (p : Pick) → HoldsR
 pass_apart l id (from_incoming i) h = h
 pass_apart l id (from_deferred n) h = h
 
-pub corrupt_taken_law : {w : World} {c : Core} {l : Ledger} (id : Id) → HoldsRaw w c l → IsConsistent w l → IsTrue (is_looked_at c) → is_known c.incoming ≡ true → is_known c.active ≡ true → shows_damaged c.active id ≡ false → may_corrupt w l id ≡ true →
+pub corrupt_picked_law : {w : World} {c : Core} {l : Ledger} (id : Id) → HoldsRaw w c l → IsConsistent w l → IsTrue (is_looked_at c) → is_known c.incoming ≡ true → is_known c.active ≡ true → shows_damaged c.active id ≡ false → may_corrupt w l id ≡ true →
     HoldsRaw w (passed_in (from_deferred_in c) (found_name (picked_in c)) (record c { active = Unknown; incoming = Unknown; deferred = Unknown })) (after_corrupt l id)
-corrupt_taken_law {w = w} {c = c} {l = l} id r k looked known seen hidden may =
+corrupt_picked_law {w = w} {c = c} {l = l} id r k looked known seen hidden may =
     let parts = corrupt_parts k id may in
     let two = and_parts (is_some (damaged_of l.book id) && (is_next_leftover l id || (has_room w l && is_pick l id))) (cause_gone l.book id) may in
     let one = and_parts (is_some (damaged_of l.book id)) (is_next_leftover l id || (has_room w l && is_pick l id)) two.0 in

@@ -20,11 +20,10 @@ use Rattle.q_laws.proofs.Members.{IsIn, in_filtered, in_unmap}
 use Rattle.q_laws.proofs.Moved.{move_to}
 use Rattle.q_laws.specs.Consistency.{IsConsistent}
 use Rattle.q_model.proofs.IdLaws.{id_eq-true}
-use Rattle.q_model.specs.Book.{Book, Damaged, ids_at, message_of}
+use Rattle.q_model.specs.Book.{Book, Damaged, all_ids, ids_at, message_of}
 use Rattle.q_model.specs.BookChanges.{move_message}
-use Rattle.q_model.specs.FilesStand.{all_ids, are_distinct}
 use Rattle.q_model.specs.Finishing.{without}
-use Rattle.q_model.specs.Ids.{id_eq}
+use Rattle.q_model.specs.Ids.{are_distinct, id_eq}
 use Rattle.q_model.specs.Ledger.{Ledger}
 use Rattle.q_model.specs.Leaving.{after_defer, may_defer}
 use Rattle.q_model.specs.Leftovers.{leftovers}
@@ -102,7 +101,7 @@ defer_law {w = w} {c = c} {d = d} {l = l} id due r k may p =
     let out = active_away t.message.place t.active in
     let apart : (i : Id) → IsIn i (all_ids l.book) → id_eq i id ≡ false → IsSameOf l.book b i = λ i inside other. moved_same l.book id place i other (no_bounce_of l.book k.book.orderly k.book.distinct id t.message t.there out i inside other) in
     let listed : (i : Id) → IsIn i (ids_at is_active l.book) → id_eq i id ≡ false → IsSameOf l.book b i = λ i inside other. apart i (placed_listed is_active l.book i inside) other in
-    let slots : d.admitted.items ≡ map (slot_of next) rows = p.admitted ∙ rest_slots k id b listed c.admitted.items h.admitted in
+    let slots : d.admitted ≡ map (slot_of next) rows = p.admitted ∙ rest_slots k id b listed c.admitted h.admitted in
     let active : IsSeen c.active (found_active next) = seen_same c.active (found_active next) (found_active l) (rest_active l id b rows adm listed (moved_left k id place refl adm)) h.active in
     let incoming : IsSeen c.incoming (found_incoming next) = seen_same c.incoming (found_incoming next) (found_incoming l) (incoming_same l b rows (moved_out l.book id place t.message k.book.distinct t.there out refl)
     (λ i inside. apart i (placed_listed is_incoming l.book i inside) (not_bool (id_eq i id) (λ e. never t.message i inside (id_eq-true i id e) out t.there)))) h.incoming in

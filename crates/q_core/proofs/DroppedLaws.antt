@@ -7,7 +7,7 @@ use Rattle.std.specs.Prelude.{◌&&◌, ◌||◌, bytes_eq, find, position, slic
 use Rattle.q_core.proofs.ListLaws.{position-find}
 use Rattle.q_core.proofs.NameLaws.{and_true_parts, id_eq-same, id_eq-true}
 use Rattle.q_model.proofs.IdLaws.{site_eq-refl, site_eq-true}
-use Rattle.q_model.specs.Destinations.{site_eq}
+use Rattle.q_model.specs.Sites.{site_eq}
 use Rattle.q_model.specs.Ids.{id_eq}
 use Rattle.q_model.specs.Lists.{drop_first}
 use Rattle.q_model.specs.Starts.{is_row}

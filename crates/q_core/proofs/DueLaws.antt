@@ -5,8 +5,8 @@ use Rattle.std.specs.Prelude.{filter_map, option_map}
 use Rattle.q_laws.proofs.Books.{at_place, damaged_at, in_ids_at, not_damaged, only_message}
 use Rattle.q_laws.proofs.Distinct.{distinct_parts, same_named}
 use Rattle.q_laws.proofs.Members.{IsIn, in_either}
-use Rattle.q_model.specs.Book.{Book, Damaged, ids_at}
-use Rattle.q_model.specs.FilesStand.{all_ids, are_distinct}
+use Rattle.q_model.specs.Book.{Book, Damaged, all_ids, ids_at}
+use Rattle.q_model.specs.Ids.{are_distinct}
 use Rattle.q_model.specs.Message.{Message}
 use Rattle.q_model.specs.Places.{due_of, is_active, is_incoming}
 use Rattle.q_model.specs.Scans.{deferred_name, deferred_names}

@@ -1,8 +1,8 @@
 -- The message that is next comes into memory.
-use Rattle.std.proofs.Common.{◌≡◌, Bool, true, false, List, [], ◌∷◌, ◌++◌, filter, map, is_some, Option, Some, None, option_map, refl, sym, ap, ◌∙◌, subst, IsTrue}
+use Rattle.std.proofs.Common.{◌≡◌, Bool, true, false, List, [], ◌∷◌, ◌++◌, filter, map, is_some, Option, Some, None, refl, sym, ap, ◌∙◌, subst, IsTrue}
 use Rattle.std.proofs.lemmas.Bool.{and_parts}
 use Rattle.std.specs.Option.{option_map_or}
-use Rattle.std.specs.Prelude.{◌&&◌, if◌then◌else◌, option_and_then}
+use Rattle.std.specs.Prelude.{◌&&◌, option_and_then}
 use Rattle.q_core.proofs.AdmitLaws.{IsComing, admitting, coming_active, coming_same, newcomer}
 use Rattle.q_core.proofs.BackLaws.{moved_names}
 use Rattle.q_core.proofs.ChangeLaws.{seen_same}
@@ -19,7 +19,7 @@ use Rattle.q_core.proofs.CorruptNextLaws.{picked_one}
 use Rattle.q_core.proofs.TurnLaws.{pick_by, picked_found, picks, turn_law}
 use Rattle.q_core.specs.Agrees.{IsSeen, found_active, found_at, found_incoming, slot_of}
 use Rattle.q_core.specs.Changes.{is_known, is_looked_at}
-use Rattle.q_core.specs.Taking.{IsEntered, found_name, found_slot, from_deferred_in, passed_in, picked_in}
+use Rattle.q_core.specs.Picking.{IsEntered, found_name, found_slot, from_deferred_in, passed_in, picked_in}
 use Rattle.q_core.specs.declared.slot.Slot.{Slot}
 use Rattle.q_core.specs.declared.state.Core.{Core}
 use Rattle.q_laws.proofs.Books.{message_at, placed_listed}
@@ -38,7 +38,7 @@ use Rattle.q_model.specs.Places.{is_active, is_incoming}
 use Rattle.q_model.specs.Scans.{deferred_name, deferred_names, is_ahead, name_before, scan_next}
 use Rattle.q_model.specs.Settings.{World}
 use Rattle.q_model.specs.Step.{noted}
-use Rattle.q_model.specs.Turns.{Pick, deferred_next, incoming_next, is_pick, passed, pick, pick_id}
+use Rattle.q_model.specs.Turns.{Pick, deferred_next, incoming_next, is_pick, passed, pick, pick_id, pick_of}
 use Rattle.q_model.specs.Turns.Pick.{from_deferred, from_incoming}
 use Rattle.q_model.specs.declared.entry.Entry.TheVariants as entries
 use Rattle.q_model.specs.declared.id.Id.{Id}
@@ -49,17 +49,14 @@ use Rattle.q_model.specs.declared.rows.Scan.{Scan}
 
 -- ---- where it comes from
 
-abbrev pick_on : Bool → Option Id → Option DeferredName → Option Pick
-pick_on turn o q = option_map_or (λ id. option_map_or (λ name. Some (if turn then from_deferred name else from_incoming id)) q (Some (from_incoming id))) o (option_map (λ name. from_deferred name) q)
-
-given_incoming : (turn : Bool) (o : Option Id) (q : Option DeferredName) (i : Id) → pick_on turn o q ≡ Some (from_incoming i) → o ≡ Some i
+given_incoming : (turn : Bool) (o : Option Id) (q : Option DeferredName) (i : Id) → pick_of turn o q ≡ Some (from_incoming i) → o ≡ Some i
 given_incoming turn None None i h = absurd cc
 given_incoming turn None (Some n) i h = absurd cc
 given_incoming turn (Some k) None i h = cc
 given_incoming true (Some k) (Some n) i h = absurd cc
 given_incoming false (Some k) (Some n) i h = cc
 
-given_deferred : (turn : Bool) (o : Option Id) (q : Option DeferredName) (n : DeferredName) → pick_on turn o q ≡ Some (from_deferred n) → q ≡ Some n
+given_deferred : (turn : Bool) (o : Option Id) (q : Option DeferredName) (n : DeferredName) → pick_of turn o q ≡ Some (from_deferred n) → q ≡ Some n
 given_deferred turn None None n h = absurd cc
 given_deferred turn None (Some x) n h = cc
 given_deferred turn (Some k) None n h = absurd cc
@@ -107,7 +104,7 @@ coming {w = w} {l = l} k id may =
 
 -- it comes from incoming or from deferred
 enter_case : {w : World} {c : Core} {l : Ledger} (d : Core) (id : Id) (b : Bool) (name : DeferredName) → HoldsRaw w c l → IsConsistent w l → IsComing l id → pick l ≡ Some (pick_by b name) → pick_id (pick_by b name) ≡ id →
-    d.admitted.items ≡ map (slot_of (admitting l id)) (l.admitted ++ newcomer id ∷ []) →
+    d.admitted ≡ map (slot_of (admitting l id)) (l.admitted ++ newcomer id ∷ []) →
     HoldsRaw w (passed_in b name (record c { admitted = d.admitted })) (noted (entries.Admit id) (record (passed (pick_by b name) l) { book = move_message l.book id places.Active; admitted = l.admitted ++ newcomer id ∷ [] }))
 enter_case {w = w} {c = c} {l = l} d id false name r k m from same slots =
     let book = move_message l.book id places.Active in
@@ -147,7 +144,7 @@ admit_law {w = w} {c = c} {d = d} {l = l} id r k looked known may e =
     let name = found_name (picked_in c) in
     let found = picked_found r looked known one.0 one.1 in
     let is : pick_by from name ≡ one.0 = picks r looked known one.0 one.1 in
-    let slots : d.admitted.items ≡ map (slot_of (admitting l id)) (l.admitted ++ newcomer id ∷ []) =
+    let slots : d.admitted ≡ map (slot_of (admitting l id)) (l.admitted ++ newcomer id ∷ []) =
     e.admitted
     ∙ ap (λ (ss : List Slot). ss ++ found_slot (picked_in c) ∷ []) r.parts.admitted
     ∙ ap (λ f. map (slot_of l) l.admitted ++ found_slot f ∷ []) (found.1 ∙ ap (found_at l found.0) one.2)

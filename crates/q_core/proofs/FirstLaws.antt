@@ -1,11 +1,9 @@
 -- What is known of the first unsettled outcome.
-use Rattle.std.proofs.Common.{◌≡◌, ℕ, Bool, true, false, List, [], ◌∷◌, ◌++◌, refl, sym, ap, ◌∙◌, subst, Option, Some, None, option_map}
-use Rattle.std.specs.List.{flat_map, list_all, list_any}
-use Rattle.std.specs.Option.{option_map_or}
-use Rattle.std.specs.Prelude.{◌&&◌, find, if◌then◌else◌, is_some, slice_get}
+use Rattle.std.proofs.Common.{◌≡◌, ℕ, Bool, true, List, [], ◌∷◌, ◌++◌, refl, sym, ap, ◌∙◌, Option, Some, None, option_map}
+use Rattle.std.specs.List.{list_all}
+use Rattle.std.specs.Prelude.{find, if◌then◌else◌, is_some, slice_get}
 use Rattle.q_model.proofs.EachLaws.{find-any}
-use Rattle.q_core.proofs.ChangeLaws.{IsBookChange}
-use Rattle.q_core.proofs.HeldLaws.{IsThere, is_there}
+use Rattle.q_core.proofs.HeldLaws.{is_there}
 use Rattle.q_core.proofs.ListLaws.{find-passes}
 use Rattle.q_core.proofs.NameLaws.{and_true_parts, id_eq-same, id_eq-true}
 use Rattle.q_laws.specs.Consistency.{IsConsistent, IsHeld, flight_positions, held_positions, logged_of, unsettled_positions, waiting_positions}

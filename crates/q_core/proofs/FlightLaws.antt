@@ -9,7 +9,7 @@ use Rattle.q_core.proofs.MovedLaws.{not_true, or_false_parts}
 use Rattle.q_core.proofs.NameLaws.{and_true_parts}
 use Rattle.q_laws.specs.Consistency.{are_once}
 use Rattle.q_laws.specs.SitesConsistency.{are_apart}
-use Rattle.q_model.specs.Destinations.{site_eq}
+use Rattle.q_model.specs.Sites.{site_eq}
 use Rattle.q_model.specs.Feedbacks.{amount, unit}
 use Rattle.q_model.specs.Ledger.{Ledger}
 use Rattle.q_model.specs.Settings.{World}
@@ -21,12 +21,12 @@ use Rattle.q_model.specs.declared.outcome.SiteState.TheVariants.{Down, Up}
 use Rattle.q_model.specs.declared.rows.Delivery.{Delivery}
 
 -- where a number isn't there, nothing is taken out
-none_taken : (n : ℕ) (fs : List Delivery) → list_any (λ m. m == n) (map (λ (f : Delivery). f.number) fs) ≡ false → filter (λ (f : Delivery). not (f.number == n)) fs ≡ fs
-none_taken n [] h = refl
-none_taken n (f ∷ fs) h =
+none_picked : (n : ℕ) (fs : List Delivery) → list_any (λ m. m == n) (map (λ (f : Delivery). f.number) fs) ≡ false → filter (λ (f : Delivery). not (f.number == n)) fs ≡ fs
+none_picked n [] h = refl
+none_picked n (f ∷ fs) h =
     let parts = or_false_parts (f.number == n) (list_any (λ m. m == n) (map (λ (x : Delivery). x.number) fs)) h in
     ap (λ b. cond (not b) (f ∷ filter (λ (x : Delivery). not (x.number == n)) fs) (filter (λ (x : Delivery). not (x.number == n)) fs)) parts.0
-    ∙ ap (λ xs. f ∷ xs) (none_taken n fs parts.1)
+    ∙ ap (λ xs. f ∷ xs) (none_picked n fs parts.1)
 
 taken_step : (g : Delivery → ℕ) (n : ℕ) (f x : Delivery) (xs : List Delivery) → list_any (λ m. m == x.number) (map (λ (y : Delivery). y.number) xs) ≡ false →
     (find (λ y. y.number == n) xs ≡ Some f → sum_by g xs ≡ g f + sum_by g (filter (λ y. not (y.number == n)) xs)) →
@@ -34,7 +34,7 @@ taken_step : (g : Delivery → ℕ) (n : ℕ) (f x : Delivery) (xs : List Delive
     sum_by g (x ∷ xs) ≡ g f + sum_by g (cond (not b) (x ∷ filter (λ y. not (y.number == n)) xs) (filter (λ y. not (y.number == n)) xs))
 taken_step g n f x xs alone rest true e h =
     let same : x ≡ f = cc in
-    let others : filter (λ (y : Delivery). not (y.number == n)) xs ≡ xs = none_taken n xs (ap (λ k. list_any (λ m. m == k) (map (λ (y : Delivery). y.number) xs)) (sym (eqb-true x.number n e)) ∙ alone) in
+    let others : filter (λ (y : Delivery). not (y.number == n)) xs ≡ xs = none_picked n xs (ap (λ k. list_any (λ m. m == k) (map (λ (y : Delivery). y.number) xs)) (sym (eqb-true x.number n e)) ∙ alone) in
     sum_by-cons g x xs ∙ ap (λ (z : Delivery). g z + sum_by g xs) same ∙ ap (λ (ys : List Delivery). g f + sum_by g ys) (sym others)
 taken_step g n f x xs alone rest false e h =
     let whole = sum_by-cons g x xs in

@@ -1,13 +1,12 @@
 -- How agreement goes on where a message changes, or outcomes are settled.
-use Rattle.std.proofs.Common.{◌≡◌, ℕ, ◌+◌, Bool, true, false, List, [], ◌∷◌, length, map, refl, sym, ap, ◌∙◌, subst, Option, Some, None}
+use Rattle.std.proofs.Common.{◌≡◌, Bool, true, false, List, [], ◌∷◌, map, refl, sym, ap, ◌∙◌, subst, Option, Some, None}
 use Rattle.std.specs.List.{list_all, list_any}
 use Rattle.std.specs.Option.{option_map_or}
-use Rattle.std.specs.Prelude.{◌&&◌, ◌||◌, is_none}
-use Rattle.q_core.proofs.BookLaws.{KeepsPlace}
+use Rattle.std.specs.Prelude.{◌||◌}
 use Rattle.q_core.proofs.ChangeLaws.{IsBookChange, active_changed, changed_ledger, incoming_changed, seen_same, slots_apart, slots_changed, still_changed}
 use Rattle.q_core.proofs.NameLaws.{and_true_parts, id_eq-true}
 use Rattle.q_core.proofs.StepLaws.{HoldsRaw, IsStillSeen}
-use Rattle.q_core.specs.Agrees.{Holds, found_active, found_incoming, slot_from, slot_of}
+use Rattle.q_core.specs.Agrees.{Holds, found_active, found_incoming, slot_from}
 use Rattle.q_core.specs.Changes.{IsSlotChange, IsUnsettledChange}
 use Rattle.q_core.specs.Slots.{changed_at}
 use Rattle.q_core.specs.declared.slot.Slot.{Slot}

@@ -8,10 +8,9 @@ use Rattle.q_core.proofs.ListLaws.{drop_first-Some, find-map, find-none, find-pa
 use Rattle.q_core.proofs.MovedLaws.{not_true, or_false_parts}
 use Rattle.q_core.proofs.NameLaws.{and_true_parts, id_eq-true}
 use Rattle.q_core.specs.Agrees.{job_of}
-use Rattle.q_core.specs.Beginning.{moved_job, put_job}
+use Rattle.q_core.specs.Sending.{moved_job, put_job}
 use Rattle.q_core.specs.declared.line.Job.{Job}
-use Rattle.q_model.specs.FilesStand.{are_distinct}
-use Rattle.q_model.specs.Ids.{id_eq}
+use Rattle.q_model.specs.Ids.{are_distinct, id_eq}
 use Rattle.q_model.specs.Ledger.{Ledger}
 use Rattle.q_model.specs.Lists.{drop_first}
 use Rattle.q_model.specs.Preemptions.{put_before}

@@ -1,4 +1,4 @@
--- A message joins lines, its destinations become known, and it was read further: the core's lists are the ledger's.
+-- A message joins lines, its sites get records, and it was read further: the core's lists are the ledger's.
 use Rattle.std.proofs.Common.{◌≡◌, ℕ, ◌+◌, ◌<◌, Bool, true, false, List, [], ◌∷◌, ◌++◌, map, refl, sym, ap, ◌∙◌, Option, Some, None, arith, append_assoc, min, if◌then◌else◌, eqb-true, ltb-true}
 use Rattle.std.proofs.lemmas.List.{map-append}
 use Rattle.std.proofs.lemmas.List.Folds.{list_any-append}
@@ -10,7 +10,7 @@ use Rattle.q_core.proofs.ListLaws.{list_any-map}
 use Rattle.q_core.proofs.MovedLaws.{not_true}
 use Rattle.q_core.proofs.NameLaws.{and_true_parts}
 use Rattle.q_core.specs.Agrees.{job_of, jobs_of, slot_of}
-use Rattle.q_core.specs.Loading.{is_known, joined_line, new_sites, read_up, rows_in, with_site}
+use Rattle.q_core.specs.Loading.{has_record, joined_line, new_sites, read_up, rows_in, with_site}
 use Rattle.q_core.specs.Slots.{changed_at}
 use Rattle.q_core.specs.declared.line.Job.{Job}
 use Rattle.q_laws.proofs.Loaded.{read_to}
@@ -18,7 +18,7 @@ use Rattle.q_laws.specs.Consistency.{IsConsistent, IsFresh}
 use Rattle.q_model.specs.Accounts.{charged, starts_of}
 use Rattle.q_model.specs.Batches.{join_rows, load_end, rows_from}
 use Rattle.q_model.specs.Book.{message_of}
-use Rattle.q_model.specs.Destinations.{site_eq}
+use Rattle.q_model.specs.Sites.{site_eq}
 use Rattle.q_model.specs.Ids.{id_eq}
 use Rattle.q_model.specs.Ledger.{Ledger}
 use Rattle.q_model.specs.Loads.{join_lines, joins, may_load, may_read, with_records}
@@ -39,7 +39,7 @@ pub rows_same : (w : World) (m : Message) (ts : List Taken) (rows : List Row) �
 rows_same w m [] rows = refl
 rows_same w m (t ∷ ts) rows = rows_same w m ts (join_rows w.settings.entry_limit m.id (w.table.route (address_at m t.position)) t.position rows)
 
--- ---- destinations
+-- ---- sites
 
 -- the records, with one for each site of these rows
 abbrev pub sites_after : World → List SiteRecord → List Row → List SiteRecord
@@ -50,19 +50,19 @@ pub with_records_is : (w : World) (rows : List Row) (l : Ledger) → with_record
 with_records_is w [] l = refl
 with_records_is w (r ∷ rs) l = with_records_is w rs (record l { sites = with_record w l.sites r.site })
 
-either_known : (w : World) (known fresh : List SiteRecord) (site : Site) (b : Bool) →
-    (known ++ (if b then fresh else fresh ++ new_record w site ∷ [])) ≡ (if b then known ++ fresh else (known ++ fresh) ++ new_record w site ∷ [])
-either_known w known fresh site true = refl
-either_known w known fresh site false = sym (append_assoc known fresh (new_record w site ∷ []))
+either_known : (w : World) (records fresh : List SiteRecord) (site : Site) (b : Bool) →
+    (records ++ (if b then fresh else fresh ++ new_record w site ∷ [])) ≡ (if b then records ++ fresh else (records ++ fresh) ++ new_record w site ∷ [])
+either_known w records fresh site true = refl
+either_known w records fresh site false = sym (append_assoc records fresh (new_record w site ∷ []))
 
-site_known : (w : World) (known fresh : List SiteRecord) (site : Site) → (known ++ with_site w.settings known site fresh) ≡ with_record w (known ++ fresh) site
-site_known w known fresh site =
-    either_known w known fresh site (is_known known site || is_known fresh site)
-    ∙ ap (λ b. if b then known ++ fresh else (known ++ fresh) ++ new_record w site ∷ []) (sym (list_any-append (λ (r : SiteRecord). site_eq r.site site) known fresh))
+site_known : (w : World) (records fresh : List SiteRecord) (site : Site) → (records ++ with_site w.settings records site fresh) ≡ with_record w (records ++ fresh) site
+site_known w records fresh site =
+    either_known w records fresh site (has_record records site || has_record fresh site)
+    ∙ ap (λ b. if b then records ++ fresh else (records ++ fresh) ++ new_record w site ∷ []) (sym (list_any-append (λ (r : SiteRecord). site_eq r.site site) records fresh))
 
-pub sites_same : (w : World) (known fresh : List SiteRecord) (rows : List Row) → (known ++ new_sites w.settings known fresh rows) ≡ sites_after w (known ++ fresh) rows
-sites_same w known fresh [] = refl
-sites_same w known fresh (r ∷ rs) = sites_same w known (with_site w.settings known r.site fresh) rs ∙ ap (λ ss. sites_after w ss rs) (site_known w known fresh r.site)
+pub sites_same : (w : World) (records fresh : List SiteRecord) (rows : List Row) → (records ++ new_sites w.settings records fresh rows) ≡ sites_after w (records ++ fresh) rows
+sites_same w records fresh [] = refl
+sites_same w records fresh (r ∷ rs) = sites_same w records (with_site w.settings records r.site fresh) rs ∙ ap (λ ss. sites_after w ss rs) (site_known w records fresh r.site)
 
 -- ---- messages in memory
 

@@ -7,6 +7,8 @@ use Rattle.std.proofs.lemmas.List.Folds.{list_all-map}
 use Rattle.q_core.proofs.ChoiceLaws.{least-all, list_all-filter}
 use Rattle.q_core.proofs.ListLaws.{find-passes}
 use Rattle.q_core.proofs.NameLaws.{and_true_parts, id_eq-same, id_eq-true, or_right}
+use Rattle.q_model.specs.declared.rows.Place.TheVariants as places
+use Rattle.q_core.proofs.PendingLaws.{pending_count}
 use Rattle.q_core.proofs.RuleLaws.{kept_wants, no_length}
 use Rattle.q_core.specs.Agrees.{Holds, IsSeen, file_of, found_active, found_at}
 use Rattle.q_laws.specs.Consistency.{IsConsistent, is_synced_well}
@@ -103,7 +105,7 @@ corrupt_is w l id next none =
     ap (λ b. b && (is_next_leftover l id || (has_room w l && is_pick l id)) && cause_gone l.book id) (damaged_there l.book id (left_stands l id next) none)
     ∙ ap (λ b. (b || (has_room w l && is_pick l id)) && cause_gone l.book id) (ap (next_is id) next ∙ id_eq-same id)
 
-corrupt_table : (c : Core) (id : Id) (b : Bool) → IsRule c (if b then Some (decisions.Corrupt id) else None) (first_of ((b, entries.Corrupt id) ∷ []))
+corrupt_table : (c : Core) (id : Id) (b : Bool) → IsRule c (if b then Some (decisions.Corrupt id places.Active) else None) (first_of ((b, entries.Corrupt id) ∷ []))
 corrupt_table c id true = (entries.Corrupt id, refl, refl)
 corrupt_table c id false = refl
 
@@ -111,9 +113,9 @@ abbrev decision_on : World → Ledger → Id → Option Message → Option Entry
 decision_on w l id o = option_map_or (λ m. clear_leftover w l m) o (first_of ((may_corrupt w l id, entries.Corrupt id) ∷ []))
 
 left_damaged : (w : World) (c : Core) (l : Ledger) (id : Id) → next_leftover l ≡ Some id → message_of l.book id ≡ None →
-    IsRule c (if cause_gone l.book id then Some (decisions.Corrupt id) else None) (leftover_decision w l id)
+    IsRule c (if cause_gone l.book id then Some (decisions.Corrupt id places.Active) else None) (leftover_decision w l id)
 left_damaged w c l id next none =
-    subst (λ o. IsRule c (if cause_gone l.book id then Some (decisions.Corrupt id) else None) o)
+    subst (λ o. IsRule c (if cause_gone l.book id then Some (decisions.Corrupt id places.Active) else None) o)
     (sym (ap (decision_on w l id) none ∙ ap (λ b. first_of ((b, entries.Corrupt id) ∷ [])) (corrupt_is w l id next none)))
     (corrupt_table c id (cause_gone l.book id))
 
@@ -135,7 +137,7 @@ left_table c id true true true = (entries.Remove id, refl, refl)
 left_table c id true false bounced = (entries.Remove id, refl, refl)
 
 -- what is known of a leftover that was synced
-pub record IsLeft (l : Ledger) (id : Id) (m : Message) : Type 0 where
+pub record IsSyncedLeft (l : Ledger) (id : Id) (m : Message) : Type 0 where
   pub there : message_of l.book id ≡ Some m
   pub name : m.id ≡ id
   pub left : is_leftover l id ≡ true
@@ -148,11 +150,11 @@ twice : (b : Bool) → (b && true && true) ≡ b
 twice true = refl
 twice false = refl
 
-left_done : (l : Ledger) (id : Id) (m : Message) → IsLeft l id m → is_done m ≡ has_none (pending m)
+left_done : (l : Ledger) (id : Id) (m : Message) → IsSyncedLeft l id m → is_done m ≡ has_none (pending m)
 left_done l id m k =
     ap (λ b. has_none (pending m) && b && is_clean m) k.marked ∙ ap (λ b. has_none (pending m) && true && b) k.clean ∙ twice (has_none (pending m))
 
-left_rest : (l : Ledger) (id : Id) (m : Message) → IsLeft l id m → is_at_rest l id ≡ true
+left_rest : (l : Ledger) (id : Id) (m : Message) → IsSyncedLeft l id m → is_at_rest l id ≡ true
 left_rest l id m k = or_right (is_idle l id) (is_leftover l id && was_synced l id) (ap (λ b. b && was_synced l id) k.left ∙ k.synced)
 
 abbrev bounce_on : Ledger → Id → Option Message → Bool
@@ -164,21 +166,21 @@ remove_on l id o = option_map_or (λ m. is_active m.place && is_at_rest l id && 
 abbrev back_on : Option Message → Bool
 back_on o = option_map_or (λ m. has_none (unmarked_logged m) && is_clean m && not (has_none (pending m))) o false
 
-left_bounce : (l : Ledger) (id : Id) (m : Message) → IsLeft l id m → may_bounce l id ≡ (has_none (pending m) && wants_bounce m && not (has_bounce l id))
+left_bounce : (l : Ledger) (id : Id) (m : Message) → IsSyncedLeft l id m → may_bounce l id ≡ (has_none (pending m) && wants_bounce m && not (has_bounce l id))
 left_bounce l id m k =
     ap (bounce_on l id) k.there
     ∙ ap (λ b. b && is_at_rest l id && is_done m && wants_bounce m && not (has_bounce l id)) k.active
     ∙ ap (λ b. true && b && is_done m && wants_bounce m && not (has_bounce l id)) (left_rest l id m k)
     ∙ ap (λ b. b && wants_bounce m && not (has_bounce l id)) (left_done l id m k)
 
-left_remove : (l : Ledger) (id : Id) (m : Message) → IsLeft l id m → may_remove l id ≡ (has_none (pending m) && (not (wants_bounce m) || has_bounce l id))
+left_remove : (l : Ledger) (id : Id) (m : Message) → IsSyncedLeft l id m → may_remove l id ≡ (has_none (pending m) && (not (wants_bounce m) || has_bounce l id))
 left_remove l id m k =
     ap (remove_on l id) k.there
     ∙ ap (λ b. b && is_at_rest l id && is_done m && (not (wants_bounce m) || has_bounce l id)) k.active
     ∙ ap (λ b. true && b && is_done m && (not (wants_bounce m) || has_bounce l id)) (left_rest l id m k)
     ∙ ap (λ b. b && (not (wants_bounce m) || has_bounce l id)) (left_done l id m k)
 
-left_back : (l : Ledger) (id : Id) (m : Message) → IsLeft l id m → may_back l id ≡ not (has_none (pending m))
+left_back : (l : Ledger) (id : Id) (m : Message) → IsSyncedLeft l id m → may_back l id ≡ not (has_none (pending m))
 left_back l id m k =
     ap (λ o. is_leftover l id && was_synced l id && back_on o) k.there
     ∙ ap (λ b. b && was_synced l id && back_on (Some m)) k.left
@@ -186,7 +188,7 @@ left_back l id m k =
     ∙ ap (λ b. b && is_clean m && not (has_none (pending m))) k.marked
     ∙ ap (λ b. true && b && not (has_none (pending m))) k.clean
 
-left_choice : (l : Ledger) (id : Id) (m : Message) → IsLeft l id m →
+left_choice : (l : Ledger) (id : Id) (m : Message) → IsSyncedLeft l id m →
     clear_tests l id ≡ clear_choice id false (has_none (pending m) && wants_bounce m && not (has_bounce l id)) (has_none (pending m) && (not (wants_bounce m) || has_bounce l id)) (not (has_none (pending m)))
 left_choice l id m k =
     ap (λ b. clear_choice id (not b) (may_bounce l id) (may_remove l id) (may_back l id)) k.synced
@@ -197,14 +199,14 @@ left_choice l id m k =
 abbrev left_kept : Id → Bool → Bool → Bool → Decision
 left_kept id some_pending wants bounced = if some_pending then decisions.Back id else (if wants && not bounced then decisions.Bounce id else decisions.Remove id)
 
-left_code : (l : Ledger) (id : Id) (m : Message) → m.id ≡ id → clear_marked true id (file_of l id m) ≡ left_kept id (not (has_none (pending m))) (wants_bounce m) (has_bounce l id)
-left_code l id m name =
-    ap (λ b. left_kept id b (nat_lt 0 (length m.failures) && not (is_none m.sender) && not id.bounce) (has_bounce l id)) (no_length (pending m))
+left_code : (l : Ledger) (id : Id) (m : Message) → has_none (unmarked_logged m) ≡ true → m.id ≡ id → clear_marked true id (file_of l id m) ≡ left_kept id (not (has_none (pending m))) (wants_bounce m) (has_bounce l id)
+left_code l id m marked name =
+    ap (λ b. left_kept id b (nat_lt 0 (length m.failures) && not (is_none m.sender) && not id.bounce) (has_bounce l id)) (ap (nat_lt 0) (sym (pending_count m marked)) ∙ no_length (pending m))
     ∙ ap (λ b. left_kept id (not (has_none (pending m))) b (has_bounce l id)) (kept_wants m id name)
 
-left_synced : (c : Core) (l : Ledger) (id : Id) (m : Message) → IsLeft l id m → IsRule c (Some (clear_marked true id (file_of l id m))) (clear_tests l id)
+left_synced : (c : Core) (l : Ledger) (id : Id) (m : Message) → IsSyncedLeft l id m → IsRule c (Some (clear_marked true id (file_of l id m))) (clear_tests l id)
 left_synced c l id m k =
-    subst (λ d. IsRule c (Some d) (clear_tests l id)) (sym (left_code l id m k.name))
+    subst (λ d. IsRule c (Some d) (clear_tests l id)) (sym (left_code l id m k.marked k.name))
     (subst (λ o. IsRule c (Some (left_kept id (not (has_none (pending m))) (wants_bounce m) (has_bounce l id))) o) (sym (left_choice l id m k))
     (left_table c id (has_none (pending m)) (wants_bounce m) (has_bounce l id)))
 

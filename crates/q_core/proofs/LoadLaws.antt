@@ -11,11 +11,11 @@ use Rattle.q_core.proofs.JoinLaws.{lines_joined, rows_same, sites_after, sites_s
 use Rattle.q_core.proofs.ListLaws.{filter-same, find-passes, length-numbered}
 use Rattle.q_core.proofs.NameLaws.{id_eq-true}
 use Rattle.q_core.proofs.NoteLaws.{IsQuiet, note_law}
-use Rattle.q_core.proofs.SiteLaws.{settle_used_law}
+use Rattle.q_core.proofs.SiteLaws.{tidy_used_law}
 use Rattle.q_core.proofs.StepLaws.{HoldsRaw, IsStillSeen, raw_law}
 use Rattle.q_core.specs.Agrees.{Agrees, Holds, Matches, found_active, found_at, jobs_of, slot_of}
-use Rattle.q_core.specs.Changes.{IsSettled, is_looked_at}
-use Rattle.q_core.specs.Destinations.{busy_in, is_unused_in, waits_at_in}
+use Rattle.q_core.specs.Changes.{IsTidied, is_looked_at}
+use Rattle.q_core.specs.UsedSites.{busy_in, is_unused_in, waits_at_in}
 use Rattle.q_core.specs.Loading.{IsLoaded, joined_line, new_sites, read_up, rows_in}
 use Rattle.q_core.specs.Slots.{changed_at}
 use Rattle.q_core.specs.declared.line.Job.{Job}
@@ -29,7 +29,7 @@ use Rattle.q_laws.proofs.Loaded.{any_read, load_on, read_to}
 use Rattle.q_laws.specs.Consistency.{IsConsistent}
 use Rattle.q_model.specs.Batches.{load_positions, load_rows, rows_from}
 use Rattle.q_model.specs.Book.{ids_at, message_of}
-use Rattle.q_model.specs.Destinations.{site_eq}
+use Rattle.q_model.specs.Sites.{site_eq}
 use Rattle.q_model.specs.Ids.{id_before, id_eq}
 use Rattle.q_model.specs.Ledger.{Ledger}
 use Rattle.q_model.specs.Lists.{least}
@@ -38,7 +38,7 @@ use Rattle.q_model.specs.Memory.{admitted_of, in_memory, is_admitted}
 use Rattle.q_model.specs.Message.{Message, address_at}
 use Rattle.q_model.specs.Places.{is_active}
 use Rattle.q_model.specs.Settings.{Settings, World}
-use Rattle.q_model.specs.Step.{noted, settled}
+use Rattle.q_model.specs.Step.{noted, tidied}
 use Rattle.q_model.specs.Values.{Site, SiteRecord, Taken}
 use Rattle.q_model.specs.declared.entry.Entry.{Entry}
 use Rattle.q_model.specs.declared.entry.Entry.TheVariants as entries
@@ -93,17 +93,17 @@ load_raw {w = w} {c = c} {d = d} {l = l} r k id from to m ts e may read change =
     let next : Ledger = over w l id to rows in
     let kept : Core = record c { admitted = d.admitted; waiting = d.waiting; lines = d.lines; sites = d.sites; in_memory = d.in_memory; question = d.question; named = d.named } in
     let rest : d ≡ kept = change.rest ∙ ap (λ q. record c { admitted = d.admitted; waiting = d.waiting; lines = d.lines; sites = d.sites; in_memory = d.in_memory; question = q; named = d.named }) (sym (ap (λ (x : Core). x.question) change.rest)) in
-    let sites : d.sites.items ≡ sites_after w l.sites rows =
+    let sites : d.sites ≡ sites_after w l.sites rows =
     change.sites
     ∙ ap (λ (ss : List SiteRecord). ss ++ new_sites c.params ss [] rows) h.sites
     ∙ ap (λ (p : Settings). l.sites ++ new_sites p l.sites [] rows) h.settings
     ∙ sites_same w l.sites [] rows
     ∙ ap (λ ss. sites_after w ss rows) (append-nil l.sites) in
-    let lines : d.lines.items ≡ map (jobs_of next) (enumerate_from 0 next.lines) =
+    let lines : d.lines ≡ map (jobs_of next) (enumerate_from 0 next.lines) =
     change.lines
     ∙ ap (λ (js : List (List Job)). map (joined_line id rows) (enumerate_from 0 js)) h.lines
     ∙ lines_joined w l id rows k (some_unread w l id from to may) in
-    let admitted : d.admitted.items ≡ map (slot_of next) next.admitted = change.admitted ∙ ap (λ (ss : List Slot). map (changed_at id (read_up to)) ss) h.admitted ∙ slots_read l id to l.admitted in
+    let admitted : d.admitted ≡ map (slot_of next) next.admitted = change.admitted ∙ ap (λ (ss : List Slot). map (changed_at id (read_up to)) ss) h.admitted ∙ slots_read l id to l.admitted in
     let row_sum : sum_by (λ (x : Row). length x.positions) (l.waiting ++ rows) ≡ sum_by (λ (x : Row). length x.positions) l.waiting + sum_by (λ (x : Row). length x.positions) rows = sum_by-append (λ (x : Row). length x.positions) l.waiting rows in
     let memory : d.in_memory ≡ in_memory next =
     change.memory
@@ -156,25 +156,25 @@ load_used l rows s =
 
 -- the rows that the core makes are those of the load
 rows_are : {w : World} {c : Core} {l : Ledger} → Holds w c l → (id : Id) (from to : ℕ) (m : Message) (ts : List Taken) → message_of l.book id ≡ Some m → map (λ (t : Taken). t.position) ts ≡ load_positions m from to →
-    c.named.items ≡ map (λ p. w.table.route (address_at m p)) (load_positions m from to) → load_rows w m from to ≡ rows_in c.params.entry_limit id [] ts c.named.items
+    c.named ≡ map (λ p. w.table.route (address_at m p)) (load_positions m from to) → load_rows w m from to ≡ rows_in c.params.entry_limit id [] ts c.named
 rows_are {w = w} {c = c} {l = l} h id from to m ts e read named =
     let name : m.id ≡ id = id_eq-true m.id id (find-passes (λ (x : Message). id_eq x.id id) l.book.messages m e) in
     sym (
-    ap (λ (p : Settings). rows_in p.entry_limit id [] ts c.named.items) h.settings
-    ∙ ap (λ i. rows_in w.settings.entry_limit i [] ts c.named.items) (sym name)
+    ap (λ (p : Settings). rows_in p.entry_limit id [] ts c.named) h.settings
+    ∙ ap (λ i. rows_in w.settings.entry_limit i [] ts c.named) (sym name)
     ∙ ap (rows_in w.settings.entry_limit m.id [] ts) (named ∙ ap (map (λ p. w.table.route (address_at m p))) (sym read))
     ∙ rows_same w m ts []
     ∙ ap (rows_from w m []) read
     )
 
 pub load_law : {w : World} {c u d : Core} {l : Ledger} → Agrees w c l → IsTrue (is_looked_at c) → (id : Id) (from to : ℕ) (m : Message) (ts : List Taken) → message_of l.book id ≡ Some m → may_load w l id from to ≡ true →
-    map (λ (t : Taken). t.position) ts ≡ load_positions m from to → c.named.items ≡ map (λ p. w.table.route (address_at m p)) (load_positions m from to) →
-    ((rows : List Row) → rows ≡ rows_in c.params.entry_limit id [] ts c.named.items → IsLoaded c u id to ts rows) → IsSettled u d → Matches w d (settled w l (noted (entries.Load id from to) (after_load w l id from to)))
+    map (λ (t : Taken). t.position) ts ≡ load_positions m from to → c.named ≡ map (λ p. w.table.route (address_at m p)) (load_positions m from to) →
+    ((rows : List Row) → rows ≡ rows_in c.params.entry_limit id [] ts c.named → IsLoaded c u id to ts rows) → IsTidied u d → Matches w d (tidied w l (noted (entries.Load id from to) (after_load w l id from to)))
 load_law {w = w} {c = c} {u = u} {d = d} {l = l} a looked id from to m ts e may read named change s =
     let raw = raw_law a.matches looked in
     let rows : List Row = load_rows w m from to in
     let entry : Entry = entries.Load id from to in
     let quiet : IsQuiet entry = record { no_admit = λ id. refl; no_start_of = λ id t. refl; no_charge = λ id t. refl; no_start = refl } in
     let done = load_raw raw a.consistent id from to m ts e may read (change rows (rows_are raw.parts id from to m ts e read named)) in
-    let end : Matches w d (settled w l (noted entry (over w l id to rows))) = settle_used_law l (λ r. load_used l rows r.site) (note_law entry quiet done) s in
-    subst (λ k. Matches w d (settled w l (noted entry k))) (sym (load_is w l id from to m e)) end
+    let end : Matches w d (tidied w l (noted entry (over w l id to rows))) = tidy_used_law l (λ r. load_used l rows r.site) (note_law entry quiet done) s in
+    subst (λ k. Matches w d (tidied w l (noted entry k))) (sym (load_is w l id from to m e)) end

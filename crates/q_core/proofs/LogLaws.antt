@@ -1,30 +1,27 @@
 -- A failure of the first outcome is logged.
-use Rattle.std.proofs.Common.{◌≡◌, ℕ, suc, ◌+◌, ◌-◌, Bool, true, false, List, [], ◌∷◌, ◌++◌, length, map, refl, sym, ap, ◌∙◌, ◌<◌, ◌≤◌, subst, Option, Some, None, arith, option_map, inl, inr, ◌⊎◌, ◌≢◌}
+use Rattle.std.proofs.Common.{◌≡◌, ℕ, ◌+◌, ◌-◌, Bool, true, false, List, [], ◌∷◌, ◌++◌, length, refl, sym, ap, ◌∙◌, Option, Some, None, arith, inl, inr, ◌⊎◌, ◌≢◌}
 use Rattle.std.proofs.Math.Dec.{eqb}
 use Rattle.std.proofs.lemmas.Bool.{eq-eqb, ne_eqb}
 use Rattle.std.proofs.lemmas.Bool.Decides.{eqb_tells}
-use Rattle.std.specs.List.{enumerate_from, list_any}
-use Rattle.std.specs.Option.{option_map_or}
-use Rattle.std.specs.Prelude.{◌&&◌, ◌||◌, ◌==◌, drop, if◌then◌else◌, nat_lt, not, slice_get, sum_by}
+use Rattle.std.specs.List.{list_any}
+use Rattle.std.specs.Prelude.{◌&&◌, ◌||◌, ◌==◌, if◌then◌else◌, not, slice_get, sum_by}
 use Rattle.q_core.proofs.BookLaws.{KeepsPlace}
-use Rattle.q_core.proofs.ChangeLaws.{IsBookChange, changed_ledger}
-use Rattle.q_core.proofs.FirstLaws.{IsFirst, IsFirstOf, first_log, first_of_message}
+use Rattle.q_core.proofs.ChangeLaws.{changed_ledger}
+use Rattle.q_core.proofs.FirstLaws.{first_log, first_of_message}
 use Rattle.q_core.proofs.HeldLaws.{slot_law, unsettled_law}
 use Rattle.q_core.proofs.PlaceLaws.{less_one, passes_at, some_place}
 use Rattle.q_core.proofs.StepLaws.{HoldsRaw}
 use Rattle.q_core.specs.Agrees.{slot_from}
 use Rattle.q_core.specs.Changes.{IsSlotChange, IsUnsettledChange}
 use Rattle.q_core.specs.Slots.{with_log}
-use Rattle.q_core.specs.declared.slot.Slot.{Slot}
 use Rattle.q_core.specs.declared.state.Core.{Core}
-use Rattle.q_laws.specs.Consistency.{IsConsistent, logged_of}
+use Rattle.q_laws.specs.Consistency.{IsConsistent}
 use Rattle.q_model.specs.Ids.{id_eq}
 use Rattle.q_model.specs.Ledger.{Ledger}
-use Rattle.q_model.specs.Lists.{has_none, places_from}
+use Rattle.q_model.specs.Lists.{has_none}
 use Rattle.q_model.specs.Logs.{after_log, first_logged, with_failure}
 use Rattle.q_model.specs.Marking.{is_unmarked_at}
 use Rattle.q_model.specs.Marks.{is_marked}
-use Rattle.q_model.specs.Memory.{in_memory}
 use Rattle.q_model.specs.Message.{Logged, Message, Recipient, is_logged, pending, unmarked_logged}
 use Rattle.q_model.specs.Next.{settling_rule}
 use Rattle.q_model.specs.Settings.{World}
@@ -145,7 +142,7 @@ abbrev pub counted : Ledger → ℕ → ℕ
 counted l n = sum_by (λ r. length r.positions) l.waiting + sum_by (λ d. length d.row.positions) l.flights + n
 
 pub log_law : {w : World} {c d e : Core} {l : Ledger} (id : Id) (f : Failure) → HoldsRaw w c l → IsConsistent w l → settling_rule l ≡ Some (entries.Log id f) →
-    IsSlotChange c d id with_log → IsUnsettledChange d e (first_logged d.unsettled.items) → e.in_memory ≡ d.in_memory → HoldsRaw w e (after_log l id f)
+    IsSlotChange c d id with_log → IsUnsettledChange d e (first_logged d.unsettled) → e.in_memory ≡ d.in_memory → HoldsRaw w e (after_log l id f)
 log_law {w = w} {c = c} {d = d} {e = e} {l = l} id f r k rule s u memory =
     let first = first_log l id f rule in
     let found = first_of_message k id f.position (needs.Log f.why f.code) first in

@@ -1,10 +1,10 @@
 -- What a look has shown is kept.
 use Rattle.std.proofs.Common.{◌≡◌, ℕ, Bool, true, false, refl, sym, ap, ◌∙◌, Option, Some, None}
 use Rattle.std.specs.Prelude.{if◌then◌else◌, option_and_then}
-use Rattle.q_core.proofs.TakeLaws.{next_of, some_found}
+use Rattle.q_core.proofs.PickLaws.{next_of, some_found}
 use Rattle.q_core.specs.Agrees.{Matches, found_active, found_incoming, found_next}
 use Rattle.q_core.specs.Changes.{looked_at, scan_ended}
-use Rattle.q_core.specs.Files.{is_nothing}
+use Rattle.q_core.specs.Facts.{is_nothing}
 use Rattle.q_core.specs.Lists.{over}
 use Rattle.q_core.specs.Scanning.{scan_after, scan_at, scan_over}
 use Rattle.q_core.specs.declared.decision.Found.{Found}
@@ -43,7 +43,7 @@ active_law found a e = let h = a.parts in record {
     active = e;
     incoming = h.incoming;
   };
-  scan = record { settles = a.scan.settles; seen = a.scan.seen };
+  scan = record { goes_on = a.scan.goes_on; seen = a.scan.seen };
 }
 
 pub incoming_law : {w : World} {c : Core} {l : Ledger} (found : Found) → Matches w c l → found ≡ found_incoming l → Matches w (record c { incoming = Known found }) l
@@ -71,7 +71,7 @@ incoming_law found a e = let h = a.parts in record {
     active = h.active;
     incoming = e;
   };
-  scan = record { settles = a.scan.settles; seen = a.scan.seen };
+  scan = record { goes_on = a.scan.goes_on; seen = a.scan.seen };
 }
 
 -- where the walk has a next name, it is the ledger's scan
@@ -105,7 +105,7 @@ known_law {c = c} {l = l} found walk (Some n) a s e at f some =
         active = h.active;
         incoming = h.incoming;
       };
-      scan = record { settles = a.scan.settles; seen = (s ∙ same, ap (λ (p : Option Scan × Option Request). p.1) at, f ∙ ap (found_next l) (sym e ∙ ap (next_of l.book) same)) };
+      scan = record { goes_on = a.scan.goes_on; seen = (s ∙ same, ap (λ (p : Option Scan × Option Request). p.1) at, f ∙ ap (found_next l) (sym e ∙ ap (next_of l.book) same)) };
     }
 
 abbrev live_on : Scan → Option DeferredName → Option Scan
@@ -141,7 +141,7 @@ ended_law c None a over = let h = a.parts in record {
     active = h.active;
     incoming = h.incoming;
   };
-  scan = record { settles = over; seen = tt };
+  scan = record { goes_on = over; seen = tt };
 }
 ended_law {l = l} c (Some r) a over =
     let h = a.parts in
@@ -170,7 +170,7 @@ ended_law {l = l} c (Some r) a over =
         active = h.active;
         incoming = h.incoming;
       };
-      scan = record { settles = ap (λ s. scan_at l.book l.now s None (scan_next l.book s)) walk ∙ live_at l.book l.now (new_scan l.now r) (scan_next l.book (new_scan l.now r)) ∙ over; seen = tt };
+      scan = record { goes_on = ap (λ s. scan_at l.book l.now s None (scan_next l.book s)) walk ∙ live_at l.book l.now (new_scan l.now r) (scan_next l.book (new_scan l.now r)) ∙ over; seen = tt };
     }
 
 looked_case : {w : World} {c : Core} {l : Ledger} (found : Found) (walk : Scan) (o : Option DeferredName) → Matches w c l → c.scan ≡ Some walk → scan_next l.book walk ≡ o →
@@ -183,4 +183,4 @@ looked_case {l = l} found walk (Some n) a s e h f true b = let bad : false ≡ t
 pub deferred_law : {w : World} {c : Core} {l : Ledger} (found : Found) (walk : Scan) → Matches w c l → c.scan ≡ Some walk → found ≡ found_next l (scan_next l.book walk) → Matches w (looked_at c found) l
 deferred_law {c = c} {l = l} found walk a e f =
     looked_case found walk (scan_next l.book walk) a e refl
-    (ap (λ (o : Option Scan). scan_after l.book l.now o c.asked) (sym e) ∙ a.scan.settles) f (is_nothing found) refl
+    (ap (λ (o : Option Scan). scan_after l.book l.now o c.asked) (sym e) ∙ a.scan.goes_on) f (is_nothing found) refl

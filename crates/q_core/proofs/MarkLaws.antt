@@ -1,22 +1,21 @@
 -- The recipient of the first outcome is marked.
-use Rattle.std.proofs.Common.{◌≡◌, ℕ, suc, zero, ◌+◌, ◌-◌, Bool, true, false, List, [], ◌∷◌, length, map, refl, sym, ap, ◌∙◌, ◌<◌, ◌≤◌, subst, Option, Some, None, arith}
+use Rattle.std.proofs.Common.{◌≡◌, ℕ, suc, ◌+◌, ◌-◌, Bool, true, false, List, [], ◌∷◌, length, map, refl, sym, ap, ◌∙◌, ◌≤◌, subst, Some, arith}
 use Rattle.std.proofs.lemmas.Bool.{eq-eqb, lt-ltb}
 use Rattle.std.specs.List.{enumerate_from}
 use Rattle.std.specs.Option.{option_map_or}
 use Rattle.std.specs.Prelude.{◌&&◌, ◌||◌, ◌==◌, drop, if◌then◌else◌, nat_lt, not, slice_get, sum_by}
 use Rattle.q_core.proofs.BookLaws.{KeepsPlace, place_step}
 use Rattle.q_core.proofs.ChangeLaws.{changed_ledger}
-use Rattle.q_core.proofs.FirstLaws.{IsFirst, IsFirstOf, first_mark, first_of_message}
+use Rattle.q_core.proofs.FirstLaws.{IsFirst, first_mark, first_of_message}
 use Rattle.q_core.proofs.HeldLaws.{slot_law, unsettled_law}
 use Rattle.q_core.proofs.ListLaws.{length-numbered}
-use Rattle.q_core.proofs.LogLaws.{counted, fails_from, halves, is_half_at, is_pending_at, not_logged, passes_from, pends, unmarked}
+use Rattle.q_core.proofs.LogLaws.{counted, fails_from, halves, is_half_at, is_pending_at, passes_from, pends, unmarked}
 use Rattle.q_core.proofs.NameLaws.{id_eq-same}
-use Rattle.q_core.proofs.PlaceLaws.{few_places, less_none, less_one, passes_at}
+use Rattle.q_core.proofs.PlaceLaws.{few_places, less_none, less_one}
 use Rattle.q_core.proofs.StepLaws.{HoldsRaw}
 use Rattle.q_core.specs.Agrees.{slot_from}
 use Rattle.q_core.specs.Changes.{IsSlotChange, IsUnsettledChange}
-use Rattle.q_core.specs.Slots.{with_mark}
-use Rattle.q_core.specs.declared.slot.Slot.{Slot}
+use Rattle.q_core.specs.Slots.{with_slot_mark}
 use Rattle.q_core.specs.declared.state.Core.{Core}
 use Rattle.q_laws.specs.Consistency.{IsConsistent, logged_of}
 use Rattle.q_model.specs.Ids.{id_eq}
@@ -159,7 +158,7 @@ suc_is : (n : ℕ) → suc n ≡ n + 1
 suc_is n = omega arith
 
 slot_case : (m : Message) (k : ℕ) (b : Bool) → is_logged m k ≡ b → is_unmarked_at m k ≡ true → unmarked_logged m ≡ (if b then k ∷ [] else []) → (a : Admitted) (bounced : Bool) →
-    slot_from a bounced (Some (marked_at k m)) ≡ with_mark (slot_from a bounced (Some m))
+    slot_from a bounced (Some (marked_at k m)) ≡ with_slot_mark (slot_from a bounced (Some m))
 slot_case m k false n u only a bounced =
     let s = slot_from a bounced (Some m) in
     let t = slot_from a bounced (Some (marked_at k m)) in
@@ -202,7 +201,7 @@ fewer_held l id k f =
     ∙ sym (ap (λ (us : List Unsettled). counted l (length (drop 1 us))) f.first)
 
 pub mark_law : {w : World} {c d e : Core} {l : Ledger} (id : Id) (k : ℕ) → HoldsRaw w c l → IsConsistent w l → settling_rule l ≡ Some (entries.Mark id k) →
-    IsSlotChange c d id with_mark → IsUnsettledChange d e (drop 1 d.unsettled.items) → e.in_memory ≡ d.in_memory - 1 → HoldsRaw w e (after_mark l id k)
+    IsSlotChange c d id with_slot_mark → IsUnsettledChange d e (drop 1 d.unsettled) → e.in_memory ≡ d.in_memory - 1 → HoldsRaw w e (after_mark l id k)
 mark_law {w = w} {c = c} {d = d} {e = e} {l = l} id k r con rule s u memory =
     let first = first_mark l id k rule in
     let found = first_of_message con id k needs.Mark first in
@@ -210,7 +209,7 @@ mark_law {w = w} {c = c} {d = d} {e = e} {l = l} id k r con rule s u memory =
     let known = found.1 in
     let only : unmarked_logged m ≡ (if is_logged m k then k ∷ [] else []) = known.logged ∙ logged_is m id k (is_logged m k) (ap (id_eq id) known.name ∙ id_eq-same id) refl in
     let raw : HoldsRaw w d (changed_ledger l id (marked_at k)) =
-    slot_law id (marked_at k) m with_mark r (record { keeps = keeps_mark k; there = known.there; active = known.active; distinct = con.book.distinct }) known.admitted
+    slot_law id (marked_at k) m with_slot_mark r (record { keeps = keeps_mark k; there = known.there; active = known.active; distinct = con.book.distinct }) known.admitted
     (slot_case m k (is_logged m k) refl known.unmarked only) s in
     let us = drop 1 l.unsettled in
     let change : IsUnsettledChange d e us = record { rest = u.rest; unsettled = u.unsettled ∙ ap (drop 1) raw.parts.unsettled } in

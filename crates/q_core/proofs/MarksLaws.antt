@@ -1,26 +1,24 @@
 -- The marks of an admitted message are synced.
-use Rattle.std.proofs.Common.{◌≡◌, ℕ, Bool, true, false, List, [], ◌∷◌, length, map, refl, sym, ap, ◌∙◌, subst, cond, Option, Some, None}
+use Rattle.std.proofs.Common.{◌≡◌, Bool, true, false, List, [], ◌∷◌, length, refl, sym, ap, ◌∙◌, subst, cond, Some}
 use Rattle.std.proofs.lemmas.List.{length-map}
-use Rattle.std.specs.List.{list_all, list_any}
+use Rattle.std.specs.List.{list_all}
 use Rattle.std.specs.Prelude.{filter, not, ◌&&◌, if◌then◌else◌}
 use Rattle.q_core.proofs.BookLaws.{KeepsPlace, pending-sync, unmarked_logged-sync, written_marks-sync}
-use Rattle.q_core.proofs.ChangeLaws.{IsBookChange, changed_ledger}
-use Rattle.q_core.proofs.HeldLaws.{IsThere, is_there, slot_law}
+use Rattle.q_core.proofs.ChangeLaws.{changed_ledger}
+use Rattle.q_core.proofs.HeldLaws.{is_there, slot_law}
 use Rattle.q_core.proofs.LeftLaws.{in_all}
 use Rattle.q_core.proofs.StepLaws.{HoldsRaw}
 use Rattle.q_core.specs.Agrees.{slot_from}
 use Rattle.q_core.specs.Changes.{IsSlotChange}
 use Rattle.q_core.specs.Slots.{cleared}
-use Rattle.q_core.specs.declared.slot.Slot.{Slot}
 use Rattle.q_core.specs.declared.state.Core.{Core}
 use Rattle.q_laws.specs.Consistency.{IsConsistent}
 use Rattle.q_model.specs.Book.{ids_at}
-use Rattle.q_model.specs.Ids.{id_eq}
 use Rattle.q_model.specs.Ledger.{Ledger}
 use Rattle.q_model.specs.Leftovers.{is_leftover, leftovers}
 use Rattle.q_model.specs.Lists.{has_none}
 use Rattle.q_model.specs.Memory.{is_admitted}
-use Rattle.q_model.specs.Message.{Message, pending, unmarked_logged, written_marks}
+use Rattle.q_model.specs.Message.{Message, pending, unmarked_logged}
 use Rattle.q_model.specs.Places.{is_active}
 use Rattle.q_model.specs.Settings.{World}
 use Rattle.q_model.specs.Syncs.{after_sync, sync_all}

@@ -8,7 +8,7 @@ use Rattle.q_core.proofs.NameLaws.{and_true_parts}
 use Rattle.q_core.specs.Lists.{moved_back}
 use Rattle.q_laws.specs.SitesConsistency.{are_apart}
 use Rattle.q_model.proofs.IdLaws.{site_eq-refl}
-use Rattle.q_model.specs.Destinations.{site_eq}
+use Rattle.q_model.specs.Sites.{site_eq}
 use Rattle.q_model.specs.Lists.{drop_first}
 use Rattle.q_model.specs.Values.{Site, SiteRecord}
 

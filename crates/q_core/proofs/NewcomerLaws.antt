@@ -5,13 +5,14 @@ use Rattle.std.specs.List.{list_all}
 use Rattle.std.specs.Option.{option_map_or}
 use Rattle.std.specs.Prelude.{◌&&◌, ◌||◌, nat_le, nat_lt}
 use Rattle.q_core.proofs.AdmitLaws.{IsComing, admitting, coming_listed, newcomer}
+use Rattle.q_core.proofs.PendingLaws.{pending_count}
 use Rattle.q_core.proofs.QueueLaws.{slots_same}
 use Rattle.q_core.proofs.RestLaws.{admitted_active}
 use Rattle.q_core.proofs.RuleLaws.{no_length}
 use Rattle.q_core.proofs.SameLaws.{listed_stands, not_bool, stands_listed}
-use Rattle.q_core.proofs.TakeLaws.{found_on}
+use Rattle.q_core.proofs.PickLaws.{found_on}
 use Rattle.q_core.specs.Agrees.{found_at, slot_from, slot_of}
-use Rattle.q_core.specs.Taking.{found_slot}
+use Rattle.q_core.specs.Picking.{found_slot}
 use Rattle.q_laws.proofs.Books.{message_in, message_listed, placed_listed}
 use Rattle.q_laws.proofs.Distinct.{id_other, id_same}
 use Rattle.q_laws.proofs.InPlace.{changed, changed_name, changed_same}
@@ -19,15 +20,14 @@ use Rattle.q_laws.proofs.Mapped.{find_mapped}
 use Rattle.q_laws.proofs.Members.{IsIn, all_at}
 use Rattle.q_laws.proofs.Moved.{move_to, moved_at}
 use Rattle.q_laws.specs.Consistency.{IsConsistent}
-use Rattle.q_model.specs.Book.{ids_at, message_of, stands, stands_in}
+use Rattle.q_model.specs.Book.{all_ids, ids_at, message_of, stands, stands_in}
 use Rattle.q_model.specs.BookChanges.{move_message}
-use Rattle.q_model.specs.FilesStand.{all_ids}
 use Rattle.q_model.specs.Finishing.{has_bounce}
 use Rattle.q_model.specs.Ids.{bounce_of, cause_of, id_eq}
 use Rattle.q_model.specs.Ledger.{Ledger}
 use Rattle.q_model.specs.Lists.{has_none}
 use Rattle.q_model.specs.Message.{Message, unmarked_logged, written_marks}
-use Rattle.q_model.specs.Orderly.{has_firm_failures, is_paired, is_sealed, is_settled}
+use Rattle.q_model.specs.Orderly.{has_firm_failures, is_paired, is_sealed, is_sound}
 use Rattle.q_model.specs.Places.{is_active, is_incoming}
 use Rattle.q_model.specs.Settings.{World}
 use Rattle.q_model.specs.declared.id.Id.{Id}
@@ -40,13 +40,13 @@ coming_message l id m =
     ∙ ap (option_map (changed id (move_to places.Active))) m.there
     ∙ ap Some (changed_same id (move_to places.Active) m.message (id_same m.message.id id (message_in l.book id m.message m.there).1))
 
--- it is settled
-coming_settled : {w : World} {l : Ledger} → IsConsistent w l → (id : Id) (m : IsComing l id) → (has_none (unmarked_logged m.message) ≡ true) × (has_none (written_marks m.message) ≡ true)
-coming_settled {l = l} k id m =
-    let rest : Message → Bool = λ x. is_active x.place || is_settled x in
+-- it is sound
+coming_sound : {w : World} {l : Ledger} → IsConsistent w l → (id : Id) (m : IsComing l id) → (has_none (unmarked_logged m.message) ≡ true) × (has_none (written_marks m.message) ≡ true)
+coming_sound {l = l} k id m =
+    let rest : Message → Bool = λ x. is_active x.place || is_sound x in
     let all = (and_parts (list_all (λ i. nat_le i.generation l.book.generation && is_paired l.book i) (all_ids l.book)) (list_all rest l.book.messages) k.book.orderly).1 in
-    let settled : is_settled m.message ≡ true = sym (ap (λ b. b || is_settled m.message) m.out) ∙ all_at rest m.message l.book.messages all (message_in l.book id m.message m.there).0 in
-    and_parts (has_none (unmarked_logged m.message)) (has_none (written_marks m.message)) (and_parts (has_none (unmarked_logged m.message) && has_none (written_marks m.message)) (has_firm_failures m.message) settled).0
+    let sound : is_sound m.message ≡ true = sym (ap (λ b. b || is_sound m.message) m.out) ∙ all_at rest m.message l.book.messages all (message_in l.book id m.message m.there).0 in
+    and_parts (has_none (unmarked_logged m.message)) (has_none (written_marks m.message)) (and_parts (has_none (unmarked_logged m.message) && has_none (written_marks m.message)) (has_firm_failures m.message) sound).0
 
 pair_active : (a b s o : Bool) → a ≡ true → b ≡ true → (not a || not b || (s && o)) ≡ true → o ≡ true
 pair_active a b s o ea eb h = (and_parts s o (sym (ap (λ x. not x || not b || (s && o)) ea ∙ ap (λ x. not x || (s && o)) eb) ∙ h)).1
@@ -66,7 +66,7 @@ coming_unsaid {l = l} k id m = not_bool (has_bounce (admitting l id) id) (λ h. 
     apart inside other false e =
         let test : Id → Bool = λ i. nat_le i.generation l.book.generation && is_paired l.book i in
         let listed = placed_listed is_incoming l.book (bounce_of id) inside in
-        let ids = (and_parts (list_all test (all_ids l.book)) (list_all (λ (x : Message). is_active x.place || is_settled x) l.book.messages) k.book.orderly).0 in
+        let ids = (and_parts (list_all test (all_ids l.book)) (list_all (λ (x : Message). is_active x.place || is_sound x) l.book.messages) k.book.orderly).0 in
         let pair = (and_parts (nat_le id.generation l.book.generation) (is_paired l.book (bounce_of id)) (all_at test (bounce_of id) (all_ids l.book) ids listed)).1 in
         let mine = message_in l.book id m.message m.there in
         let cause : cause_of (bounce_of id) ≡ id = ap (λ t. bounce_with t id) (sym e) in
@@ -85,10 +85,11 @@ pub coming_slot : {w : World} {l : Ledger} → IsConsistent w l → (id : Id) (d
 coming_slot {l = l} k id due m =
     let x = m.message in
     let y : Message = move_to places.Active x in
-    let settled = coming_settled k id m in
+    let sound = coming_sound k id m in
     ap (λ o. found_slot (found_on l due id o)) m.there
-    ∙ ap (λ n. record (slot_from (newcomer id) false (Some y)) { marks = n; logged = false; failed = nat_lt 0 (length x.failures) }) (no_marks (written_marks x) settled.1)
-    ∙ ap (λ b. record (slot_from (newcomer id) false (Some y)) { logged = not b; failed = nat_lt 0 (length x.failures) }) (sym settled.0)
+    ∙ ap (λ n. record (slot_from (newcomer id) false (Some y)) { pending = n; marks = 0; logged = false; failed = nat_lt 0 (length x.failures) }) (sym (pending_count x sound.0))
+    ∙ ap (λ n. record (slot_from (newcomer id) false (Some y)) { marks = n; logged = false; failed = nat_lt 0 (length x.failures) }) (no_marks (written_marks x) sound.1)
+    ∙ ap (λ b. record (slot_from (newcomer id) false (Some y)) { logged = not b; failed = nat_lt 0 (length x.failures) }) (sym sound.0)
     ∙ ap (λ b. record (slot_from (newcomer id) false (Some y)) { failed = b }) (no_length x.failures)
     ∙ ap (slot_from (newcomer id) false) (sym (coming_message l id m))
     ∙ ap (λ b. slot_from (newcomer id) b (message_of (move_message l.book id places.Active) id)) (sym (coming_unsaid k id m))

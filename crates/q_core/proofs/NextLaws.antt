@@ -5,7 +5,7 @@ use Rattle.std.specs.Prelude.{not, if◌then◌else◌}
 use Rattle.q_core.proofs.LeftLaws.{leftover_law}
 use Rattle.q_core.proofs.RuleLaws.{finishing_law, load_law, settling_law, skip_law, sync_law}
 use Rattle.q_core.proofs.StartLaws.{start_law}
-use Rattle.q_core.proofs.TakeLaws.{admission_law}
+use Rattle.q_core.proofs.PickLaws.{admission_law}
 use Rattle.q_core.specs.Agrees.{Agrees}
 use Rattle.q_core.specs.Choosing.{next_start_in}
 use Rattle.q_core.specs.Deciding.{IsNext, clearing_on, decide_in, first_rule_in, scan_look_in}
@@ -71,7 +71,7 @@ last_law {w = w} {c = c} {l = l} a =
     let from_admission = option_or (next_admission_in c c.incoming) from_read in
     next_or w l c (next_clearing_in c c.active) from_admission (leftover_rule w l) (admissions_on w l) (of_look w l c (next_clearing_in c c.active) (leftover_rule w l) (leftover_law h a.consistent))
     (next_or w l c (next_admission_in c c.incoming) from_read (admission_rule w l) (loads_on w l) (of_looks w l c (next_admission_in c c.incoming) (admission_rule w l) (admission_law a.matches))
-    (next_or w l c (next_read_in c) (next_start_in c) (load_rule w l) (start_rule w l) (inr (inl (load_law h a.consistent.memory.present))) (inl (start_law h a.consistent.memory.present))))
+    (next_or w l c (next_read_in c) (next_start_in c) (load_rule w l) (start_rule w l) (inr (inl (load_law h a.consistent.memory.present))) (inl (start_law h a.consistent.memory))))
 
 first_law : {w : World} {c : Core} {l : Ledger} → Agrees w c l → IsNext w l c (first_rule_in c) (first_rule w l)
 first_law {w = w} {c = c} {l = l} a =

@@ -7,7 +7,7 @@ use Rattle.q_core.proofs.ListLaws.{map-same}
 use Rattle.q_core.proofs.StepLaws.{HoldsRaw, IsStillSeen}
 use Rattle.q_core.specs.Agrees.{Holds, job_of, jobs_of}
 use Rattle.q_core.specs.Changes.{IsRevived}
-use Rattle.q_core.specs.Destinations.{busy_in, revive_dead_in}
+use Rattle.q_core.specs.UsedSites.{busy_in, revive_dead_in}
 use Rattle.q_core.specs.declared.state.Core.{Core}
 use Rattle.q_core.specs.declared.state.Seen.{Seen}
 use Rattle.q_core.specs.declared.state.Seen.TheVariants.{Known, Unknown}
@@ -16,7 +16,7 @@ use Rattle.q_model.specs.Deliveries.{busy}
 use Rattle.q_model.specs.Ledger.{Ledger}
 use Rattle.q_model.specs.Past.{is_start}
 use Rattle.q_model.specs.Revival.{revive_all}
-use Rattle.q_model.specs.Routes.{world_of}
+use Rattle.q_model.specs.Routes.{world_without_table}
 use Rattle.q_model.specs.Settings.{Settings, World}
 use Rattle.q_model.specs.SiteRecords.{is_alive}
 use Rattle.q_model.specs.Step.{noted}
@@ -140,11 +140,11 @@ alive_or false r s = refl
 pub revive_law : {w : World} {c d : Core} {l : Ledger} → HoldsRaw w c l → IsRevived c d → HoldsRaw w d (record l { sites = revive_all w l })
 revive_law {w = w} {c = c} {d = d} {l = l} r revives =
     let h = r.parts in
-    let sites : d.sites.items ≡ revive_all w l =
+    let sites : d.sites ≡ revive_all w l =
     revives.sites
-    ∙ ap (λ (fs : List Delivery). map (revive_dead_in c.params fs) c.sites.items) h.flights
+    ∙ ap (λ (fs : List Delivery). map (revive_dead_in c.params fs) c.sites) h.flights
     ∙ ap (map (revive_dead_in c.params l.flights)) h.sites
-    ∙ ap (λ (s : Settings). map (λ (x : SiteRecord). if not (is_alive x.health) then revived (world_of s) (busy_in l.flights x.site) x else x) l.sites) h.settings
+    ∙ ap (λ (s : Settings). map (λ (x : SiteRecord). if not (is_alive x.health) then revived (world_without_table s) (busy_in l.flights x.site) x else x) l.sites) h.settings
     ∙ map-same (λ (x : SiteRecord). if not (is_alive x.health) then revived w (busy l x.site) x else x) (λ (x : SiteRecord). if is_alive x.health then x else revived w (busy l x.site) x)
     (λ x. alive_or (is_alive x.health) x (revived w (busy l x.site) x)) l.sites in
     let later : Ledger = record l { sites = revive_all w l } in

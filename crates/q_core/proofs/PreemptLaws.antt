@@ -9,12 +9,12 @@ use Rattle.q_core.proofs.ChosenLaws.{some_given}
 use Rattle.q_core.proofs.JobLaws.{moved_map}
 use Rattle.q_core.proofs.ListLaws.{length-numbered}
 use Rattle.q_core.proofs.NameLaws.{and_true_parts, id_eq-same, id_eq-true, or_right}
-use Rattle.q_core.proofs.SettleLaws.{settle_law}
+use Rattle.q_core.proofs.TidyLaws.{tidy_law}
 use Rattle.q_core.proofs.StartLaws.{same_rest}
 use Rattle.q_core.proofs.StepLaws.{HoldsRaw, IsStillSeen, raw_law}
 use Rattle.q_core.specs.Agrees.{Agrees, Holds, Matches, job_of, jobs_of}
-use Rattle.q_core.specs.Beginning.{charged_job, IsPreempted, moved_job, moved_line, preempted_line, with_charge}
-use Rattle.q_core.specs.Changes.{IsSettled, is_looked_at}
+use Rattle.q_core.specs.Sending.{charged_job, IsPreempted, moved_job, moved_line, preempted_line, with_charge}
+use Rattle.q_core.specs.Changes.{IsTidied, is_looked_at}
 use Rattle.q_core.specs.Choosing.{rest_in}
 use Rattle.q_core.specs.declared.line.Job.{Job}
 use Rattle.q_core.specs.declared.state.Core.{Core}
@@ -24,10 +24,9 @@ use Rattle.q_laws.proofs.Members.{all_at, any_from, any_in, in_filtered, least_i
 use Rattle.q_laws.proofs.Places.{got_in}
 use Rattle.q_laws.specs.Consistency.{IsConsistent}
 use Rattle.q_model.specs.Accounts.{charged, rest, starts_of}
-use Rattle.q_model.specs.Candidates.{behind, best, candidates, is_better, is_candidate, pays}
+use Rattle.q_model.specs.Candidates.{ids_behind, best, candidates, is_better, is_candidate, pays}
 use Rattle.q_model.specs.Choice.{choice, next_row, start_of}
-use Rattle.q_model.specs.FilesStand.{are_distinct}
-use Rattle.q_model.specs.Ids.{id_eq}
+use Rattle.q_model.specs.Ids.{are_distinct, id_eq}
 use Rattle.q_model.specs.Ledger.{Ledger}
 use Rattle.q_model.specs.Lists.{first_some}
 use Rattle.q_model.specs.Next.{start_rule}
@@ -35,7 +34,7 @@ use Rattle.q_model.specs.Past.{is_start, starts}
 use Rattle.q_model.specs.Preemptions.{after_preempt, preempt_line, put_before}
 use Rattle.q_model.specs.Settings.{World}
 use Rattle.q_model.specs.Startable.{can_start, current, line_of}
-use Rattle.q_model.specs.Step.{noted, settled}
+use Rattle.q_model.specs.Step.{noted, tidied}
 use Rattle.q_model.specs.declared.entry.Entry.{Entry}
 use Rattle.q_model.specs.declared.entry.Entry.TheVariants as entries
 use Rattle.q_model.specs.declared.id.Id.{Id}
@@ -87,7 +86,7 @@ chosen_on w l child parent transport need true few h =
 -- what its rule says of a preemption
 record IsPaid (w : World) (l : Ledger) (child parent : Id) (transport need : ℕ) : Type 0 where
   few : starts l < 2 ^ 48
-  behind : list_any (id_eq child) (behind parent (line_of l transport)) ≡ true
+  behind_it : list_any (id_eq child) (ids_behind parent (line_of l transport)) ≡ true
   paid : need + charged l parent transport ≤ starts_of l parent transport + rest l parent transport
 
 some_cost : (cost need owed credit : ℕ) → not (cost == 0) ≡ true → cost * need + cost * owed ≤ credit → need + owed ≤ credit
@@ -98,7 +97,7 @@ paid : (w : World) (l : Ledger) (child parent : Id) (transport need : ℕ) → I
 paid w l child parent transport need b =
     let good = (in_filtered (is_candidate w l transport parent) child (map (λ (a : Admitted). a.id) l.admitted) (least_in (is_better l transport) child (candidates w l transport parent) b.best)).1 in
     let cost = not (w.settings.slot_cost == 0) in
-    let inside = list_any (id_eq child) (behind parent (line_of l transport)) in
+    let inside = list_any (id_eq child) (ids_behind parent (line_of l transport)) in
     let fresh = starts_of l child transport == 0 in
     let starts = can_start w l transport child in
     let one = and_true_parts (cost && inside && fresh && starts) (pays w l transport parent (rest l child transport)) good in
@@ -116,7 +115,7 @@ paid w l child parent transport need b =
     let six = and_true_parts price held five.0 in
     record {
       few = ltb-true _ _ b.few;
-      behind = four.1;
+      behind_it = four.1;
       paid = subst (λ n. n + charged l parent transport ≤ begun + left) b.needs (some_cost w.settings.slot_cost need' (charged l parent transport) (begun + left) four.0 (leb-true _ _ six.1));
     }
 
@@ -131,9 +130,9 @@ behind_step : (child x : Id) (xs rest : List Id) → (list_any (id_eq child) res
 behind_step child x xs rest later true h = or_right (id_eq child x) (list_any (id_eq child) xs) h
 behind_step child x xs rest later false h = or_right (id_eq child x) (list_any (id_eq child) xs) (later h)
 
-any_behind : (child parent : Id) (ids : List Id) → list_any (id_eq child) (behind parent ids) ≡ true → list_any (id_eq child) ids ≡ true
+any_behind : (child parent : Id) (ids : List Id) → list_any (id_eq child) (ids_behind parent ids) ≡ true → list_any (id_eq child) ids ≡ true
 any_behind child parent [] h = h
-any_behind child parent (x ∷ xs) h = behind_step child x xs (behind parent xs) (any_behind child parent xs) (id_eq x parent) h
+any_behind child parent (x ∷ xs) h = behind_step child x xs (ids_behind parent xs) (any_behind child parent xs) (id_eq x parent) h
 
 -- ---- the account
 
@@ -169,7 +168,7 @@ moved_case : (k : Ledger) (child parent : Id) (transport j : ℕ) (ids : List Id
 moved_case k child parent transport j ids there false e = refl
 moved_case k child parent transport j ids there true e = let both = there (eqb-true j transport e) in moved_map k j child parent ids both.0 both.1
 
-line_there : (l : Ledger) (child parent : Id) (transport j i : ℕ) (ids : List Id) → list_all are_distinct l.lines ≡ true → list_any (id_eq child) (behind parent (line_of l transport)) ≡ true → j ≡ 0 + i → slice_get l.lines i ≡ Some ids → j ≡ transport →
+line_there : (l : Ledger) (child parent : Id) (transport j i : ℕ) (ids : List Id) → list_all are_distinct l.lines ≡ true → list_any (id_eq child) (ids_behind parent (line_of l transport)) ≡ true → j ≡ 0 + i → slice_get l.lines i ≡ Some ids → j ≡ transport →
     (are_distinct ids ≡ true) × (list_any (λ x. id_eq x child) ids ≡ true)
 line_there l child parent transport j i ids single inside e there same =
     let at : transport ≡ i = omega (arith, e, same) in
@@ -185,7 +184,7 @@ lines_preempted w l child parent transport need left single p same less =
     let k : Ledger = noted (entries.Preempt child parent transport need) l in
     lines_changed l k (preempted_line child parent transport need left) (preempt_line child parent transport) 0 l.lines (λ i j ids e there.
     ap (λ js. moved_line child parent transport (j, js)) (map-twice (charged_job parent transport need left j) (job_of l j) (job_of k j) (job_paid w l child parent transport need left j p same less) ids)
-    ∙ moved_case k child parent transport j ids (line_there l child parent transport j i ids single p.behind e there) (j == transport) refl)
+    ∙ moved_case k child parent transport j ids (line_there l child parent transport j i ids single p.behind_it e there) (j == transport) refl)
 
 still_preempted : (seen : Seen) (l : Ledger) (ls : List (List Id)) (es : List Entry) → IsStillSeen seen l → IsStillSeen seen (record l { lines = ls; past = es })
 still_preempted Unknown l ls es h = tt
@@ -196,7 +195,7 @@ preempt_raw : {w : World} {c d : Core} {l : Ledger} → HoldsRaw w c l → IsCon
 preempt_raw {w = w} {c = c} {d = d} {l = l} r k child parent transport need left p same less change =
     let h = r.parts in
     let next : Ledger = noted (entries.Preempt child parent transport need) (after_preempt l child parent transport) in
-    let lines : d.lines.items ≡ map (jobs_of next) (enumerate_from 0 next.lines) =
+    let lines : d.lines ≡ map (jobs_of next) (enumerate_from 0 next.lines) =
     change.lines
     ∙ ap (λ (js : List (List Job)). map (preempted_line child parent transport need left) (enumerate_from 0 js)) h.lines
     ∙ lines_preempted w l child parent transport need left k.memory.single p (same ∙ same_rest h transport parent) less in
@@ -228,7 +227,7 @@ preempt_raw {w = w} {c = c} {d = d} {l = l} r k child parent transport need left
 
 -- the whole entry
 pub preempt_law : {w : World} {c u d : Core} {l : Ledger} → Agrees w c l → IsTrue (is_looked_at c) → (child parent : Id) (transport need left : ℕ) → start_rule w l ≡ Some (entries.Preempt child parent transport need) → left ≡ rest_in c transport parent → left ≤ 2 ^ 63 + 2 ^ 32 →
-    IsPreempted c u child parent transport need left → IsSettled u d → Matches w d (settled w l (noted (entries.Preempt child parent transport need) (after_preempt l child parent transport)))
+    IsPreempted c u child parent transport need left → IsTidied u d → Matches w d (tidied w l (noted (entries.Preempt child parent transport need) (after_preempt l child parent transport)))
 preempt_law {w = w} {c = c} {u = u} {d = d} {l = l} a looked child parent transport need left rule same less change s =
     let p = paid w l child parent transport need (chosen_on w l child parent transport need (nat_lt (starts l) (2 ^ 48)) refl rule) in
-    settle_law l refl refl (preempt_raw (raw_law a.matches looked) a.consistent child parent transport need left p same less change) s
+    tidy_law l refl refl (preempt_raw (raw_law a.matches looked) a.consistent child parent transport need left p same less change) s

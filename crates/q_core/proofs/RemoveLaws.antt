@@ -13,7 +13,7 @@ use Rattle.q_core.proofs.RestLaws.{admitted_active, rest_active, rest_slots, sti
 use Rattle.q_core.proofs.SameLaws.{no_bounce_of, not_bool, paired_incoming}
 use Rattle.q_core.proofs.StepLaws.{HoldsRaw, IsStillSeen}
 use Rattle.q_core.specs.Agrees.{IsSeen, found_active, slot_of}
-use Rattle.q_core.specs.Changes.{IsTakenOut}
+use Rattle.q_core.specs.Changes.{IsSlotRemoved}
 use Rattle.q_core.specs.declared.state.Core.{Core}
 use Rattle.q_core.specs.declared.state.Seen.{Seen}
 use Rattle.q_core.specs.declared.state.Seen.TheVariants.{Unknown}
@@ -24,11 +24,10 @@ use Rattle.q_laws.proofs.Moved.{other_left}
 use Rattle.q_laws.specs.Consistency.{IsConsistent}
 use Rattle.q_model.proofs.IdLaws.{id_eq-true}
 use Rattle.q_model.specs.Admissions.{cause_gone}
-use Rattle.q_model.specs.Book.{Book, Damaged, damaged_of, ids_at, message_of, stands, stands_in}
+use Rattle.q_model.specs.Book.{Book, Damaged, all_ids, damaged_of, ids_at, message_of, stands, stands_in}
 use Rattle.q_model.specs.BookChanges.{remove_message}
-use Rattle.q_model.specs.FilesStand.{all_ids, are_distinct}
 use Rattle.q_model.specs.Finishing.{has_bounce, is_at_rest, is_done, wants_bounce, without}
-use Rattle.q_model.specs.Ids.{bounce_of, cause_of, id_eq}
+use Rattle.q_model.specs.Ids.{are_distinct, bounce_of, cause_of, id_eq}
 use Rattle.q_model.specs.Ledger.{Ledger}
 use Rattle.q_model.specs.Leaving.{after_remove, may_remove}
 use Rattle.q_model.specs.Leftovers.{leftovers}
@@ -146,14 +145,14 @@ removed_left {l = l} k id m adm =
     (λ i h. ap not (still_admitted id i l.admitted (not_bool (id_eq i id) (λ e. damaged_apart l k.book.distinct id m i h (id_eq-true i id e)))))
 
 -- a message in memory is removed
-pub remove_law : {w : World} {c d : Core} {l : Ledger} (id : Id) → HoldsRaw w c l → IsConsistent w l → is_admitted l id ≡ true → may_remove l id ≡ true → IsTakenOut c d id → HoldsRaw w d (after_remove l id)
+pub remove_law : {w : World} {c d : Core} {l : Ledger} (id : Id) → HoldsRaw w c l → IsConsistent w l → is_admitted l id ≡ true → may_remove l id ≡ true → IsSlotRemoved c d id → HoldsRaw w d (after_remove l id)
 remove_law {w = w} {c = c} {d = d} {l = l} id r k adm may p =
     let h = r.parts in
     let b = remove_message l.book id in
     let rows = without id l.admitted in
     let next : Ledger = with_files l b rows in
     let m = removable l id may in
-    let slots : d.admitted.items ≡ map (slot_of next) rows = p.admitted ∙ rest_slots k id b (removed_active l k id m) c.admitted.items h.admitted in
+    let slots : d.admitted ≡ map (slot_of next) rows = p.admitted ∙ rest_slots k id b (removed_active l k id m) c.admitted h.admitted in
     let active : IsSeen c.active (found_active next) = seen_same c.active (found_active next) (found_active l) (rest_active l id b rows adm (removed_active l k id m) (removed_left k id m adm)) h.active in
     let raw : HoldsRaw w (record c { admitted = d.admitted; incoming = Unknown }) next = files_law b rows r refl slots active tt (removed_still c.deferred l k id m rows r.seen) in
     subst (λ x. HoldsRaw w x next) (sym p.rest) raw
@@ -172,6 +171,6 @@ remove_left_law {w = w} {c = c} {l = l} id r k gone may =
     let b = remove_message l.book id in
     let m = removable l id may in
     let other : (a : Admitted) → IsIn a l.admitted → id_eq a.id id ≡ false = λ a inside. none_at (λ (x : Admitted). id_eq x.id id) a l.admitted gone inside in
-    let slots : c.admitted.items ≡ map (slot_of (with_files l b l.admitted)) l.admitted = h.admitted ∙ slots_same l b l.admitted l.admitted (λ a inside. removed_active l k id m a.id (admitted_active k a inside) (other a inside)) in
+    let slots : c.admitted ≡ map (slot_of (with_files l b l.admitted)) l.admitted = h.admitted ∙ slots_same l b l.admitted l.admitted (λ a inside. removed_active l k id m a.id (admitted_active k a inside) (other a inside)) in
     let raw : HoldsRaw w (record c { active = Unknown; incoming = Unknown }) (with_files l b l.admitted) = files_law b l.admitted r refl slots tt tt (removed_still c.deferred l k id m l.admitted r.seen) in
     subst (λ xs. HoldsRaw w (record c { active = Unknown; incoming = Unknown }) (with_files l b xs)) (sym (without_none id l.admitted gone)) raw

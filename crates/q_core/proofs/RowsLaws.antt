@@ -23,7 +23,7 @@ use Rattle.q_model.specs.Memory.{is_admitted}
 use Rattle.q_model.specs.Message.{Message}
 use Rattle.q_model.specs.Places.{is_active}
 use Rattle.q_model.specs.Settings.{World}
-use Rattle.q_model.specs.Settling.{needs_of, settle}
+use Rattle.q_model.specs.Settling.{needs_of, with_outcomes}
 use Rattle.q_model.specs.Times.{is_expired}
 use Rattle.q_model.specs.declared.id.Id.{Id}
 use Rattle.q_model.specs.declared.outcome.Outcome.{Outcome}
@@ -38,9 +38,9 @@ still_rows (Known found) l ws fs us h = h
 
 -- the lists of recipients in memory
 pub record HasRows (d : Core) (ws : List Row) (fs : List Delivery) (us : List Unsettled) : Type 0 where
-  pub waiting : d.waiting.items ≡ ws
-  pub flights : d.flights.items ≡ fs
-  pub unsettled : d.unsettled.items ≡ us
+  pub waiting : d.waiting ≡ ws
+  pub flights : d.flights ≡ fs
+  pub unsettled : d.unsettled ≡ us
   pub memory : d.in_memory ≡ sum_by (λ r. length r.positions) ws + sum_by (λ f. length f.row.positions) fs + length us
 
 -- they are set in both
@@ -100,5 +100,5 @@ needs_law {w = w} {c = c} {l = l} h id m there e ps os =
     ∙ needs_same w l.now m ps os
 
 -- outcomes are settled where the message is in the book
-pub settle_is : (w : World) (id : Id) (ps : List ℕ) (os : List Outcome) (l : Ledger) (m : Message) → message_of l.book id ≡ Some m → settle w id ps os l ≡ record l { unsettled = l.unsettled ++ needs_of w l.now m ps os }
-settle_is w id ps os l m e = ap (λ o. option_map_or (λ x. record l { unsettled = l.unsettled ++ needs_of w l.now x ps os }) o l) e
+pub with_outcomes_is : (w : World) (id : Id) (ps : List ℕ) (os : List Outcome) (l : Ledger) (m : Message) → message_of l.book id ≡ Some m → with_outcomes w id ps os l ≡ record l { unsettled = l.unsettled ++ needs_of w l.now m ps os }
+with_outcomes_is w id ps os l m e = ap (λ o. option_map_or (λ x. record l { unsettled = l.unsettled ++ needs_of w l.now x ps os }) o l) e

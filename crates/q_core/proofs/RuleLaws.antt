@@ -1,15 +1,19 @@
 -- The rules by what the core holds are those of the ledger.
-use Rattle.std.proofs.Common.{◌≡◌, ℕ, ◌-◌, Bool, true, false, List, [], ◌∷◌, length, refl, sym, ap, ◌∙◌, subst, arith, Option, Some, None, option_map, inl, inr, IsTrue}
-use Rattle.std.specs.List.{list_all}
+use Rattle.std.proofs.Common.{◌≡◌, ℕ, ◌-◌, Bool, true, false, List, [], ◌∷◌, cond, length, map, refl, sym, ap, ◌∙◌, subst, arith, Option, Some, None, option_map, inl, inr, IsTrue}
+use Rattle.std.specs.List.{list_all, list_any}
 use Rattle.std.specs.Option.{option_map_or}
 use Rattle.std.specs.Prelude.{find, not, ◌&&◌, ◌||◌, ◌==◌, ◌+◌, min, max, is_none, nat_lt, nat_le, option_and_then, if◌then◌else◌, slice_get}
 use Rattle.q_core.proofs.AgreesLaws.{recipients_on, same_dead, same_idle, same_waiting, unread_same}
 use Rattle.q_core.proofs.ListLaws.{IsFoundAt, find-all, find-map, find-passes, find-same, position-find}
-use Rattle.q_core.proofs.NameLaws.{id_eq-true}
+use Rattle.q_core.proofs.NameLaws.{and_true_parts, id_eq-same, id_eq-true}
+use Rattle.q_model.proofs.IdLaws.{site_eq-refl, site_eq-true}
+use Rattle.q_core.specs.Sending.{is_for, row_for}
+use Rattle.q_model.specs.Sites.{site_eq}
 use Rattle.q_core.specs.Agrees.{Holds, slot_from, slot_of}
 use Rattle.q_laws.specs.Consistency.{is_present}
 use Rattle.q_core.specs.Decisions.{IsReadRule, IsRule}
-use Rattle.q_core.specs.Held.{due_in, finish_in, free_in, is_dead_in, is_idle_in, may_read_in, wants_sync_in}
+use Rattle.q_core.proofs.KindLaws.{is_whole}
+use Rattle.q_core.specs.Held.{due_in, finish_in, free_in, is_damaged_in, is_dead_in, is_idle_in, may_read_in, wants_sync_in}
 use Rattle.q_core.specs.Rules.{decision_of, first_need_in, needed_in, next_finish_in, next_read_in, next_skip_in, next_sync_in, skip_at, skip_of}
 use Rattle.q_core.specs.declared.decision.Decision.{Decision}
 use Rattle.q_core.specs.declared.slot.Slot.{Slot}
@@ -41,6 +45,10 @@ use Rattle.q_model.specs.declared.entry.Entry.TheVariants as entries
 use Rattle.q_core.specs.declared.decision.Decision.TheVariants as decisions
 use Rattle.q_model.specs.declared.rows.Need.TheVariants as needs
 
+and_false : (b : Bool) → (b && false) ≡ false
+and_false true = refl
+and_false false = refl
+
 same_wish : {w : World} {c : Core} {l : Ledger} → Holds w c l → (x : Admitted) → wants_sync_in c (slot_of l x) ≡ wants_sync w l x
 same_wish {w = w} {c = c} {l = l} a x =
     ap (λ n. nat_le n (marks_of l x.id) || (nat_lt 0 (marks_of l x.id) && is_idle_in c x.id)) (ap (λ (s : Settings). s.mark_sync_limit) a.settings)
@@ -48,8 +56,26 @@ same_wish {w = w} {c = c} {l = l} a x =
 
 -- the slots that are found are those of the admitted that are found
 pub found_slot : {w : World} {c : Core} {l : Ledger} → Holds w c l → (p : Slot → Bool) (q : Admitted → Bool) → ((x : Admitted) → p (slot_of l x) ≡ q x) →
-    find p c.admitted.items ≡ option_map (slot_of l) (find q l.admitted)
+    find p c.admitted ≡ option_map (slot_of l) (find q l.admitted)
 found_slot {l = l} a p q h = ap (find p) a.admitted ∙ find-map p (slot_of l) l.admitted ∙ ap (option_map (slot_of l)) (find-same (λ x. p (slot_of l x)) q h l.admitted)
+
+whole_one : (l : Ledger) (o : Option Admitted) → option_map_or (λ (s : Slot). not s.damaged) (option_map (slot_of l) o) true ≡ true
+whole_one l None = refl
+whole_one l (Some x) = refl
+
+-- a message in memory can be read, on a ledger
+pub whole_law : {w : World} {c : Core} {l : Ledger} → Holds w c l → is_whole c ≡ true
+whole_law {c = c} {l = l} a =
+    ap (λ (ss : List Slot). option_map_or (λ s. not s.damaged) (find (λ s. is_idle_in c s.id) ss) true) a.admitted
+    ∙ ap (λ o. option_map_or (λ (s : Slot). not s.damaged) o true) (find-map (λ s. is_idle_in c s.id) (slot_of l) l.admitted)
+    ∙ whole_one l (find (λ x. is_idle_in c (slot_of l x).id) l.admitted)
+
+no_damage_in : (l : Ledger) (id : Id) (xs : List Admitted) → list_any (λ (s : Slot). id_eq s.id id && s.damaged) (map (slot_of l) xs) ≡ false
+no_damage_in l id [] = refl
+no_damage_in l id (x ∷ xs) = ap (λ b. b || list_any (λ (s : Slot). id_eq s.id id && s.damaged) (map (slot_of l) xs)) (and_false (id_eq x.id id)) ∙ no_damage_in l id xs
+
+pub no_damage : {w : World} {c : Core} {l : Ledger} → Holds w c l → (id : Id) → is_damaged_in c id ≡ false
+no_damage {l = l} a id = ap (list_any (λ (s : Slot). id_eq s.id id && s.damaged)) a.admitted ∙ no_damage_in l id l.admitted
 
 sync_found : (c : Core) (l : Ledger) (o : Option Admitted) → IsRule c (option_map (λ s. decisions.Sync s.id) (option_map (slot_of l) o)) (option_map (λ a. entries.Sync a.id) o)
 sync_found c l None = refl
@@ -64,19 +90,38 @@ sync_law {w = w} {c = c} {l = l} a =
 abbrev skip_entry : Row → Entry
 skip_entry r = entries.Skip r.id r.site r.positions
 
+narrow_step : (y x : Row) (b d : Bool) (o r : Option Row) → (d ≡ true → b ≡ true) → (b ≡ true → y ≡ x → d ≡ true) → (o ≡ Some x → r ≡ Some x) → cond b (Some y) o ≡ Some x → cond d (Some y) r ≡ Some x
+narrow_step y x true true o r f g h e = e
+narrow_step y x true false o r f g h e = let same : y ≡ x = cc in let bad = g refl same in cc
+narrow_step y x false true o r f g h e = let bad = f refl in cc
+narrow_step y x false false o r f g h e = h e
+
+-- what is found is found by a narrower test that it passes
+find_narrow : (p q : Row → Bool) (x : Row) → q x ≡ true → ((y : Row) → q y ≡ true → p y ≡ true) → (ys : List Row) → find p ys ≡ Some x → find q ys ≡ Some x
+find_narrow p q x passes wider [] e = cc
+find_narrow p q x passes wider (y ∷ ys) e = narrow_step y x (p y) (q y) (find p ys) (find q ys) (wider y) (λ k same. ap q same ∙ passes) (find_narrow p q x passes wider ys) e
+
+-- the first row at a dead site is the first of its message at its site
+pub first_at_site : (c : Core) (x : Row) → find (λ (r : Row). is_dead_in c r.site) c.waiting ≡ Some x → row_for c x.id x.site ≡ Some x
+first_at_site c x e =
+    find_narrow (λ (r : Row). is_dead_in c r.site) (is_for x.id x.site) x
+    (ap (λ b. b && site_eq x.site x.site) (id_eq-same x.id) ∙ site_eq-refl x.site)
+    (λ y k. ap (is_dead_in c) (site_eq-true y.site x.site (and_true_parts (id_eq y.id x.id) (site_eq y.site x.site) k).1) ∙ find-passes (λ (r : Row). is_dead_in c r.site) c.waiting x e)
+    c.waiting e
+
 -- the row that is skipped is the ledger's
-skip_at_row : (c : Core) (l : Ledger) (i : ℕ) (x : Row) → IsFoundAt (λ (r : Row). is_dead_in c r.site) c.waiting.items i x → skip_rule l ≡ Some (skip_entry x) → IsRule c (next_skip_in c) (skip_rule l)
+skip_at_row : (c : Core) (l : Ledger) (i : ℕ) (x : Row) → IsFoundAt (λ (r : Row). is_dead_in c r.site) c.waiting i x → skip_rule l ≡ Some (skip_entry x) → IsRule c (next_skip_in c) (skip_rule l)
 skip_at_row c l i x f e =
     subst (λ o. IsRule c (option_and_then (skip_at c) o) (skip_rule l)) (sym f.place)
-    (subst (λ o. IsRule c (option_map (skip_of i) o) (skip_rule l)) (sym f.there)
-    (skip_entry x, (x.positions, f.there, refl), e))
+    (subst (λ o. IsRule c (option_map (skip_of c) o) (skip_rule l)) (sym f.there)
+    (skip_entry x, (x.positions, first_at_site c x f.found, refl), e))
 
 pub skip_law : {w : World} {c : Core} {l : Ledger} → Holds w c l → IsRule c (next_skip_in c) (skip_rule l)
 skip_law {c = c} {l = l} a =
     let p : Row → Bool = λ (r : Row). is_dead_in c r.site in
-    let same : find (λ (r : Row). is_dead_site l r.site) l.waiting ≡ find p c.waiting.items =
-    sym (find-same p (λ (r : Row). is_dead_site l r.site) (λ (r : Row). same_dead a r.site) c.waiting.items ∙ ap (find (λ (r : Row). is_dead_site l r.site)) a.waiting) in
-    elim (position-find p c.waiting.items) [
+    let same : find (λ (r : Row). is_dead_site l r.site) l.waiting ≡ find p c.waiting =
+    sym (find-same p (λ (r : Row). is_dead_site l r.site) (λ (r : Row). same_dead a r.site) c.waiting ∙ ap (find (λ (r : Row). is_dead_site l r.site)) a.waiting) in
+    elim (position-find p c.waiting) [
       | inl h ↦ subst (λ o. IsRule c (option_and_then (skip_at c) o) (skip_rule l)) (sym h.0) (ap (option_map skip_entry) (same ∙ h.1))
       | inr h ↦ skip_at_row c l h.0 h.1 h.2 (ap (option_map skip_entry) (same ∙ h.2.found))
     ]

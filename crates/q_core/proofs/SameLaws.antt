@@ -13,15 +13,14 @@ use Rattle.q_laws.proofs.Mapped.{stands_mapped}
 use Rattle.q_laws.proofs.Members.{IsIn, all_at, any_in, find_none, in_either, in_filtered, in_unmap}
 use Rattle.q_laws.proofs.Moved.{move_to, other_moved}
 use Rattle.q_model.proofs.IdLaws.{id_eq-true}
-use Rattle.q_model.specs.Book.{Book, Damaged, damaged_of, ids_at, message_of, stands, stands_in}
+use Rattle.q_model.specs.Book.{Book, Damaged, all_ids, damaged_of, ids_at, message_of, stands, stands_in}
 use Rattle.q_model.specs.BookChanges.{move_message}
-use Rattle.q_model.specs.FilesStand.{all_ids, are_distinct}
-use Rattle.q_model.specs.Ids.{bounce_of, cause_of, id_eq}
+use Rattle.q_model.specs.Ids.{are_distinct, bounce_of, cause_of, id_eq}
 use Rattle.q_model.specs.Ledger.{Ledger}
 use Rattle.q_model.specs.Leftovers.{leftovers}
 use Rattle.q_model.specs.Memory.{is_admitted}
 use Rattle.q_model.specs.Message.{Message}
-use Rattle.q_model.specs.Orderly.{is_orderly, is_paired, is_sealed, is_settled}
+use Rattle.q_model.specs.Orderly.{is_orderly, is_paired, is_sealed, is_sound}
 use Rattle.q_model.specs.Places.{is_active, is_incoming}
 use Rattle.q_model.specs.declared.id.Id.{Id}
 use Rattle.q_model.specs.declared.rows.Place.{Place}
@@ -75,7 +74,7 @@ paired_there a b s o ea eb h = (and_parts s o (sym (ap (λ x. not x || not b || 
 pub paired_incoming : (b : Book) → is_orderly b ≡ true → (id : Id) → IsIn id (all_ids b) → id.bounce ≡ true → IsIn (cause_of id) (all_ids b) → IsIn id (ids_at is_incoming b)
 paired_incoming b orderly id inside bounce cause =
     let test : Id → Bool = λ i. nat_le i.generation b.generation && is_paired b i in
-    let ids = (and_parts (list_all test (all_ids b)) (list_all (λ (x : Message). is_active x.place || is_settled x) b.messages) orderly).0 in
+    let ids = (and_parts (list_all test (all_ids b)) (list_all (λ (x : Message). is_active x.place || is_sound x) b.messages) orderly).0 in
     let pair = (and_parts (nat_le id.generation b.generation) (is_paired b id) (all_at test id (all_ids b) ids inside)).1 in
     stands_listed is_incoming b id (paired_there id.bounce (stands b (cause_of id)) (stands_in is_incoming b id) (option_map_or (λ m. is_active m.place && is_sealed m) (message_of b (cause_of id)) false) bounce (listed_stands b (cause_of id) cause) pair)
 

@@ -1,28 +1,25 @@
 -- A delivery begins: its row goes from those that wait to those in flight.
-use Rattle.std.proofs.Common.{◌≡◌, ℕ, ◌+◌, ◌<◌, ◌^◌, Bool, true, false, cond, List, [], ◌∷◌, ◌++◌, length, map, refl, sym, ap, ◌∙◌, subst, Some, None, inl, inr, position, sum_by, arith, eq-eqb, eqb-true, leb-true, ltb-true, add-zero}
-use Rattle.std.proofs.lemmas.List.Folds.{find-append}
+use Rattle.std.proofs.Common.{◌≡◌, ℕ, ◌+◌, ◌<◌, ◌^◌, Bool, true, false, cond, List, [], ◌∷◌, ◌++◌, length, map, refl, sym, ap, ◌∙◌, subst, Some, None, inl, inr, position, sum_by, arith, eqb-true, leb-true, ltb-true, add-zero}
 use Rattle.std.proofs.lemmas.List.Sums.{sum_by-cons, sum_by_push}
 use Rattle.std.specs.List.{enumerate_from, list_all, remove}
-use Rattle.std.specs.Option.{option_or}
 use Rattle.std.specs.Prelude.{◌&&◌, ◌==◌, find, IsTrue, nat_le, not, slice_get}
 use Rattle.q_core.proofs.AccountLaws.{lines_begun}
 use Rattle.q_core.proofs.ChosenLaws.{IsChosen, chosen_row}
 use Rattle.q_core.proofs.DroppedLaws.{drop_first-narrow, is_row-same, is_row-true, list_any-drop_first, sum_by-drop_first}
 use Rattle.q_core.proofs.ListLaws.{drop_first-Some, position-find}
 use Rattle.q_core.proofs.NameLaws.{and_true_parts, id_eq-same}
-use Rattle.q_core.proofs.SiteLaws.{settle_used_law}
+use Rattle.q_core.proofs.SiteLaws.{tidy_used_law}
 use Rattle.q_core.proofs.StepLaws.{HoldsRaw, IsStillSeen, raw_law}
 use Rattle.q_core.specs.Agrees.{Agrees, Holds, Matches, jobs_of}
-use Rattle.q_core.specs.Beginning.{begun_line, is_for, IsBegun, IsSent, served_now}
-use Rattle.q_core.specs.Changes.{IsSettled, is_looked_at}
-use Rattle.q_core.specs.Destinations.{busy_in, is_unused_in, waits_at_in}
-use Rattle.q_core.specs.Queries.{flight_in}
+use Rattle.q_core.specs.Sending.{started_line, is_for, IsStarted, IsSent, served_now}
+use Rattle.q_core.specs.Changes.{IsTidied, is_looked_at}
+use Rattle.q_core.specs.UsedSites.{busy_in, is_unused_in, waits_at_in}
 use Rattle.q_core.specs.declared.line.Job.{Job}
 use Rattle.q_core.specs.declared.state.Core.{Core}
 use Rattle.q_core.specs.declared.state.Seen.{Seen}
 use Rattle.q_core.specs.declared.state.Seen.TheVariants.{Known, Unknown}
 use Rattle.q_model.proofs.IdLaws.{site_eq-refl}
-use Rattle.q_model.specs.Destinations.{site_eq}
+use Rattle.q_model.specs.Sites.{site_eq}
 use Rattle.q_model.specs.Ledger.{Ledger}
 use Rattle.q_model.specs.Lists.{drop_first}
 use Rattle.q_model.specs.Memory.{in_memory}
@@ -30,7 +27,7 @@ use Rattle.q_model.specs.Next.{start_rule}
 use Rattle.q_model.specs.Past.{is_start, starts}
 use Rattle.q_model.specs.Settings.{World}
 use Rattle.q_model.specs.Starts.{after_start, is_row}
-use Rattle.q_model.specs.Step.{noted, settled}
+use Rattle.q_model.specs.Step.{noted, tidied}
 use Rattle.q_model.specs.Values.{Served, Site}
 use Rattle.q_model.specs.declared.entry.Entry.{Entry}
 use Rattle.q_model.specs.declared.entry.Entry.TheVariants as entries
@@ -53,10 +50,10 @@ is_row-for : (id : Id) (site : Site) (ps : List ℕ) (y : Row) → is_row id sit
 is_row-for id site ps y h = ap (λ (x : Row). is_for id site x) (is_row-true id site ps y h) ∙ ap (λ b. b && site_eq site site) (id_eq-same id) ∙ site_eq-refl site
 
 -- the first row for the site is the first equal one
-dropped_same : {w : World} {c : Core} {l : Ledger} → Holds w c l → (number : ℕ) (id : Id) (site : Site) (ps : List ℕ) (entry : ℕ) → IsChosen l number id site ps → position (is_for id site) c.waiting.items ≡ Some entry →
-    remove c.waiting.items entry ≡ drop_first (is_row id site ps) l.waiting
+dropped_same : {w : World} {c : Core} {l : Ledger} → Holds w c l → (number : ℕ) (id : Id) (site : Site) (ps : List ℕ) (entry : ℕ) → IsChosen l number id site ps → position (is_for id site) c.waiting ≡ Some entry →
+    remove c.waiting entry ≡ drop_first (is_row id site ps) l.waiting
 dropped_same {c = c} {l = l} h number id site ps entry chosen there =
-    drop_first-Some (is_for id site) c.waiting.items entry there
+    drop_first-Some (is_for id site) c.waiting entry there
     ∙ ap (drop_first (is_for id site)) h.waiting
     ∙ sym (drop_first-narrow (is_for id site) (is_row id site ps) (row_at id site ps) (is_row-same (row_at id site ps)) (is_row-for id site ps) l.waiting chosen.first)
 
@@ -75,9 +72,9 @@ some_place p xs x found none = elim (position-find p xs) [
   | inr f ↦ let bad : Some f.0 ≡ None = sym f.2.place ∙ none in cc
 ]
 
-pub chosen_place : {w : World} {c : Core} {l : Ledger} → Agrees w c l → (number : ℕ) (id : Id) (site : Site) (ps : List ℕ) → start_rule w l ≡ Some (entries.Start number id site ps) → position (is_for id site) c.waiting.items ≡ None → ⊥
+pub chosen_place : {w : World} {c : Core} {l : Ledger} → Agrees w c l → (number : ℕ) (id : Id) (site : Site) (ps : List ℕ) → start_rule w l ≡ Some (entries.Start number id site ps) → position (is_for id site) c.waiting ≡ None → ⊥
 chosen_place {w = w} {c = c} {l = l} a number id site ps rule none =
-    some_place (is_for id site) c.waiting.items (row_at id site ps) (ap (find (is_for id site)) a.matches.parts.waiting ∙ (chosen_row w l number id site ps rule).first) none
+    some_place (is_for id site) c.waiting (row_at id site ps) (ap (find (is_for id site)) a.matches.parts.waiting ∙ (chosen_row w l number id site ps rule).first) none
 
 -- the recipients in memory stay
 same_memory : (l : Ledger) (number : ℕ) (id : Id) (site : Site) (ps : List ℕ) → IsChosen l number id site ps → in_memory l ≡ in_memory (after_start l number id site ps)
@@ -88,18 +85,18 @@ same_memory l number id site ps chosen =
     omega (arith, out, narrow, inn)
 
 -- the whole change of the lists
-begin_raw : {w : World} {c u d : Core} {l : Ledger} → HoldsRaw w c l → (number : ℕ) (id : Id) (site : Site) (ps : List ℕ) (entry : ℕ) → IsChosen l number id site ps → position (is_for id site) c.waiting.items ≡ Some entry → slice_get c.waiting.items entry ≡ Some (row_at id site ps) →
-    IsSent c u number id site entry → IsBegun u d id site.transport → HoldsRaw w d (noted (entries.Start number id site ps) (after_start l number id site ps))
+begin_raw : {w : World} {c u d : Core} {l : Ledger} → HoldsRaw w c l → (number : ℕ) (id : Id) (site : Site) (ps : List ℕ) (entry : ℕ) → IsChosen l number id site ps → position (is_for id site) c.waiting ≡ Some entry → slice_get c.waiting entry ≡ Some (row_at id site ps) →
+    IsSent c u number id site entry → IsStarted u d id site.transport → HoldsRaw w d (noted (entries.Start number id site ps) (after_start l number id site ps))
 begin_raw {w = w} {c = c} {u = u} {d = d} {l = l} r number id site ps entry chosen there row sent begun =
     let h = r.parts in
     let e : Entry = entries.Start number id site ps in
     let next : Ledger = noted e (after_start l number id site ps) in
     let kept : Core = record c { waiting = u.waiting; flights = u.flights; served = u.served; starts = number; lines = d.lines } in
     let few : starts l < 2 ^ 48 = ltb-true (starts l) (2 ^ 48) chosen.few in
-    let lines : d.lines.items ≡ map (jobs_of next) (enumerate_from 0 l.lines) =
+    let lines : d.lines ≡ map (jobs_of next) (enumerate_from 0 l.lines) =
     begun.lines
-    ∙ ap (λ (x : Core). map (begun_line id site.transport) (enumerate_from 0 x.lines.items)) sent.rest
-    ∙ ap (λ (js : List (List Job)). map (begun_line id site.transport) (enumerate_from 0 js)) h.lines
+    ∙ ap (λ (x : Core). map (started_line id site.transport) (enumerate_from 0 x.lines)) sent.rest
+    ∙ ap (λ (js : List (List Job)). map (started_line id site.transport) (enumerate_from 0 js)) h.lines
     ∙ lines_begun (after_start l number id site ps) number id site ps few 0 l.lines in
     let count : number ≡ starts next =
     let more = sum_by-cons (λ x. cond (is_start x) 1 0) e l.past in
@@ -167,16 +164,16 @@ begin_used l number id site ps s false e =
 -- ---- the whole entry
 
 pub begin_law : {w : World} {c u v d : Core} {l : Ledger} → Agrees w c l → IsTrue (is_looked_at c) → (number : ℕ) (id : Id) (site : Site) (ps : List ℕ) (entry : ℕ) → start_rule w l ≡ Some (entries.Start number id site ps) →
-    position (is_for id site) c.waiting.items ≡ Some entry → IsSent c u number id site entry → IsBegun u v id site.transport → IsSettled v d → Matches w d (settled w l (noted (entries.Start number id site ps) (after_start l number id site ps)))
+    position (is_for id site) c.waiting ≡ Some entry → IsSent c u number id site entry → IsStarted u v id site.transport → IsTidied v d → Matches w d (tidied w l (noted (entries.Start number id site ps) (after_start l number id site ps)))
 begin_law {w = w} {c = c} {u = u} {v = v} {d = d} {l = l} a looked number id site ps entry rule there sent begun s =
     let chosen = chosen_row w l number id site ps rule in
     let raw = raw_law a.matches looked in
-    let row = row_there (is_for id site) c.waiting.items entry (row_at id site ps) there (ap (find (is_for id site)) a.matches.parts.waiting ∙ chosen.first) in
-    settle_used_law l (λ r. begin_used l number id site ps r.site (site_eq site r.site) refl) (begin_raw raw number id site ps entry chosen there row sent begun) s
+    let row = row_there (is_for id site) c.waiting entry (row_at id site ps) there (ap (find (is_for id site)) a.matches.parts.waiting ∙ chosen.first) in
+    tidy_used_law l (λ r. begin_used l number id site ps r.site (site_eq site r.site) refl) (begin_raw raw number id site ps entry chosen there row sent begun) s
 
 -- the delivery is in flight by its number
 
-older : (fs : List Delivery) (n number : ℕ) → list_all (λ (f : Delivery). nat_le f.number n) fs ≡ true → number ≡ n + 1 → find (λ (f : Delivery). f.number == number) fs ≡ None
+pub older : (fs : List Delivery) (n number : ℕ) → list_all (λ (f : Delivery). nat_le f.number n) fs ≡ true → number ≡ n + 1 → find (λ (f : Delivery). f.number == number) fs ≡ None
 older [] n number h e = refl
 older (f ∷ fs) n number h e =
     let both = and_true_parts (nat_le f.number n) (list_all (λ (x : Delivery). nat_le x.number n) fs) h in
@@ -189,17 +186,3 @@ older (f ∷ fs) n number h e =
         let same = eqb-true f.number number t in
         let less = leb-true f.number n (and_true_parts (nat_le f.number n) (list_all (λ (x : Delivery). nat_le x.number n) fs) h).0 in
         absurd (omega (arith, less, e, same))
-
-pub begin_flight : {w : World} {c u v d : Core} {l : Ledger} → Agrees w c l → (number : ℕ) (id : Id) (site : Site) (ps : List ℕ) (entry : ℕ) → start_rule w l ≡ Some (entries.Start number id site ps) →
-    position (is_for id site) c.waiting.items ≡ Some entry → IsSent c u number id site entry → IsBegun u v id site.transport → IsSettled v d → flight_in d number ≡ Some (delivery_at number id site ps)
-begin_flight {w = w} {c = c} {u = u} {v = v} {d = d} {l = l} a number id site ps entry rule there sent begun s =
-    let chosen = chosen_row w l number id site ps rule in
-    let row = row_there (is_for id site) c.waiting.items entry (row_at id site ps) there (ap (find (is_for id site)) a.matches.parts.waiting ∙ chosen.first) in
-    let p : Delivery → Bool = λ f. f.number == number in
-    let f : Delivery = delivery_at number id site ps in
-    ap (λ (x : Core). find p x.flights.items) s.rest
-    ∙ ap (λ (x : Core). find p x.flights.items) begun.rest
-    ∙ ap (find p) (sent.flights (row_at id site ps) row ∙ ap (λ fs. fs ++ f ∷ []) a.matches.parts.flights)
-    ∙ find-append p l.flights (f ∷ [])
-    ∙ ap (λ o. option_or o (find p (f ∷ []))) (older l.flights (starts l) number a.consistent.memory.begun chosen.count)
-    ∙ ap (λ b. cond b (Some f) None) (eq-eqb number number refl)

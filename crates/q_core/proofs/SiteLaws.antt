@@ -4,21 +4,21 @@ use Rattle.std.specs.Prelude.{◌&&◌, filter, not}
 use Rattle.q_core.proofs.ListLaws.{filter-same, filter_each, filter_none}
 use Rattle.q_core.proofs.MovedLaws.{moved_is}
 use Rattle.q_core.proofs.NameLaws.{and_true_parts}
-use Rattle.q_core.proofs.SettleLaws.{kept_alive, settle_law, settled_as, settled_by}
+use Rattle.q_core.proofs.TidyLaws.{kept_alive, tidy_law, tidied_as, tidied_by}
 use Rattle.q_core.proofs.StepLaws.{HoldsRaw, IsStillSeen}
 use Rattle.q_core.specs.Agrees.{Holds, Matches}
-use Rattle.q_core.specs.Changes.{IsLeft, IsSettled}
-use Rattle.q_core.specs.Destinations.{is_left_in, is_unused_in}
+use Rattle.q_core.specs.Changes.{HasLeftSite, IsTidied}
+use Rattle.q_core.specs.UsedSites.{is_left_in, is_unused_in}
 use Rattle.q_core.specs.Lists.{moved_back}
 use Rattle.q_core.specs.declared.state.Core.{Core}
 use Rattle.q_core.specs.declared.state.Seen.{Seen}
 use Rattle.q_core.specs.declared.state.Seen.TheVariants.{Known, Unknown}
 use Rattle.q_laws.specs.SitesConsistency.{are_apart}
 use Rattle.q_model.proofs.IdLaws.{site_eq-true}
-use Rattle.q_model.specs.Destinations.{site_eq}
+use Rattle.q_model.specs.Sites.{site_eq}
 use Rattle.q_model.specs.Ledger.{Ledger}
 use Rattle.q_model.specs.Settings.{World}
-use Rattle.q_model.specs.Step.{settled}
+use Rattle.q_model.specs.Step.{tidied}
 use Rattle.q_model.specs.UnusedSites.{forget_oldest, is_unused}
 use Rattle.q_model.specs.Values.{Site, SiteRecord}
 use Rattle.q_model.specs.declared.rows.Delivery.{Delivery}
@@ -29,7 +29,7 @@ still_sites Unknown l sites h = tt
 still_sites (Known found) l sites h = h
 
 -- the records of sites are set in both
-pub sites_law : {w : World} {c d : Core} {l : Ledger} (sites : List SiteRecord) → HoldsRaw w c l → d ≡ record c { sites = d.sites } → d.sites.items ≡ sites → HoldsRaw w d (record l { sites = sites })
+pub sites_law : {w : World} {c d : Core} {l : Ledger} (sites : List SiteRecord) → HoldsRaw w c l → d ≡ record c { sites = d.sites } → d.sites ≡ sites → HoldsRaw w d (record l { sites = sites })
 sites_law {w = w} {c = c} {d = d} {l = l} sites r rest e =
     let h = r.parts in
     let later : Ledger = record l { sites = sites } in
@@ -97,40 +97,40 @@ none_new true = refl
 none_new false = refl
 
 -- with the records in their order, nothing comes to be unused
-settled_same : (w : World) (l : Ledger) → settled w l l ≡ settled_by w l (forget_oldest w l (kept_alive l l.sites))
-settled_same w l =
-    settled_as w l l
-    ∙ ap (λ xs. settled_by w l (forget_oldest w l (kept_alive l xs)))
+tidied_same : (w : World) (l : Ledger) → tidied w l l ≡ tidied_by w l (forget_oldest w l (kept_alive l l.sites))
+tidied_same w l =
+    tidied_as w l l
+    ∙ ap (λ xs. tidied_by w l (forget_oldest w l (kept_alive l xs)))
     (ap (λ xs. xs ++ filter (comes_unused l l) l.sites) (filter_each (λ r. not (comes_unused l l r)) (λ r. ap not (none_new (is_unused l r))) l.sites)
     ∙ ap (λ xs. l.sites ++ xs) (filter_none (comes_unused l l) (λ r. none_new (is_unused l r)) l.sites)
     ∙ append-nil l.sites)
 
-settled_left : (w : World) (site : Site) (before l : Ledger) → LeavesFrom site before l → are_apart l.sites ≡ true →
-    settled w before l ≡ settled w (record l { sites = sites_left l site }) (record l { sites = sites_left l site })
-settled_left w site before l leaves apart =
-    settled_as w before l
-    ∙ ap (λ xs. settled_by w l (forget_oldest w l (kept_alive l xs))) (ordered_left site before l leaves apart)
-    ∙ sym (settled_same w (record l { sites = sites_left l site }))
+tidied_left : (w : World) (site : Site) (before l : Ledger) → LeavesFrom site before l → are_apart l.sites ≡ true →
+    tidied w before l ≡ tidied w (record l { sites = sites_left l site }) (record l { sites = sites_left l site })
+tidied_left w site before l leaves apart =
+    tidied_as w before l
+    ∙ ap (λ xs. tidied_by w l (forget_oldest w l (kept_alive l xs))) (ordered_left site before l leaves apart)
+    ∙ sym (tidied_same w (record l { sites = sites_left l site }))
 
--- settling keeps the agreement; the entry took a row from this site
-pub settle_left_law : {w : World} {c mid d : Core} {l : Ledger} (site : Site) (before : Ledger) → LeavesFrom site before l → are_apart l.sites ≡ true → HoldsRaw w c l →
-    IsLeft c mid site → IsSettled mid d → Matches w d (settled w before l)
-settle_left_law {w = w} {c = c} {mid = mid} {d = d} {l = l} site before leaves apart r left s =
-    let moved : mid.sites.items ≡ sites_left l site =
+-- tidying keeps the agreement; the entry took a row from this site
+pub tidy_left_law : {w : World} {c mid d : Core} {l : Ledger} (site : Site) (before : Ledger) → LeavesFrom site before l → are_apart l.sites ≡ true → HoldsRaw w c l →
+    HasLeftSite c mid site → IsTidied mid d → Matches w d (tidied w before l)
+tidy_left_law {w = w} {c = c} {mid = mid} {d = d} {l = l} site before leaves apart r left s =
+    let moved : mid.sites ≡ sites_left l site =
     left.sites
-    ∙ ap (λ (rs : List Row). moved_back (is_left_in rs c.flights.items site) c.sites.items) r.parts.waiting
-    ∙ ap (λ (fs : List Delivery). moved_back (is_left_in l.waiting fs site) c.sites.items) r.parts.flights
+    ∙ ap (λ (rs : List Row). moved_back (is_left_in rs c.flights site) c.sites) r.parts.waiting
+    ∙ ap (λ (fs : List Delivery). moved_back (is_left_in l.waiting fs site) c.sites) r.parts.flights
     ∙ ap (moved_back (is_left_in l.waiting l.flights site)) r.parts.sites in
     let later : Ledger = record l { sites = sites_left l site } in
-    subst (λ k. Matches w d k) (sym (settled_left w site before l leaves apart)) (settle_law later refl refl (sites_law (sites_left l site) r left.rest moved) s)
+    subst (λ k. Matches w d k) (sym (tidied_left w site before l leaves apart)) (tidy_law later refl refl (sites_law (sites_left l site) r left.rest moved) s)
 
--- settling keeps the agreement; the entry left no site unused that was used before
-pub settle_used_law : {w : World} {c d : Core} {l : Ledger} (before : Ledger) → ((r : SiteRecord) → comes_unused before l r ≡ false) → HoldsRaw w c l → IsSettled c d → Matches w d (settled w before l)
-settle_used_law {w = w} {c = c} {d = d} {l = l} before none r s =
+-- tidying keeps the agreement; the entry left no site unused that was used before
+pub tidy_used_law : {w : World} {c d : Core} {l : Ledger} (before : Ledger) → ((r : SiteRecord) → comes_unused before l r ≡ false) → HoldsRaw w c l → IsTidied c d → Matches w d (tidied w before l)
+tidy_used_law {w = w} {c = c} {d = d} {l = l} before none r s =
     let ordered : (filter (λ x. not (comes_unused before l x)) l.sites ++ filter (comes_unused before l) l.sites) ≡ l.sites =
     ap (λ xs. xs ++ filter (comes_unused before l) l.sites) (filter_each (λ x. not (comes_unused before l x)) (λ x. ap not (none x)) l.sites)
     ∙ ap (λ xs. l.sites ++ xs) (filter_none (comes_unused before l) none l.sites)
     ∙ append-nil l.sites in
-    let same : settled w before l ≡ settled w l l =
-    settled_as w before l ∙ ap (λ xs. settled_by w l (forget_oldest w l (kept_alive l xs))) ordered ∙ sym (settled_same w l) in
-    subst (λ k. Matches w d k) (sym same) (settle_law l refl refl r s)
+    let same : tidied w before l ≡ tidied w l l =
+    tidied_as w before l ∙ ap (λ xs. tidied_by w l (forget_oldest w l (kept_alive l xs))) ordered ∙ sym (tidied_same w l) in
+    subst (λ k. Matches w d k) (sym same) (tidy_law l refl refl r s)

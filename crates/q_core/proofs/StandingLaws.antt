@@ -1,26 +1,15 @@
 -- A message that an earlier life left stands in active.
-use Rattle.std.proofs.Common.{◌≡◌, ℕ, ◌+◌, Bool, true, false, cond, List, [], ◌∷◌, ◌++◌, map, refl, sym, ap, ◌∙◌, subst, Option, Some, None, option_map}
-use Rattle.std.proofs.lemmas.List.Folds.{list_all-map}
-use Rattle.std.specs.List.{list_all, list_any}
-use Rattle.std.specs.Prelude.{◌&&◌, ◌==◌, filter, find, nat_le, not, ◌||◌}
-use Rattle.q_core.proofs.ListLaws.{filter-map, filter_each, find-map, list_any-map}
+use Rattle.std.proofs.Common.{◌≡◌, Bool, true, false, cond, List, [], ◌∷◌, ◌++◌, map, refl, sym, ap, ◌∙◌, subst, Some}
+use Rattle.std.specs.List.{list_any}
+use Rattle.std.specs.Prelude.{filter, find, not, ◌||◌}
 use Rattle.q_core.proofs.NameLaws.{and_true_parts, id_eq-same, id_eq-true, or_right}
-use Rattle.q_model.specs.Book.{Book, ids_at, message_of, Damaged}
-use Rattle.q_model.specs.Finishing.{is_clean}
-use Rattle.q_model.specs.FilesStand.{all_ids, are_distinct}
-use Rattle.q_model.specs.Ids.{id_eq}
+use Rattle.q_model.specs.Book.{Damaged, all_ids, ids_at, message_of}
+use Rattle.q_model.specs.Ids.{are_distinct, id_eq}
 use Rattle.q_model.specs.Leftovers.{is_leftover}
 use Rattle.q_model.specs.Ledger.{Ledger}
 use Rattle.q_model.specs.Memory.{is_admitted}
-use Rattle.q_model.specs.Lists.{has_none, places_from}
-use Rattle.q_model.specs.Lives.{firm_failures}
-use Rattle.q_model.specs.Marks.{is_marked}
-use Rattle.q_model.specs.Message.{Logged, Message, Recipient, is_logged, unmarked_logged, written_marks}
-use Rattle.q_model.specs.Orderly.{has_firm_failures, is_orderly as is_orderly_book, is_paired, is_settled}
+use Rattle.q_model.specs.Message.{Message}
 use Rattle.q_model.specs.Places.{is_active}
-use Rattle.q_model.specs.Settings.{World}
-use Rattle.q_model.specs.Step.{after}
-use Rattle.q_model.specs.declared.event.Mode.{Mode}
 use Rattle.q_model.specs.declared.id.Id.{Id}
 
 other_way_one : (a b : Id) → id_eq a b ≡ true → id_eq b a ≡ true

@@ -1,5 +1,5 @@
 -- The choice by what the core holds is the ledger's.
-use Rattle.std.proofs.Common.{◌≡◌, ℕ, ◌+◌, ◌-◌, ◌*◌, ◌^◌, Bool, true, false, List, [], ◌∷◌, length, map, refl, suc, sym, ap, ◌∙◌, subst, arith, Option, Some, None, option_map, IsTrue}
+use Rattle.std.proofs.Common.{◌≡◌, ℕ, ◌+◌, ◌-◌, ◌*◌, ◌≤◌, ◌^◌, Bool, true, false, List, [], ◌∷◌, length, map, min, refl, suc, sym, ap, ◌∙◌, subst, arith, Option, Some, None, option_map, IsTrue}
 use Rattle.std.specs.Prelude.{find, filter, not, ◌&&◌, ◌||◌, ◌==◌, nat_lt, nat_le, count_by, option_and_then, if◌then◌else◌, slice_get, filter_map}
 use Rattle.std.specs.List.{list_any, list_all, enumerate_from, cons_option}
 use Rattle.std.specs.Option.{option_map_or, option_or}
@@ -8,8 +8,10 @@ use Rattle.q_core.proofs.ChoiceLaws.{least-map, least-same, list_all-filter}
 use Rattle.q_core.proofs.ListLaws.{filter-map, filter-same, find-map, find-same, list_any-same, slice_get-numbered}
 use Rattle.q_core.proofs.NameLaws.{id_eq-true}
 use Rattle.q_core.specs.Agrees.{Holds, job_of, jobs_of, slot_of}
-use Rattle.q_laws.specs.Consistency.{is_present}
-use Rattle.q_core.specs.Choosing.{behind_jobs, best_in, choice_in, choices_from, choose_in, current_in, is_better_in, is_candidate_in, is_fresh_among, jobs_at, next_start_in, pays_in, preempt_or, rest_in}
+use Rattle.q_laws.proofs.Members.{IsIn, in_filtered, least_in}
+use Rattle.q_laws.proofs.Rests.{rest_few}
+use Rattle.q_laws.specs.Consistency.{IsMemoryConsistent, is_present}
+use Rattle.q_core.specs.Choosing.{behind_jobs, best_in, choice_in, choices_from, choose_in, current_in, is_better_in, is_candidate_in, is_fresh_among, jobs_at, need_in, next_start_in, pays_in, preempt_or, rest_in}
 use Rattle.q_core.specs.Decisions.{IsRule}
 use Rattle.q_core.specs.Held.{unread_in}
 use Rattle.q_core.specs.Starting.{can_start_in, flights_at, has_room_in, is_startable_in, last_start_in, next_row_in, rows_for, start_in, start_of_row}
@@ -19,10 +21,10 @@ use Rattle.q_core.specs.declared.slot.Slot.{Slot}
 use Rattle.q_core.specs.declared.state.Core.{Core}
 use Rattle.q_model.specs.Accounts.{charged, rest, starts_of}
 use Rattle.q_model.specs.Book.{message_of}
-use Rattle.q_model.specs.Candidates.{age, behind, best, is_better, is_candidate, pays}
+use Rattle.q_model.specs.Candidates.{age, ids_behind, best, is_better, is_candidate, pays}
 use Rattle.q_model.specs.Choice.{choice, last_start, next_row, start_of}
 use Rattle.q_model.specs.Deliveries.{flights_of}
-use Rattle.q_model.specs.Destinations.{site_eq}
+use Rattle.q_model.specs.Sites.{site_eq}
 use Rattle.q_model.specs.Ids.{id_eq}
 use Rattle.q_model.specs.Ledger.{Ledger}
 use Rattle.q_model.specs.Lists.{first_some, least}
@@ -51,7 +53,7 @@ room_of fs site o = option_map_or (λ d. is_alive d.health && nat_lt (count_by (
 same_startable : {w : World} {c : Core} {l : Ledger} → Holds w c l → (r : Row) → is_startable_in c r ≡ is_startable w l r
 same_startable {w = w} {c = c} {l = l} h r =
     ap (λ (s : Settings). nat_lt (flights_at c r.site.transport) s.process_limit && has_room_in c r.site) h.settings
-    ∙ ap (λ (fs : List Delivery). nat_lt (count_by (λ f. f.row.site.transport == r.site.transport) fs) w.settings.process_limit && room_of fs r.site (find (λ d. site_eq d.site r.site) c.sites.items)) h.flights
+    ∙ ap (λ (fs : List Delivery). nat_lt (count_by (λ f. f.row.site.transport == r.site.transport) fs) w.settings.process_limit && room_of fs r.site (find (λ d. site_eq d.site r.site) c.sites)) h.flights
     ∙ ap (λ (ds : List SiteRecord). nat_lt (flights_of l r.site.transport) w.settings.process_limit && room_of l.flights r.site (find (λ d. site_eq d.site r.site) ds)) h.sites
 
 same_for : {w : World} {c : Core} {l : Ledger} → Holds w c l → (id : Id) (t : ℕ) (r : Row) → rows_for c id t r ≡ rows_of w l id t r
@@ -91,9 +93,9 @@ behind_step : (l : Ledger) (t : ℕ) (id : Id) (b : Bool) (xs rest : List Id) (j
 behind_step l t id true xs rest js h = refl
 behind_step l t id false xs rest js h = h
 
-same_behind : (l : Ledger) (t : ℕ) (id : Id) (ids : List Id) → behind_jobs id (map (job_of l t) ids) ≡ map (job_of l t) (behind id ids)
+same_behind : (l : Ledger) (t : ℕ) (id : Id) (ids : List Id) → behind_jobs id (map (job_of l t) ids) ≡ map (job_of l t) (ids_behind id ids)
 same_behind l t id [] = refl
-same_behind l t id (x ∷ xs) = behind_step l t id (id_eq x id) xs (behind id xs) (behind_jobs id (map (job_of l t) xs)) (same_behind l t id xs)
+same_behind l t id (x ∷ xs) = behind_step l t id (id_eq x id) xs (ids_behind id xs) (behind_jobs id (map (job_of l t) xs)) (same_behind l t id xs)
 
 absorbs : (b c : Bool) → (b || (c && b)) ≡ b
 absorbs true c = refl
@@ -126,12 +128,12 @@ same_candidate : {w : World} {c : Core} {l : Ledger} → Holds w c l → (t : �
 same_candidate {w = w} {c = c} {l = l} h t parent id =
     ap (λ (s : Settings). not (s.slot_cost == 0) && is_fresh_among (behind_jobs parent (jobs_at c t)) id && can_start_in c t id && pays_in c.params (job_of l t parent) (rest_in c t parent) (rest_in c t id)) h.settings
     ∙ ap (λ f. not (w.settings.slot_cost == 0) && f && can_start_in c t id && pays_in c.params (job_of l t parent) (rest_in c t parent) (rest_in c t id))
-    (ap (λ js. is_fresh_among js id) (ap (behind_jobs parent) (same_jobs_at h t) ∙ same_behind l t parent (line_of l t)) ∙ same_fresh l t id (behind parent (line_of l t)))
-    ∙ ap (λ b. not (w.settings.slot_cost == 0) && (list_any (id_eq id) (behind parent (line_of l t)) && (starts_of l id t == 0)) && b && pays_in c.params (job_of l t parent) (rest_in c t parent) (rest_in c t id)) (same_can_start h t id)
-    ∙ ap (λ n. not (w.settings.slot_cost == 0) && (list_any (id_eq id) (behind parent (line_of l t)) && (starts_of l id t == 0)) && can_start w l t id && pays_in c.params (job_of l t parent) n (rest_in c t id)) (same_rest h t parent)
-    ∙ ap (λ n. not (w.settings.slot_cost == 0) && (list_any (id_eq id) (behind parent (line_of l t)) && (starts_of l id t == 0)) && can_start w l t id && pays_in c.params (job_of l t parent) (rest l parent t) n) (same_rest h t id)
-    ∙ ap (λ b. not (w.settings.slot_cost == 0) && (list_any (id_eq id) (behind parent (line_of l t)) && (starts_of l id t == 0)) && can_start w l t id && b) (same_pays h t parent (rest l id t))
-    ∙ and_split (not (w.settings.slot_cost == 0)) (list_any (id_eq id) (behind parent (line_of l t))) (starts_of l id t == 0) (can_start w l t id) (pays w l t parent (rest l id t))
+    (ap (λ js. is_fresh_among js id) (ap (behind_jobs parent) (same_jobs_at h t) ∙ same_behind l t parent (line_of l t)) ∙ same_fresh l t id (ids_behind parent (line_of l t)))
+    ∙ ap (λ b. not (w.settings.slot_cost == 0) && (list_any (id_eq id) (ids_behind parent (line_of l t)) && (starts_of l id t == 0)) && b && pays_in c.params (job_of l t parent) (rest_in c t parent) (rest_in c t id)) (same_can_start h t id)
+    ∙ ap (λ n. not (w.settings.slot_cost == 0) && (list_any (id_eq id) (ids_behind parent (line_of l t)) && (starts_of l id t == 0)) && can_start w l t id && pays_in c.params (job_of l t parent) n (rest_in c t id)) (same_rest h t parent)
+    ∙ ap (λ n. not (w.settings.slot_cost == 0) && (list_any (id_eq id) (ids_behind parent (line_of l t)) && (starts_of l id t == 0)) && can_start w l t id && pays_in c.params (job_of l t parent) (rest l parent t) n) (same_rest h t id)
+    ∙ ap (λ b. not (w.settings.slot_cost == 0) && (list_any (id_eq id) (ids_behind parent (line_of l t)) && (starts_of l id t == 0)) && can_start w l t id && b) (same_pays h t parent (rest l id t))
+    ∙ and_split (not (w.settings.slot_cost == 0)) (list_any (id_eq id) (ids_behind parent (line_of l t))) (starts_of l id t == 0) (can_start w l t id) (pays w l t parent (rest l id t))
 
 abbrev arrival_at : Option Message → ℕ
 arrival_at o = option_map_or (λ m. m.arrival) o 0
@@ -204,26 +206,39 @@ start_of_job {w = w} {c = c} {l = l} h t id =
 abbrev preempt_on : World → Ledger → ℕ → Id → Option Id → Option Entry
 preempt_on w l t parent o = option_map_or (λ child. Some (entries.Preempt child parent t (rest l child t))) o (option_map (start_of l) (next_row w l t parent))
 
-preempt_found : {w : World} {c : Core} {l : Ledger} → Holds w c l → IsTrue (list_all (is_present l) l.admitted) → (t : ℕ) (parent : Id) (o : Option Admitted) →
-    IsRule c (preempt_or c t (job_of l t parent) (option_map (slot_of l) o)) (preempt_on w l t parent (option_map (λ (a : Admitted). a.id) o))
-preempt_found h p t parent None = start_of_job h t parent
-preempt_found {c = c} {l = l} h p t parent (Some x) =
-    (entries.Preempt x.id parent t (rest_in c t x.id), refl, ap (λ n. Some (entries.Preempt x.id parent t n)) (sym (same_rest h t x.id)))
+least_is : (a b : ℕ) → a ≤ b → min a b ≡ a
+least_is a b h = grind (arith, h)
 
-choose_law : {w : World} {c : Core} {l : Ledger} → Holds w c l → IsTrue (list_all (is_present l) l.admitted) → (t : ℕ) (parent : Id) → IsRule c (choose_in c t (job_of l t parent)) (preempt_on w l t parent (best w l t parent))
+-- the need of a message in memory is all that it has left
+same_need : {w : World} {c : Core} {l : Ledger} → Holds w c l → IsMemoryConsistent w l → (t : ℕ) (x : Admitted) → IsIn x l.admitted → need_in c t (slot_of l x) ≡ rest l x.id t
+same_need {w = w} {c = c} {l = l} h m t x inside =
+    ap (λ n. min n (slot_of l x).recipients) (same_rest h t x.id) ∙ least_is (rest l x.id t) (slot_of l x).recipients (rest_few w l x t m inside)
+
+preempt_found : {w : World} {c : Core} {l : Ledger} → Holds w c l → IsMemoryConsistent w l → (t : ℕ) (parent : Id) (o : Option Admitted) → ((x : Admitted) → o ≡ Some x → IsIn x l.admitted) →
+    IsRule c (preempt_or c t (job_of l t parent) (option_map (slot_of l) o)) (preempt_on w l t parent (option_map (λ (a : Admitted). a.id) o))
+preempt_found h m t parent None inside = start_of_job h t parent
+preempt_found {c = c} {l = l} h m t parent (Some x) inside =
+    (entries.Preempt x.id parent t (need_in c t (slot_of l x)), refl, ap (λ n. Some (entries.Preempt x.id parent t n)) (sym (same_need h m t x (inside x refl))))
+
+best_inside : (w : World) (l : Ledger) (t : ℕ) (parent : Id) (x : Admitted) → best_admitted w l t parent ≡ Some x → IsIn x l.admitted
+best_inside w l t parent x e =
+    let passes : Admitted → Bool = λ (a : Admitted). is_candidate w l t parent a.id in
+    (in_filtered passes x l.admitted (least_in (λ (a b : Admitted). is_better l t a.id b.id) x (filter passes l.admitted) e)).0
+
+choose_law : {w : World} {c : Core} {l : Ledger} → Holds w c l → IsMemoryConsistent w l → (t : ℕ) (parent : Id) → IsRule c (choose_in c t (job_of l t parent)) (preempt_on w l t parent (best w l t parent))
 choose_law {w = w} {c = c} {l = l} h p t parent =
-    subst (λ o. IsRule c (preempt_or c t (job_of l t parent) o) (preempt_on w l t parent (best w l t parent))) (sym (same_best h p t parent))
+    subst (λ o. IsRule c (preempt_or c t (job_of l t parent) o) (preempt_on w l t parent (best w l t parent))) (sym (same_best h p.present t parent))
     (subst (λ o. IsRule c (preempt_or c t (job_of l t parent) (option_map (slot_of l) (best_admitted w l t parent))) (preempt_on w l t parent o)) (sym (best_is w l t parent))
-    (preempt_found h p t parent (best_admitted w l t parent)))
+    (preempt_found h p t parent (best_admitted w l t parent) (best_inside w l t parent)))
 
 abbrev choice_on : World → Ledger → ℕ → Option Id → Option Entry
 choice_on w l t o = option_and_then (λ parent. preempt_on w l t parent (best w l t parent)) o
 
-choice_found : {w : World} {c : Core} {l : Ledger} → Holds w c l → IsTrue (list_all (is_present l) l.admitted) → (t : ℕ) (o : Option Id) → IsRule c (option_and_then (choose_in c t) (option_map (job_of l t) o)) (choice_on w l t o)
+choice_found : {w : World} {c : Core} {l : Ledger} → Holds w c l → IsMemoryConsistent w l → (t : ℕ) (o : Option Id) → IsRule c (option_and_then (choose_in c t) (option_map (job_of l t) o)) (choice_on w l t o)
 choice_found h p t None = refl
 choice_found h p t (Some parent) = choose_law h p t parent
 
-choice_law : {w : World} {c : Core} {l : Ledger} → Holds w c l → IsTrue (list_all (is_present l) l.admitted) → (t : ℕ) → IsRule c (choice_in c t) (choice w l t)
+choice_law : {w : World} {c : Core} {l : Ledger} → Holds w c l → IsMemoryConsistent w l → (t : ℕ) → IsRule c (choice_in c t) (choice w l t)
 choice_law {w = w} {c = c} {l = l} h p t =
     subst (λ o. IsRule c (option_and_then (choose_in c t) o) (choice w l t)) (sym (same_current h t)) (choice_found h p t (current w l t))
 
@@ -240,7 +255,7 @@ first_step (Some e) rest = refl
 abbrev line_choice : World → Ledger → (ℕ × List Id) → Option Entry
 line_choice w l line = choice w l line.0
 
-choices_law : {w : World} {c : Core} {l : Ledger} → Holds w c l → IsTrue (list_all (is_present l) l.admitted) → (n : ℕ) (ls : List (List Id)) → IsRule c (choices_from c n (length ls)) (first_some (line_choice w l) (enumerate_from n ls))
+choices_law : {w : World} {c : Core} {l : Ledger} → Holds w c l → IsMemoryConsistent w l → (n : ℕ) (ls : List (List Id)) → IsRule c (choices_from c n (length ls)) (first_some (line_choice w l) (enumerate_from n ls))
 choices_law h p n [] = refl
 choices_law {w = w} {c = c} {l = l} h p n (ids ∷ ls) =
     subst (λ o. IsRule c (choices_from c n (suc (length ls))) o) (sym (first_step (choice w l n) (filter_map (line_choice w l) (enumerate_from (n + 1) ls))))
@@ -250,7 +265,7 @@ limit_law : (c : Core) (b : Bool) (d : Option Decision) (r : Option Entry) → I
 limit_law c true d r h = h
 limit_law c false d r h = refl
 
-pub start_law : {w : World} {c : Core} {l : Ledger} → Holds w c l → IsTrue (list_all (is_present l) l.admitted) → IsRule c (next_start_in c) (start_rule w l)
+pub start_law : {w : World} {c : Core} {l : Ledger} → Holds w c l → IsMemoryConsistent w l → IsRule c (next_start_in c) (start_rule w l)
 start_law {w = w} {c = c} {l = l} h p =
     subst (λ n. IsRule c (if nat_lt n (2 ^ 48) then choices_from c 0 c.transports else None) (start_rule w l)) (sym h.starts)
     (subst (λ n. IsRule c (if nat_lt (starts l) (2 ^ 48) then choices_from c 0 n else None) (start_rule w l)) (sym h.count)

@@ -3,7 +3,7 @@ use Rattle.std.proofs.Common.{◌≡◌, ℕ, ◌+◌, Bool, true, false, List, 
 use Rattle.std.specs.Prelude.{◌||◌, nat_le, if◌then◌else◌, is_none}
 use Rattle.q_core.specs.Agrees.{Matches, Holds, IsScan, IsSeenScan, found_deferred}
 use Rattle.q_core.specs.Changes.{IsWoken, asked_scan, asked_when_due, is_known, is_looked_at, request_by}
-use Rattle.q_core.specs.Destinations.{busy_in, revive_due_in}
+use Rattle.q_core.specs.UsedSites.{busy_in, revive_due_in}
 use Rattle.q_core.specs.Scanning.{scan_after, scan_at}
 use Rattle.q_core.specs.declared.state.Core.{Core}
 use Rattle.q_core.specs.declared.state.Seen.{Seen}
@@ -12,7 +12,7 @@ use Rattle.q_model.specs.Book.{Book}
 use Rattle.q_model.specs.Clock.{woken}
 use Rattle.q_model.specs.Ledger.{Ledger}
 use Rattle.q_model.specs.Revival.{is_due, revive_due}
-use Rattle.q_model.specs.Routes.{world_of}
+use Rattle.q_model.specs.Routes.{world_without_table}
 use Rattle.q_model.specs.Scans.{ask_scan, joined_request, scan_next}
 use Rattle.q_model.specs.Settings.{Settings, World}
 use Rattle.q_model.specs.Values.{SiteRecord}
@@ -27,7 +27,7 @@ abbrev pub IsStillSeen : Seen → Ledger → Type 0
 IsStillSeen Unknown l = Unit {0}
 IsStillSeen (Known found) l = (found ≡ found_deferred l) × (scan_after l.book l.now l.scan l.asked ≡ (l.scan, l.asked))
 
--- agreement before an entry is settled
+-- agreement before the ledger is tidied
 pub record HoldsRaw (w : World) (c : Core) (l : Ledger) : Type 0 where
   pub parts : Holds w c l
   pub scan : c.scan ≡ l.scan
@@ -59,7 +59,7 @@ looked_parts None q Unknown l h s t = (ap (λ (p : Option Scan × Option Request
 looked_parts (Some x) q Unknown l h s t = cc
 
 looked : {c : Core} {l : Ledger} → IsScan c l → IsTrue (is_looked_at c) → (c.scan ≡ l.scan) × (c.asked ≡ l.asked) × IsStillSeen c.deferred l
-looked {c = c} {l = l} scan t = looked_parts c.scan c.asked c.deferred l scan.settles scan.seen t
+looked {c = c} {l = l} scan t = looked_parts c.scan c.asked c.deferred l scan.goes_on scan.seen t
 
 still_later : (seen : Seen) (l : Ledger) (t : ℕ) (b : Bool) (sites : List SiteRecord) → IsStillSeen seen l → IsStillSeen seen (record l { now = t; timed = b; sites = sites })
 still_later Unknown l t b sites h = tt
@@ -70,11 +70,11 @@ pub wake_law : {w : World} {c d : Core} {l : Ledger} {t : ℕ} → Matches w c l
 wake_law {w = w} {c = c} {d = d} {l = l} {t = t} a t' wakes =
     let h = a.parts in
     let scan = looked a.scan t' in
-    let sites : d.sites.items ≡ revive_due w (record l { now = t }) =
+    let sites : d.sites ≡ revive_due w (record l { now = t }) =
     wakes.sites
-    ∙ ap (λ (fs : List Delivery). map (revive_due_in c.params fs t) c.sites.items) h.flights
+    ∙ ap (λ (fs : List Delivery). map (revive_due_in c.params fs t) c.sites) h.flights
     ∙ ap (map (revive_due_in c.params l.flights t)) h.sites
-    ∙ ap (λ (s : Settings). map (λ (r : SiteRecord). if is_due t r.health then revived (world_of s) (busy_in l.flights r.site) r else r) l.sites) h.settings in
+    ∙ ap (λ (s : Settings). map (λ (r : SiteRecord). if is_due t r.health then revived (world_without_table s) (busy_in l.flights r.site) r else r) l.sites) h.settings in
     let later : Ledger = woken w l t in
     let kept : Holds w (record c { clock = d.clock; timed = true; sites = d.sites }) later = record {
       settings = h.settings;

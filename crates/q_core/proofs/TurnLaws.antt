@@ -1,13 +1,13 @@
 -- The file that the core takes next is the ledger's, and the turn passes as there.
-use Rattle.std.proofs.Common.{◌≡◌, ℕ, Bool, true, false, Option, Some, None, option_map, refl, ap, ◌∙◌, IsTrue}
+use Rattle.std.proofs.Common.{◌≡◌, ℕ, Bool, true, false, Option, Some, None, refl, ap, ◌∙◌, IsTrue}
 use Rattle.std.specs.Option.{option_map_or}
 use Rattle.std.specs.Prelude.{◌&&◌, ◌||◌, if◌then◌else◌, is_none, not}
 use Rattle.q_core.proofs.StepLaws.{HoldsRaw, IsStillSeen}
-use Rattle.q_core.proofs.TakeLaws.{found_on, next_of, some_found}
+use Rattle.q_core.proofs.PickLaws.{found_on, next_of, some_found}
 use Rattle.q_core.specs.Agrees.{IsSeen, found_at, found_deferred, found_incoming, found_next}
 use Rattle.q_core.specs.Changes.{is_known, is_looked_at}
-use Rattle.q_core.specs.Files.{is_nothing, picked}
-use Rattle.q_core.specs.Taking.{found_name, from_deferred_in, is_from_deferred, moved_on, passed_in, picked_in, scanned_in, shown}
+use Rattle.q_core.specs.Facts.{is_nothing, picked}
+use Rattle.q_core.specs.Picking.{found_name, from_deferred_in, is_from_deferred, moved_on, passed_in, picked_in, scanned_in, shown}
 use Rattle.q_core.specs.declared.decision.Found.{Found}
 use Rattle.q_core.specs.declared.decision.Found.TheVariants.{Nothing}
 use Rattle.q_core.specs.declared.state.Core.{Core}
@@ -17,7 +17,7 @@ use Rattle.q_model.specs.Book.{message_of}
 use Rattle.q_model.specs.Ledger.{Ledger}
 use Rattle.q_model.specs.Message.{Message}
 use Rattle.q_model.specs.Settings.{World}
-use Rattle.q_model.specs.Turns.{Pick, deferred_next, incoming_next, passed, pick, pick_id}
+use Rattle.q_model.specs.Turns.{Pick, deferred_next, incoming_next, passed, pick, pick_id, pick_of}
 use Rattle.q_model.specs.Turns.Pick.{from_deferred, from_incoming}
 use Rattle.q_model.specs.declared.id.Id.{Id}
 use Rattle.q_model.specs.declared.rows.DeferredName.{DeferredName}
@@ -45,9 +45,6 @@ name_on l due id (Some m) = refl
 abbrev first_on : Ledger → Option Id → Found
 first_on l o = option_map_or (λ k. found_at l 0 k) o Nothing
 
-abbrev pick_on : Bool → Option Id → Option DeferredName → Option Pick
-pick_on turn o q = option_map_or (λ id. option_map_or (λ name. Some (if turn then from_deferred name else from_incoming id)) q (Some (from_incoming id))) o (option_map (λ name. from_deferred name) q)
-
 abbrev picked_by : Bool → Found → Found → Pick
 picked_by turn i d = pick_by (is_from_deferred turn i d) (found_name (picked turn i d))
 
@@ -66,7 +63,7 @@ both_there : (l : Ledger) (k : Id) (n : DeferredName) (turn : Bool) → by_parts
 both_there l k n true = ap from_deferred (name_on l n.due n.id (message_of l.book n.id))
 both_there l k n false = ap (λ (x : DeferredName). from_incoming x.id) (name_on l 0 k (message_of l.book k))
 
-pick_is : (l : Ledger) (turn : Bool) (o : Option Id) (q : Option DeferredName) (p : Pick) → pick_on turn o q ≡ Some p → picked_by turn (first_on l o) (found_next l q) ≡ p
+pick_is : (l : Ledger) (turn : Bool) (o : Option Id) (q : Option DeferredName) (p : Pick) → pick_of turn o q ≡ Some p → picked_by turn (first_on l o) (found_next l q) ≡ p
 pick_is l turn None None p h = absurd cc
 pick_is l turn None (Some n) p h = let same : from_deferred n ≡ p = cc in ap from_deferred (name_on l n.due n.id (message_of l.book n.id)) ∙ same
 pick_is l turn (Some k) None p h =
@@ -92,7 +89,7 @@ picks {c = c} {l = l} r t k p h =
     ∙ pick_is l l.deferred_turn (incoming_next l) (deferred_next l) p h
 
 -- the file is that of the pick
-file_is : (l : Ledger) (turn : Bool) (o : Option Id) (q : Option DeferredName) (p : Pick) → pick_on turn o q ≡ Some p → (due : ℕ) × (picked turn (first_on l o) (found_next l q) ≡ found_at l due (pick_id p))
+file_is : (l : Ledger) (turn : Bool) (o : Option Id) (q : Option DeferredName) (p : Pick) → pick_of turn o q ≡ Some p → (due : ℕ) × (picked turn (first_on l o) (found_next l q) ≡ found_at l due (pick_id p))
 file_is l turn None None p h = absurd cc
 file_is l turn None (Some n) p h = let same : from_deferred n ≡ p = cc in (n.due, ap (λ x. found_at l n.due (pick_id x)) same)
 file_is l turn (Some k) None p h =

@@ -7,7 +7,7 @@ use Rattle.q_core.proofs.NameLaws.{and_true_parts}
 use Rattle.q_core.specs.Windows.{down_in, heard_at, is_too_much, may_widen_in, open_window, up_in}
 use Rattle.q_laws.specs.SitesConsistency.{is_window}
 use Rattle.q_model.specs.Deliveries.{busy}
-use Rattle.q_model.specs.Destinations.{site_eq}
+use Rattle.q_model.specs.Sites.{site_eq}
 use Rattle.q_model.specs.Feedbacks.{amount, parts, unit}
 use Rattle.q_model.specs.Ledger.{Ledger}
 use Rattle.q_model.specs.Settings.{World}

@@ -1,7 +1,17 @@
 -- When the core agrees with a ledger: what it holds is what the ledger's parts say.
-use Rattle.std.specs.List.{enumerate_from, list_all, list_any}
+use Rattle.q_model.specs.Marking.{marks_leftover}
+use Rattle.q_model.specs.declared.entry.Entry.{Entry}
+use Rattle.q_model.specs.declared.entry.Entry.TheVariants as entries
+use Rattle.q_model.specs.declared.event.Mode.{Mode}
+use Rattle.q_model.specs.Book.{Book, all_ids, message_of}
+use Rattle.q_model.specs.Ids.{are_distinct}
+use Rattle.q_model.specs.Ledger.{Ledger}
+use Rattle.q_model.specs.Orderly.{is_orderly}
+use Rattle.q_model.specs.Settings.{Settings, World}
+use Rattle.q_model.specs.Step.{after, allowed, may}
+use Rattle.std.specs.List.{enumerate_from}
 use Rattle.std.specs.Option.{option_map_or}
-use Rattle.std.specs.Prelude.{◌&&◌, ◌==◌, ◌≡◌, Bool, false, is_none, IsTrue, length, List, map, not, Option, slice_get, Some, true, ◌||◌, ℕ}
+use Rattle.std.specs.Prelude.{◌≡◌, ◌≤◌, Bool, count_by, false, is_none, length, List, map, not, Option, slice_get, Some, true, ℕ}
 use Rattle.q_model.specs.declared.id.Id.{Id}
 use Rattle.q_model.specs.declared.rows.Admitted.{Admitted}
 use Rattle.q_model.specs.declared.rows.DeferredName.{DeferredName}
@@ -9,19 +19,15 @@ use Rattle.q_model.specs.declared.rows.Request.{Request}
 use Rattle.q_model.specs.declared.rows.Scan.{Scan}
 use Rattle.q_model.specs.Accounts.{charged, starts_of}
 use Rattle.q_model.specs.Admissions.{cause_gone}
-use Rattle.q_model.specs.Book.{message_of}
-use Rattle.q_model.specs.Finishing.{has_bounce, is_clean}
-use Rattle.q_model.specs.Leftovers.{is_leftover, next_leftover}
-use Rattle.q_model.specs.Ids.{id_eq}
-use Rattle.q_model.specs.Ledger.{Ledger}
+use Rattle.q_model.specs.Finishing.{has_bounce}
+use Rattle.q_model.specs.Leftovers.{next_leftover}
 use Rattle.q_model.specs.Lists.{has_none}
-use Rattle.q_model.specs.Memory.{in_memory, unread_of}
+use Rattle.q_model.specs.Marks.{is_marked}
+use Rattle.q_model.specs.Memory.{in_memory}
 use Rattle.q_model.specs.Message.{Message, pending, unmarked_logged, written_marks}
-use Rattle.q_model.specs.Past.{starts}
-use Rattle.q_model.specs.Places.{is_active}
-use Rattle.q_model.specs.Settings.{World}
-use Rattle.q_model.specs.Startable.{line_of}
+use Rattle.q_model.specs.Past.{is_living, starts}
 use Rattle.q_model.specs.Turns.{deferred_next, incoming_next}
+use Rattle.q_laws.specs.Laws.{opened_ledger}
 use Rattle.q_laws.specs.Consistency.{IsConsistent}
 use Rattle.q_laws.specs.SitesConsistency.{IsSitesConsistent}
 use Rattle.q_core.specs.Scanning.{scan_after}
@@ -47,6 +53,7 @@ slot_from a bounced o = record {
   logged = option_map_or (λ m. not (has_none (unmarked_logged m))) o false;
   failed = option_map_or (λ m. not (has_none m.failures)) o false;
   bounced = bounced;
+  damaged = false;
 }
 
 -- each of its numbers is counted in the book
@@ -55,11 +62,20 @@ slot_of l a = slot_from a (has_bounce l a.id) (message_of l.book a.id)
 
 -- the job of an id at a transport, with its account
 abbrev pub job_of : Ledger → ℕ → Id → Job
-job_of l transport id = record { id = id; starts = starts_of l id transport; charged = charged l id transport }
+job_of l transport id = record {
+  id = id;
+  starts = starts_of l id transport;
+  charged =
+      charged l id transport;
+}
 
 -- the jobs of a line
 abbrev pub jobs_of : Ledger → (ℕ × List Id) → List Job
 jobs_of l line = map (job_of l line.0) line.1
+
+-- how many recipients are marked
+abbrev pub marks_of : Message → ℕ
+marks_of m = count_by (λ r. is_marked r.mark) m.recipients
 
 -- what a look tells of a message
 abbrev pub file_of : Ledger → Id → Message → FileFacts
@@ -67,7 +83,7 @@ file_of l id m = record {
   arrival = m.arrival;
   null_sender = is_none m.sender;
   recipients = length m.recipients;
-  pending = length (pending m);
+  marked = marks_of m;
   failures = length m.failures;
   unmarked = slice_get (unmarked_logged m) 0;
   bounced = has_bounce l id;
@@ -76,7 +92,8 @@ file_of l id m = record {
 
 -- what a look tells of an id
 abbrev pub found_at : Ledger → ℕ → Id → Found
-found_at l due id = option_map_or (λ m. Whole id due (file_of l id m)) (message_of l.book id) (Damaged id due (cause_gone l.book id))
+found_at l due id = option_map_or (λ m. Whole id due (file_of l id m)) (message_of l.book id)
+    (Damaged id due (cause_gone l.book id))
 
 -- what a look tells where it comes to a name of deferred, or to none
 abbrev pub found_next : Ledger → Option DeferredName → Found
@@ -100,11 +117,14 @@ IsSeen (Known seen) found = seen ≡ found
 -- what a look at deferred has shown is still true, and the scan is the ledger's
 abbrev pub IsSeenScan : Seen → Option Scan → Option Request → Ledger → Type 0
 IsSeenScan Unknown scan asked l = Unit {0}
-IsSeenScan (Known found) scan asked l = (scan ≡ l.scan) × (asked ≡ l.asked) × (found ≡ found_deferred l)
+IsSeenScan (Known found) scan asked l = (scan ≡ l.scan) × (asked ≡ l.asked)
+    × (found ≡ found_deferred l)
 
--- What the core's scan and request come to be by the book are the ledger's. Where deferred was looked at, they are so already.
+-- What the core's scan and request come to be by the book are the ledger's. Where deferred was
+-- looked at,
+-- they are so already.
 pub record IsScan (c : Core) (l : Ledger) : Type 0 where
-  pub settles : scan_after l.book l.now c.scan c.asked ≡ (l.scan, l.asked)
+  pub goes_on : scan_after l.book l.now c.scan c.asked ≡ (l.scan, l.asked)
   pub seen : IsSeenScan c.deferred c.scan c.asked l
 
 -- all but the scan
@@ -118,15 +138,15 @@ pub record Holds (w : World) (c : Core) (l : Ledger) : Type 0 where
   pub next_run : c.next_run ≡ l.next_run
   pub ignores : c.ignores ≡ l.ignores
   pub deferred_turn : c.deferred_turn ≡ l.deferred_turn
-  pub admitted : c.admitted.items ≡ map (slot_of l) l.admitted
-  pub waiting : c.waiting.items ≡ l.waiting
-  pub flights : c.flights.items ≡ l.flights
+  pub admitted : c.admitted ≡ map (slot_of l) l.admitted
+  pub waiting : c.waiting ≡ l.waiting
+  pub flights : c.flights ≡ l.flights
   pub memory : c.in_memory ≡ in_memory l
-  pub served : c.served.items ≡ l.served
-  pub unsettled : c.unsettled.items ≡ l.unsettled
-  pub lines : c.lines.items ≡ map (jobs_of l) (enumerate_from 0 l.lines)
-  pub sites : c.sites.items ≡ l.sites
-  pub synced : c.synced.items ≡ l.synced
+  pub served : c.served ≡ l.served
+  pub unsettled : c.unsettled ≡ l.unsettled
+  pub lines : c.lines ≡ map (jobs_of l) (enumerate_from 0 l.lines)
+  pub sites : c.sites ≡ l.sites
+  pub synced : c.synced ≡ l.synced
   pub starts : c.starts ≡ starts l
   pub active : IsSeen c.active (found_active l)
   pub incoming : IsSeen c.incoming (found_incoming l)
@@ -136,8 +156,47 @@ pub record Matches (w : World) (c : Core) (l : Ledger) : Type 0 where
   pub parts : Holds w c l
   pub scan : IsScan c l
 
--- the core agrees with the ledger, of which all fits together
+-- the core agrees with the ledger of a life that goes on, of which all fits together
 pub record Agrees (w : World) (c : Core) (l : Ledger) : Type 0 where
   pub matches : Matches w c l
   pub consistent : IsConsistent w l
-  pub destinations : IsSitesConsistent w l
+  pub sites : IsSitesConsistent w l
+  pub living : is_living l ≡ true
+  pub moment : l.now ≤ 999990000000
+
+-- for each such ledger with these settings and so many transports
+abbrev pub ForFirst : Settings → ℕ → Mode → (World → Book → Ledger → Type 0) → Type 0
+ForFirst params transports mode says = (w : World) → (book : Book) → params ≡ w.settings →
+    transports ≡ length w.table.transports → says w book (opened_ledger w mode book)
+
+-- the core agrees with the ledger, where its book is orderly and has no id twice
+abbrev pub AgreesIfOrderly : World → Core → Book → Ledger → Type 0
+AgreesIfOrderly w c book l = are_distinct (all_ids book) ≡ true → is_orderly book ≡ true
+    → Agrees w c l
+
+-- the core agrees with the ledger, where that fits together
+abbrev pub AgreesIfConsistent : World → Core → Ledger → Type 0
+AgreesIfConsistent w c l = IsConsistent w l → IsSitesConsistent w l → Agrees w c l
+
+-- for each ledger with which the core agrees
+abbrev pub ForLedgers : Core → (World → Ledger → Type 0) → Type 0
+ForLedgers c says = (w : World) → (l : Ledger) → Agrees w c l → says w l
+
+-- Where a ledger may have the entry, the core becomes what the ledger is after it.
+abbrev pub Follows : Core → Core → Entry → Type 0
+Follows old new e = ForLedgers old (λ w l. may w l e ≡ true → Matches w new (after w l e))
+
+-- the same where a rule has the entry
+abbrev pub FollowsRule : Core → Core → (World → Ledger → Option Entry) → Entry → Type 0
+FollowsRule old new rule e = ForLedgers old (λ w l. rule w l ≡ Some e → Matches w new (after w l e))
+
+-- the same where the ledger allows the entry
+abbrev pub FollowsAllowed : Core → Core → Entry → Type 0
+FollowsAllowed old new e = ForLedgers old (λ w l. allowed w l e ≡ true
+    → Matches w new (after w l e))
+
+-- after the mark of a failure that an earlier life left, the core is what the ledger is
+abbrev pub MarksLeftovers : World → Ledger → Core → Type 0
+MarksLeftovers w l new = (id : Id) → (position : ℕ) → marks_leftover l id position ≡ true
+    → Matches w new
+    (after w l (entries.Mark id position))

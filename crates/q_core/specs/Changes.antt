@@ -9,11 +9,12 @@ use Rattle.q_model.specs.Ids.{id_eq}
 use Rattle.q_model.specs.Scans.{joined_request, new_scan}
 use Rattle.q_model.specs.Values.{Site}
 use Rattle.q_model.specs.declared.rows.Request.TheVariants as requests
-use Rattle.q_core.specs.Destinations.{forget_in, is_left_in, revive_dead_in, revive_due_in, used_in}
-use Rattle.q_core.specs.Files.{is_nothing}
+use Rattle.q_core.specs.UsedSites.{forget_in, is_left_in, revive_dead_in, revive_due_in, used_in}
+use Rattle.q_core.specs.Facts.{is_nothing}
 use Rattle.q_core.specs.Lists.{moved_back}
-use Rattle.q_core.specs.Settled.{settled_line, settled_served}
-use Rattle.q_core.specs.Slots.{changed_at, with_bounce}
+use Rattle.q_core.specs.Tidied.{tidied_line, tidied_served}
+use Rattle.q_core.specs.Slots.{changed_at, with_bounce, with_damage}
+use Rattle.q_core.specs.declared.state.Question.TheVariants.{Nothing}
 use Rattle.q_core.specs.declared.slot.Slot.{Slot}
 use Rattle.q_core.specs.declared.decision.Found.{Found}
 use Rattle.q_core.specs.declared.state.Core.{Core}
@@ -26,12 +27,21 @@ request_by ignores = if ignores then requests.All else requests.Due
 
 -- a scan begins, or the request for it is remembered
 abbrev pub asked_scan : Core → Core
-asked_scan c = option_map_or (λ s. record c { asked = Some (joined_request c.asked (request_by c.ignores)); ignores = false }) c.scan
-    (record c { scan = Some (new_scan c.clock.seconds (request_by c.ignores)); deferred = Unknown; ignores = false })
+asked_scan c = option_map_or (λ s. record c {
+  asked = Some (joined_request c.asked (request_by c.ignores));
+  ignores = false;
+}) c.scan
+    (record c {
+      scan = Some (new_scan c.clock.seconds (request_by c.ignores));
+      deferred =
+          Unknown;
+      ignores = false;
+    })
 
 -- the same where the time for it has come
 abbrev pub asked_when_due : Core → Core
-asked_when_due c = if nat_le c.next_run c.clock.seconds then asked_scan (record c { next_run = c.clock.seconds + c.params.run_delay }) else c
+asked_when_due c = if nat_le c.next_run c.clock.seconds then asked_scan
+    (record c { next_run = c.clock.seconds + c.params.run_delay }) else c
 
 -- a look's answer is known
 abbrev pub is_known : Seen → Bool
@@ -45,62 +55,83 @@ is_looked_at c = is_none c.scan || is_known c.deferred
 -- a scan without a next name is over, and a request that is remembered begins
 abbrev pub scan_ended : Core → Option Request → Core
 scan_ended c None = record c { scan = None; deferred = Unknown }
-scan_ended c (Some request) = record c { scan = Some (new_scan c.clock.seconds request); asked = None; deferred = Unknown }
+scan_ended c (Some request) = record c {
+  scan = Some (new_scan c.clock.seconds request);
+  asked = None;
+  deferred = Unknown;
+}
 
 -- what a look at deferred has shown
 abbrev pub looked_at : Core → Found → Core
-looked_at c found = if is_nothing found then scan_ended c c.asked else record c { deferred = Known found }
+looked_at c found = if is_nothing found then scan_ended c c.asked
+    else record c { deferred = Known found }
 
 -- Lines, served rows and site records are those of what is left; nothing else changed.
-pub record IsSettled (old new : Core) : Type 0 where
+pub record IsTidied (old new : Core) : Type 0 where
   pub rest : new ≡ record old { lines = new.lines; served = new.served; sites = new.sites }
-  pub lines : new.lines.items ≡ map (settled_line old.admitted.items old.waiting.items) (enumerate_from 0 old.lines.items)
-  pub served : new.served.items ≡ settled_served old.waiting.items old.served.items
-  pub sites : new.sites.items ≡ forget_in old.waiting.items old.flights.items old.params.recipient_limit (used_in old.waiting.items old.flights.items old.sites.items)
+  pub lines : new.lines ≡ map (tidied_line old.admitted old.waiting) (enumerate_from 0 old.lines)
+  pub served : new.served ≡ tidied_served old.waiting old.served
+  pub sites : new.sites ≡ forget_in old.waiting old.flights old.params.recipient_limit
+      (used_in old.waiting old.flights old.sites)
 
 -- The record of a site that a row left goes to the end, where the site is unused now.
-pub record IsLeft (old new : Core) (site : Site) : Type 0 where
+pub record HasLeftSite (old new : Core) (site : Site) : Type 0 where
   pub rest : new ≡ record old { sites = new.sites }
-  pub sites : new.sites.items ≡ moved_back (is_left_in old.waiting.items old.flights.items site) old.sites.items
+  pub sites : new.sites ≡ moved_back (is_left_in old.waiting old.flights site) old.sites
 
 -- the time is set, and the sites whose time has come are alive
 pub record IsWoken (old new : Core) (moment : ℕ) : Type 0 where
   pub rest : new ≡ record old { clock = new.clock; timed = true; sites = new.sites }
   pub seconds : new.clock.seconds ≡ moment
-  pub sites : new.sites.items ≡ map (revive_due_in old.params old.flights.items moment) old.sites.items
+  pub sites : new.sites ≡ map (revive_due_in old.params old.flights moment) old.sites
 
 -- all dead sites are alive
 pub record IsRevived (old new : Core) : Type 0 where
   pub rest : new ≡ record old { sites = new.sites }
-  pub sites : new.sites.items ≡ map (revive_dead_in old.params old.flights.items) old.sites.items
+  pub sites : new.sites ≡ map (revive_dead_in old.params old.flights) old.sites
 
 -- the slot of this id is changed
 pub record IsSlotChange (old new : Core) (id : Id) (change : Slot → Slot) : Type 0 where
   pub rest : new ≡ record old { admitted = new.admitted }
-  pub admitted : new.admitted.items ≡ map (changed_at id change) old.admitted.items
+  pub admitted : new.admitted ≡ map (changed_at id change) old.admitted
+
+-- the message of this id reads no more, and a record of it can't be read; nothing is asked
+pub record IsDamageNoted (old new : Core) (id : Id) : Type 0 where
+  pub rest : new ≡ record old { admitted = new.admitted; question = Nothing }
+  pub admitted : new.admitted ≡ map (changed_at id with_damage) old.admitted
 
 -- these outcomes are to be settled
 pub record IsUnsettledChange (old new : Core) (us : List Unsettled) : Type 0 where
   pub rest : new ≡ record old { unsettled = new.unsettled; in_memory = new.in_memory }
-  pub unsettled : new.unsettled.items ≡ us
+  pub unsettled : new.unsettled ≡ us
 
 -- the core is as it was, but for the room of its lists
 pub record IsAsBefore (old new : Core) : Type 0 where
-  pub rest : new ≡ record old { admitted = new.admitted; waiting = new.waiting; flights = new.flights; unsettled = new.unsettled; served = new.served; lines = new.lines; sites = new.sites; synced = new.synced; named = new.named }
-  pub admitted : new.admitted.items ≡ old.admitted.items
-  pub waiting : new.waiting.items ≡ old.waiting.items
-  pub flights : new.flights.items ≡ old.flights.items
-  pub unsettled : new.unsettled.items ≡ old.unsettled.items
-  pub served : new.served.items ≡ old.served.items
-  pub lines : new.lines.items ≡ old.lines.items
-  pub sites : new.sites.items ≡ old.sites.items
-  pub synced : new.synced.items ≡ old.synced.items
-  pub named : new.named.items ≡ old.named.items
+  pub rest : new ≡ record old {
+    admitted = new.admitted;
+    waiting = new.waiting;
+    flights = new.flights;
+    unsettled = new.unsettled;
+    served = new.served;
+    lines = new.lines;
+    sites = new.sites;
+    synced = new.synced;
+    named = new.named;
+  }
+  pub admitted : new.admitted ≡ old.admitted
+  pub waiting : new.waiting ≡ old.waiting
+  pub flights : new.flights ≡ old.flights
+  pub unsettled : new.unsettled ≡ old.unsettled
+  pub served : new.served ≡ old.served
+  pub lines : new.lines ≡ old.lines
+  pub sites : new.sites ≡ old.sites
+  pub synced : new.synced ≡ old.synced
+  pub named : new.named ≡ old.named
 
 -- the message was synced in this life, and active is to be looked at anew
 pub record IsNoted (old new : Core) (id : Id) : Type 0 where
   pub rest : new ≡ record old { synced = new.synced; active = Unknown }
-  pub synced : new.synced.items ≡ id ∷ old.synced.items
+  pub synced : new.synced ≡ id ∷ old.synced
 
 -- the slots of all others
 abbrev pub slots_without : Id → List Slot → List Slot
@@ -109,14 +140,14 @@ slots_without id slots = filter (λ s. not (id_eq s.id id)) slots
 -- the slot of this id is gone, and deferred is to be looked at anew
 pub record IsPutOff (old new : Core) (id : Id) : Type 0 where
   pub rest : new ≡ record old { admitted = new.admitted; deferred = Unknown }
-  pub admitted : new.admitted.items ≡ slots_without id old.admitted.items
+  pub admitted : new.admitted ≡ slots_without id old.admitted
 
 -- the slot of this id is gone, and incoming is to be looked at anew
-pub record IsTakenOut (old new : Core) (id : Id) : Type 0 where
+pub record IsSlotRemoved (old new : Core) (id : Id) : Type 0 where
   pub rest : new ≡ record old { admitted = new.admitted; incoming = Unknown }
-  pub admitted : new.admitted.items ≡ slots_without id old.admitted.items
+  pub admitted : new.admitted ≡ slots_without id old.admitted
 
 -- the bounce of this message is stored, and incoming is to be looked at anew
 pub record IsBounced (old new : Core) (id : Id) : Type 0 where
   pub rest : new ≡ record old { admitted = new.admitted; incoming = Unknown }
-  pub admitted : new.admitted.items ≡ map (changed_at id with_bounce) old.admitted.items
+  pub admitted : new.admitted ≡ map (changed_at id with_bounce) old.admitted

@@ -1,7 +1,7 @@
 -- What a transport does next, by what the core holds.
 use Rattle.std.specs.List.{list_any}
 use Rattle.std.specs.Option.{option_map_or, option_or}
-use Rattle.std.specs.Prelude.{◌&&◌, ◌*◌, ◌+◌, ◌-◌, ◌==◌, [], ◌^◌, Bool, count_by, filter, find, if◌then◌else◌, List, nat_le, nat_lt, None, not, Option, option_and_then, slice_get, Some, suc, zero, ℕ, ◌∷◌}
+use Rattle.std.specs.Prelude.{◌&&◌, ◌*◌, ◌+◌, ◌-◌, ◌==◌, [], ◌^◌, Bool, count_by, filter, find, if◌then◌else◌, List, min, nat_le, nat_lt, None, not, Option, option_and_then, slice_get, Some, suc, zero, ℕ, ◌∷◌}
 use Rattle.q_model.specs.declared.id.Id.{Id}
 use Rattle.q_model.specs.Ids.{id_eq}
 use Rattle.q_model.specs.Lists.{least}
@@ -16,11 +16,16 @@ use Rattle.q_core.specs.declared.decision.Decision.TheVariants.{Preempt}
 
 -- what the message has left at the transport: its rows that wait, and its unread recipients
 abbrev pub rest_in : Core → ℕ → Id → ℕ
-rest_in c transport id = count_by (λ r. id_eq r.id id && (r.site.transport == transport)) c.waiting.items + unread_in c id
+rest_in c transport id = count_by (λ r. id_eq r.id id && (r.site.transport == transport)) c.waiting + unread_in c id
+
+-- The need of a message that preempts: what it has left, and no more than its recipients. For a
+-- ledger with which the core agrees, it is all that is left.
+abbrev pub need_in : Core → ℕ → Slot → ℕ
+need_in c transport s = min (rest_in c transport s.id) s.recipients
 
 -- the jobs of a transport in order
 abbrev pub jobs_at : Core → ℕ → List Job
-jobs_at c transport = option_map_or (λ jobs. jobs) (slice_get c.lines.items transport) []
+jobs_at c transport = option_map_or (λ jobs. jobs) (slice_get c.lines transport) []
 
 -- the first of them that can start
 abbrev pub current_in : Core → ℕ → Option Job
@@ -53,19 +58,24 @@ is_candidate_in c transport behind parent id = not (c.params.slot_cost == 0)
 
 -- (age + 1) / need is greater
 abbrev pub is_better_in : Core → ℕ → Slot → Slot → Bool
-is_better_in c transport a b = nat_lt ((c.clock.seconds - b.arrival + 1) * rest_in c transport a.id) ((c.clock.seconds - a.arrival + 1) * rest_in c transport b.id)
+is_better_in c transport a b = nat_lt ((c.clock.seconds - b.arrival + 1) * rest_in c transport a.id)
+    ((c.clock.seconds - a.arrival + 1) * rest_in c transport b.id)
 
 -- the best candidate; among equals the first admitted
 abbrev pub best_in : Core → ℕ → List Job → Job → Option Slot
-best_in c transport behind parent = least (is_better_in c transport) (filter (λ s. is_candidate_in c transport behind parent s.id) c.admitted.items)
+best_in c transport behind parent = least (is_better_in c transport)
+    (filter (λ s. is_candidate_in c transport behind parent s.id) c.admitted)
 
 -- the best candidate preempts; else the current job starts its next row
 abbrev pub preempt_or : Core → ℕ → Job → Option Slot → Option Decision
-preempt_or c transport parent best = option_map_or (λ (child : Slot). Some (Preempt child.id parent.id transport (rest_in c transport child.id))) best (start_in c transport parent.id)
+preempt_or c transport parent best = option_map_or
+    (λ (child : Slot). Some (Preempt child.id parent.id transport (need_in c transport child))) best
+    (start_in c transport parent.id)
 
 -- what this current job leads to
 abbrev pub choose_in : Core → ℕ → Job → Option Decision
-choose_in c transport parent = preempt_or c transport parent (best_in c transport (behind_jobs parent.id (jobs_at c transport)) parent)
+choose_in c transport parent = preempt_or c transport parent
+    (best_in c transport (behind_jobs parent.id (jobs_at c transport)) parent)
 
 -- what a transport does next
 abbrev pub choice_in : Core → ℕ → Option Decision

@@ -1,15 +1,19 @@
 -- The next decision, by what the core holds.
 use Rattle.std.specs.Option.{option_or}
-use Rattle.std.specs.Prelude.{◌≡◌, ◌⊎◌, Bool, false, true, if◌then◌else◌, None, not, Option, Some}
+use Rattle.std.specs.Prelude.{◌≡◌, ◌⊎◌, Bool, false, true, if◌then◌else◌, List, None, not, Option, option_map, Some, ℕ}
 use Rattle.q_model.specs.declared.entry.Entry.{Entry}
 use Rattle.q_model.specs.declared.rows.Scan.{Scan}
+use Rattle.q_model.specs.Book.{damaged_of, message_of}
 use Rattle.q_model.specs.Ledger.{Ledger}
+use Rattle.q_core.specs.Queries.{flight_in}
+use Rattle.q_model.specs.declared.entry.Entry.TheVariants as entries
 use Rattle.q_model.specs.Next.{next}
 use Rattle.q_model.specs.Settings.{World}
 use Rattle.q_model.specs.Step.{after}
 use Rattle.q_core.specs.Agrees.{Agrees, Matches}
 use Rattle.q_core.specs.Choosing.{next_start_in}
 use Rattle.q_core.specs.Decisions.{IsOf, IsReadRule, IsRule}
+use Rattle.q_core.specs.Leaving.{IsSkipNoted}
 use Rattle.q_core.specs.Rules.{first_need_in, next_admission_in, next_clearing_in, next_finish_in, next_read_in, next_skip_in, next_sync_in}
 use Rattle.q_core.specs.declared.decision.Decision.{Decision}
 use Rattle.q_core.specs.declared.state.Core.{Core}
@@ -31,11 +35,13 @@ scan_look_in deferred (Some scan) = scan_look_of scan deferred
 
 -- the first of the last four rules
 abbrev pub clearing_on : Core → Option Decision
-clearing_on c = option_or (next_clearing_in c c.active) (option_or (next_admission_in c c.incoming) (option_or (next_read_in c) (next_start_in c)))
+clearing_on c = option_or (next_clearing_in c c.active)
+    (option_or (next_admission_in c c.incoming) (option_or (next_read_in c) (next_start_in c)))
 
 -- the first of the eight rules
 abbrev pub first_rule_in : Core → Option Decision
-first_rule_in c = option_or (first_need_in c) (option_or (next_sync_in c) (option_or (next_skip_in c) (option_or (next_finish_in c) (clearing_on c))))
+first_rule_in c = option_or (first_need_in c)
+    (option_or (next_sync_in c) (option_or (next_skip_in c) (option_or (next_finish_in c) (clearing_on c))))
 
 -- before the first `at` of a life there is none
 abbrev pub decide_in : Core → Option Decision
@@ -45,15 +51,17 @@ decide_in c = if not c.timed then None else option_or (scan_look_in c.deferred c
 abbrev pub IsLooking : Core → Option Decision → Type 0
 IsLooking c d = ((d ≡ Some decisions.LookActive) × (c.active ≡ Unknown))
     ⊎ (((d ≡ Some decisions.LookIncoming) × (c.incoming ≡ Unknown))
-    ⊎ ((scan : Scan) × (d ≡ Some (decisions.LookDeferred scan.place scan.until)) × (c.scan ≡ Some scan) × (c.deferred ≡ Unknown)))
+    ⊎ ((scan : Scan) × (d ≡ Some (decisions.LookDeferred scan.place scan.until)) × (c.scan ≡ Some scan)
+    × (c.deferred ≡ Unknown)))
 
 -- the rule has the entry of the decision, which may be a read; or the decision is a look
 abbrev pub IsNext : World → Ledger → Core → Option Decision → Option Entry → Type 0
 IsNext w l c d rule = IsRule c d rule ⊎ (IsReadRule w l d rule ⊎ IsLooking c d)
 
--- The decision has an entry, the ledger's next, and the core says what the ledger is after it. Or it is a look or a read, and the ledger is as it was.
-abbrev pub IsTaken : World → Ledger → Core → Decision → Core → Type 0
-IsTaken w l old d new = ((e : Entry) × IsOf old d e × (next w l ≡ Some e) × Matches w new (after w l e))
+-- The decision has an entry, the ledger's next, and the core says what the ledger is after it. Or it is a
+-- look or a read, and the ledger is as it was.
+abbrev pub IsApplied : World → Ledger → Core → Decision → Core → Type 0
+IsApplied w l old d new = ((e : Entry) × IsOf old d e × (next w l ≡ Some e) × Matches w new (after w l e))
     ⊎ ((IsReadRule w l (Some d) (next w l) ⊎ IsLooking old (Some d)) × Matches w new l)
 
 -- the same where there may be no decision; the core agrees with the ledger then
@@ -61,6 +69,31 @@ abbrev pub IsDecided : World → Ledger → Core → Option Decision → Core �
 IsDecided w l old None new = (next w l ≡ None) × Agrees w new l
 IsDecided w l old (Some d) new = ((e : Entry) × IsOf old d e × (next w l ≡ Some e) × Agrees w new (after w l e))
     ⊎ ((IsReadRule w l (Some d) (next w l) ⊎ IsLooking old (Some d)) × Agrees w new l)
+
+-- a message that is admitted, and a damaged file that goes to corrupt, stand at the place of the decision
+abbrev pub IsPlaced : Ledger → Option Decision → Type 0
+IsPlaced l None = Unit {0}
+IsPlaced l (Some (decisions.Admit id place)) = option_map (λ m. m.place) (message_of l.book id) ≡ Some place
+IsPlaced l (Some (decisions.Corrupt id place)) = option_map (λ d. d.place) (damaged_of l.book id) ≡ Some place
+IsPlaced l (Some _) = Unit {0}
+
+-- a delivery that starts is in flight with the positions of the ledger's entry
+abbrev pub IsStartOf : World → Ledger → Option Decision → Core → Type 0
+IsStartOf w l None c = Unit {0}
+IsStartOf w l (Some (decisions.Start number id site)) c = (positions : List ℕ) → next w l ≡ Some
+    (entries.Start number id site positions) →
+    flight_in c number ≡ Some (record { number = number; row = record { id = id; site = site; positions = positions } })
+IsStartOf w l (Some _) c = Unit {0}
+
+-- a row that is put off is the last one, by its number and its positions
+abbrev pub IsSkipOf : Core → Decision → Core → Type 0
+IsSkipOf old (decisions.Skip id site entry) new = IsSkipNoted old id site entry new
+IsSkipOf old _ new = Unit {0}
+
+-- the same where there may be no decision
+abbrev pub NotesSkip : Core → Option Decision → Core → Type 0
+NotesSkip old None new = Unit {0}
+NotesSkip old (Some d) new = IsSkipOf old d new
 
 -- the core waits for no answer
 abbrev pub is_answered : Question → Bool

@@ -1,6 +1,11 @@
 -- What comes from outside, as entries.
-use Rattle.std.specs.Prelude.{◌≡◌, ◌≤◌, List, Option, ℕ}
+use Rattle.std.specs.Prelude.{◌≡◌, ◌≤◌, List, Option, true, ℕ}
 use Rattle.q_model.specs.declared.entry.Entry.{Entry}
+use Rattle.q_model.specs.Ledger.{Ledger}
+use Rattle.q_model.specs.Settings.{World}
+use Rattle.q_model.specs.Step.{after, allowed}
+use Rattle.q_core.specs.Agrees.{Agrees}
+use Rattle.q_core.specs.declared.state.Core.{Core}
 use Rattle.q_model.specs.declared.entry.Entry.TheVariants as entries
 use Rattle.q_core.specs.declared.event.Heard.{Heard}
 use Rattle.q_core.specs.declared.event.Heard.TheVariants.{At, Mail, Reply, Trigger}
@@ -8,9 +13,14 @@ use Rattle.q_core.specs.declared.event.Heard.TheVariants.{At, Mail, Reply, Trigg
 -- the entry of an event; that of a mail has its texts besides
 abbrev pub IsHeard : Heard → Entry → Type 0
 IsHeard (At moment) e = e ≡ entries.At moment
-IsHeard (Mail id) e = (sender : Option (List ℕ)) × (to : List (List ℕ)) × (content : List ℕ) × (e ≡ entries.Arrive id sender to content)
+IsHeard (Mail id) e = (sender : Option (List ℕ)) × (to : List (List ℕ)) × (content : List ℕ)
+    × (e ≡ entries.Arrive id sender to content)
 IsHeard (Reply number site outcomes) e = e ≡ entries.Reply number site outcomes.now
 IsHeard (Trigger kind) e = e ≡ entries.Trigger kind
+
+-- the core agrees with the ledger after the event's entry, where that is allowed
+abbrev pub Hears : World → Ledger → Heard → Core → Type 0
+Hears w l heard c = (e : Entry) → IsHeard heard e → allowed w l e ≡ true → Agrees w c (after w l e)
 
 -- a moment in input
 abbrev pub IsInTime : Heard → Type 0

@@ -20,8 +20,11 @@ need_in expired (outcomes.Later code) = if expired then Some (needs.Log Expired 
 abbrev pub needs_in : Bool → Id → List ℕ → List Outcome → List Unsettled
 needs_in expired id [] outcomes = []
 needs_in expired id (p ∷ ps) [] = []
-needs_in expired id (p ∷ ps) (o ∷ os) = cons_option (option_map (unsettled_row id p) (need_in expired o)) (needs_in expired id ps os)
+needs_in expired id (p ∷ ps) (o ∷ os) = cons_option
+    (option_map (unsettled_row id p) (need_in expired o))
+    (needs_in expired id ps os)
 
 -- what one position needs, where it has an outcome
 abbrev pub need_at : Bool → Id → ℕ → Option Outcome → List Unsettled
-need_at expired id position outcome = cons_option (option_map (unsettled_row id position) (option_and_then (need_in expired) outcome)) []
+need_at expired id position outcome = cons_option
+    (option_map (unsettled_row id position) (option_and_then (need_in expired) outcome)) []

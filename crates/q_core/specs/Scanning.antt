@@ -12,7 +12,8 @@ scan_over b now None = (None, None)
 scan_over b now (Some request) = (live b (new_scan now request), None)
 
 -- by whether the scan has a next name
-abbrev pub scan_at : Book → ℕ → Scan → Option Request → Option DeferredName → (Option Scan × Option Request)
+abbrev pub scan_at : Book → ℕ → Scan → Option Request → Option DeferredName
+    → (Option Scan × Option Request)
 scan_at b now s asked None = scan_over b now asked
 scan_at b now s asked (Some name) = (Some s, asked)
 

@@ -21,10 +21,15 @@ abbrev pub with_log : Slot → Slot
 with_log s = record s { pending = s.pending - 1; logged = true; failed = true }
 
 -- with a mark more, of the recipient that is logged or of one that is pending
-abbrev pub with_mark : Slot → Slot
-with_mark s =
+abbrev pub with_slot_mark : Slot → Slot
+with_slot_mark s =
     let marks = if nat_lt s.marks s.recipients then s.marks + 1 else s.marks in
-    if s.logged then record s { marks = marks; logged = false } else record s { marks = marks; pending = s.pending - 1 }
+    if s.logged then record s { marks = marks; logged = false }
+    else record s { marks = marks; pending = s.pending - 1 }
+
+-- with a record that can't be read: nothing more of it is to be read
+abbrev pub with_damage : Slot → Slot
+with_damage s = record s { unread = s.recipients; damaged = true }
 
 -- with its bounce stored
 abbrev pub with_bounce : Slot → Slot

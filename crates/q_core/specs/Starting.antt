@@ -4,28 +4,31 @@ use Rattle.std.specs.Option.{option_map_or}
 use Rattle.std.specs.Prelude.{◌&&◌, ◌+◌, ◌==◌, Bool, count_by, false, filter, find, nat_lt, Option, option_map, ℕ}
 use Rattle.q_model.specs.declared.id.Id.{Id}
 use Rattle.q_model.specs.declared.rows.Row.{Row}
-use Rattle.q_model.specs.Destinations.{site_eq}
+use Rattle.q_model.specs.Sites.{site_eq}
 use Rattle.q_model.specs.Ids.{id_eq}
 use Rattle.q_model.specs.Lists.{least}
 use Rattle.q_model.specs.SiteRecords.{is_alive}
 use Rattle.q_model.specs.Values.{Served, Site}
-use Rattle.q_core.specs.Destinations.{busy_in}
-use Rattle.q_core.specs.Held.{destination_in}
+use Rattle.q_core.specs.UsedSites.{busy_in}
+use Rattle.q_core.specs.Held.{record_in}
 use Rattle.q_core.specs.declared.decision.Decision.{Decision}
 use Rattle.q_core.specs.declared.state.Core.{Core}
 use Rattle.q_core.specs.declared.decision.Decision.TheVariants.{Start}
 
 -- the deliveries in flight at a transport
 abbrev pub flights_at : Core → ℕ → ℕ
-flights_at c transport = count_by (λ f. f.row.site.transport == transport) c.flights.items
+flights_at c transport = count_by (λ f. f.row.site.transport == transport) c.flights
 
 -- the site is alive and has room in its window
 abbrev pub has_room_in : Core → Site → Bool
-has_room_in c site = option_map_or (λ d. is_alive d.health && nat_lt (busy_in c.flights.items site) d.window) (destination_in c site) false
+has_room_in c site = option_map_or (λ d. is_alive d.health
+    && nat_lt (busy_in c.flights site) d.window)
+    (record_in c site) false
 
 -- the transport has a process left too
 abbrev pub is_startable_in : Core → Row → Bool
-is_startable_in c r = nat_lt (flights_at c r.site.transport) c.params.process_limit && has_room_in c r.site
+is_startable_in c r = nat_lt (flights_at c r.site.transport) c.params.process_limit
+    && has_room_in c r.site
 
 -- the rows of a message at a transport that may be sent now
 abbrev pub rows_for : Core → Id → ℕ → Row → Bool
@@ -33,11 +36,11 @@ rows_for c id transport r = id_eq r.id id && (r.site.transport == transport) && 
 
 -- the message has such a row
 abbrev pub can_start_in : Core → ℕ → Id → Bool
-can_start_in c transport id = list_any (rows_for c id transport) c.waiting.items
+can_start_in c transport id = list_any (rows_for c id transport) c.waiting
 
 -- when the message was last sent to the row's site
 abbrev pub served_for : Core → Row → Option Served
-served_for c r = find (λ s. id_eq s.id r.id && site_eq s.site r.site) c.served.items
+served_for c r = find (λ s. id_eq s.id r.id && site_eq s.site r.site) c.served
 
 -- the number of that delivery, 0 for none
 abbrev pub last_start_in : Core → Row → ℕ
@@ -45,7 +48,8 @@ last_start_in c r = option_map_or (λ s. s.last) (served_for c r) 0
 
 -- the row that starts next: the one sent to longest ago; among equals the first read
 abbrev pub next_row_in : Core → ℕ → Id → Option Row
-next_row_in c transport id = least (λ a b. nat_lt (last_start_in c a) (last_start_in c b)) (filter (rows_for c id transport) c.waiting.items)
+next_row_in c transport id = least (λ a b. nat_lt (last_start_in c a) (last_start_in c b))
+    (filter (rows_for c id transport) c.waiting)
 
 -- the delivery of a row
 abbrev pub start_of_row : Core → Row → Decision

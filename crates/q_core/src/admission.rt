@@ -1,11 +1,11 @@
 //! Which file comes into memory next.
 ghost use Rattle.std.specs.Prelude.{◌≡◌};
-ghost use Rattle.q_core.specs.Files.{picked, taken_found};
+ghost use Rattle.q_core.specs.Facts.{picked, picked_decision, picked_next};
 ghost use Rattle.q_core.specs.Rules.{admission_in, has_message_room_in, next_admission_in};
 
 use crate::decision::{Decision, Found};
 use crate::state::{Core, Seen};
-use q_model::Mode;
+use q_model::{Mode, Place};
 
 impl Core {
     /// Whether another message may come into memory.
@@ -22,32 +22,32 @@ impl Core {
     }
 
     /// The file of the queue whose turn it is, or of the one that has a file.
-    fn take(&self, incoming: &Found, deferred: &Found) -> Option<Decision>
-        ensures { result ≡ taken_found (picked self.now.deferred_turn incoming.now deferred.now) }
+    fn pick(&self, incoming: &Found, deferred: &Found) -> Option<Decision>
+        ensures { result ≡ picked_next self.now.deferred_turn incoming.now deferred.now }
     {
         if incoming.is_nothing() {
-            deferred.taken()
+            deferred.picked(deferred.deferred_place())
         } else if deferred.is_nothing() {
-            incoming.taken()
+            incoming.picked(Place::Incoming)
         } else if self.deferred_turn {
-            deferred.taken()
+            deferred.picked(deferred.deferred_place())
         } else {
-            incoming.taken()
+            incoming.picked(Place::Incoming)
         }
     }
 
-    /// What is taken, or the look at deferred that is still wanted.
+    /// What is picked, or the look at deferred that is still wanted.
     fn admission(&self, incoming: &Found) -> Option<Decision>
         ensures { result ≡ admission_in self.now incoming.now self.now.deferred self.now.scan }
     {
         match &self.scan {
-            None => self.take(incoming, &Found::Nothing),
+            None => self.pick(incoming, &Found::Nothing),
             Some(scan) => match &self.deferred {
                 Seen::Unknown => Some(Decision::LookDeferred {
                     after: scan.place,
                     until: scan.until,
                 }),
-                Seen::Known { found } => self.take(incoming, found),
+                Seen::Known { found } => self.pick(incoming, found),
             },
         }
     }

@@ -1,9 +1,10 @@
 //! What a transport does next: a delivery of the current job begins, or another job preempts it
 //! (SCHEDULER_README, "Preemptive scheduling").
-ghost use Rattle.std.specs.Prelude.{◌≡◌, ◌≤◌, ◌<◌, ◌+◌, ◌^◌, ◌&&◌, ◌==◌, count_by};
+ghost use Rattle.std.specs.Prelude.{◌≡◌, ◌≤◌, ◌<◌, ◌+◌, ◌^◌, ◌&&◌, ◌==◌, count_by, nat_lt};
 ghost use Rattle.std.specs.Option.{option_copied};
-ghost use Rattle.q_core.specs.Choosing.{behind_jobs, best_in, choice_in, choices_from, choose_in, current_in, is_better_in, is_candidate_in, is_fresh_among, jobs_at, next_start_in, pays_in, rest_in};
+ghost use Rattle.q_core.specs.Choosing.{behind_jobs, best_in, choice_in, choices_from, choose_in, current_in, is_better_in, is_candidate_in, is_fresh_among, jobs_at, need_in, next_start_in, pays_in, rest_in};
 ghost use Rattle.q_core.specs.Lists.{prefer};
+ghost use Rattle.q_core.specs.Starting.{flights_at};
 ghost use Rattle.q_model.specs.Ids.{id_eq};
 
 use crate::decision::Decision;
@@ -15,7 +16,7 @@ use q_model::Id;
 use q_params::Params;
 
 /// The jobs behind this one.
-fn behind(jobs: &[Job], id: Id) -> &[Job]
+fn jobs_behind(jobs: &[Job], id: Id) -> &[Job]
     ensures { result.now ≡ behind_jobs id jobs.now }
 {
     let mut rest = jobs;
@@ -56,7 +57,8 @@ fn pays(params: &Params, parent: &Job, left: u64, need: u64) -> bool
 
 impl Core {
     fn waiting_for(&self, id: Id, transport: u8) -> usize
-        ensures { result ≡ count_by (λ r. id_eq r.id id && (r.site.transport == transport)) self.now.waiting.items }
+        ensures count { result ≡ count_by (λ r. id_eq r.id id && (r.site.transport == transport)) self.now.waiting }
+        ensures few { result ≤ 2 ^ 63 }
     {
         self.waiting
             .iter()
@@ -73,7 +75,17 @@ impl Core {
         self.waiting_for(id, transport) as u64 + u64::from(self.unread(id))
     }
 
-    fn jobs(&self, transport: u8) -> &[Job]
+    /// The need of a message that preempts: what it has left at the transport. That is no more
+    /// than its recipients, of which each is unread, or stands in one row at most.
+    fn need(&self, slot: &Slot, transport: u8) -> u32
+        ensures { result ≡ need_in self.now transport slot.now }
+    {
+        let most = u64::from(slot.recipients);
+        self.rest(slot.id, transport).min(most) as u32
+    }
+
+    /// The jobs of the transport in their order; none where it has no line.
+    pub fn jobs(&self, transport: u8) -> &[Job]
         ensures { result.now ≡ jobs_at self.now transport }
     {
         match self.lines.get(usize::from(transport)) {
@@ -82,8 +94,25 @@ impl Core {
         }
     }
 
+    /// Whether the transport may begin a delivery more.
+    fn has_process(&self, transport: u8) -> bool
+        ensures { result ≡ nat_lt (flights_at self.now transport) self.now.params.process_limit }
+    {
+        self.flights_of(transport) < self.params.default_process_limit as usize
+    }
+
     /// The first job in the line that may start something.
     fn current(&self, transport: u8) -> Option<&Job>
+        ensures { option_copied result ≡ current_in self.now transport }
+    {
+        if !self.has_process(transport) {
+            return None;
+        }
+        self.first_able(transport)
+    }
+
+    /// The first job in the line with a row that may be sent now.
+    fn first_able(&self, transport: u8) -> Option<&Job>
         ensures { option_copied result ≡ current_in self.now transport }
     {
         self.jobs(transport)
@@ -148,8 +177,25 @@ impl Core {
         }
     }
 
+    /// Whether a job with the least need there is could preempt the parent.
+    fn can_be_preempted(&self, parent: &Job, transport: u8) -> bool
+        ensures { result ≡ pays_in self.now.params parent.now (rest_in self.now transport parent.now.id) 1 }
+    {
+        self.pays(parent, self.rest(parent.id, transport), 1)
+    }
+
     /// The message that preempts the current job; among equals the first admitted.
     fn best(&self, behind: &[Job], parent: &Job, transport: u8) -> Option<Slot>
+        ensures { result ≡ best_in self.now transport behind.now parent.now }
+    {
+        if !self.can_be_preempted(parent, transport) {
+            return None;
+        }
+        self.best_candidate(behind, parent, transport)
+    }
+
+    /// The same, by a walk over all messages in memory.
+    fn best_candidate(&self, behind: &[Job], parent: &Job, transport: u8) -> Option<Slot>
         ensures { result ≡ best_in self.now transport behind.now parent.now }
     {
         let mut best = None;
@@ -166,13 +212,13 @@ impl Core {
         requires { self.now.starts < 2 ^ 48 }
         ensures { result ≡ choose_in self.now transport parent }
     {
-        let behind = behind(self.jobs(transport), parent.id);
+        let behind = jobs_behind(self.jobs(transport), parent.id);
         match self.best(behind, &parent, transport) {
             Some(child) => Some(Decision::Preempt {
                 child: child.id,
                 parent: parent.id,
                 transport,
-                need: self.rest(child.id, transport),
+                need: self.need(&child, transport),
             }),
             None => self.start(parent.id, transport),
         }

@@ -1,6 +1,6 @@
 //! Messages that an earlier life left in active: a failure is marked, and marks are synced.
 ghost use Rattle.std.specs.Prelude.{◌≡◌, IsTrue, OnErr, OnOk, [], false, true, ℕ};
-ghost use Rattle.q_core.specs.Agrees.{Agrees, Matches};
+ghost use Rattle.q_core.specs.Agrees.{ForLedgers, Agrees, Matches, Follows, MarksLeftovers};
 ghost use Rattle.q_core.specs.Held.{is_admitted_in};
 ghost use Rattle.q_core.specs.Changes.{IsAsBefore, IsNoted, is_looked_at};
 ghost use Rattle.q_model.specs.Ledger.{Ledger};
@@ -24,10 +24,11 @@ impl Core {
     /// A failure of an earlier life is marked.
     pub(crate) fn mark_left(&mut self)
         requires { IsTrue (is_looked_at self.old) }
-        ensures { (w : World) → (l : Ledger) → (id : Id) → (position : ℕ) → Agrees w self.old l → self.old.unsettled.items ≡ [] → marks_leftover l id position ≡ true → Matches w self.new (after w l (Entry.Mark id position)) }
+        ensures { self.old.unsettled ≡ [] → ForLedgers self.old
+            (λ w l. MarksLeftovers w l self.new) }
     {
         self.forget_active();
-        self.settle();
+        self.tidy();
     }
 
     /// The message counts as synced in this life.
@@ -43,11 +44,12 @@ impl Core {
     /// The marks of a message of an earlier life are synced.
     pub(crate) fn sync_left(&mut self, id: Id) -> Result<(), NoMemory>
         requires { IsTrue (is_looked_at self.old) }
-        ensures ok { OnOk result ((w : World) → (l : Ledger) → Agrees w self.old l → is_admitted_in self.old id ≡ false → may_sync l id ≡ true → Matches w self.new (after w l (Entry.Sync id))) }
+        ensures ok { OnOk result (is_admitted_in self.old id ≡ false
+            → Follows self.old self.new (Entry.Sync id)) }
         ensures err { OnErr result (IsAsBefore self.old self.new) }
     {
         self.note_synced(id)?;
-        self.settle();
+        self.tidy();
         Ok(())
     }
 }

@@ -1,8 +1,9 @@
 //! Damaged files go to corrupt.
 ghost use Rattle.std.specs.Prelude.{◌≡◌, IsTrue, true};
-ghost use Rattle.q_core.specs.Agrees.{Agrees, Matches};
+ghost use Rattle.q_core.specs.Agrees.{ForLedgers, Agrees, Matches, Follows};
 ghost use Rattle.q_core.specs.Changes.{is_looked_at};
-ghost use Rattle.q_core.specs.Files.{shows_damaged};
+ghost use Rattle.q_core.specs.Facts.{shows_damaged};
+ghost use Rattle.q_core.specs.Held.{is_damaged_in};
 ghost use Rattle.q_model.specs.Leaving.{may_corrupt};
 ghost use Rattle.q_model.specs.Ledger.{Ledger};
 ghost use Rattle.q_model.specs.Settings.{World};
@@ -26,9 +27,29 @@ impl Core {
         }
     }
 
+    /// Whether a message in memory of this id has a record that can't be read.
+    pub(crate) fn has_damage(&self, id: Id) -> bool
+        ensures { result ≡ is_damaged_in self.now id }
+    {
+        self.admitted
+            .iter()
+            .any(|slot| same_id(slot.id, id) && slot.damaged)
+    }
+
+    /// Such a message goes to corrupt.
+    pub(crate) fn corrupt_read(&mut self, id: Id) {
+        self.remove_slot(id);
+        self.forget_looks();
+        self.tidy();
+    }
+
     /// All is to be looked at anew.
     pub(crate) fn forget_looks(&mut self)
-        ensures { self.new ≡ record self.old { active = Seen.Unknown; incoming = Seen.Unknown; deferred = Seen.Unknown } }
+        ensures { self.new ≡ record self.old {
+          active = Seen.Unknown;
+          incoming = Seen.Unknown;
+          deferred = Seen.Unknown;
+        } }
     {
         self.active = Seen::Unknown;
         self.incoming = Seen::Unknown;
@@ -38,9 +59,10 @@ impl Core {
     /// A damaged file that an earlier life left goes to corrupt.
     pub(crate) fn corrupt_left(&mut self)
         requires { IsTrue (is_looked_at self.old) }
-        ensures { (w : World) → (l : Ledger) → (id : Id) → Agrees w self.old l → shows_damaged self.old.active id ≡ true → may_corrupt w l id ≡ true → Matches w self.new (after w l (Entry.Corrupt id)) }
+        ensures { (id : Id) → shows_damaged self.old.active id ≡ true
+            → Follows self.old self.new (Entry.Corrupt id) }
     {
         self.forget_looks();
-        self.settle();
+        self.tidy();
     }
 }

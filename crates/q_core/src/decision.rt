@@ -1,9 +1,10 @@
 //! Decisions, and what was found on disk.
 ghost use Rattle.std.specs.Prelude.{◌≡◌};
 ghost use Rattle.q_core.specs.Deciding.{is_asking};
-ghost use Rattle.q_core.specs.Files.{file_wants_bounce, is_nothing, taken_found};
+ghost use Rattle.std.specs.Prelude.{◌-◌};
+ghost use Rattle.q_core.specs.Facts.{deferred_place, file_pending, file_wants_bounce, is_damaged, is_nothing, picked_decision};
 
-use q_model::{DeferredName, Failure, Id, Moment, Site};
+use q_model::{DeferredName, Failure, Id, Moment, Place, Site};
 
 /// What is to be done next, or is to be looked at or read before that is known.
 #[derive(Clone, Copy, Debug)]
@@ -19,11 +20,12 @@ pub enum Decision {
     Sync {
         id: Id,
     },
-    /// The row at this place of the waiting rows is put off.
+    /// A row of the message that waited at the site, which is dead, is put off. `row_positions` of
+    /// the number `entry` answers its positions until the next decision.
     Skip {
         id: Id,
         site: Site,
-        entry: usize,
+        entry: u32,
     },
     Defer {
         id: Id,
@@ -38,17 +40,21 @@ pub enum Decision {
     Remove {
         id: Id,
     },
+    /// The damaged file stands at this place.
     Corrupt {
         id: Id,
+        place: Place,
     },
+    /// The message stands at this place.
     Admit {
         id: Id,
+        place: Place,
     },
     Preempt {
         child: Id,
         parent: Id,
         transport: u8,
-        need: u64,
+        need: u32,
     },
     Start {
         number: u64,
@@ -72,14 +78,16 @@ pub enum Decision {
     },
 }
 
-/// What the head and the failure log of a queue file say.
+/// What the head and the failure log of a queue file say. Where there is no log, `failures` is 0
+/// and `unmarked` None, and the head alone tells the rest.
 #[derive(Clone, Copy, Debug)]
 pub struct FileFacts {
     pub arrival: Moment,
     pub null_sender: bool,
     pub recipients: u32,
-    /// Recipients that are neither marked nor logged.
-    pub pending: u32,
+    /// How many recipients are marked.
+    pub marked: u32,
+    /// How many failures the log has.
     pub failures: u32,
     /// The least position that is logged and not marked.
     pub unmarked: Option<u32>,
@@ -122,6 +130,13 @@ impl Decision {
 }
 
 impl FileFacts {
+    /// How many recipients are pending, where none is logged and not marked.
+    pub(crate) fn pending(&self) -> u32
+        ensures { result ≡ file_pending self.now }
+    {
+        self.recipients.saturating_sub(self.marked)
+    }
+
     /// Whether its failures are to be told to its sender.
     pub(crate) fn wants_bounce(&self, id: Id) -> bool
         ensures { result ≡ file_wants_bounce self.now id }
@@ -140,22 +155,43 @@ impl Found {
         }
     }
 
-    /// How the file is taken in: it is admitted, or moved away where it is damaged.
-    pub(crate) fn taken(&self) -> Option<Decision>
-        ensures { result ≡ taken_found self.now }
+    pub(crate) fn is_damaged(&self) -> bool
+        ensures { result ≡ is_damaged self.now }
+    {
+        match self {
+            Found::Damaged { .. } => true,
+            _ => false,
+        }
+    }
+
+    /// The place in deferred that the name says.
+    pub(crate) fn deferred_place(&self) -> Place
+        ensures { result ≡ deferred_place self.now }
+    {
+        match self {
+            Found::Nothing => Place::Deferred(0),
+            Found::Damaged { due, .. } => Place::Deferred(*due),
+            Found::Whole { due, .. } => Place::Deferred(*due),
+        }
+    }
+
+    /// What is done with the file that is picked at this place: it is admitted, or moved away
+    /// where it is damaged.
+    pub(crate) fn picked(&self, place: Place) -> Option<Decision>
+        ensures { result ≡ picked_decision place self.now }
     {
         match self {
             Found::Nothing => None,
             Found::Damaged { id, alone, .. } => {
                 if *alone {
-                    Some(Decision::Corrupt { id: *id })
+                    Some(Decision::Corrupt { id: *id, place })
                 } else {
                     None
                 }
             }
             Found::Whole { id, file, .. } => {
                 if file.alone {
-                    Some(Decision::Admit { id: *id })
+                    Some(Decision::Admit { id: *id, place })
                 } else {
                     None
                 }

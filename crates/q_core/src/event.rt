@@ -1,15 +1,15 @@
 //! Events: what comes to the core from outside.
 ghost use Rattle.std.specs.Prelude.{◌≡◌, IsTrue, OnErr, OnOk, true};
-ghost use Rattle.q_core.specs.Agrees.{Agrees, Matches};
+ghost use Rattle.q_core.specs.Agrees.{Agrees, Matches, ForLedgers, FollowsAllowed};
 ghost use Rattle.q_core.specs.Changes.{IsAsBefore, is_looked_at};
 ghost use Rattle.q_core.specs.Deciding.{is_answered};
-ghost use Rattle.q_core.specs.Hearing.{IsHeard, IsInTime};
+ghost use Rattle.q_core.specs.Hearing.{Hears, IsHeard, IsInTime};
 ghost use Rattle.q_model.specs.declared.entry.Entry.{Entry};
 ghost use Rattle.q_model.specs.Ledger.{Ledger};
 ghost use Rattle.q_model.specs.Settings.{World};
 ghost use Rattle.q_model.specs.Step.{after, allowed};
 
-use crate::state::{Core, Seen};
+use crate::state::{Core, Question, Seen};
 use q_model::{Id, Moment, NoMemory, Outcomes, SiteState, Trigger};
 use std::alloc::Global;
 
@@ -38,12 +38,13 @@ impl Core {
     fn hear(&mut self, alloc: Global, heard: Heard<'_>) -> Result<(), NoMemory>
         requires time { IsInTime heard }
         requires seen { IsTrue (is_looked_at self.old) }
-        ensures ok { OnOk result ((w : World) → (l : Ledger) → (e : Entry) → Agrees w self.old l → IsHeard heard.entry e → allowed w l e ≡ true → Matches w self.new (after w l e)) }
+        ensures ok { OnOk result ((e : Entry) → IsHeard heard.entry e
+            → FollowsAllowed self.old self.new e) }
         ensures err { OnErr result (IsAsBefore self.old self.new) }
     {
         match heard {
             Heard::At { moment } => self.hear_at(moment),
-            Heard::Mail { .. } => self.arrive(),
+            Heard::Mail { id } => self.arrive(id),
             Heard::Reply {
                 number,
                 site,
@@ -54,19 +55,24 @@ impl Core {
         Ok(())
     }
 
-    /// Takes an event. The decisions that follow are those that `next_decision` then gives.
+    /// Hears an event. The decisions that follow are those that `next_decision` then gives; nothing
+    /// is asked behind it. After want of memory the core is as it was.
     ///
-    /// A ledger allows an `At` that isn't before its clock, and after the first `At` of a life a
-    /// `Mail` with the next id, a `Reply` of a delivery in flight with an outcome for each of its
-    /// recipients, which are delays where the site is down, and each `Trigger`.
+    /// It is an error to call it with a moment beyond 999,990,000,000, while a look or a read waits
+    /// for its answer, and while a scan's next name wasn't looked at. A ledger allows an `At` that
+    /// isn't before its clock, and after the first `At` of a life a `Mail` with the next id, a
+    /// `Reply` of a delivery in flight with an outcome for each of its recipients, which are delays
+    /// where the site is down, and each `Trigger`.
     pub fn event(&mut self, alloc: Global, heard: Heard<'_>) -> Result<(), NoMemory>
         requires time { IsInTime heard }
         requires answered { is_answered self.old.question ≡ true }
         requires seen { IsTrue (is_looked_at self.old) }
-        ensures ok { OnOk result ((w : World) → (l : Ledger) → (e : Entry) → Agrees w self.old l → IsHeard heard.entry e → allowed w l e ≡ true → Agrees w self.new (after w l e)) }
-        ensures err { OnErr result ((w : World) → (l : Ledger) → Agrees w self.old l → Agrees w self.new l) }
+        ensures ok { OnOk result (ForLedgers self.old (λ w l. Hears w l heard.entry self.new)) }
+        ensures answered { is_answered self.new.question ≡ true }
+        ensures err { OnErr result (self.new ≡ self.old) }
     {
         self.hear(alloc, heard)?;
+        self.question = Question::Nothing;
         Ok(())
     }
 }

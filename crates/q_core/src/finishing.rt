@@ -7,7 +7,7 @@ use crate::decision::Decision;
 use crate::slot::Slot;
 use crate::state::Core;
 use q_backoff::due;
-use q_model::Moment;
+use q_model::{Moment, Place};
 
 impl Core {
     /// When a message that arrived then is due again.
@@ -17,12 +17,17 @@ impl Core {
         due(self.clock.seconds, arrival, &self.params)
     }
 
-    /// It is deferred, else its bounce is stored, else it is removed.
+    /// One with a record that can't be read goes to corrupt. Else it is deferred, else its bounce is stored, else it is removed.
     fn finish(&self, slot: &Slot) -> Option<Decision>
         ensures { result ≡ finish_in self.now slot.now }
     {
         if slot.marks > 0 {
             None
+        } else if slot.damaged {
+            Some(Decision::Corrupt {
+                id: slot.id,
+                place: Place::Active,
+            })
         } else if slot.pending > 0 {
             Some(Decision::Defer {
                 id: slot.id,

@@ -1,36 +1,82 @@
-//! Answers to looks.
-ghost use Rattle.std.specs.Prelude.{◌≡◌, ◌<◌, true};
-ghost use Rattle.q_core.specs.Agrees.{Agrees};
-ghost use Rattle.q_core.specs.Answers.{IsFound};
-ghost use Rattle.q_core.specs.Deciding.{is_answered, is_look};
+//! Answers to looks, and to reads that fail.
+ghost use Rattle.std.specs.Prelude.{◌≡◌, ◌<◌, map, true, ℕ};
+ghost use Rattle.q_core.specs.Agrees.{Agrees, ForLedgers};
+ghost use Rattle.q_core.specs.Answers.{IsFound, is_fit};
+ghost use Rattle.q_core.specs.Changes.{IsDamageNoted, IsSlotChange};
+ghost use Rattle.q_core.specs.Deciding.{is_answered};
 ghost use Rattle.q_core.specs.Looking.{is_unseen, looks_left};
-ghost use Rattle.q_model.specs.Ledger.{Ledger};
-ghost use Rattle.q_model.specs.Settings.{World};
+ghost use Rattle.q_core.specs.Slots.{changed_at, with_damage};
+ghost use Rattle.q_model.specs.declared.id.Id.{Id};
 
 use crate::decision::Found;
+use crate::names::same_id;
+use crate::slot::Slot;
 use crate::state::{Core, Question};
+use q_model::Id;
+
+impl Slot {
+    /// Notes that a record of the message can't be read, where it is of this id.
+    fn note_damage(&mut self, id: Id)
+        ensures { self.new ≡ changed_at id with_damage self.old }
+    {
+        if same_id(self.id, id) {
+            self.unread = self.recipients;
+            self.damaged = true;
+        }
+    }
+}
+
+fn note_damage(slots: &mut [Slot], id: Id)
+    ensures { slots.new ≡ map (changed_at id with_damage) slots.old }
+{
+    for slot in slots.iter_mut() {
+        slot.note_damage(id);
+    }
+}
 
 impl Core {
+    /// A record of the message can't be read: it reads no more, and goes to corrupt once it is
+    /// idle.
+    fn note_damage(&mut self, id: Id)
+        ensures { IsSlotChange self.old self.new id with_damage }
+    {
+        note_damage(&mut self.admitted, id);
+    }
+
     fn note_found(&mut self, found: Found)
-        ensures exact { (w : World) → (l : Ledger) → Agrees w self.old l → IsFound self.old found l → Agrees w self.new l }
-        ensures fewer { is_unseen self.old.question self.old ≡ true → looks_left self.new < looks_left self.old }
+        ensures exact { ForLedgers self.old (λ w l. IsFound self.old found l
+            → Agrees w self.new l) }
+        ensures fewer { is_unseen self.old.question self.old ≡ true
+            → looks_left self.new < looks_left self.old }
+        ensures damaged { (id : Id) → (from max : ℕ)
+            → self.old.question ≡ Question.Recipients id from max
+            → IsSlotChange self.old self.new id with_damage }
     {
         match self.question {
             Question::Active => self.found_active(found),
             Question::Incoming => self.found_incoming(found),
             Question::Deferred => self.found_deferred(found),
             Question::Nothing => {}
-            Question::Recipients { .. } => {}
+            Question::Recipients { id, .. } => self.note_damage(id),
         }
     }
 
     /// The answer to the look that waits for it: what stands first in the area that was looked
     /// at. In active that is the least id that isn't in memory, in incoming the least id, and in
     /// deferred the first name behind the look's place that is due by its moment.
+    ///
+    /// `Damaged` is the answer to a read too, where a record of the file can't be read: the message
+    /// reads no more, and goes to corrupt once it is idle. Any other answer to a read is an error,
+    /// as is an answer where nothing was asked.
     pub fn found(&mut self, found: Found)
-        requires { is_look self.old.question ≡ true }
-        ensures exact { (w : World) → (l : Ledger) → Agrees w self.old l → IsFound self.old found l → Agrees w self.new l }
-        ensures fewer { is_unseen self.old.question self.old ≡ true → looks_left self.new < looks_left self.old }
+        requires { is_fit self.old.question found ≡ true }
+        ensures exact { ForLedgers self.old (λ w l. IsFound self.old found l
+            → Agrees w self.new l) }
+        ensures fewer { is_unseen self.old.question self.old ≡ true
+            → looks_left self.new < looks_left self.old }
+        ensures damaged { (id : Id) → (from max : ℕ)
+            → self.old.question ≡ Question.Recipients id from max
+            → IsDamageNoted self.old self.new id }
         ensures answered { is_answered self.new.question ≡ true }
     {
         self.note_found(found);

@@ -1,7 +1,7 @@
 //! Recipients that were read are grouped in rows, as many in one as a delivery may have.
 ghost use Rattle.std.specs.Prelude.{◌≡◌, ◌<◌, ◌&&◌, ◌++◌, [], ◌∷◌, IfOk, length, OnOk, position, set, slice_get, Some};
 ghost use Rattle.std.specs.Option.{option_copied};
-ghost use Rattle.q_core.specs.Loading.{joined_at, rows_in, takes_more};
+ghost use Rattle.q_core.specs.Loading.{joined_at, rows_in, has_space};
 ghost use Rattle.q_model.specs.Batches.{join_rows};
 ghost use Rattle.q_model.specs.declared.rows.Row.{Row};
 ghost use Rattle.q_model.specs.Values.{Taken};
@@ -11,21 +11,23 @@ use q_model::{Batch, Id, NoMemory, Positions, Row, Site};
 use std::alloc::Global;
 
 /// Whether the row is of this site, and not full.
-fn takes_more(row: &Row, site: &Site, limit: u32) -> bool
-    ensures { result ≡ takes_more limit site.now row.now }
+fn has_space(row: &Row, site: &Site, limit: u32) -> bool
+    ensures { result ≡ has_space limit site.now row.now }
 {
     same_site(&row.site, site) && row.positions.len() < limit as usize
 }
 
 fn row_for(rows: &[Row], site: &Site, limit: u32) -> Option<usize>
-    ensures { result ≡ position (takes_more limit site.now) rows.now }
+    ensures { result ≡ position (has_space limit site.now) rows.now }
 {
-    rows.iter().position(|row| takes_more(row, site, limit))
+    rows.iter().position(|row| has_space(row, site, limit))
 }
 
 fn add_position(rows: &mut Vec<Row>, place: usize, position: u32) -> Result<(), NoMemory>
     requires { place < length rows.old.items }
-    ensures { OnOk result ((r : Row) → slice_get rows.old.items place ≡ Some r → rows.new.items ≡ set rows.old.items place (record r { positions = r.positions ++ position ∷ [] })) }
+    ensures { OnOk result ((r : Row) → slice_get rows.old.items place ≡ Some r
+        → rows.new.items ≡ set rows.old.items place
+        (record r { positions = r.positions ++ position ∷ [] })) }
 {
     let row = &mut rows[place];
     row.positions.push(position)?;
@@ -52,7 +54,11 @@ fn begin_row(
     site: &Site,
     position: u32,
 ) -> Result<(), NoMemory>
-    ensures { OnOk result (rows.new.items ≡ rows.old.items ++ record { id = id; site = site.now; positions = position ∷ [] } ∷ []) }
+    ensures { OnOk result (rows.new.items ≡ rows.old.items ++ record {
+      id = id;
+      site = site.now;
+      positions = position ∷ [];
+    } ∷ []) }
 {
     let row = row_of(alloc, id, *site, position)?;
     rows.push(row)?;
@@ -86,7 +92,8 @@ fn join_at(
     site: Option<&Site>,
     position: u32,
 ) -> Result<(), NoMemory>
-    ensures { OnOk result (rows.new.items ≡ joined_at limit id rows.old.items position (option_copied site.entry)) }
+    ensures { OnOk result (rows.new.items ≡ joined_at limit id rows.old.items position
+        (option_copied site.entry)) }
 {
     match site {
         Some(site) => join_row(alloc, rows, limit, id, site, position),

@@ -1,13 +1,13 @@
 //! Events without a row: the clock and the triggers (qmgr(8)).
 ghost use Rattle.std.specs.Prelude.{◌≡◌, ◌≤◌, IsTrue};
-ghost use Rattle.q_core.specs.Agrees.{Agrees, Matches};
+ghost use Rattle.q_core.specs.Agrees.{ForLedgers, Agrees, Matches};
 ghost use Rattle.q_core.specs.Changes.{IsRevived, IsWoken, asked_when_due, is_looked_at};
 ghost use Rattle.q_model.specs.Ledger.{Ledger};
 ghost use Rattle.q_model.specs.Settings.{World};
 ghost use Rattle.q_model.specs.Step.{after};
 
 use crate::clock::Clock;
-use crate::destination::{revive_all, revive_due};
+use crate::site_record::{revive_all, revive_due};
 use crate::state::{Core, Seen};
 use q_model::{Entry, Moment, Trigger};
 
@@ -24,7 +24,7 @@ impl Core {
         }
     }
 
-    /// Sets the clock, and revives the destinations whose time has come.
+    /// Sets the clock, and revives the sites whose time has come.
     fn wake(&mut self, moment: Moment)
         requires { moment ≤ 999990000000 }
         ensures { IsWoken self.old self.new moment }
@@ -48,11 +48,11 @@ impl Core {
     pub(crate) fn hear_at(&mut self, moment: Moment)
         requires early { moment ≤ 999990000000 }
         requires seen { IsTrue (is_looked_at self.old) }
-        ensures { (w : World) → (l : Ledger) → Agrees w self.old l → Matches w self.new (after w l (Entry.At moment)) }
+        ensures { ForLedgers self.old (λ w l. Matches w self.new (after w l (Entry.At moment))) }
     {
         self.wake(moment);
         self.ask_when_due();
-        self.settle();
+        self.tidy();
     }
 
     fn revive_all(&mut self)
@@ -63,32 +63,35 @@ impl Core {
 
     fn hear_scan(&mut self)
         requires { IsTrue (is_looked_at self.old) }
-        ensures { (w : World) → (l : Ledger) → Agrees w self.old l → Matches w self.new (after w l (Entry.Trigger Trigger.D)) }
+        ensures { ForLedgers self.old (λ w l. Matches w self.new (after w l
+            (Entry.Trigger Trigger.D))) }
     {
         self.ask_scan();
-        self.settle();
+        self.tidy();
     }
 
     fn hear_ignore(&mut self)
         requires { IsTrue (is_looked_at self.old) }
-        ensures { (w : World) → (l : Ledger) → Agrees w self.old l → Matches w self.new (after w l (Entry.Trigger Trigger.A)) }
+        ensures { ForLedgers self.old (λ w l. Matches w self.new (after w l
+            (Entry.Trigger Trigger.A))) }
     {
         self.ignores = true;
-        self.settle();
+        self.tidy();
     }
 
     fn hear_revival(&mut self)
         requires { IsTrue (is_looked_at self.old) }
-        ensures { (w : World) → (l : Ledger) → Agrees w self.old l → Matches w self.new (after w l (Entry.Trigger Trigger.F)) }
+        ensures { ForLedgers self.old (λ w l. Matches w self.new (after w l
+            (Entry.Trigger Trigger.F))) }
     {
         self.revive_all();
-        self.settle();
+        self.tidy();
     }
 
     /// Takes the event of a trigger.
     pub(crate) fn hear_trigger(&mut self, kind: Trigger)
         requires { IsTrue (is_looked_at self.old) }
-        ensures { (w : World) → (l : Ledger) → Agrees w self.old l → Matches w self.new (after w l (Entry.Trigger kind)) }
+        ensures { ForLedgers self.old (λ w l. Matches w self.new (after w l (Entry.Trigger kind))) }
     {
         match kind {
             Trigger::D => self.hear_scan(),

@@ -11,7 +11,7 @@ use crate::state::Core;
 use q_model::Id;
 
 impl Core {
-    pub(crate) fn is_admitted(&self, id: Id) -> bool
+    pub(crate) fn has_slot(&self, id: Id) -> bool
         ensures { result ≡ is_admitted_in self.now id }
     {
         self.admitted.iter().any(|slot| same_id(slot.id, id))
@@ -56,12 +56,12 @@ impl Core {
     pub(crate) fn is_idle(&self, id: Id) -> bool
         ensures { result ≡ is_idle_in self.now id }
     {
-        self.is_admitted(id) && self.unread(id) == 0 && !self.has_rows(id)
+        self.has_slot(id) && self.unread(id) == 0 && !self.has_rows(id)
     }
 
     /// The first message in memory that is idle.
     pub(crate) fn first_idle(&self) -> Option<&Slot>
-        ensures { option_copied result ≡ find (λ s. is_idle_in self.now s.id) self.now.admitted.items }
+        ensures { option_copied result ≡ find (λ s. is_idle_in self.now s.id) self.now.admitted }
     {
         self.admitted.iter().find(|slot| self.is_idle(slot.id))
     }
@@ -75,7 +75,7 @@ impl Core {
 
     /// The first message in memory whose marks are to be synced.
     pub(crate) fn first_to_sync(&self) -> Option<&Slot>
-        ensures { option_copied result ≡ find (wants_sync_in self.now) self.now.admitted.items }
+        ensures { option_copied result ≡ find (wants_sync_in self.now) self.now.admitted }
     {
         self.admitted.iter().find(|slot| self.wants_sync(slot))
     }

@@ -1,7 +1,8 @@
 //! Messages come to incoming: they arrive, bounces are stored, and messages that an earlier life
 //! left in active go back.
+ghost use Rattle.q_core.specs.Hearing.{IsHeard};
 ghost use Rattle.std.specs.Prelude.{◌≡◌, IsTrue, List, Option, false, map, true, ℕ};
-ghost use Rattle.q_core.specs.Agrees.{Agrees, Matches};
+ghost use Rattle.q_core.specs.Agrees.{ForLedgers, Agrees, Matches, Follows};
 ghost use Rattle.q_core.specs.Changes.{IsBounced, is_looked_at};
 ghost use Rattle.q_core.specs.Held.{is_admitted_in};
 ghost use Rattle.q_core.specs.Slots.{changed_at, with_bounce};
@@ -12,6 +13,7 @@ ghost use Rattle.q_model.specs.Ledger.{Ledger};
 ghost use Rattle.q_model.specs.Settings.{World};
 ghost use Rattle.q_model.specs.Step.{after};
 
+use crate::event::Heard;
 use crate::names::same_id;
 use crate::slot::Slot;
 use crate::state::{Core, Seen};
@@ -47,19 +49,20 @@ impl Core {
     /// The bounce of an idle message is stored.
     pub(crate) fn bounce(&mut self, id: Id)
         requires { IsTrue (is_looked_at self.old) }
-        ensures { (w : World) → (l : Ledger) → Agrees w self.old l → is_admitted_in self.old id ≡ true → may_bounce l id ≡ true → Matches w self.new (after w l (Entry.Bounce id)) }
+        ensures { is_admitted_in self.old id ≡ true → Follows self.old self.new (Entry.Bounce id) }
     {
         self.note_bounce(id);
-        self.settle();
+        self.tidy();
     }
 
     /// The bounce of a message that an earlier life left is stored.
     pub(crate) fn bounce_left(&mut self)
         requires { IsTrue (is_looked_at self.old) }
-        ensures { (w : World) → (l : Ledger) → (id : Id) → Agrees w self.old l → is_admitted_in self.old id ≡ false → may_bounce l id ≡ true → Matches w self.new (after w l (Entry.Bounce id)) }
+        ensures { (id : Id) → is_admitted_in self.old id ≡ false
+            → Follows self.old self.new (Entry.Bounce id) }
     {
         self.forget_mail();
-        self.settle();
+        self.tidy();
     }
 
     /// Incoming is to be looked at anew.
@@ -70,20 +73,20 @@ impl Core {
     }
 
     /// A message arrives.
-    pub(crate) fn arrive(&mut self)
+    pub(crate) fn arrive(&mut self, id: Id)
         requires { IsTrue (is_looked_at self.old) }
-        ensures { (w : World) → (l : Ledger) → (id : Id) → (sender : Option (List ℕ)) → (to : List (List ℕ)) → (content : List ℕ) → Agrees w self.old l → may_arrive l id ≡ true → Matches w self.new (after w l (Entry.Arrive id sender to content)) }
+        ensures { (e : Entry) → IsHeard (Heard.Mail id) e → Follows self.old self.new e }
     {
         self.forget_incoming();
-        self.settle();
+        self.tidy();
     }
 
     /// A message that an earlier life left goes back.
     pub(crate) fn back(&mut self)
         requires { IsTrue (is_looked_at self.old) }
-        ensures { (w : World) → (l : Ledger) → (id : Id) → Agrees w self.old l → may_back l id ≡ true → Matches w self.new (after w l (Entry.Back id)) }
+        ensures { (id : Id) → Follows self.old self.new (Entry.Back id) }
     {
         self.forget_mail();
-        self.settle();
+        self.tidy();
     }
 }

@@ -1,29 +1,29 @@
-//! A message that has come to wait joins lines, and its destinations become known.
+//! A message that has come to wait joins lines, and its sites get records.
 ghost use Rattle.std.specs.Prelude.{◌≡◌, ◌<◌, ◌||◌, ◌==◌, [], IfOk, length, List, map, OnOk, slice_get, Some};
 ghost use Rattle.std.specs.List.{enumerate_from, list_any};
 ghost use Rattle.q_model.specs.Ids.{id_eq};
-ghost use Rattle.q_core.specs.Loading.{is_known, joined_line, joins_in, new_sites, with_site};
+ghost use Rattle.q_core.specs.Loading.{has_record, joined_line, joins_in, new_sites, with_site};
 ghost use Rattle.q_core.specs.declared.line.Job.{Job};
-ghost use Rattle.q_model.specs.Routes.{world_of};
+ghost use Rattle.q_model.specs.Routes.{world_without_table};
 ghost use Rattle.q_model.specs.SiteRecords.{new_record};
 ghost use Rattle.q_model.specs.declared.rows.Row.{Row};
 
-use crate::destination::Destination;
 use crate::line::{Job, Line};
 use crate::names::{same_id, same_site};
+use crate::site_record::WideSiteRecord;
 use q_model::{Health, Id, NoMemory, Row, Site};
 use q_params::Params;
 use std::alloc::Global;
 
-impl Destination {
-    /// What is known of a site that is used anew.
-    fn new(site: Site, params: &Params) -> Destination
-        ensures { result ≡ new_record (world_of params.now) site }
+impl WideSiteRecord {
+    /// The record of a site that is used anew.
+    fn new(site: Site, params: &Params) -> WideSiteRecord
+        ensures { result ≡ new_record (world_without_table params.now) site }
     {
         let initial = params
             .initial_destination_concurrency
             .min(params.default_destination_concurrency_limit);
-        Destination {
+        WideSiteRecord {
             site,
             window: u64::from(initial),
             success: 0,
@@ -34,25 +34,26 @@ impl Destination {
     }
 }
 
-fn is_known(sites: &[Destination], site: &Site) -> bool
-    ensures { result ≡ is_known sites.now site.now }
+fn has_record(sites: &[WideSiteRecord], site: &Site) -> bool
+    ensures { result ≡ has_record sites.now site.now }
 {
-    sites.iter().any(|known| same_site(known.site(), site))
+    sites.iter().any(|other| same_site(other.site(), site))
 }
 
-/// Adds a record of the site to the new ones, where none is known.
+/// Adds a record of the site to the new ones, where it has none.
 fn add_site(
-    fresh: &mut Vec<Destination>,
-    known: &[Destination],
+    fresh: &mut Vec<WideSiteRecord>,
+    records: &[WideSiteRecord],
     site: &Site,
     params: &Params,
 ) -> Result<(), NoMemory>
-    ensures { OnOk result (fresh.new.items ≡ with_site params.now known.now site.now fresh.old.items) }
+    ensures { OnOk result (fresh.new.items ≡ with_site params.now records.now site.now
+        fresh.old.items) }
 {
-    if is_known(known, site) || is_known(fresh, site) {
+    if has_record(records, site) || has_record(fresh, site) {
         return Ok(());
     }
-    fresh.push(Destination::new(*site, params))?;
+    fresh.push(WideSiteRecord::new(*site, params))?;
     Ok(())
 }
 
@@ -63,19 +64,19 @@ fn site_of(rows: &[Row], i: usize) -> Site
     rows[i].site
 }
 
-/// The records of the sites of these rows that aren't known.
+/// The records of the sites of these rows that have none.
 pub(crate) fn new_sites(
     alloc: Global,
-    known: &[Destination],
+    records: &[WideSiteRecord],
     rows: &[Row],
     params: &Params,
-) -> Result<Vec<Destination>, NoMemory>
-    ensures { IfOk result (λ fresh. fresh.items ≡ new_sites params.now known.now [] rows.now) }
+) -> Result<Vec<WideSiteRecord>, NoMemory>
+    ensures { IfOk result (λ fresh. fresh.items ≡ new_sites params.now records.now [] rows.now) }
 {
     let mut fresh = Vec::new(alloc);
     for i in 0..rows.len() {
         let site = site_of(rows, i);
-        add_site(&mut fresh, known, &site, params)?;
+        add_site(&mut fresh, records, &site, params)?;
     }
     Ok(fresh)
 }
@@ -129,7 +130,8 @@ fn joined_at(
     at: usize,
 ) -> Result<Line, NoMemory>
     requires { at < length lines.now }
-    ensures { IfOk result (λ line. (jobs : List Job) → slice_get lines.now at ≡ Some jobs → line ≡ joined_line id rows.now (at, jobs)) }
+    ensures { IfOk result (λ line. (jobs : List Job) → slice_get lines.now at ≡ Some jobs
+        → line ≡ joined_line id rows.now (at, jobs)) }
 {
     let line = &lines[at];
     let jobs = joined_jobs(alloc, line.jobs(), id, rows, at)?;
@@ -143,7 +145,8 @@ pub(crate) fn joined_lines(
     id: Id,
     rows: &[Row],
 ) -> Result<Vec<Line>, NoMemory>
-    ensures { IfOk result (λ joined. joined.items ≡ map (joined_line id rows.now) (enumerate_from 0 lines.now)) }
+    ensures { IfOk result (λ joined. joined.items
+        ≡ map (joined_line id rows.now) (enumerate_from 0 lines.now)) }
 {
     let mut joined = Vec::new(alloc);
     for at in 0..lines.len() {

@@ -1,7 +1,7 @@
 //! Idle messages leave memory: they are deferred or removed.
 ghost use Rattle.std.specs.Prelude.{◌≡◌, IsTrue, false, not, true, ℕ};
-ghost use Rattle.q_core.specs.Agrees.{Agrees, Matches};
-ghost use Rattle.q_core.specs.Changes.{IsPutOff, IsTakenOut, is_looked_at, slots_without};
+ghost use Rattle.q_core.specs.Agrees.{ForLedgers, Agrees, Matches, Follows};
+ghost use Rattle.q_core.specs.Changes.{IsPutOff, IsSlotRemoved, is_looked_at, slots_without};
 ghost use Rattle.q_core.specs.Held.{is_admitted_in};
 ghost use Rattle.q_model.specs.Ids.{id_eq};
 ghost use Rattle.q_model.specs.Leaving.{may_defer, may_remove};
@@ -39,15 +39,15 @@ impl Core {
     /// An idle message is deferred.
     pub(crate) fn defer(&mut self, id: Id)
         requires { IsTrue (is_looked_at self.old) }
-        ensures { (w : World) → (l : Ledger) → (due : ℕ) → Agrees w self.old l → may_defer w l id due ≡ true → Matches w self.new (after w l (Entry.Defer id due)) }
+        ensures { (due : ℕ) → Follows self.old self.new (Entry.Defer id due) }
     {
         self.put_off(id);
-        self.settle();
+        self.tidy();
     }
 
     /// The message isn't in memory, and incoming is to be looked at anew, where its bounce is.
-    fn take_out(&mut self, id: Id)
-        ensures { IsTakenOut self.old self.new id }
+    pub(crate) fn remove_slot(&mut self, id: Id)
+        ensures { IsSlotRemoved self.old self.new id }
     {
         drop_slot(&mut self.admitted, id);
         self.incoming = Seen::Unknown;
@@ -56,10 +56,10 @@ impl Core {
     /// An idle message is removed.
     pub(crate) fn remove(&mut self, id: Id)
         requires { IsTrue (is_looked_at self.old) }
-        ensures { (w : World) → (l : Ledger) → Agrees w self.old l → is_admitted_in self.old id ≡ true → may_remove l id ≡ true → Matches w self.new (after w l (Entry.Remove id)) }
+        ensures { is_admitted_in self.old id ≡ true → Follows self.old self.new (Entry.Remove id) }
     {
-        self.take_out(id);
-        self.settle();
+        self.remove_slot(id);
+        self.tidy();
     }
 
     /// Active and incoming are to be looked at anew.
@@ -73,9 +73,10 @@ impl Core {
     /// A message that an earlier life left is removed.
     pub(crate) fn remove_left(&mut self)
         requires { IsTrue (is_looked_at self.old) }
-        ensures { (w : World) → (l : Ledger) → (id : Id) → Agrees w self.old l → is_admitted_in self.old id ≡ false → may_remove l id ≡ true → Matches w self.new (after w l (Entry.Remove id)) }
+        ensures { (id : Id) → is_admitted_in self.old id ≡ false
+            → Follows self.old self.new (Entry.Remove id) }
     {
         self.forget_mail();
-        self.settle();
+        self.tidy();
     }
 }

@@ -5,7 +5,7 @@ ghost use Rattle.q_core.specs.Rules.{clear_found_in, clear_in, is_synced_in, nex
 use crate::decision::{Decision, FileFacts, Found};
 use crate::names::same_id;
 use crate::state::{Core, Seen};
-use q_model::Id;
+use q_model::{Id, Place};
 
 impl Core {
     fn is_synced(&self, id: Id) -> bool
@@ -23,7 +23,7 @@ impl Core {
             Decision::Mark { id, position }
         } else if !self.is_synced(id) {
             Decision::Sync { id }
-        } else if file.pending > 0 {
+        } else if file.pending() > 0 {
             Decision::Back { id }
         } else if file.wants_bounce(id) && !file.bounced {
             Decision::Bounce { id }
@@ -39,7 +39,10 @@ impl Core {
             Found::Nothing => None,
             Found::Damaged { id, alone, .. } => {
                 if *alone {
-                    Some(Decision::Corrupt { id: *id })
+                    Some(Decision::Corrupt {
+                        id: *id,
+                        place: Place::Active,
+                    })
                 } else {
                     None
                 }

@@ -1,29 +1,34 @@
 //! The decision core of a queue manager: what is known of one life, held in plain lists, and what
 //! is to be done next (SCHEDULER_README, qmgr(8)). It sees ids, positions and counts, never a
 //! byte of a file.
+//!
+//! `event` hears what came from outside. Then `next_decision` is called until it answers None, and
+//! the next event may come. What it answers is
+//!
+//! - a decision, which the core has taken over already and the caller carries out on disk;
+//! - a look at a queue, which the caller answers by `found`;
+//! - a read of recipients, which the caller answers by `sited` for the site of each that was read
+//!   and then `loaded`, or by `found` with `Damaged` where a record can't be read.
+//!
+//! It is an error to hear an event or to ask for a decision while a look or a read waits for its
+//! answer. `decision` tells beforehand what `next_decision` would answer, and `row_positions` then
+//! which recipients a `Skip` puts off; `entry_positions` tells whom a delivery in flight goes to.
+//!
+//! What a call says of ledgers holds of each ledger with which the core agrees: one of a life that
+//! goes on, whose parts the core holds as it should. All other clauses hold whatever was answered.
 #![tactic(auto)]
 
 mod admission;
-mod beginning;
+mod applying;
 mod choice;
 mod clearing;
 mod clock;
 mod corrupt;
 mod deciding;
 mod decision;
-mod destination;
-#[cfg(test)]
-mod drive;
-#[cfg(test)]
-mod drive_decisions;
-#[cfg(test)]
-mod drive_list;
-#[cfg(test)]
-mod drive_script;
-#[cfg(test)]
-mod drive_text;
 mod event;
 mod finishing;
+mod flying;
 mod found;
 mod grouping;
 mod heard;
@@ -36,36 +41,29 @@ mod leftover;
 mod line;
 mod loading;
 mod marking;
-mod moving;
 mod names;
 mod needs;
 mod next;
+mod picking;
 mod preempting;
 mod queries;
 mod reading;
 mod reply;
 mod scan;
-mod settle;
-mod settling;
+mod site_record;
 mod skip;
 mod slot;
 mod start;
 mod starting;
 mod state;
 mod sync;
-mod taking;
-#[cfg(test)]
-mod tests;
+mod tidy;
 mod unsettled;
 mod window;
-#[cfg(test)]
-mod worked;
-#[cfg(test)]
-mod worked_messages;
-#[cfg(test)]
-mod worked_sites;
 
 pub use decision::{Decision, FileFacts, Found};
 pub use event::Heard;
+pub use line::Job;
 pub use queries::Flight;
+pub use site_record::WideSiteRecord;
 pub use state::Core;

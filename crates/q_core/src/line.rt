@@ -8,11 +8,11 @@ use std::marker::Model;
 /// A message at a transport, with its account of delivery slots (SCHEDULER_README).
 #[derive(Clone, Copy, Debug)]
 pub struct Job {
-    pub(crate) id: Id,
-    /// Deliveries begun.
-    pub(crate) starts: u64,
+    pub id: Id,
+    /// Deliveries started.
+    pub starts: u64,
     /// The needs of the jobs that preempted it.
-    pub(crate) charged: u64,
+    pub charged: u64,
 }
 
 /// The jobs of a transport in their order. A contract sees them as their list.

@@ -1,9 +1,9 @@
 //! Recipients come into memory.
 ghost use Rattle.std.specs.Prelude.{◌≡◌, ◌+◌, ◌++◌, ◌∷◌, [], IfOk, IsTrue, true, length, List, map, min, OnErr, OnOk, Some, ℕ};
-ghost use Rattle.q_core.specs.Agrees.{Agrees, Matches};
+ghost use Rattle.q_core.specs.Agrees.{Agrees, Matches, ForLedgers};
 ghost use Rattle.q_core.specs.Changes.{IsAsBefore, IsSlotChange, is_looked_at};
-ghost use Rattle.q_core.specs.Deciding.{is_answered};
-ghost use Rattle.q_core.specs.Loading.{IsLoaded, IsTakenIn, read_up, rows_in};
+ghost use Rattle.q_core.specs.Deciding.{is_answered, is_reading};
+ghost use Rattle.q_core.specs.Loading.{LoadsAs, ReadsAre, IsLoaded, AreRowsAdded, read_up, rows_in, may_name, ReadsAs};
 ghost use Rattle.q_core.specs.Slots.{changed_at};
 ghost use Rattle.q_model.specs.Batches.{load_positions};
 ghost use Rattle.q_model.specs.Book.{message_of};
@@ -44,7 +44,8 @@ fn note_read(slots: &mut [Slot], id: Id, to: u32)
 impl Core {
     /// The rows of the recipients that were read, whose sites were named.
     fn read_rows(&self, alloc: Global, id: Id, taken: &Batch) -> Result<Vec<Row>, NoMemory>
-        ensures { IfOk result (λ rows. rows.items ≡ rows_in self.now.params.entry_limit id [] taken.now.items self.now.named.items) }
+        ensures { IfOk result (λ rows. rows.items
+            ≡ rows_in self.now.params.entry_limit id [] taken.now.items self.now.named) }
     {
         let limit = self.params.default_destination_recipient_limit;
         rows_of(alloc, limit, id, taken, &self.named)
@@ -53,7 +54,8 @@ impl Core {
     /// So many recipients more are in memory, within the limit.
     fn count_read(&mut self, count: usize)
         ensures rest { self.new ≡ record self.old { in_memory = self.new.in_memory } }
-        ensures memory { self.new.in_memory ≡ min (self.old.in_memory + count) self.old.params.recipient_limit }
+        ensures memory { self.new.in_memory ≡ min
+            (self.old.in_memory + count) self.old.params.recipient_limit }
     {
         let limit = u64::from(self.params.qmgr_message_recipient_limit);
         self.in_memory = self.in_memory.saturating_add(count as u64).min(limit);
@@ -66,8 +68,8 @@ impl Core {
     }
 
     /// Takes the rows of the message in.
-    fn take_rows(&mut self, alloc: Global, id: Id, rows: Vec<Row>) -> Result<(), NoMemory>
-        ensures ok { OnOk result (IsTakenIn self.old self.new id rows.items) }
+    fn add_rows(&mut self, alloc: Global, id: Id, rows: Vec<Row>) -> Result<(), NoMemory>
+        ensures ok { OnOk result (AreRowsAdded self.old self.new id rows.items) }
         ensures err { OnErr result (IsAsBefore self.old self.new) }
     {
         let mut rows = rows;
@@ -82,29 +84,59 @@ impl Core {
 
     /// Ends the question that was answered.
     fn end_question(&mut self)
-        ensures rest { self.new ≡ record self.old { question = Question.Nothing; named = self.new.named } }
-        ensures named { self.new.named.items ≡ [] }
+        ensures rest { self.new ≡ record self.old {
+          question = Question.Nothing;
+          named =
+              self.new.named;
+        } }
+        ensures named { self.new.named ≡ [] }
     {
         self.question = Question::Nothing;
         self.named.clear();
     }
 
-    /// Notes the site of the next recipient that was read.
+    /// Whether a read waits for its answer, and fewer sites were named than it asked recipients for.
+    pub fn may_name(&self) -> bool
+        ensures { result ≡ may_name self.now }
+    {
+        match self.question {
+            Question::Recipients { max, .. } => self.named.len() < max as usize,
+            Question::Active => false,
+            Question::Incoming => false,
+            Question::Deferred => false,
+            Question::Nothing => false,
+        }
+    }
+
+    /// How many sites were named since the last read was asked.
+    pub fn named(&self) -> usize
+        ensures { result ≡ length self.now.named }
+    {
+        self.named.len()
+    }
+
+    /// Notes the site of the next recipient that was read. It is an error to call it where no read
+    /// waits for its answer, or for more recipients than the read's `max`.
     pub fn sited(&mut self, site: &Site) -> Result<(), NoMemory>
-        ensures rest { self.new ≡ record self.old { named = self.new.named } }
-        ensures ok { OnOk result (self.new.named.items ≡ self.old.named.items ++ site.now ∷ []) }
-        ensures err { OnErr result (self.new.named.items ≡ self.old.named.items) }
+        requires fewer { may_name self.old ≡ true }
+        ensures ok { OnOk result (self.new ≡ record self.old {
+          named = self.old.named ++ site.now ∷
+              [];
+        }) }
+        ensures err { OnErr result (self.new ≡ self.old) }
     {
         self.named.push(*site)?;
         Ok(())
     }
 
     fn load(&mut self, alloc: Global, id: Id, to: u32, taken: &Batch) -> Result<(), NoMemory>
-        ensures ok { OnOk result ((rows : List Row) → rows ≡ rows_in self.old.params.entry_limit id [] taken.now.items self.old.named.items → IsLoaded self.old self.new id to taken.now.items rows) }
+        ensures ok { OnOk result ((rows : List Row)
+            → rows ≡ rows_in self.old.params.entry_limit id [] taken.now.items self.old.named
+            → IsLoaded self.old self.new id to taken.now.items rows) }
         ensures err { OnErr result (IsAsBefore self.old self.new) }
     {
         let rows = self.read_rows(alloc, id, taken)?;
-        self.take_rows(alloc, id, rows)?;
+        self.add_rows(alloc, id, rows)?;
         self.note_read(id, to);
         self.count_read(taken.len());
         self.end_question();
@@ -112,30 +144,37 @@ impl Core {
     }
 
     /// Takes in the recipients that were read, up to this place.
-    fn take_read(&mut self, alloc: Global, taken: &Batch, to: u32) -> Result<(), NoMemory>
+    fn apply_read(&mut self, alloc: Global, taken: &Batch, to: u32) -> Result<(), NoMemory>
         requires { IsTrue (is_looked_at self.old) }
-        ensures ok { OnOk result ((w : World) → (l : Ledger) → (m : Message) → (id : Id) → (from max : ℕ) → Agrees w self.old l → self.old.question ≡ Question.Recipients id from max → message_of l.book id ≡ Some m → may_load w l id from to ≡ true → map (λ t. t.position) taken.now.items ≡ load_positions m from to → self.old.named.items ≡ map (λ p. w.table.route (address_at m p)) (load_positions m from to) → Matches w self.new (after w l (Entry.Load id from to))) }
+        ensures ok { OnOk result (ForLedgers self.old
+            (λ w l. ReadsAs w l self.old taken.now.items to self.new)) }
         ensures err { OnErr result (IsAsBefore self.old self.new) }
     {
         let Question::Recipients { id, .. } = self.question else {
             return Ok(());
         };
         self.load(alloc, id, to, taken)?;
-        self.settle();
+        self.tidy();
         Ok(())
     }
 
     /// The answer to the read that waits for it: the pending recipients from the read's place on,
     /// in order, as many as it may have, whose sites were named by `sited` in the same order. The
     /// cursor stands just behind the last of them where there were so many, else behind the last
-    /// recipient.
+    /// recipient. After want of memory the core is as it was.
+    ///
+    /// It is an error to call it where no read waits for its answer, or with more or fewer
+    /// recipients than sites were named since the read was asked.
     pub fn loaded(&mut self, alloc: Global, taken: &Batch, cursor: Cursor) -> Result<(), NoMemory>
+        requires reading { is_reading self.old.question ≡ true }
+        requires sited { length taken.now.items ≡ length self.old.named }
         requires seen { IsTrue (is_looked_at self.old) }
-        ensures ok { OnOk result ((w : World) → (l : Ledger) → (m : Message) → (id : Id) → (from max : ℕ) → Agrees w self.old l → self.old.question ≡ Question.Recipients id from max → message_of l.book id ≡ Some m → next w l ≡ Some (Entry.Load id from cursor.position) → map (λ t. t.position) taken.now.items ≡ load_positions m from cursor.position → self.old.named.items ≡ map (λ p. w.table.route (address_at m p)) (load_positions m from cursor.position) → Agrees w self.new (after w l (Entry.Load id from cursor.position))) }
+        ensures ok { OnOk result (ForLedgers self.old
+            (λ w l. LoadsAs w l self.old taken.now.items cursor.position self.new)) }
         ensures answered { OnOk result (is_answered self.new.question ≡ true) }
-        ensures err { OnErr result ((w : World) → (l : Ledger) → Agrees w self.old l → Agrees w self.new l) }
+        ensures err { OnErr result (self.new ≡ self.old) }
     {
-        self.take_read(alloc, taken, cursor.position)?;
+        self.apply_read(alloc, taken, cursor.position)?;
         self.question = Question::Nothing;
         Ok(())
     }

@@ -1,8 +1,8 @@
 //! Outcomes come to disk: a failure is logged, a recipient is marked.
 ghost use Rattle.std.specs.Prelude.{◌≡◌, ◌<◌, ◌-◌, IsTrue, Some, drop, length, map, ℕ};
-ghost use Rattle.q_core.specs.Agrees.{Agrees, Matches};
+ghost use Rattle.q_core.specs.Agrees.{ForLedgers, Agrees, Matches, FollowsRule};
 ghost use Rattle.q_core.specs.Changes.{IsSlotChange, IsUnsettledChange, is_looked_at};
-ghost use Rattle.q_core.specs.Slots.{changed_at, with_log, with_mark};
+ghost use Rattle.q_core.specs.Slots.{changed_at, with_log, with_slot_mark};
 ghost use Rattle.q_model.specs.Ledger.{Ledger};
 ghost use Rattle.q_model.specs.Logs.{first_logged};
 ghost use Rattle.q_model.specs.Next.{settling_rule};
@@ -29,7 +29,7 @@ impl Slot {
 
     /// The recipient that is logged, or else a pending one, is marked.
     fn add_mark(&mut self)
-        ensures { self.new ≡ with_mark self.old }
+        ensures { self.new ≡ with_slot_mark self.old }
     {
         if self.marks < self.recipients {
             self.marks += 1;
@@ -42,7 +42,7 @@ impl Slot {
     }
 
     fn note_mark(&mut self, id: Id)
-        ensures { self.new ≡ changed_at id with_mark self.old }
+        ensures { self.new ≡ changed_at id with_slot_mark self.old }
     {
         if same_id(self.id, id) {
             self.add_mark();
@@ -59,7 +59,7 @@ fn note_log(slots: &mut [Slot], id: Id)
 }
 
 fn note_mark(slots: &mut [Slot], id: Id)
-    ensures { slots.new ≡ map (changed_at id with_mark) slots.old }
+    ensures { slots.new ≡ map (changed_at id with_slot_mark) slots.old }
 {
     for slot in slots.iter_mut() {
         slot.note_mark(id);
@@ -75,7 +75,7 @@ impl Core {
 
     /// The first outcome needs its mark next.
     fn want_mark(&mut self)
-        ensures change { IsUnsettledChange self.old self.new (first_logged self.old.unsettled.items) }
+        ensures change { IsUnsettledChange self.old self.new (first_logged self.old.unsettled) }
         ensures memory { self.new.in_memory ≡ self.old.in_memory }
     {
         if let [first, ..] = self.unsettled.as_mut_slice() {
@@ -86,23 +86,24 @@ impl Core {
     /// The first outcome's failure is logged.
     pub(crate) fn log(&mut self, id: Id)
         requires seen { IsTrue (is_looked_at self.old) }
-        ensures { (w : World) → (l : Ledger) → (failure : Failure) → Agrees w self.old l → settling_rule l ≡ Some (Entry.Log id failure) → Matches w self.new (after w l (Entry.Log id failure)) }
+        ensures { (f : Failure) → FollowsRule self.old self.new
+            (λ w l. settling_rule l) (Entry.Log id f) }
     {
         self.note_log(id);
         self.want_mark();
-        self.settle();
+        self.tidy();
     }
 
     fn note_mark(&mut self, id: Id)
-        ensures { IsSlotChange self.old self.new id with_mark }
+        ensures { IsSlotChange self.old self.new id with_slot_mark }
     {
         note_mark(&mut self.admitted, id);
     }
 
     /// The first outcome is settled.
     fn settle_first(&mut self)
-        requires { 0 < length self.old.unsettled.items }
-        ensures change { IsUnsettledChange self.old self.new (drop 1 self.old.unsettled.items) }
+        requires { 0 < length self.old.unsettled }
+        ensures change { IsUnsettledChange self.old self.new (drop 1 self.old.unsettled) }
         ensures memory { self.new.in_memory ≡ self.old.in_memory - 1 }
     {
         self.unsettled.remove(0);
@@ -111,12 +112,13 @@ impl Core {
 
     /// The first outcome's recipient is marked.
     pub(crate) fn mark_first(&mut self, id: Id)
-        requires some { 0 < length self.old.unsettled.items }
+        requires some { 0 < length self.old.unsettled }
         requires seen { IsTrue (is_looked_at self.old) }
-        ensures { (w : World) → (l : Ledger) → (position : ℕ) → Agrees w self.old l → settling_rule l ≡ Some (Entry.Mark id position) → Matches w self.new (after w l (Entry.Mark id position)) }
+        ensures { (at : ℕ) → FollowsRule self.old self.new
+            (λ w l. settling_rule l) (Entry.Mark id at) }
     {
         self.note_mark(id);
         self.settle_first();
-        self.settle();
+        self.tidy();
     }
 }

@@ -1,6 +1,6 @@
-//! Equality of ids and destinations.
+//! Equality of ids and sites.
 ghost use Rattle.std.specs.Prelude.{◌≡◌};
-ghost use Rattle.q_model.specs.Destinations.{site_eq};
+ghost use Rattle.q_model.specs.Sites.{site_eq};
 ghost use Rattle.q_model.specs.Ids.{id_eq};
 
 use q_model::{Id, Site};

@@ -37,7 +37,8 @@ fn add_need(
     position: u32,
     outcome: Option<&Outcome>,
 ) -> Result<(), NoMemory>
-    ensures { OnOk result (needs.new.items ≡ needs.old.items ++ need_at expired id position (option_copied outcome.entry)) }
+    ensures { OnOk result (needs.new.items ≡ needs.old.items ++ need_at expired id position
+        (option_copied outcome.entry)) }
 {
     let Some(outcome) = outcome else {
         return Ok(());
@@ -84,7 +85,8 @@ pub(crate) fn put_off(
     expired: bool,
     positions: &[u32],
 ) -> Result<Vec<Unsettled>, NoMemory>
-    ensures { IfOk result (λ needs. needs.items ≡ needs_in expired id positions.now (replicate (length positions.now) (Outcome.Later 0))) }
+    ensures { IfOk result (λ needs. needs.items
+        ≡ needs_in expired id positions.now (replicate (length positions.now) (Outcome.Later 0))) }
 {
     let outcomes = vec![in alloc; Outcome::Later(0); positions.len()]?;
     needs(alloc, id, expired, positions, &outcomes)

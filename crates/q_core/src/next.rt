@@ -1,7 +1,7 @@
 //! The next decision: the first of eight rules that applies.
 ghost use Rattle.std.specs.Prelude.{◌≡◌};
-ghost use Rattle.q_core.specs.Agrees.{Agrees};
-ghost use Rattle.q_core.specs.Deciding.{IsNext, clearing_on, decide_in, first_rule_in, scan_look_in};
+ghost use Rattle.q_core.specs.Agrees.{Agrees, ForLedgers};
+ghost use Rattle.q_core.specs.Deciding.{IsNext, IsPlaced, clearing_on, decide_in, first_rule_in, scan_look_in};
 ghost use Rattle.q_model.specs.Ledger.{Ledger};
 ghost use Rattle.q_model.specs.Next.{next};
 ghost use Rattle.q_model.specs.Settings.{World};
@@ -75,10 +75,12 @@ impl Core {
         self.first_rule()
     }
 
-    /// The next decision of the ledger, or the look or read that is wanted before it is known. It
-    /// is None exactly where the ledger is quiet.
+    /// What `next_decision` would answer, with no change: the next decision of the ledger, or the
+    /// look or read that is wanted before it is known. It is None exactly where the ledger is quiet.
     pub fn decision(&self) -> Option<Decision>
-        ensures { (w : World) → (l : Ledger) → Agrees w self.now l → IsNext w l self.now result (next w l) }
+        ensures value { result ≡ decide_in self.now }
+        ensures ledger { ForLedgers self.now (λ w l. IsNext w l self.now result (next w l)) }
+        ensures placed { ForLedgers self.now (λ w l. IsPlaced l result) }
     {
         self.decide()
     }

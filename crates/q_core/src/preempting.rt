@@ -1,8 +1,8 @@
 //! A job goes before the current one (SCHEDULER_README, "Preemptive scheduling").
 ghost use Rattle.std.specs.Prelude.{◌≡◌, ◌≤◌, ◌<◌, IsTrue, length, map, position, slice_get, Some, vec_capacity, vec_len};
 ghost use Rattle.std.specs.List.{enumerate_from, insert, remove};
-ghost use Rattle.q_core.specs.Agrees.{Agrees, Matches};
-ghost use Rattle.q_core.specs.Beginning.{charged_job, IsPreempted, moved_job, moved_line, preempted_line, put_job, with_charge};
+ghost use Rattle.q_core.specs.Agrees.{ForLedgers, Agrees, Matches, FollowsRule};
+ghost use Rattle.q_core.specs.Sending.{charged_job, IsPreempted, moved_job, moved_line, preempted_line, put_job, with_charge};
 ghost use Rattle.q_core.specs.Changes.{is_looked_at};
 ghost use Rattle.q_core.specs.Choosing.{rest_in};
 ghost use Rattle.q_model.specs.Ids.{id_eq};
@@ -50,7 +50,7 @@ fn place_of(jobs: &[Job], id: Id) -> Option<usize>
 }
 
 /// Takes the job at this place out.
-fn take_job(jobs: &mut Vec<Job>, place: usize) -> Job
+fn remove_job(jobs: &mut Vec<Job>, place: usize) -> Job
     requires { place < length jobs.old.items }
     ensures job { slice_get jobs.old.items place ≡ Some result }
     ensures items { jobs.new.items ≡ remove jobs.old.items place }
@@ -82,7 +82,7 @@ fn put_before(jobs: &mut Vec<Job>, child: Id, parent: Id)
     ensures { jobs.new.items ≡ moved_job child parent jobs.old.items }
 {
     if let Some(place) = place_of(jobs, child) {
-        let job = take_job(jobs, place);
+        let job = remove_job(jobs, place);
         put_job(jobs, job, parent);
     }
 }
@@ -127,12 +127,12 @@ impl Core {
     }
 
     /// The child goes before the parent, the current job of the transport, at this need.
-    pub(crate) fn preempt(&mut self, child: Id, parent: Id, transport: u8, need: u64)
+    pub(crate) fn preempt(&mut self, child: Id, parent: Id, transport: u8, need: u32)
         requires seen { IsTrue (is_looked_at self.old) }
-        ensures { (w : World) → (l : Ledger) → Agrees w self.old l → start_rule w l ≡ Some (Entry.Preempt child parent transport need) → Matches w self.new (after w l (Entry.Preempt child parent transport need)) }
+        ensures { FollowsRule self.old self.new start_rule (Entry.Preempt child parent transport need) }
     {
         let left = self.rest(parent, transport);
-        self.move_job(child, parent, transport, need, left);
-        self.settle();
+        self.move_job(child, parent, transport, u64::from(need), left);
+        self.tidy();
     }
 }

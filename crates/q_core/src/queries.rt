@@ -1,10 +1,11 @@
 //! What the core tells of the life: its clock, and the deliveries in flight.
-ghost use Rattle.std.specs.Prelude.{◌≡◌, ◌<◌, IsTrue, length, map, nat_lt, option_map, slice_get, Some};
+ghost use Rattle.std.specs.Prelude.{◌≡◌, ◌≤◌, find, IsTrue, map, nat_lt, option_map, Some};
 ghost use Rattle.std.specs.Option.{option_copied};
-ghost use Rattle.q_core.specs.Agrees.{Agrees};
+ghost use Rattle.q_core.specs.Agrees.{Agrees, ForLedgers};
+ghost use Rattle.q_model.specs.Memory.{is_admitted};
 ghost use Rattle.q_core.specs.Held.{is_admitted_in};
 ghost use Rattle.q_core.specs.Lists.{over};
-ghost use Rattle.q_core.specs.Queries.{expired_in, flight_in, flight_shown, slot_expired_in};
+ghost use Rattle.q_core.specs.Queries.{expired_in, flight_in, flight_shown, slot_expired_in, skipped_in};
 ghost use Rattle.q_model.specs.Book.{message_of};
 ghost use Rattle.q_model.specs.Deliveries.{flight_of};
 ghost use Rattle.q_model.specs.Ledger.{Ledger};
@@ -14,13 +15,15 @@ ghost use Rattle.q_model.specs.Past.{starts};
 ghost use Rattle.q_model.specs.Settings.{World};
 ghost use Rattle.q_model.specs.Times.{is_expired};
 
+use crate::names::{same_id, same_site};
+use crate::site_record::WideSiteRecord;
 use crate::slot::Slot;
 use crate::state::{Core, Question};
 use q_backoff::expired;
-use q_model::{Delivery, Id, Moment, Site};
+use q_model::{Delivery, Id, Moment, Row, Site};
 use std::marker::Model;
 
-/// The message and the destination of a delivery in flight. A contract sees it as the record of
+/// The message and the site of a delivery in flight. A contract sees it as the record of
 /// the two.
 #[derive(Clone, Copy, Debug)]
 pub struct Flight {
@@ -40,7 +43,8 @@ impl Model for Flight {
 
 /// Of two deliveries the one with the smaller number.
 fn smaller<'a>(flight: &'a Delivery, least: Option<&'a Delivery>) -> &'a Delivery
-    ensures { result.now ≡ over (λ a b. nat_lt a.number b.number) flight.now (option_copied least.entry) }
+    ensures { result.now ≡ over (λ a b. nat_lt a.number b.number) flight.now
+        (option_copied least.entry) }
 {
     match least {
         Some(other) => {
@@ -70,14 +74,39 @@ fn first_flight(flights: &[Delivery]) -> Option<&Delivery>
 impl Core {
     /// The greatest moment that was given in this life, 0 for none.
     pub fn now(&self) -> Moment
-        ensures { (w : World) → (l : Ledger) → Agrees w self.now l → result ≡ l.now }
+        ensures value { result ≡ self.now.clock.seconds }
+        ensures ledger { ForLedgers self.now (λ w l. result ≡ l.now) }
+        ensures within { result ≤ 999990000000 }
     {
         self.clock.seconds
     }
 
+    /// Whether an `At` came in this life.
+    pub fn is_timed(&self) -> bool
+        ensures value { result ≡ self.now.timed }
+        ensures ledger { ForLedgers self.now (λ w l. result ≡ l.timed) }
+    {
+        self.timed
+    }
+
+    /// Whether the message is in memory.
+    pub fn is_admitted(&self, id: Id) -> bool
+        ensures value { result ≡ is_admitted_in self.now id }
+        ensures ledger { ForLedgers self.now (λ w l. result ≡ is_admitted l id) }
+    {
+        self.has_slot(id)
+    }
+
+    /// The records of sites that have recipients waiting or in flight, or are dead.
+    pub fn site_records(&self) -> &[WideSiteRecord]
+        ensures { result.now ≡ self.now.sites }
+    {
+        self.sites.as_slice()
+    }
+
     /// The number of this life's last start, 0 for none.
     pub fn last_number(&self) -> u64
-        ensures { (w : World) → (l : Ledger) → Agrees w self.now l → result ≡ starts l }
+        ensures { ForLedgers self.now (λ w l. result ≡ starts l) }
     {
         self.starts
     }
@@ -90,7 +119,8 @@ impl Core {
 
     /// The delivery of this number, where it is in flight.
     pub fn flight(&self, number: u64) -> Option<Flight>
-        ensures { (w : World) → (l : Ledger) → Agrees w self.now l → result ≡ option_map flight_shown (flight_of l number) }
+        ensures { ForLedgers self.now (λ w l. result
+            ≡ option_map flight_shown (flight_of l number)) }
     {
         match self.delivery(number) {
             Some(delivery) => Some(Flight {
@@ -102,7 +132,8 @@ impl Core {
     }
 
     fn first_number(&self) -> Option<u64>
-        ensures { result ≡ option_map (λ f. f.number) (least (λ a b. nat_lt a.number b.number) self.now.flights.items) }
+        ensures { result ≡ option_map (λ f. f.number) (least
+            (λ a b. nat_lt a.number b.number) self.now.flights) }
     {
         match first_flight(&self.flights) {
             Some(flight) => Some(flight.number),
@@ -112,14 +143,16 @@ impl Core {
 
     /// The least number of a delivery in flight.
     pub fn least_flight(&self) -> Option<u64>
-        ensures { (w : World) → (l : Ledger) → Agrees w self.now l → result ≡ least nat_lt (map (λ f. f.number) l.flights) }
+        ensures { ForLedgers self.now (λ w l. result ≡ least nat_lt (map
+            (λ f. f.number) l.flights)) }
     {
         self.first_number()
     }
 
     /// The positions of the delivery of this number, where it is in flight.
     pub fn entry_positions(&self, number: u64) -> Option<&[u32]>
-        ensures { (w : World) → (l : Ledger) → Agrees w self.now l → option_copied result ≡ option_map (λ f. f.row.positions) (flight_of l number) }
+        ensures { ForLedgers self.now (λ w l. option_copied result ≡ option_map
+            (λ f. f.row.positions) (flight_of l number)) }
     {
         match self.delivery(number) {
             Some(delivery) => Some(delivery.row.positions.as_slice()),
@@ -127,12 +160,16 @@ impl Core {
         }
     }
 
-    /// The positions of the waiting row at this place, which a `Skip` names.
-    pub fn row_positions(&self, entry: usize) -> &[u32]
-        requires { entry < length self.now.waiting.items }
-        ensures { (w : World) → (l : Ledger) → Agrees w self.now l → Some result.now ≡ option_map (λ r. r.positions) (slice_get l.waiting entry) }
+    /// The positions of the row that was put off last, where `entry` is the number of its `Skip`;
+    /// None for every other number.
+    pub fn row_positions(&self, entry: u32) -> Option<&[u32]>
+        ensures { option_copied result ≡ skipped_in self.now entry }
     {
-        self.waiting[entry].positions.as_slice()
+        if self.skips == entry {
+            Some(self.skipped.as_slice())
+        } else {
+            None
+        }
     }
 
     fn slot_expired(&self, slot: &Slot) -> bool
@@ -158,7 +195,8 @@ impl Core {
     /// Whether the message, which is in memory, is as old as its lifetime.
     pub fn expired(&self, id: Id) -> bool
         requires { IsTrue (is_admitted_in self.now id) }
-        ensures { (w : World) → (l : Ledger) → (m : Message) → Agrees w self.now l → message_of l.book id ≡ Some m → result ≡ is_expired w l.now m }
+        ensures { ForLedgers self.now (λ w l. (m : Message) → message_of l.book id ≡ Some m
+            → result ≡ is_expired w l.now m) }
     {
         self.id_expired(id)
     }

@@ -27,7 +27,7 @@ impl Core {
     }
 
     fn first_to_read(&self) -> Option<&Slot>
-        ensures { option_copied result ≡ find (may_read_in self.now) self.now.admitted.items }
+        ensures { option_copied result ≡ find (may_read_in self.now) self.now.admitted }
     {
         self.admitted.iter().find(|slot| self.may_read(slot))
     }

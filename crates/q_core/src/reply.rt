@@ -1,14 +1,15 @@
 //! A delivery in flight ends.
 ghost use Rattle.std.specs.Prelude.{◌≡◌, ◌==◌, filter, IfOk, IsTrue, not, OnErr, OnOk, true};
-ghost use Rattle.q_core.specs.Agrees.{Agrees, Matches};
+ghost use Rattle.q_core.specs.Agrees.{ForLedgers, Agrees, Matches, FollowsAllowed};
 ghost use Rattle.q_core.specs.Changes.{IsAsBefore, is_looked_at};
-ghost use Rattle.q_core.specs.Leaving.{AreAdded, IsHeard, IsLanded, replied_in};
+ghost use Rattle.q_core.specs.Leaving.{AreAdded, IsSiteHeard, IsLanded, replied_in};
 ghost use Rattle.q_model.specs.Ledger.{Ledger};
 ghost use Rattle.q_model.specs.Settings.{World};
 ghost use Rattle.q_model.specs.Step.{after, allowed};
 
-use crate::destination::busy;
+use crate::flying::recount;
 use crate::needs::needs;
+use crate::site_record::busy;
 use crate::state::Core;
 use crate::window::hear_state;
 use q_model::{Delivery, Entry, NoMemory, Outcome, Site, SiteState, Unsettled};
@@ -35,14 +36,15 @@ impl Core {
         delivery: &Delivery,
         outcomes: &[Outcome],
     ) -> Result<Vec<Unsettled>, NoMemory>
-        ensures { IfOk result (λ needs. needs.items ≡ replied_in self.now delivery.now outcomes.now) }
+        ensures { IfOk result (λ needs. needs.items
+            ≡ replied_in self.now delivery.now outcomes.now) }
     {
         let row = &delivery.row;
         let expired = self.id_expired(row.id);
         needs(alloc, row.id, expired, row.positions.as_slice(), outcomes)
     }
 
-    /// Adds what the outcomes of the delivery of this number need, and gives its destination.
+    /// Adds what the outcomes of the delivery of this number need, and gives its site.
     fn add_outcomes(
         &mut self,
         alloc: Global,
@@ -63,9 +65,9 @@ impl Core {
         Ok(Some(site))
     }
 
-    /// Lets the destination hear of a delivery that is still in flight.
+    /// Lets the site hear of a delivery that is still in flight.
     fn hear_site(&mut self, site: &Site, state: SiteState)
-        ensures { IsHeard self.old self.new site.now state }
+        ensures { IsSiteHeard self.old self.new site.now state }
     {
         let deliveries = busy(&self.flights, site) as u64;
         hear_state(
@@ -82,6 +84,7 @@ impl Core {
         ensures { IsLanded self.old self.new number }
     {
         land(&mut self.flights, number);
+        recount(&mut self.flying, &self.flights);
     }
 
     /// Takes the reply of the delivery of this number, with an outcome for each recipient.
@@ -93,7 +96,8 @@ impl Core {
         outcomes: &[Outcome],
     ) -> Result<(), NoMemory>
         requires seen { IsTrue (is_looked_at self.old) }
-        ensures ok { OnOk result ((w : World) → (l : Ledger) → Agrees w self.old l → allowed w l (Entry.Reply number state outcomes.now) ≡ true → Matches w self.new (after w l (Entry.Reply number state outcomes.now))) }
+        ensures ok { OnOk result (FollowsAllowed self.old self.new
+            (Entry.Reply number state outcomes.now)) }
         ensures err { OnErr result (IsAsBefore self.old self.new) }
     {
         let Some(site) = self.add_outcomes(alloc, number, outcomes)? else {
@@ -102,7 +106,7 @@ impl Core {
         self.hear_site(&site, state);
         self.land(number);
         self.leave(&site);
-        self.settle();
+        self.tidy();
         Ok(())
     }
 }

@@ -1,6 +1,6 @@
 //! Scans of the deferred queue: how they are asked for and end, and what looks have shown.
 ghost use Rattle.std.specs.Prelude.{◌≡◌, Some};
-ghost use Rattle.q_core.specs.Agrees.{Agrees, found_active, found_incoming, found_next};
+ghost use Rattle.q_core.specs.Agrees.{ForLedgers, Agrees, found_active, found_incoming, found_next};
 ghost use Rattle.q_core.specs.Changes.{asked_scan, looked_at, scan_ended};
 ghost use Rattle.q_model.specs.Ledger.{Ledger};
 ghost use Rattle.q_model.specs.Scans.{joined_request, new_scan, scan_next};
@@ -58,7 +58,7 @@ impl Core {
     /// What a look at active has shown.
     pub(crate) fn found_active(&mut self, found: Found)
         ensures change { self.new ≡ record self.old { active = Seen.Known found } }
-        ensures agrees { (w : World) → (l : Ledger) → Agrees w self.old l → found ≡ found_active l → Agrees w self.new l }
+        ensures agrees { ForLedgers self.old (λ w l. found ≡ found_active l → Agrees w self.new l) }
     {
         self.active = Seen::Known { found };
     }
@@ -66,7 +66,8 @@ impl Core {
     /// What a look at incoming has shown.
     pub(crate) fn found_incoming(&mut self, found: Found)
         ensures change { self.new ≡ record self.old { incoming = Seen.Known found } }
-        ensures agrees { (w : World) → (l : Ledger) → Agrees w self.old l → found ≡ found_incoming l → Agrees w self.new l }
+        ensures agrees { ForLedgers self.old (λ w l. found ≡ found_incoming l
+            → Agrees w self.new l) }
     {
         self.incoming = Seen::Known { found };
     }
@@ -100,7 +101,8 @@ impl Core {
     /// What a look at deferred has shown.
     pub(crate) fn found_deferred(&mut self, found: Found)
         ensures change { self.new ≡ looked_at self.old found }
-        ensures agrees { (w : World) → (l : Ledger) → (scan : Scan) → Agrees w self.old l → self.old.scan ≡ Some scan → found ≡ found_next l (scan_next l.book scan) → Agrees w self.new l }
+        ensures agrees { ForLedgers self.old (λ w l. (scan : Scan) → self.old.scan ≡ Some scan
+            → found ≡ found_next l (scan_next l.book scan) → Agrees w self.new l) }
     {
         self.look_at(found);
     }

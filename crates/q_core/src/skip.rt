@@ -1,23 +1,24 @@
-//! Recipients whose destination is dead are put off.
+//! Recipients whose site is dead are put off.
 ghost use Rattle.std.specs.Prelude.{◌≡◌, ◌<◌, IfOk, IsTrue, length, List, OnErr, OnOk, slice_get, Some, ℕ};
-ghost use Rattle.q_core.specs.Agrees.{Agrees, Matches};
+ghost use Rattle.q_core.specs.Agrees.{ForLedgers, Agrees, Matches};
 ghost use Rattle.q_core.specs.Changes.{IsAsBefore, is_looked_at};
 ghost use Rattle.q_core.specs.Decisions.{IsRowAt};
-ghost use Rattle.q_core.specs.Leaving.{IsFirstDead, IsUnqueued, put_off_in};
+ghost use Rattle.q_core.specs.Leaving.{IsFirstDead, IsLastSkip, IsUnqueued, put_off_in, SkipsRowAt};
 ghost use Rattle.q_model.specs.Ledger.{Ledger};
 ghost use Rattle.q_model.specs.Settings.{World};
 ghost use Rattle.q_model.specs.Step.{after};
 
 use crate::needs::put_off;
 use crate::state::Core;
-use q_model::{Entry, Id, NoMemory, Row, Site, Unsettled};
+use q_model::{Entry, Id, NoMemory, Positions, Row, Site, Unsettled};
 use std::alloc::Global;
 
 impl Core {
     /// What the recipients of the row at this place need that are put off.
     fn row_needs(&self, alloc: Global, entry: usize) -> Result<Vec<Unsettled>, NoMemory>
-        requires { entry < length self.now.waiting.items }
-        ensures { IfOk result (λ needs. (r : Row) → slice_get self.now.waiting.items entry ≡ Some r → needs.items ≡ put_off_in self.now r) }
+        requires { entry < length self.now.waiting }
+        ensures { IfOk result (λ needs. (r : Row) → slice_get self.now.waiting entry ≡ Some r
+            → needs.items ≡ put_off_in self.now r) }
     {
         let row = &self.waiting[entry];
         let expired = self.id_expired(row.id);
@@ -26,7 +27,7 @@ impl Core {
 
     /// Takes the row at this place out, and adds what its recipients need.
     fn unqueue(&mut self, alloc: Global, entry: usize) -> Result<Row, NoMemory>
-        requires { entry < length self.old.waiting.items }
+        requires { entry < length self.old.waiting }
         ensures ok { IfOk result (λ r. IsUnqueued self.old self.new entry r) }
         ensures err { OnErr result (IsAsBefore self.old self.new) }
     {
@@ -38,16 +39,28 @@ impl Core {
         Ok(row)
     }
 
-    /// Puts off the recipients of the row at this place, the first whose destination is dead.
+    /// Keeps the positions of the row that was put off last, and gives it its number.
+    fn note_skip(&mut self, positions: Positions)
+        ensures rest { self.new ≡ record self.old { skips = self.new.skips; skipped = self.new.skipped } }
+        ensures noted { IsLastSkip self.old positions self.new }
+    {
+        self.skips = self.next_skip_number();
+        self.skipped = positions;
+    }
+
+    /// Puts off the recipients of the row at this place, the first whose site is dead.
     pub(crate) fn skip(&mut self, alloc: Global, entry: usize) -> Result<(), NoMemory>
-        requires within { entry < length self.old.waiting.items }
+        requires within { entry < length self.old.waiting }
         requires seen { IsTrue (is_looked_at self.old) }
-        ensures ok { OnOk result ((w : World) → (l : Ledger) → (id : Id) → (site : Site) → (positions : List ℕ) → Agrees w self.old l → IsFirstDead self.old entry → IsRowAt self.old entry id site positions → Matches w self.new (after w l (Entry.Skip id site positions))) }
+        ensures ok { OnOk result (IsFirstDead self.old entry → SkipsRowAt self.old entry self.new) }
+        ensures noted { OnOk result ((r : Row) → slice_get self.old.waiting entry ≡ Some r
+            → IsLastSkip self.old r.positions self.new) }
         ensures err { OnErr result (IsAsBefore self.old self.new) }
     {
         let row = self.unqueue(alloc, entry)?;
         self.leave(&row.site);
-        self.settle();
+        self.tidy();
+        self.note_skip(row.positions);
         Ok(())
     }
 }

@@ -23,6 +23,8 @@ pub struct Slot {
     pub(crate) failed: bool,
     /// Whether incoming has the bounce.
     pub(crate) bounced: bool,
+    /// Whether a record of its file couldn't be read.
+    pub(crate) damaged: bool,
 }
 
 impl Slot {

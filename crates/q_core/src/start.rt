@@ -5,27 +5,24 @@ ghost use Rattle.q_core.specs.Lists.{prefer};
 ghost use Rattle.q_core.specs.Starting.{can_start_in, flights_at, has_room_in, is_startable_in, last_start_in, next_row_in, rows_for, served_for, start_in};
 
 use crate::decision::Decision;
-use crate::destination::busy;
 use crate::names::{same_id, same_site};
+use crate::site_record::busy;
 use crate::state::Core;
 use q_model::{Id, Row, Served, Site};
 
 impl Core {
-    fn flights_of(&self, transport: u8) -> usize
+    pub(crate) fn flights_of(&self, transport: u8) -> usize
         ensures { result ≡ flights_at self.now transport }
     {
-        self.flights
-            .iter()
-            .filter(|flight| flight.row.site.transport == transport)
-            .count()
+        self.flying[usize::from(transport)] as usize
     }
 
     /// Whether the site is alive, with fewer deliveries in flight than its window.
     fn has_room(&self, site: &Site) -> bool
         ensures { result ≡ has_room_in self.now site.now }
     {
-        match self.destination(site) {
-            Some(known) => known.takes_more(busy(&self.flights, site) as u64),
+        match self.site_record(site) {
+            Some(noted) => noted.has_space(busy(&self.flights, site) as u64),
             None => false,
         }
     }
@@ -77,7 +74,9 @@ impl Core {
         row: &'a Row,
         next: Option<&'a Row>,
     ) -> Option<&'a Row>
-        ensures { option_copied result ≡ prefer (rows_for self.now id transport) (λ a b. nat_lt (last_start_in self.now a) (last_start_in self.now b)) row.now (option_copied next.entry) }
+        ensures { option_copied result ≡ prefer (rows_for self.now id transport)
+            (λ a b. nat_lt (last_start_in self.now a) (last_start_in self.now b)) row.now
+            (option_copied next.entry) }
     {
         if !self.is_startable_for(id, transport, row) {
             return next;

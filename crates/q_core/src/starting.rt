@@ -1,26 +1,27 @@
-//! A delivery begins.
+//! A delivery starts.
 ghost use Rattle.std.specs.Prelude.{◌≡◌, ◌≤◌, ◌<◌, ◌&&◌, filter, IsTrue, length, List, map, not, OnErr, OnOk, position, Some, ℕ, vec_capacity, vec_len};
 ghost use Rattle.std.specs.List.{enumerate_from};
-ghost use Rattle.q_core.specs.Agrees.{Agrees, Matches};
-ghost use Rattle.q_core.specs.Beginning.{begun_job, begun_line, is_for, IsBegun, IsSent, served_now};
+ghost use Rattle.q_core.specs.Agrees.{ForLedgers, Agrees, Matches, FollowsRule};
+ghost use Rattle.q_core.specs.Sending.{started_job, started_line, is_for, IsStarted, IsSent, served_now};
 ghost use Rattle.q_core.specs.Changes.{IsAsBefore, is_looked_at};
 ghost use Rattle.q_core.specs.Queries.{flight_in};
-ghost use Rattle.q_model.specs.Destinations.{site_eq};
+ghost use Rattle.q_model.specs.Sites.{site_eq};
 ghost use Rattle.q_model.specs.Ids.{id_eq};
 ghost use Rattle.q_model.specs.Ledger.{Ledger};
 ghost use Rattle.q_model.specs.Next.{start_rule};
 ghost use Rattle.q_model.specs.Settings.{World};
 ghost use Rattle.q_model.specs.Step.{after};
 
+use crate::flying::add_flight;
 use crate::line::{Job, Line};
 use crate::names::{same_id, same_site};
 use crate::state::Core;
 use q_model::{Delivery, Entry, Id, NoMemory, Served, Site};
 
 impl Job {
-    /// Counts a delivery that the message begins at the transport, where this is its job there.
-    fn begin(&mut self, id: Id, transport: u8, at: usize)
-        ensures { self.new ≡ begun_job id transport at self.old }
+    /// Counts a delivery that the message starts at the transport, where this is its job there.
+    fn count_start(&mut self, id: Id, transport: u8, at: usize)
+        ensures { self.new ≡ started_job id transport at self.old }
     {
         if same_id(id, self.id) && usize::from(transport) == at && self.starts < 1 << 48 {
             self.starts += 1;
@@ -28,28 +29,28 @@ impl Job {
     }
 }
 
-fn begin_job(jobs: &mut [Job], id: Id, transport: u8, at: usize)
-    ensures { jobs.new ≡ map (begun_job id transport at) jobs.old }
+fn start_job(jobs: &mut [Job], id: Id, transport: u8, at: usize)
+    ensures { jobs.new ≡ map (started_job id transport at) jobs.old }
 {
     for job in jobs.iter_mut() {
-        job.begin(id, transport, at);
+        job.count_start(id, transport, at);
     }
 }
 
 impl Line {
-    fn begin(&mut self, id: Id, transport: u8, at: usize)
-        ensures { self.new ≡ begun_line id transport (at, self.old) }
+    fn count_start(&mut self, id: Id, transport: u8, at: usize)
+        ensures { self.new ≡ started_line id transport (at, self.old) }
     {
-        begin_job(&mut self.jobs, id, transport, at);
+        start_job(&mut self.jobs, id, transport, at);
     }
 }
 
-/// Counts a delivery that the message begins at the transport.
-fn begin_at(lines: &mut [Line], id: Id, transport: u8)
-    ensures { lines.new ≡ map (begun_line id transport) (enumerate_from 0 lines.old) }
+/// Counts a delivery that the message starts at the transport.
+fn start_at(lines: &mut [Line], id: Id, transport: u8)
+    ensures { lines.new ≡ map (started_line id transport) (enumerate_from 0 lines.old) }
 {
     for (at, line) in lines.iter_mut().enumerate() {
-        line.begin(id, transport, at);
+        line.count_start(id, transport, at);
     }
 }
 
@@ -61,7 +62,8 @@ fn is_of_others(served: &Served, id: Id, site: &Site) -> bool
 
 /// Forgets when the message was last sent to the site.
 fn forget_served(served: &mut Vec<Served>, id: Id, site: &Site)
-    ensures items { served.new.items ≡ filter (λ s. not (id_eq s.id id && site_eq s.site site.now)) served.old.items }
+    ensures items { served.new.items ≡ filter (λ s. not
+        (id_eq s.id id && site_eq s.site site.now)) served.old.items }
     ensures len { vec_len served.new ≤ vec_len served.old }
     ensures capacity { vec_capacity served.new ≡ vec_capacity served.old }
 {
@@ -89,7 +91,7 @@ fn note_served(served: &mut Vec<Served>, id: Id, site: Site, number: u64) -> Res
 impl Core {
     /// The place of the message's first row for the site.
     fn row_for(&self, id: Id, site: &Site) -> Option<usize>
-        ensures { result ≡ position (is_for id site.now) self.now.waiting.items }
+        ensures { result ≡ position (is_for id site.now) self.now.waiting }
     {
         self.waiting
             .iter()
@@ -98,30 +100,34 @@ impl Core {
 
     /// Sends the row at this place, which is of the message and for the site.
     fn send(&mut self, number: u64, id: Id, site: Site, entry: usize) -> Result<(), NoMemory>
-        requires { entry < length self.old.waiting.items }
+        requires { entry < length self.old.waiting }
         ensures ok { OnOk result (IsSent self.old self.new number id site entry) }
         ensures err { OnErr result (IsAsBefore self.old self.new) }
     {
         self.flights.reserve(1)?;
         note_served(&mut self.served, id, site, number)?;
         let row = self.waiting.remove(entry);
-        let _ = self.flights.push(Delivery { number, row });
+        add_flight(
+            &mut self.flights,
+            &mut self.flying,
+            Delivery { number, row },
+        );
         self.starts = number;
         Ok(())
     }
 
     /// Counts the delivery to the site in the account of its job.
     fn count_start(&mut self, id: Id, site: &Site)
-        ensures { IsBegun self.old self.new id site.now.transport }
+        ensures { IsStarted self.old self.new id site.now.transport }
     {
-        begin_at(&mut self.lines, id, site.transport);
+        start_at(&mut self.lines, id, site.transport);
     }
 
-    /// Begins the delivery of this number: of the row of the message that is next for the site.
-    pub(crate) fn begin(&mut self, number: u64, id: Id, site: Site) -> Result<(), NoMemory>
+    /// Starts the delivery of this number: of the row of the message that is next for the site.
+    pub(crate) fn start_delivery(&mut self, number: u64, id: Id, site: Site) -> Result<(), NoMemory>
         requires seen { IsTrue (is_looked_at self.old) }
-        ensures ok { OnOk result ((w : World) → (l : Ledger) → (positions : List ℕ) → Agrees w self.old l → start_rule w l ≡ Some (Entry.Start number id site positions) → Matches w self.new (after w l (Entry.Start number id site positions))) }
-        ensures flight { OnOk result ((w : World) → (l : Ledger) → (positions : List ℕ) → Agrees w self.old l → start_rule w l ≡ Some (Entry.Start number id site positions) → flight_in self.new number ≡ Some (record { number = number; row = record { id = id; site = site; positions = positions } })) }
+        ensures ok { OnOk result ((ps : List ℕ)
+            → FollowsRule self.old self.new start_rule (Entry.Start number id site ps)) }
         ensures err { OnErr result (IsAsBefore self.old self.new) }
     {
         let Some(entry) = self.row_for(id, &site) else {
@@ -129,7 +135,7 @@ impl Core {
         };
         self.send(number, id, site, entry)?;
         self.count_start(id, &site);
-        self.settle();
+        self.tidy();
         Ok(())
     }
 }

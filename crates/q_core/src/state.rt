@@ -1,15 +1,15 @@
 //! The state of the core.
 ghost use Rattle.std.specs.Prelude.{◌≡◌, ◌+◌, find, length, IfOk, true};
 ghost use Rattle.std.specs.Option.{option_copied};
-ghost use Rattle.q_core.specs.Agrees.{Agrees};
+ghost use Rattle.q_core.specs.Agrees.{AgreesIfConsistent, AgreesIfOrderly, ForFirst};
 ghost use Rattle.q_core.specs.Changes.{is_looked_at};
 ghost use Rattle.q_core.specs.Deciding.{is_answered};
 ghost use Rattle.q_laws.specs.Consistency.{IsConsistent};
 ghost use Rattle.q_laws.specs.SitesConsistency.{IsSitesConsistent};
-ghost use Rattle.q_core.specs.Held.{destination_in, is_dead_in, slot_in};
+ghost use Rattle.q_core.specs.Held.{record_in, is_dead_in, slot_in};
 ghost use Rattle.q_params.specs.Ranges.{IsInRange};
-ghost use Rattle.q_model.specs.Book.{Book};
-ghost use Rattle.q_model.specs.FilesStand.{all_ids, are_distinct};
+ghost use Rattle.q_model.specs.Book.{Book, all_ids};
+ghost use Rattle.q_model.specs.Ids.{are_distinct};
 ghost use Rattle.q_model.specs.Ledger.{opening};
 ghost use Rattle.q_model.specs.Orderly.{is_orderly};
 ghost use Rattle.q_model.specs.Settings.{World};
@@ -17,15 +17,18 @@ ghost use Rattle.q_model.specs.Step.{after};
 
 use crate::clock::Clock;
 use crate::decision::Found;
-use crate::destination::Destination;
+use crate::flying::Flying;
 use crate::line::{Line, empty_lines};
 use crate::names::{same_id, same_site};
+use crate::site_record::WideSiteRecord;
 use crate::slot::Slot;
 use q_model::{
-    Delivery, Entry, Id, Mode, Moment, NoMemory, Request, Row, Scan, Served, Site, Unsettled,
+    Delivery, Entry, Id, Mode, Moment, NoMemory, Positions, Request, Row, Scan, Served, Site,
+    Unsettled,
 };
 use q_params::Params;
 use std::alloc::Global;
+use std::marker::Model;
 
 /// What a look has shown, while it holds.
 #[derive(Clone, Copy, Debug)]
@@ -61,20 +64,39 @@ pub struct Core {
     pub(crate) admitted: Vec<Slot>,
     pub(crate) waiting: Vec<Row>,
     pub(crate) flights: Vec<Delivery>,
+    /// How many of them are at each transport.
+    pub(crate) flying: Flying,
     /// Recipients that are waiting, in flight or unsettled.
     pub(crate) in_memory: u64,
     pub(crate) served: Vec<Served>,
     pub(crate) unsettled: Vec<Unsettled>,
     pub(crate) lines: Vec<Line>,
-    pub(crate) sites: Vec<Destination>,
+    pub(crate) sites: Vec<WideSiteRecord>,
     pub(crate) synced: Vec<Id>,
     pub(crate) starts: u64,
     pub(crate) active: Seen,
     pub(crate) incoming: Seen,
     pub(crate) deferred: Seen,
     pub(crate) question: Question,
-    /// The destinations of the recipients that were read since the last `Read`, in order.
+    /// The sites of the recipients that were read since the last `Read`, in order.
     pub(crate) named: Vec<Site>,
+    /// The number of the row that was put off last, 0 for none, and its positions.
+    pub(crate) skips: u32,
+    pub(crate) skipped: Positions,
+}
+
+impl Model for Core {
+    ghost use Rattle.q_core.specs.State.{State};
+
+    ghost Value = { State };
+
+    ghost use Rattle.q_core.specs.View.{state_of};
+
+    ghost view = { state_of };
+
+    ghost use Rattle.q_core.specs.Counted.{IsCounted};
+
+    ghost invariant = { λ a. IsCounted a.flights.items a.flying };
 }
 
 impl Core {
@@ -82,8 +104,10 @@ impl Core {
     /// ledger of that life on every book that is fit to begin with, and so on every orderly one.
     pub fn new(alloc: Global, params: Params, transports: u8, mode: Mode) -> Result<Core, NoMemory>
         requires { IsInRange params }
-        ensures consistent { IfOk result (λ core. (w : World) → (book : Book) → params ≡ w.settings → transports ≡ length w.table.transports → IsConsistent w (after w (opening mode book) (Entry.Life (book.generation + 1) mode)) → IsSitesConsistent w (after w (opening mode book) (Entry.Life (book.generation + 1) mode)) → Agrees w core (after w (opening mode book) (Entry.Life (book.generation + 1) mode))) }
-        ensures orderly { IfOk result (λ core. (w : World) → (book : Book) → params ≡ w.settings → transports ≡ length w.table.transports → are_distinct (all_ids book) ≡ true → is_orderly book ≡ true → Agrees w core (after w (opening mode book) (Entry.Life (book.generation + 1) mode))) }
+        ensures consistent { IfOk result (λ core. ForFirst params transports mode
+            (λ w book l. AgreesIfConsistent w core l)) }
+        ensures orderly { IfOk result (λ core. ForFirst params transports mode
+            (λ w book l. AgreesIfOrderly w core book l)) }
         ensures answered { IfOk result (λ core. is_answered core.question ≡ true) }
         ensures looked { IfOk result (λ core. is_looked_at core ≡ true) }
     {
@@ -102,6 +126,7 @@ impl Core {
             admitted: Vec::new(alloc),
             waiting: Vec::new(alloc),
             flights: Vec::new(alloc),
+            flying: [0; 256],
             in_memory: 0,
             served: Vec::new(alloc),
             unsettled: Vec::new(alloc),
@@ -114,6 +139,8 @@ impl Core {
             deferred: Seen::Unknown,
             question: Question::Nothing,
             named: Vec::new(alloc),
+            skips: 0,
+            skipped: Positions::new(alloc),
         })
     }
 
@@ -125,19 +152,19 @@ impl Core {
     }
 
     /// What is known of this site.
-    pub(crate) fn destination(&self, site: &Site) -> Option<&Destination>
-        ensures { option_copied result ≡ destination_in self.now site.now }
+    pub(crate) fn site_record(&self, site: &Site) -> Option<&WideSiteRecord>
+        ensures { option_copied result ≡ record_in self.now site.now }
     {
         self.sites
             .iter()
-            .find(|known| same_site(known.site(), site))
+            .find(|noted| same_site(noted.site(), site))
     }
 
     pub(crate) fn is_dead_site(&self, site: &Site) -> bool
         ensures { result ≡ is_dead_in self.now site.now }
     {
-        match self.destination(site) {
-            Some(known) => known.is_dead(),
+        match self.site_record(site) {
+            Some(noted) => noted.is_dead(),
             None => false,
         }
     }

@@ -1,6 +1,6 @@
 //! The marks of a message in memory are synced.
 ghost use Rattle.std.specs.Prelude.{◌≡◌, IsTrue, map};
-ghost use Rattle.q_core.specs.Agrees.{Agrees, Matches};
+ghost use Rattle.q_core.specs.Agrees.{ForLedgers, Agrees, Matches};
 ghost use Rattle.q_core.specs.Changes.{IsSlotChange, is_looked_at};
 ghost use Rattle.q_core.specs.Held.{is_admitted_in};
 ghost use Rattle.q_core.specs.Slots.{changed_at, cleared};
@@ -43,9 +43,9 @@ impl Core {
     pub(crate) fn sync(&mut self, id: Id)
         requires admitted { IsTrue (is_admitted_in self.old id) }
         requires seen { IsTrue (is_looked_at self.old) }
-        ensures { (w : World) → (l : Ledger) → Agrees w self.old l → Matches w self.new (after w l (Entry.Sync id)) }
+        ensures { ForLedgers self.old (λ w l. Matches w self.new (after w l (Entry.Sync id))) }
     {
         self.clear_marks(id);
-        self.settle();
+        self.tidy();
     }
 }

@@ -1,19 +1,19 @@
-//! How a destination's window follows from replies, and when it is dead (SCHEDULER_README,
+//! How a site's window follows from replies, and when it is dead (SCHEDULER_README,
 //! "Concurrency scheduling").
 ghost use Rattle.std.specs.Prelude.{◌≡◌, ◌≤◌, ◌+◌, min, map, nat_lt, true};
 ghost use Rattle.q_core.specs.Windows.{down_in, heard_at, heard_in, is_too_much, more_cohorts_in, narrowed_in, open_window, up_in, widened_in};
 ghost use Rattle.q_model.specs.SiteRecords.{is_alive};
 
 use crate::clock::Clock;
-use crate::destination::Destination;
 use crate::names::same_site;
+use crate::site_record::WideSiteRecord;
 use q_model::{Health, Site, SiteState};
 use q_params::Params;
 
 /// A whole cohort, in parts that each window divides.
 const PARTS: u64 = 5_342_931_457_063_200;
 
-impl Destination {
+impl WideSiteRecord {
     /// The window, from 1 to 40.
     fn open_window(&self) -> u8
         ensures exact { result ≡ open_window self.now.window }
@@ -25,7 +25,8 @@ impl Destination {
 
     /// Whether so many deliveries in flight fill the window.
     fn is_filled(&self, params: &Params, busy: u64) -> bool
-        ensures { result ≡ nat_lt self.now.window (busy + min params.now.initial_concurrency params.now.concurrency_limit) }
+        ensures { result ≡ nat_lt self.now.window
+            (busy + min params.now.initial_concurrency params.now.concurrency_limit) }
     {
         let initial = params
             .initial_destination_concurrency
@@ -80,7 +81,7 @@ impl Destination {
         }
     }
 
-    /// The failed cohorts with one failure more, at a destination that is alive.
+    /// The failed cohorts with one failure more, at a site that is alive.
     fn more_cohorts(&self, params: &Params) -> u128
         requires { is_alive self.now.health ≡ true }
         ensures { result ≡ more_cohorts_in params.now self.now }
@@ -129,7 +130,7 @@ impl Destination {
 
 /// The site hears that a delivery reached it, with so many in flight, or didn't.
 pub(crate) fn hear_state(
-    sites: &mut [Destination],
+    sites: &mut [WideSiteRecord],
     site: &Site,
     params: &Params,
     busy: u64,
@@ -138,12 +139,12 @@ pub(crate) fn hear_state(
 )
     ensures { sites.new ≡ map (heard_at params.now site.now busy clock.seconds state) sites.old }
 {
-    for known in sites.iter_mut() {
-        known.hear_at(site, params, busy, clock, state);
+    for noted in sites.iter_mut() {
+        noted.hear_at(site, params, busy, clock, state);
     }
 }
 
-/// Whether so many failed cohorts make a destination dead.
+/// Whether so many failed cohorts make a site dead.
 fn is_too_much(params: &Params, cohorts: u128) -> bool
     ensures { result ≡ is_too_much params.now cohorts }
 {

@@ -1,19 +1,24 @@
 -- The items of an event list have their form.
-use Rattle.std.proofs.Common.{◌≡◌, ◌≤◌, ◌&&◌, ℕ, Bool, true, false, if◌then◌else◌, List, [], ◌∷◌, drop, Option, Some, None, refl, ap, ◌∙◌, subst, sym, arith}
-use Rattle.std.specs.List.{list_all}
+use Rattle.std.proofs.Common.{◌≡◌, ◌≤◌, ◌&&◌, ℕ, Bool, true, false, if◌then◌else◌, length, List, [], ◌∷◌, drop, Option, Some, None, refl, subst, sym, arith}
+use Rattle.std.specs.List.{AllByRecursion, list_all}
 use Rattle.std.specs.Option.{ok_or, option_map_or}
 use Rattle.std.specs.Prelude.{bytes_eq, codes, IfOk, IfSome, nat_le, option_and_then, option_map, ◌^◌, ◌-◌}
 use Rattle.std.specs.Str.Parse.{digits_value}
-use Rattle.std.proofs.lemmas.Bool.{and_parts, and_from}
+use Rattle.std.proofs.lemmas.Bool.{and_from}
 use Rattle.std.proofs.lemmas.Bool.Decides.{nat_tests}
-use Rattle.q_feedback.specs.Numbers.{is_number, number_within}
+use Rattle.q_model.specs.declared.outcome.Outcome.{Outcome}
+use Rattle.q_model.specs.declared.outcome.SiteState.{SiteState}
 use Rattle.q_model.specs.Lists.{has_none}
 use Rattle.q_model.specs.Texts.{is_address}
 use Rattle.q_model.specs.declared.event.Event.TheVariants as events
-use Rattle.q_events.specs.EventLines.{address_of, begins, command_of, is_body, is_passed, line_of, mail_of, moment_of, outcome_of, reply_of, reply_to, sender_of, single_of, state_of, trigger_of}
+use Rattle.q_text.specs.Numbers.{is_number, number_within}
+use Rattle.q_text.specs.Pieces.{each_some, one_or_more, words_in}
+use Rattle.q_text.specs.ValueForms.{IsAddress, IsListOf, IsOutcomeAt}
+use Rattle.q_text.specs.ValueTexts.{address_of, outcome_of, sender_of, state_of, trigger_of}
+use Rattle.q_text.proofs.OutcomeReads.{exact_outcome}
+use Rattle.q_events.specs.EventLines.{command_of, has_front, is_body, is_passed, line_of, mail_of, moment_of, reply_of, reply_to, single_of, trigger_command}
 use Rattle.q_events.specs.EventList.{item_of}
-use Rattle.q_events.specs.Forms.{IsInForm, IsItemInForm}
-use Rattle.q_events.specs.Words.{each_some, one_or_more, words}
+use Rattle.q_events.specs.Forms.{IsInForm, IsItemInForm, IsMailInForm}
 use Rattle.q_events.specs.declared.error.EventError.{EventError}
 use Rattle.q_events.specs.declared.item.Item.{Item}
 use Rattle.q_events.specs.declared.line.Line.{Line}
@@ -22,7 +27,7 @@ use Rattle.q_events.specs.declared.line.Command.{Command}
 use Rattle.q_events.specs.declared.line.Command.TheVariants as commands
 
 abbrev CommandInForm : Command → Type 0
-CommandInForm (commands.Mail sender to) = (option_map_or is_address sender true ≡ true) × (list_all is_address to ≡ true)
+CommandInForm (commands.Mail sender to) = IsMailInForm sender to
 CommandInForm (commands.Plain event) = IsInForm event
 CommandInForm commands.Restart = Unit {0}
 CommandInForm commands.End = Unit {0}
@@ -52,9 +57,6 @@ any (Some a) = tt
 
 -- ---- words
 
-abbrev IsAddress : List ℕ → Type 0
-IsAddress a = is_address a ≡ true
-
 abbrev AreAddresses : List (List ℕ) → Type 0
 AreAddresses to = list_all is_address to ≡ true
 
@@ -67,23 +69,65 @@ address_form text = by (is_address text) refl
 
 addresses_form : (texts : List (List ℕ)) → IfSome (each_some address_of texts) AreAddresses
 addresses_form [] = refl
-addresses_form (text ∷ texts) = by_first IsAddress AreAddresses _ (address_of text) (address_form text) (λ a is. by_map AreAddresses AreAddresses _ (each_some address_of texts) (addresses_form texts) (λ others are. and_from (is_address a) (list_all is_address others) is are))
+addresses_form (text ∷ texts) =
+    by_first IsAddress AreAddresses _ (address_of text) (address_form text)
+    (λ a is. by_map AreAddresses AreAddresses _ (each_some address_of texts) (addresses_form texts)
+    (λ others are. and_from (is_address a) (list_all is_address others) is are))
 
-abbrev IsSender : Option (List ℕ) → Type 0
-IsSender sender = option_map_or is_address sender true ≡ true
+abbrev AreRecipients : List (List ℕ) → Type 0
+AreRecipients to = AreAddresses to × (1 ≤ length to)
 
-sender_form : (text : List ℕ) → IfSome (sender_of text) IsSender
-sender_form text = by_test IsSender (bytes_eq text (codes "<>")) (Some None) (option_map (λ address. Some address) (address_of text)) refl (by_map IsAddress IsSender (λ address. Some address) (address_of text) (address_form text) (λ a is. is))
+recipients_form : (texts : List (List ℕ)) → IfSome (one_or_more address_of texts) AreRecipients
+recipients_form [] = tt
+recipients_form (text ∷ texts) =
+    by_first IsAddress AreRecipients _ (address_of text) (address_form text)
+    (λ a is. by_map AreAddresses AreRecipients _ (each_some address_of texts) (addresses_form texts)
+    (λ others are. (and_from (is_address a) (list_all is_address others) is are, omega arith)))
+
+abbrev HasForm : Option (List ℕ) → Type 0
+HasForm sender = option_map_or is_address sender true ≡ true
+
+sender_form : (text : List ℕ) → IfSome (sender_of text) HasForm
+sender_form text =
+    by_test HasForm (bytes_eq text (codes "<>")) (Some None) (option_map (λ address. Some address) (address_of text)) refl
+    (by_map IsAddress HasForm (λ address. Some address) (address_of text) (address_form text) (λ a is. is))
 
 mail_form : (texts : List (List ℕ)) → IfSome (mail_of texts) CommandInForm
 mail_form [] = tt
-mail_form (text ∷ texts) = by_first IsSender CommandInForm _ (sender_of text) (sender_form text) (λ sender is.
-    by_map AreAddresses CommandInForm _ (one_or_more address_of texts) (by_test AreAddresses (has_none texts) None (each_some address_of texts) tt (addresses_form texts)) (λ to are. (is, are)))
+mail_form (text ∷ texts) =
+    by_first HasForm CommandInForm _ (sender_of text) (sender_form text)
+    (λ sender is. by_map AreRecipients CommandInForm _ (one_or_more address_of texts) (recipients_form texts) (λ to are. (is, are.0, are.1)))
+
+outcome_form : (state : SiteState) (text : List ℕ) → IfSome (outcome_of state text) (IsOutcomeAt state)
+outcome_form state text = by (outcome_of state text) refl
+  where
+    by : (o : Option Outcome) → outcome_of state text ≡ o → IfSome o (IsOutcomeAt state)
+    by None e = tt
+    by (Some outcome) e = ((exact_outcome state).exact.back text outcome e).0
+
+abbrev AreOutcomesAt : SiteState → List Outcome → Type 0
+AreOutcomesAt state outcomes = AllByRecursion (IsOutcomeAt state) outcomes
+
+each_form : (state : SiteState) (texts : List (List ℕ)) → IfSome (each_some (outcome_of state) texts) (AreOutcomesAt state)
+each_form state [] = tt
+each_form state (text ∷ texts) =
+    by_first (IsOutcomeAt state) (AreOutcomesAt state) _ (outcome_of state text) (outcome_form state text)
+    (λ outcome is. by_map (AreOutcomesAt state) (AreOutcomesAt state) _ (each_some (outcome_of state) texts) (each_form state texts)
+    (λ others are. (is, are)))
+
+outcomes_form : (state : SiteState) (texts : List (List ℕ)) → IfSome (one_or_more (outcome_of state) texts) (IsListOf (IsOutcomeAt state))
+outcomes_form state [] = tt
+outcomes_form state (text ∷ texts) =
+    by_first (IsOutcomeAt state) (IsListOf (IsOutcomeAt state)) _ (outcome_of state text) (outcome_form state text)
+    (λ outcome is. by_map (AreOutcomesAt state) (IsListOf (IsOutcomeAt state)) _ (each_some (outcome_of state) texts) (each_form state texts)
+    (λ others are. (omega arith, (is, are))))
 
 reply_to_form : (number : ℕ) (texts : List (List ℕ)) → IfSome (reply_to number texts) CommandInForm
 reply_to_form number [] = tt
-reply_to_form number (text ∷ texts) = by_first (λ s. Unit {0}) CommandInForm _ (state_of text) (any (state_of text)) (λ state is.
-    by_map (λ o. Unit {0}) CommandInForm _ (one_or_more (outcome_of state) texts) (any (one_or_more (outcome_of state) texts)) (λ outcomes are. tt))
+reply_to_form number (text ∷ texts) =
+    by_first (λ s. Unit {0}) CommandInForm _ (state_of text) (any (state_of text))
+    (λ state _. by_map (IsListOf (IsOutcomeAt state)) CommandInForm _ (one_or_more (outcome_of state) texts) (outcomes_form state texts)
+    (λ outcomes are. are))
 
 reply_form : (texts : List (List ℕ)) → IfSome (reply_of texts) CommandInForm
 reply_form [] = tt
@@ -106,20 +150,21 @@ number_form low high text = by (is_number text && nat_le low n) (nat_le n high) 
 moment_form : (text : List ℕ) → IfSome (moment_of text) CommandInForm
 moment_form text = by_map (λ n. n ≤ 999990000000) CommandInForm (λ moment. commands.Plain (events.At moment)) (number_within 0 999990000000 text) (number_form 0 999990000000 text) (λ n le. le)
 
-trigger_form : (text : List ℕ) → IfSome (trigger_of text) CommandInForm
-trigger_form text = by_test CommandInForm (bytes_eq text (codes "D")) _ _ tt (by_test CommandInForm (bytes_eq text (codes "A")) _ _ tt (by_test CommandInForm (bytes_eq text (codes "F")) _ None tt tt))
+trigger_form : (text : List ℕ) → IfSome (trigger_command text) CommandInForm
+trigger_form text =
+    by_map (λ k. Unit {0}) CommandInForm (λ kind. commands.Plain (events.Trigger kind)) (trigger_of text) (any (trigger_of text)) (λ kind is. is)
 
 single_form : (line : List ℕ) → IfSome (single_of line) CommandInForm
 unfolding single_of
 single_form line =
     by_test CommandInForm (bytes_eq line (codes "restart")) _ _ tt
     (by_test CommandInForm (bytes_eq line (codes "end")) _ _ tt
-    (by_test CommandInForm (begins (codes "at ") line) _ _ (moment_form (drop 3 line)) (by_test CommandInForm (begins (codes "trigger ") line) _ None (trigger_form (drop 8 line)) tt)))
+    (by_test CommandInForm (has_front (codes "at ") line) _ _ (moment_form (drop 3 line)) (by_test CommandInForm (has_front (codes "trigger ") line) _ None (trigger_form (drop 8 line)) tt)))
 
 command_form : (line : List ℕ) → IfSome (command_of line) CommandInForm
 unfolding command_of
 command_form line =
-    by_test CommandInForm (begins (codes "mail ") line) _ _ (mail_form (words (drop 5 line))) (by_test CommandInForm (begins (codes "reply ") line) _ _ (reply_form (words (drop 6 line))) (single_form line))
+    by_test CommandInForm (has_front (codes "mail ") line) _ _ (mail_form (words_in (drop 5 line))) (by_test CommandInForm (has_front (codes "reply ") line) _ _ (reply_form (words_in (drop 6 line))) (single_form line))
 
 line_form : (line : List ℕ) → IfSome (line_of line) LineInForm
 unfolding line_of

@@ -4,7 +4,7 @@ use Rattle.std.specs.Prelude.{option_map, IfSome, ◌==◌, not, ◌&&◌}
 use Rattle.std.proofs.lemmas.Bool.{lt-ltb, le-ltb}
 use Rattle.std.proofs.lemmas.Bool.Decides.{nat_tests}
 use Rattle.std.proofs.lemmas.List.{length_push}
-use Rattle.q_stream.specs.Takes.{Rose}
+use Rattle.q_model.specs.FaultCounts.{Rose}
 use Rattle.q_events.specs.Readings.{is_in_line}
 use Rattle.q_events.specs.TextLines.{TextLine, whole, cut, onto_line, lines_from, bytes_of, is_long}
 

@@ -3,7 +3,7 @@ use Rattle.std.specs.List.{flat_map, take_while}
 use Rattle.std.specs.Option.{option_map_or}
 use Rattle.std.specs.Prelude.{◌+◌, [], Bool, drop, false, if◌then◌else◌, length, List, None, not, Option, option_and_then, Some, true, ℕ, ◌∷◌}
 use Rattle.q_model.specs.Lists.{has_none}
-use Rattle.q_model.specs.Notices.{text_line}
+use Rattle.q_model.specs.TextParts.{text_line}
 use Rattle.q_model.specs.declared.event.Event.TheVariants as events
 use Rattle.q_events.specs.EventLines.{line_of}
 use Rattle.q_events.specs.TextLines.{cut, is_long, TextLine, whole, bytes_of}
@@ -42,11 +42,13 @@ content_of line = content_by (bytes_of line) (meaning line)
 -- the item of a command in line n behind this content, which only a mail may have
 abbrev pub item_of : List ℕ → ℕ → Command → Option Item
 item_of content n (commands.Mail sender to) = Some (items.Step (events.Mail sender to content) n)
-item_of content n (commands.Plain event) = if has_none content then Some (items.Step event n) else None
+item_of content n (commands.Plain event) =
+    if has_none content then Some (items.Step event n) else None
 item_of content n commands.Restart = if has_none content then Some items.Restart else None
 item_of content n commands.End = if has_none content then Some items.End else None
 
--- what stands first in an event list: an item, with the number of its line and the lines behind it; a line that can't stand there; or the end of the bytes that a list may have
+-- what stands first in an event list: an item, with the number of its line and the lines behind it; a line
+-- that can't stand there; or the end of the bytes that a list may have
 pub data Reading : Type 0 where
   found : Item → ℕ → List TextLine → Reading
   bad : ℕ → Reading
@@ -64,12 +66,22 @@ abbrev pub passes_limit : TextLine → Bool
 passes_limit (whole line) = false
 passes_limit (cut line) = not (is_long (cut line))
 
--- what the first of these lines gives, which has number n and stands behind this content; where there is none, `end` is missing
+-- the item of a line, which has number n and stands behind this content
+abbrev pub item_in : List ℕ → ℕ → TextLine → Option Item
+item_in content n line = option_and_then (item_of content n) (command_in (meaning line))
+
+-- what the first of these lines gives; where there is none, `end` is missing
 abbrev pub item_at : List ℕ → ℕ → List TextLine → Reading
 item_at content n [] = bad n
-item_at content n (line ∷ more) = if passes_limit line then past_limit
-    else option_map_or (λ item. found item n more) (option_and_then (item_of content n) (command_in (meaning line))) (bad n)
+item_at content n (line ∷ more) =
+    if passes_limit line then past_limit
+    else option_map_or (λ item. found item n more) (item_in content n line) (bad n)
+
+-- the first item behind the leading ones of these lines
+abbrev pub behind_leading : ℕ → List TextLine → List TextLine → Reading
+behind_leading n leading lines =
+    item_at (flat_map content_of leading) (n + length leading) (drop (length leading) lines)
 
 -- the first item of these lines, of which the first has number n
 abbrev pub first_item : ℕ → List TextLine → Reading
-first_item n lines = item_at (flat_map content_of (take_while leads lines)) (n + length (take_while leads lines)) (drop (length (take_while leads lines)) lines)
+first_item n lines = behind_leading n (take_while leads lines) lines

@@ -1,20 +1,29 @@
--- The form of what an event list gives.
+-- The form of what an event list gives: what the rules require of an event.
 use Rattle.std.specs.List.{list_all}
 use Rattle.std.specs.Option.{option_map_or}
-use Rattle.std.specs.Prelude.{◌≡◌, ◌≤◌, true}
+use Rattle.std.specs.Prelude.{◌≡◌, ◌≤◌, length, List, Option, true, ℕ}
 use Rattle.q_model.specs.declared.event.Event.{Event}
 use Rattle.q_model.specs.declared.event.Event.TheVariants as events
 use Rattle.q_model.specs.Texts.{is_address}
+use Rattle.q_text.specs.ValueForms.{IsListOf, IsOutcomeAt}
 use Rattle.q_events.specs.declared.item.Item.{Item}
 use Rattle.q_events.specs.declared.item.Item.TheVariants as items
 
--- a moment in input is at most 999,990,000,000, and addresses have their form
+-- the sender, unless it is the null sender, and each recipient have the form of an address, and there is a
+-- recipient
+abbrev pub IsMailInForm : Option (List ℕ) → List (List ℕ) → Type 0
+IsMailInForm sender to =
+    (option_map_or is_address sender true ≡ true) × (list_all is_address to ≡ true) × (1 ≤ length to)
+
+-- A moment in input is at most 999,990,000,000. A reply has an outcome, and each fits the state of the site
+-- and has a code of its hundred or none: where the site is down, each is later.
 abbrev pub IsInForm : Event → Type 0
 IsInForm (events.At t) = t ≤ 999990000000
-IsInForm (events.Mail sender to content) = (option_map_or is_address sender true ≡ true) × (list_all is_address to ≡ true)
-IsInForm (events.Reply number site outcomes) = Unit {0}
+IsInForm (events.Mail sender to content) = IsMailInForm sender to
+IsInForm (events.Reply number site outcomes) = IsListOf (IsOutcomeAt site) outcomes
 IsInForm (events.Trigger kind) = Unit {0}
 
+-- an item whose event, where it is one, is in form
 abbrev pub IsItemInForm : Item → Type 0
 IsItemInForm (items.Step event line) = IsInForm event
 IsItemInForm items.Restart = Unit {0}

@@ -1,5 +1,4 @@
 pub mod TextLines
-pub mod Words
 pub mod EventLines
 pub mod EventList
 pub mod States

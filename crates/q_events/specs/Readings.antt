@@ -2,7 +2,7 @@
 use Rattle.std.specs.List.{list_all}
 use Rattle.std.specs.Prelude.{◌+◌, ◌++◌, ◌==◌, ◌≡◌, Bool, Err, false, if◌then◌else◌, IfSome, List, not, Ok, Option, Result, Some, true, ℕ}
 use Rattle.q_events.specs.EventList.{bad, first_item, found, leads, past_limit, Reading}
-use Rattle.q_events.specs.States.{EventsState}
+use Rattle.q_events.specs.States.{EventsState, text_left}
 use Rattle.q_events.specs.TextLines.{lines_from, TextLine}
 use Rattle.q_events.specs.declared.error.Bound.TheVariants.{Input}
 use Rattle.q_events.specs.declared.error.EventError.{EventError}
@@ -12,7 +12,9 @@ use Rattle.q_events.specs.declared.item.Item.TheVariants as items
 
 -- What stands first in these bytes. Behind `end` nothing is looked at, and the answer stays.
 abbrev pub reading : EventsState → List ℕ → Reading
-reading e bytes = if e.ended then found items.End e.lines (lines_from e.budget bytes) else first_item (e.lines + 1) (lines_from e.budget bytes)
+reading e bytes =
+    if e.ended then found items.End e.lines (lines_from e.budget bytes)
+    else first_item (e.lines + 1) (lines_from e.budget bytes)
 
 -- the item is the end of the list
 abbrev pub is_end : Item → Bool
@@ -24,15 +26,33 @@ is_end items.End = true
 abbrev pub is_in_line : List ℕ → Bool
 is_in_line bytes = list_all (λ b. not (b == 10)) bytes
 
--- The source stopped before an item: the lines that were taken whole are passed over or of content, and what was taken behind them has no end.
+-- The source stopped before an item: the lines that were taken whole are passed over or of content, and what
+-- was taken behind them has no end.
 abbrev pub StopsBefore : EventsState → Option (List ℕ) → Option (List ℕ) → Type 0
-StopsBefore e old source = IfSome old (λ bytes. (lines : List TextLine) × (budget : ℕ) × (part : List ℕ) × (rest : List ℕ) × (source ≡ Some rest)
-    × (lines_from e.budget bytes ≡ lines ++ lines_from budget (part ++ rest)) × (list_all leads lines ≡ true) × (is_in_line part ≡ true))
+StopsBefore e old source =
+    IfSome old (λ bytes. (lines : List TextLine) × (budget : ℕ) × (part : List ℕ) × (rest : List ℕ)
+    × (source ≡ Some rest) × (lines_from e.budget bytes ≡ lines ++ lines_from budget (part ++ rest))
+    × (list_all leads lines ≡ true) × (is_in_line part ≡ true))
 
--- A call gives what stands first in the bytes that are left, `old`; behind an item `new` is left, and its lines are those behind the item.
-abbrev pub Gives : EventsState → Option (List ℕ) → EventsState → Option (List ℕ) → Option (List ℕ) → Result Item EventError → Type 0
-Gives e old e' new source (Ok item) = IfSome old (λ bytes. (rest : List ℕ) × (new ≡ Some rest) × (reading e bytes ≡ found item e'.lines (lines_from e'.budget rest)))
+-- A call gives what stands first in the bytes that are left, `old`; behind an item `new` is left, and its
+-- lines are those behind the item.
+abbrev pub Gives : EventsState → Option (List ℕ) → EventsState → Option (List ℕ) → Option (List ℕ)
+    → Result Item EventError → Type 0
+Gives e old e' new source (Ok item) =
+    IfSome old (λ bytes. (rest : List ℕ) × (new ≡ Some rest)
+    × (reading e bytes ≡ found item e'.lines (lines_from e'.budget rest)))
 Gives e old e' new source (Err (errors.BadEvent line)) = IfSome old (λ bytes. reading e bytes ≡ bad line)
-Gives e old e' new source (Err (errors.Limit bound)) = (bound ≡ Input) × IfSome old (λ bytes. reading e bytes ≡ past_limit)
+Gives e old e' new source (Err (errors.Limit bound)) =
+    (bound ≡ Input) × IfSome old (λ bytes. reading e bytes ≡ past_limit)
 Gives e old e' new source (Err errors.Source) = StopsBefore e old source
 Gives e old e' new source (Err errors.NoMemory) = Unit {0}
+
+-- the same, by what is buffered and what the source has
+abbrev pub Reads : EventsState → Option (List ℕ) → EventsState → Option (List ℕ) → Result Item EventError
+    → Type 0
+Reads e old e' new result =
+    Gives e (text_left e.buffered old) e' (text_left e'.buffered new) new result
+
+-- the reader gives no item any more: its list may have no byte more, and `end` wasn't among its lines
+abbrev pub GivesNoMore : EventsState → Type 0
+GivesNoMore e = (e.budget ≡ 0) × (e.ended ≡ false)

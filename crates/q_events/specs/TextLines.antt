@@ -12,11 +12,13 @@ onto_line b [] = whole (b ∷ []) ∷ []
 onto_line b (whole line ∷ lines) = whole (b ∷ line) ∷ lines
 onto_line b (cut line ∷ lines) = cut (b ∷ line) ∷ lines
 
--- The lines of a text of at most so many bytes. A last line may lack its LF. What is behind the most bytes isn't looked at, and the line that it cuts is the last.
+-- The lines of a text of at most so many bytes. A last line may lack its LF. What is behind the most bytes
+-- isn't looked at, and the line that it cuts is the last.
 abbrev pub lines_from : ℕ → List ℕ → List TextLine
 lines_from most [] = []
 lines_from zero (b ∷ bs) = cut [] ∷ []
-lines_from (suc most) (b ∷ bs) = if b == 10 then whole [] ∷ lines_from most bs else onto_line b (lines_from most bs)
+lines_from (suc most) (b ∷ bs) =
+    if b == 10 then whole [] ∷ lines_from most bs else onto_line b (lines_from most bs)
 
 -- the bytes of a line
 abbrev pub bytes_of : TextLine → List ℕ

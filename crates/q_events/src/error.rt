@@ -20,12 +20,12 @@ pub enum Bound {
     /// An event list may have 2^40 bytes.
     #[error("input")]
     Input,
-    /// A life may begin 2^48 deliveries.
+    /// A life may start 2^48 deliveries.
     #[error("deliveries")]
     Deliveries,
 }
 
-/// Why there is no next item. After one of these the reader is to be given up.
+/// Why there is no next item. After one of these the reader gives no item any more.
 #[derive(Clone, Copy, Debug, PartialEq, Eq, Error)]
 pub enum EventError {
     #[error("no memory")]

@@ -1,12 +1,12 @@
 //! A reader of event lists.
-ghost use Rattle.std.specs.Prelude.{◌≡◌, ◌≤◌, ◌<◌, ◌+◌, ◌++◌, ◌∷◌, [], ◌==◌, IfOk, OnOk, drop, false, Some};
-ghost use Rattle.q_stream.specs.Takes.{Rose};
-ghost use Rattle.q_model.specs.Notices.{text_line};
+ghost use Rattle.std.specs.Prelude.{◌≡◌, ◌≤◌, ◌<◌, ◌+◌, ◌++◌, ◌∷◌, [], ◌==◌, IfOk, OnOk, drop, false, IfErr, Some, true};
+ghost use Rattle.q_model.specs.FaultCounts.{Rose};
+ghost use Rattle.q_model.specs.TextParts.{text_line};
 ghost use Rattle.q_events.specs.EventList.{command_in, content_by, item_of};
 ghost use Rattle.q_events.specs.Forms.{IsItemInForm};
-ghost use Rattle.q_events.specs.LineReadings.{GivesLine};
-ghost use Rattle.q_events.specs.Readings.{Gives, is_end};
-ghost use Rattle.q_events.specs.States.{behind};
+ghost use Rattle.q_events.specs.LineReadings.{ReadsLine};
+ghost use Rattle.q_events.specs.Readings.{GivesNoMore, is_end, Reads};
+ghost use Rattle.q_events.specs.States.{unread_list};
 
 use crate::error::{Bound, EventError};
 use crate::item::Item;
@@ -33,7 +33,12 @@ impl Model for Events {
 
     ghost Value = { EventsState };
 
-    ghost view = { λ e. record { buffered = e.reader.buffered; budget = e.reader.budget; lines = e.lines; ended = e.ended } };
+    ghost view = { λ e. record {
+      buffered = e.reader.buffered;
+      budget = e.reader.budget;
+      lines = e.lines;
+      ended = e.ended;
+    } };
 
     ghost invariant = { λ e. e.lines + e.reader.budget ≤ 1099511627776 };
 }
@@ -48,10 +53,11 @@ fn add_text(content: &mut Vec<u8>, line: &[u8]) -> Result<(), NoMemory>
     Ok(())
 }
 
-/// Takes what a line says: its text is added to the content, or it is the command that is given.
-fn take(content: &mut Vec<u8>, line: &[u8], said: Line) -> Result<Option<Command>, NoMemory>
+/// What a line says: its text is added to the content, or it is the command that is given.
+fn add_line(content: &mut Vec<u8>, line: &[u8], said: Line) -> Result<Option<Command>, NoMemory>
     ensures command { IfOk result (λ command. command ≡ command_in (Some said)) }
-    ensures content { OnOk result (content.new.items ≡ content.old.items ++ content_by line.now (Some said)) }
+    ensures content { OnOk result (content.new.items
+        ≡ content.old.items ++ content_by line.now (Some said)) }
 {
     match said {
         Line::Passed => Ok(None),
@@ -88,7 +94,7 @@ impl Events {
     /// A reader of a list of which nothing is read. It takes no memory, so the answer is never an
     /// error.
     pub fn new(_alloc: Global) -> Result<Events, NoMemory>
-        ensures { result ≡ Ok (record { buffered = []; budget = 1099511627776; lines = 0; ended = false }) }
+        ensures { result ≡ Ok unread_list }
     {
         Ok(Events {
             reader: LineReader::new(),
@@ -106,11 +112,14 @@ impl Events {
 
     /// The next line, which is counted.
     fn next_line<S: Source>(&mut self, alloc: Global, source: &mut S) -> Result<Vec<u8>, EventError>
-        ensures line { GivesLine self.old (behind self.old.buffered (S.left source.old)) self.new (behind self.new.buffered (S.left source.new)) (S.left source.new) result }
+        ensures line { ReadsLine self.old (S.left source.old) self.new (S.left source.new) result }
+        ensures going { self.new.ended ≡ self.old.ended }
         ensures count { OnOk result (self.new.lines ≡ self.old.lines + 1) }
         ensures progress { OnOk result (self.new.budget < self.old.budget) }
-        ensures source { result ≡ Err EventError.Source → Rose (S.faults source.old) (S.faults source.new) }
+        ensures source { result ≡ Err EventError.Source
+            → Rose (S.faults source.old) (S.faults source.new) }
         ensures later { S.faults source.old ≤ S.faults source.new }
+        ensures faultless { OnOk result (S.faults source.new ≡ S.faults source.old) }
     {
         match self.reader.read_line(alloc, source) {
             Ok(NextLine::Line(line)) => {
@@ -134,11 +143,14 @@ impl Events {
     /// The next item, where `end` wasn't read.
     fn read_item<S: Source>(&mut self, alloc: Global, source: &mut S) -> Result<Item, EventError>
         requires { self.old.ended ≡ false }
-        ensures exact { Gives self.old (behind self.old.buffered (S.left source.old)) self.new (behind self.new.buffered (S.left source.new)) (S.left source.new) result }
+        ensures going { self.new.ended ≡ false }
+        ensures exact { Reads self.old (S.left source.old) self.new (S.left source.new) result }
         ensures form { IfOk result IsItemInForm }
         ensures progress { OnOk result (self.new.budget < self.old.budget) }
-        ensures source { result ≡ Err EventError.Source → Rose (S.faults source.old) (S.faults source.new) }
+        ensures source { result ≡ Err EventError.Source
+            → Rose (S.faults source.old) (S.faults source.new) }
         ensures later { S.faults source.old ≤ S.faults source.new }
+        ensures faultless { OnOk result (S.faults source.new ≡ S.faults source.old) }
     {
         let mut content = Vec::new(alloc);
         loop {
@@ -147,7 +159,7 @@ impl Events {
             let Some(said) = parse(alloc, text.as_slice())? else {
                 return Err(EventError::BadEvent { line });
             };
-            if let Some(command) = take(&mut content, text.as_slice(), said)? {
+            if let Some(command) = add_line(&mut content, text.as_slice(), said)? {
                 return item(command, line, content).ok_or(EventError::BadEvent { line });
             }
         }
@@ -159,24 +171,42 @@ impl Events {
     /// `end` are not looked at, and from then on the answer is `End`.
     ///
     /// At most one line is in memory beside the content of one mail.
+    ///
+    /// An item comes only where the source didn't fail in the call: a fault is never read as an
+    /// end. After an error no call gives an item any more, since the line in which the source
+    /// stopped would be read from its middle: the reader is to be given up.
     pub fn read_event<S: Source>(
         &mut self,
         alloc: Global,
         source: &mut S,
     ) -> Result<Item, EventError>
-        ensures exact { Gives self.old (behind self.old.buffered (S.left source.old)) self.new (behind self.new.buffered (S.left source.new)) (S.left source.new) result }
-        // Also where the source doesn't tell what is left of it.
+        ensures exact { Reads self.old (S.left source.old) self.new (S.left source.new) result }
+        // From here on also where the source doesn't tell what is left of it.
         ensures form { IfOk result IsItemInForm }
         ensures ended { IfOk result (λ item. self.new.ended ≡ is_end item) }
-        ensures progress { IfOk result (λ item. is_end item ≡ false → self.new.budget < self.old.budget) }
-        ensures source { result ≡ Err EventError.Source → Rose (S.faults source.old) (S.faults source.new) }
+        ensures stays { self.old.ended ≡ true → IfOk result (λ item. is_end item ≡ true) }
+        ensures progress { IfOk result (λ item. is_end item ≡ false
+            → self.new.budget < self.old.budget) }
+        ensures moves { IfOk result (λ _. self.old.ended ≡ false
+            → self.new.budget < self.old.budget) }
+        ensures given_up { IfErr result (λ _. GivesNoMore self.new) }
+        ensures source { result ≡ Err EventError.Source
+            → Rose (S.faults source.old) (S.faults source.new) }
         ensures later { S.faults source.old ≤ S.faults source.new }
+        ensures faultless { IfOk result (λ _. S.faults source.new ≡ S.faults source.old) }
     {
         if self.ended {
             return Ok(Item::End);
         }
-        let item = self.read_item(alloc, source)?;
-        self.ended = matches!(item, Item::End);
-        Ok(item)
+        match self.read_item(alloc, source) {
+            Ok(item) => {
+                self.ended = matches!(item, Item::End);
+                Ok(item)
+            }
+            Err(error) => {
+                self.reader.give_up();
+                Err(error)
+            }
+        }
     }
 }

@@ -1,5 +1,9 @@
 //! Event lists: what comes to a queue manager from outside, as lines of text, read one item at a
 //! time from a source that gives its bytes in pieces.
+//!
+//! What is given can be heard as it stands: its form is what the rules require of an event, so that
+//! no reader above looks at it again. No call is an error. After an error of a reader, a fault of
+//! its source too, it gives no item any more.
 #![tactic(auto)]
 
 mod error;
@@ -7,11 +11,8 @@ mod events;
 mod item;
 mod line;
 mod line_reader;
-mod number;
-mod outcome;
 #[cfg(test)]
 mod tests;
-mod words;
 
 pub use error::{Bound, EventError};
 pub use events::Events;

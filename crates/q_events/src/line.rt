@@ -1,11 +1,12 @@
 //! What the lines of an event list say.
 ghost use Rattle.std.specs.Prelude.{◌≡◌, IfOk};
-ghost use Rattle.q_events.specs.EventLines.{command_of, is_body, is_passed, line_of, mail_of, moment_of, reply_of, reply_to, sender_of, single_of, state_of, trigger_of};
-ghost use Rattle.q_events.specs.Words.{words};
+ghost use Rattle.q_text.specs.Pieces.{words_in};
+ghost use Rattle.q_events.specs.EventLines.{command_of, is_body, is_passed, line_of, mail_of, moment_of, reply_of, reply_to, single_of, trigger_command};
 
-use crate::number::read_number;
-use crate::words::{addresses, first_word, outcomes};
-use q_model::{Address, Addresses, Event, NoMemory, SiteState, Trigger};
+use q_model::{Address, Addresses, Event, NoMemory};
+use q_text::{
+    first_word, read_addresses, read_number, read_outcomes, read_sender, read_state, read_trigger,
+};
 use std::alloc::Global;
 
 /// The latest moment in input.
@@ -35,55 +36,33 @@ pub(crate) enum Command {
     End,
 }
 
-fn sender(text: &[u8]) -> Option<Option<Address>>
-    ensures { result ≡ sender_of text.now }
-{
-    if text == b"<>".as_slice() {
-        return Some(None);
-    }
-    let address = Address::new(text)?;
-    Some(Some(address))
-}
-
 fn mail(alloc: Global, text: &[u8]) -> Result<Option<Command>, NoMemory>
-    ensures { IfOk result (λ command. command ≡ mail_of (words text.now)) }
+    ensures { IfOk result (λ command. command ≡ mail_of (words_in text.now)) }
 {
     let (word, more) = first_word(text);
-    let Some(sender) = sender(word) else {
+    let Some(sender) = read_sender(word) else {
         return Ok(None);
     };
     let Some(list) = more else {
         return Ok(None);
     };
-    let Some(to) = addresses(alloc, list)? else {
+    let Some(to) = read_addresses(alloc, list)? else {
         return Ok(None);
     };
     Ok(Some(Command::Mail { sender, to }))
 }
 
-fn state(text: &[u8]) -> Option<SiteState>
-    ensures { result ≡ state_of text.now }
-{
-    if text == b"up".as_slice() {
-        return Some(SiteState::Up);
-    }
-    if text == b"down".as_slice() {
-        return Some(SiteState::Down);
-    }
-    None
-}
-
 fn reply_to(alloc: Global, number: u64, text: &[u8]) -> Result<Option<Command>, NoMemory>
-    ensures { IfOk result (λ command. command ≡ reply_to number (words text.now)) }
+    ensures { IfOk result (λ command. command ≡ reply_to number (words_in text.now)) }
 {
     let (word, more) = first_word(text);
-    let Some(site) = state(word) else {
+    let Some(site) = read_state(word) else {
         return Ok(None);
     };
     let Some(rest) = more else {
         return Ok(None);
     };
-    let Some(outcomes) = outcomes(alloc, site, rest)? else {
+    let Some(outcomes) = read_outcomes(alloc, rest, site)? else {
         return Ok(None);
     };
     Ok(Some(Command::Plain(Event::Reply {
@@ -94,7 +73,7 @@ fn reply_to(alloc: Global, number: u64, text: &[u8]) -> Result<Option<Command>, 
 }
 
 fn reply(alloc: Global, text: &[u8]) -> Result<Option<Command>, NoMemory>
-    ensures { IfOk result (λ command. command ≡ reply_of (words text.now)) }
+    ensures { IfOk result (λ command. command ≡ reply_of (words_in text.now)) }
 {
     let (word, more) = first_word(text);
     let Some(number) = read_number(word, 0, u64::MAX) else {
@@ -114,14 +93,9 @@ fn moment(text: &[u8]) -> Option<Command>
 }
 
 fn trigger(text: &[u8]) -> Option<Command>
-    ensures { result ≡ trigger_of text.now }
+    ensures { result ≡ trigger_command text.now }
 {
-    let kind = match text {
-        b"D" => Trigger::D,
-        b"A" => Trigger::A,
-        b"F" => Trigger::F,
-        _ => return None,
-    };
+    let kind = read_trigger(text)?;
     Some(Command::Plain(Event::Trigger { kind }))
 }
 

@@ -1,8 +1,7 @@
 //! Lines of a source, which gives its bytes in pieces.
 ghost use Rattle.std.specs.Prelude.{◌≡◌, ◌≤◌, ◌<◌, length, IfOk, [], ◌∷◌};
-ghost use Rattle.q_stream.specs.Takes.{Rose, HasCause};
-ghost use Rattle.q_events.specs.LineReadings.{Fills, NextIs, NextLineIs, Spends, StopsInLine};
-ghost use Rattle.q_events.specs.States.{behind};
+ghost use Rattle.q_stream.specs.Takes.{HasCause};
+ghost use Rattle.q_events.specs.LineReadings.{Counts, FailsInLine, Fills, GivesNext, GivesNextLine, Spends};
 
 use q_stream::{Source, Take};
 use std::alloc::Global;
@@ -76,6 +75,13 @@ impl LineReader {
         }
     }
 
+    /// From now on the text may have no byte more, so no line is given.
+    pub(crate) fn give_up(&mut self)
+        ensures { self.new ≡ record self.old { budget = 0 } }
+    {
+        self.budget = 0;
+    }
+
     /// Takes bytes from the source, where all that were taken before are given.
     fn fill<S: Source>(&mut self, source: &mut S) -> Take
         requires { self.old.buffered ≡ [] }
@@ -105,10 +111,9 @@ impl LineReader {
     }
 
     fn next_byte<S: Source>(&mut self, source: &mut S) -> Next
-        ensures next { NextIs (behind self.old.buffered (S.left source.old)) (behind self.new.buffered (S.left source.new)) (S.left source.new) result }
+        ensures next { GivesNext self.old (S.left source.old) self.new (S.left source.new) result }
         ensures budget { self.new.budget ≡ self.old.budget }
-        ensures later { S.faults source.old ≤ S.faults source.new }
-        ensures cause { result ≡ Next.Failed → Rose (S.faults source.old) (S.faults source.new) }
+        ensures counts { Counts (S.faults source.old) (S.faults source.new) result }
     {
         if self.at < self.end {
             return Next::Byte(self.give());
@@ -126,11 +131,15 @@ impl LineReader {
         alloc: Global,
         source: &mut S,
     ) -> Result<NextLine, LineError>
-        ensures line { IfOk result (λ line. NextLineIs self.old (behind self.old.buffered (S.left source.old)) self.new (behind self.new.buffered (S.left source.new)) line) }
+        ensures line { IfOk result (λ line.
+            GivesNextLine self.old (S.left source.old) self.new (S.left source.new) line) }
         ensures progress { IfOk result (λ line. Spends self.old self.new line) }
         ensures budget { self.new.budget ≤ self.old.budget }
-        ensures source { result ≡ Err LineError.Source → StopsInLine (behind self.old.buffered (S.left source.old)) (S.left source.new) × Rose (S.faults source.old) (S.faults source.new) }
+        ensures source { result ≡ Err LineError.Source
+            → FailsInLine self.old (S.left source.old) (S.left source.new)
+            (S.faults source.old) (S.faults source.new) }
         ensures later { S.faults source.old ≤ S.faults source.new }
+        ensures faultless { IfOk result (λ _. S.faults source.new ≡ S.faults source.old) }
     {
         let mut line = Vec::new(alloc);
         loop {

@@ -1,10 +1,10 @@
 //! Feedbacks.
-ghost use Rattle.std.specs.Prelude.{◌≡◌, ◌≤◌, ◌<◌, ◌*◌, false, IfSome, length, position};
+ghost use Rattle.std.specs.Prelude.{◌≡◌, ◌≤◌, ◌*◌, false, IfSome};
 ghost use Rattle.q_feedback.specs.FeedbackForms.{IsFeedback};
-ghost use Rattle.q_feedback.specs.FeedbackTexts.{feedback_of, fraction, is_slash, per_window, whole};
+ghost use Rattle.q_feedback.specs.FeedbackTexts.{feedback_of, fraction, per_window, whole};
 ghost use Rattle.q_model.specs.Feedbacks.{amount, parts, unit};
 
-use crate::numbers::read_number;
+use q_text::{cut, read_number};
 use std::marker::Model;
 
 /// The least common multiple of 1 to 40, so that each window divides it.
@@ -31,19 +31,23 @@ impl Model for Feedback {
 
     ghost use Rattle.q_feedback.specs.FeedbackForms.{IsFeedback};
 
-    ghost view = { λ f. record { numerator = f.numerator; denominator = f.denominator; by_window = f.by_window } };
+    ghost view = { λ f. record {
+      numerator = f.numerator;
+      denominator = f.denominator;
+      by_window = f.by_window;
+    } };
 
-    ghost invariant = { λ f. IsFeedback (record { numerator = f.numerator; denominator = f.denominator; by_window = f.by_window }) };
+    ghost invariant = { λ f. IsFeedback (record {
+      numerator = f.numerator;
+      denominator = f.denominator;
+      by_window = f.by_window;
+    }) };
 
-    ghost inverse = { λ v. record { numerator = v.numerator; denominator = v.denominator; by_window = v.by_window } };
-}
-
-/// The place of the first slash.
-fn slash(text: &[u8]) -> Option<usize>
-    ensures exact { result ≡ position is_slash text.now }
-    ensures within { IfSome result (λ at. at < length text.now) }
-{
-    text.iter().position(|b| *b == b'/')
+    ghost inverse = { λ v. record {
+      numerator = v.numerator;
+      denominator = v.denominator;
+      by_window = v.by_window;
+    } };
 }
 
 /// `p`, which is 0 or 1.
@@ -105,10 +109,9 @@ impl Feedback {
         ensures exact { result ≡ feedback_of text.now }
         ensures form { IfSome result IsFeedback }
     {
-        let Some(at) = slash(text) else {
+        let Some((front, back)) = cut(text, b'/') else {
             return whole(text);
         };
-        let (front, back) = (&text[..at], &text[at + 1..]);
         if back == PER_WINDOW {
             per_window(front)
         } else {

@@ -3,44 +3,32 @@ use crate::{Feedback, Sum};
 
 const WHOLE: u64 = 5_342_931_457_063_200;
 
+/// Texts that are no feedbacks, with bars between them.
+const OTHERS: &str =
+    "2|1/0|3/2|0.5|1/101||/|1/|/2|01|+1|1 |1/2/2|1/02|0/0|2/concurrency|1/Concurrency|\
+1/concurrenc|concurrency|1/4294967297|sqrt_concurrency";
+
 #[test]
-fn texts_are_feedbacks_or_none(rt: HostRuntime) {
-    let none = [
-        "2",
-        "1/0",
-        "3/2",
-        "0.5",
-        "1/101",
-        "",
-        "/",
-        "1/",
-        "/2",
-        "01",
-        "+1",
-        "1 ",
-        "1/2/2",
-        "1/02",
-        "0/0",
-        "2/concurrency",
-        "1/Concurrency",
-        "1/concurrenc",
-        "concurrency",
-        "1/4294967297",
-        "sqrt_concurrency",
-    ];
-    for text in none {
+fn other_texts_are_refused(rt: HostRuntime) {
+    for text in OTHERS.split('|') {
         assert_eq!(rt; Feedback::parse(text.as_bytes()), None, "at {text}");
     }
-    let some = [
-        ("1", WHOLE, WHOLE),
-        ("0", 0, WHOLE),
-        ("1/2", WHOLE, 2 * WHOLE),
-        ("0/100", 0, 100 * WHOLE),
-        ("100/100", 100 * WHOLE, 100 * WHOLE),
-        ("1/concurrency", 1_068_586_291_412_640, WHOLE),
-        ("0/concurrency", 0, WHOLE),
-    ];
-    for (text, amount, units) in some {
+}
+
+/// Feedbacks, with what they add at a window of 5, and their units.
+const FEEDBACKS: [(&str, u64, u64); 7] = [
+    ("1", WHOLE, WHOLE),
+    ("0", 0, WHOLE),
+    ("1/2", WHOLE, 2 * WHOLE),
+    ("0/100", 0, 100 * WHOLE),
+    ("100/100", 100 * WHOLE, 100 * WHOLE),
+    ("1/concurrency", 1_068_586_291_412_640, WHOLE),
+    ("0/concurrency", 0, WHOLE),
+];
+
+#[test]
+fn texts_are_feedbacks(rt: HostRuntime) {
+    for (text, amount, units) in FEEDBACKS {
         let Some(feedback) = Feedback::parse(text.as_bytes()) else {
             assert!(rt; false, "at {text}");
             return;

@@ -1,16 +1,13 @@
 -- The files of a host: for each area and name the bytes that a read gives, where a file stands there.
-use Rattle.std.specs.Prelude.{◌+◌, ℕ, Bool, ◌&&◌, nat_eq, if◌then◌else◌, List, ◌++◌, length, take, drop, Option, Some, None}
+use Rattle.std.specs.Prelude.{◌≡◌, ◌+◌, ℕ, Bool, ◌&&◌, nat_eq, if◌then◌else◌, List, ◌++◌, length, take, drop, Option, Some, None, is_some}
 use Rattle.std.specs.Cmp.Lexicographic.{pointwise}
+use Rattle.q_model.specs.SpoolFiles.{Files}
 use Rattle.q_model.specs.declared.spot.Area.{Area}
 use Rattle.q_model.specs.declared.spot.Area.TheVariants.{Boot, Conf, Tmp, Incoming, Active, Deferred, Hold, Corrupt, Bounce, Defer}
 
 -- something for each area and name, or nothing
 abbrev pub Table : Type 0 → Type 0
 Table X = Area → List ℕ → Option X
-
--- the bytes of each file
-abbrev pub Files : Type 0
-Files = Table (List ℕ)
 
 -- the areas, numbered
 abbrev pub area_number : Area → ℕ
@@ -32,6 +29,10 @@ same_place a n b m = nat_eq (area_number a) (area_number b) && pointwise nat_eq 
 -- the same with something else at one place
 unfoldable pub put : {X : Type 0} → Table X → Area → List ℕ → Option X → Table X
 put f a n x = λ b m. if same_place a n b m then x else f b m
+
+-- files stand at the same places in both
+abbrev pub SameNames : Files → Files → Type 0
+SameNames f g = (a : Area) (n : List ℕ) → is_some (g a n) ≡ is_some (f a n)
 
 -- a file of these bytes stands at the place
 abbrev pub with_file : Files → Area → List ℕ → List ℕ → Files

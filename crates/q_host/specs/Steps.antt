@@ -1,7 +1,8 @@
 -- What a call makes of what a crash might have left before it.
 use Rattle.std.specs.Prelude.{◌≡◌, ◌⊎◌, ◌≤◌, ◌+◌, max, ℕ, false, List, ◌++◌, length, take, drop, Option, Some}
 use Rattle.q_model.specs.declared.spot.Area.{Area}
-use Rattle.q_host.specs.Files.{Files, same_place}
+use Rattle.q_host.specs.Files.{same_place}
+use Rattle.q_model.specs.SpoolFiles.{Files}
 use Rattle.q_host.specs.View.{Remains, Step}
 
 -- nothing changes
@@ -34,7 +35,7 @@ pub record Tear (a : Area) (n : List ℕ) (at len : ℕ) (d c : Remains) : Type 
   pub told : c.told ≡ d.told
 
 -- the bytes of one file are those that a read gives
-pub record Settle (a : Area) (n : List ℕ) (file : Option (List ℕ)) (d c : Remains) : Type 0 where
+pub record Sync (a : Area) (n : List ℕ) (file : Option (List ℕ)) (d c : Remains) : Type 0 where
   pub same : c ≡ d
   pub whole : c.files a n ≡ file
 

@@ -1,6 +1,6 @@
 -- What a host tells of a moment, and how its moments go on.
-use Rattle.std.specs.Prelude.{◌≤◌, ◌⊎◌, ℕ, List}
-use Rattle.q_host.specs.Files.{Files}
+use Rattle.std.specs.Prelude.{◌≤◌, ◌⊎◌, ℕ, Bool, IsTrue, List}
+use Rattle.q_model.specs.SpoolFiles.{Files}
 
 -- what a crash leaves: the files, and what was told
 pub record Remains : Type 0 where
@@ -19,6 +19,14 @@ pub record View : Type 1 where
   -- what a crash at some moment from that one on may have left
   pub left_since : ℕ → Remains → Type 0
 
+-- What a crash may leave now, it may have left since any moment up to now.
+abbrev pub CountsNow : View → Type 0
+CountsNow v = (t : ℕ) (c : Remains) → t ≤ v.moment → v.may_leave c → v.left_since t c
+
+-- where a host tells, its views before and after a call have this relation
+abbrev pub Told : {H : Type 0} → Bool → (H → View) → H → H → (View → View → Type 0) → Type 0
+Told tells view before after R = IsTrue tells → R (view before) (view after)
+
 -- what is there now
 abbrev pub now : View → Remains
 now v = record { files = v.files; told = v.told }
@@ -36,7 +44,8 @@ After step before c = (d : Remains) × before d × step d c
 pub record Goes (step meanwhile : Step) (old new : View) : Type 0 where
   pub later : old.moment ≤ new.moment
   pub crash : (c : Remains) → new.may_leave c → After step old.may_leave c
-  pub nothing_else : (t : ℕ) (c : Remains) → t ≤ old.moment → new.left_since t c → old.left_since t c ⊎ After meanwhile old.may_leave c
+  pub nothing_else : (t : ℕ) (c : Remains) → t ≤ old.moment → new.left_since t c
+      → old.left_since t c ⊎ After meanwhile old.may_leave c
   pub keeps : (t : ℕ) (c : Remains) → t ≤ old.moment → old.left_since t c → new.left_since t c
 
 -- A crash at any moment since old leaves what has P.

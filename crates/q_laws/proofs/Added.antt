@@ -10,12 +10,11 @@ use Rattle.q_laws.proofs.Mapped.{paired_from}
 use Rattle.q_laws.proofs.Members.{IsIn, all_append, all_at, all_from, any_from, any_in, in_either, in_left, in_map, in_right, in_unmap}
 use Rattle.q_model.proofs.IdLaws.{id_eq-refl, id_eq-true}
 use Rattle.q_model.specs.Admissions.{cause_gone}
-use Rattle.q_model.specs.Book.{Book, Damaged, damaged_of, ids_at, message_of, stands, stands_in}
+use Rattle.q_model.specs.Book.{Book, Damaged, all_ids, damaged_of, ids_at, message_of, stands, stands_in}
 use Rattle.q_model.specs.BookChanges.{add_message, move_damaged}
-use Rattle.q_model.specs.FilesStand.{all_ids, are_distinct}
-use Rattle.q_model.specs.Ids.{cause_of, id_eq}
+use Rattle.q_model.specs.Ids.{are_distinct, cause_of, id_eq}
 use Rattle.q_model.specs.Message.{Message}
-use Rattle.q_model.specs.Orderly.{is_orderly, is_paired, is_sealed, is_settled}
+use Rattle.q_model.specs.Orderly.{is_orderly, is_paired, is_sealed, is_sound}
 use Rattle.q_model.specs.Places.{is_active, is_incoming}
 use Rattle.q_model.specs.declared.id.Id.{Id}
 use Rattle.q_model.specs.declared.rows.Place.{Place}
@@ -46,7 +45,7 @@ pub record IsAddable (b : Book) (x : Message) : Type 0 where
   pub new : IsIn x.id (all_ids b) → ⊥
   pub generation : nat_le x.id.generation b.generation ≡ true
   pub incoming : is_incoming x.place ≡ true
-  pub settled : is_settled x ≡ true
+  pub sound : is_sound x ≡ true
   pub childless : (i : Id) → IsIn i (all_ids b) → i.bounce ≡ true → cause_of i ≡ x.id → ⊥
   pub cause : x.id.bounce ≡ true → option_map_or (λ m. is_active m.place && is_sealed m) (message_of b (cause_of x.id)) false ≡ true
 
@@ -142,7 +141,7 @@ pub added_orderly : (b : Book) (x : Message) → IsAddable b x → is_orderly b 
 added_orderly b x a h =
     let c = add_message b x in
     let test : Book → Id → Bool = λ y i. nat_le i.generation y.generation && is_paired y i in
-    let rest : Message → Bool = λ y. is_active y.place || is_settled y in
+    let rest : Message → Bool = λ y. is_active y.place || is_sound y in
     let two = and_parts (list_all (test b) (all_ids b)) (list_all rest b.messages) h in
     and_from (list_all (test c) (all_ids c)) (list_all rest (b.messages ++ x ∷ []))
     (all_from (test c) (all_ids c) (λ i inside. elim (added_ids b x i inside) [
@@ -151,7 +150,7 @@ added_orderly b x a h =
           and_from (nat_le i.generation c.generation) (is_paired c i) parts.0 (old_paired b x a i old parts.1)
       | inr same ↦ subst (λ j. test c j ≡ true) same (and_from (nat_le x.id.generation c.generation) (is_paired c x.id) a.generation (new_paired b x a))
     ]))
-    (all_append rest b.messages (x ∷ []) two.1 (and_from (rest x) true (or_right (is_active x.place) (is_settled x) a.settled) refl))
+    (all_append rest b.messages (x ∷ []) two.1 (and_from (rest x) true (or_right (is_active x.place) (is_sound x) a.sound) refl))
 
 -- who stands at a place stood there before, or was added
 pub added_at : (test : Place → Bool) (b : Book) (x : Message) (i : Id) → IsIn i (ids_at test (add_message b x)) → IsIn i (ids_at test b) ⊎ (test x.place ≡ true)
@@ -217,7 +216,7 @@ pub shifted_orderly : (b : Book) (id : Id) (place : Place) → cause_gone b id �
 shifted_orderly b id place gone h =
     let c = move_damaged b id place in
     let test : Book → Id → Bool = λ y i. nat_le i.generation y.generation && is_paired y i in
-    let rest : Message → Bool = λ y. is_active y.place || is_settled y in
+    let rest : Message → Bool = λ y. is_active y.place || is_sound y in
     let two = and_parts (list_all (test b) (all_ids b)) (list_all rest b.messages) h in
     and_from (list_all (test c) (all_ids c)) (list_all rest b.messages)
     (all_from (test c) (all_ids c) (λ i inside.

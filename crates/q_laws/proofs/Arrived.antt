@@ -9,22 +9,21 @@ use Rattle.q_laws.proofs.Added.{IsAddable}
 use Rattle.q_laws.proofs.Books.{message_in, message_listed}
 use Rattle.q_laws.proofs.Members.{in_unmap, IsIn, all_at}
 use Rattle.q_laws.proofs.Quiet.{still_come}
-use Rattle.q_laws.proofs.Settled.{IsReady, after_consistent}
+use Rattle.q_laws.proofs.Tidied.{IsReady, after_consistent}
 use Rattle.q_laws.proofs.Unmarked.{logged_bare, done_sealed}
 use Rattle.q_laws.specs.Consistency.{IsBookConsistent, IsConsistent, has_come}
 use Rattle.q_model.proofs.IdLaws.{id_eq-true}
 use Rattle.q_model.specs.Arrivals.{after_arrive, arrived, may_arrive, next_id}
-use Rattle.q_model.specs.Book.{Book, damaged_of, message_of, stands, stands_in}
+use Rattle.q_model.specs.Book.{Book, all_ids, damaged_of, message_of, stands, stands_in}
 use Rattle.q_model.specs.BookChanges.{add_message}
 use Rattle.q_model.specs.Bounces.{may_bounce}
-use Rattle.q_model.specs.FilesStand.{all_ids}
 use Rattle.q_model.specs.Finishing.{has_bounce, is_at_rest, is_done, wants_bounce}
 use Rattle.q_model.specs.Ids.{bounce_of, cause_of, id_eq}
 use Rattle.q_model.specs.Ledger.{Ledger}
 use Rattle.q_model.specs.Lists.{has_none}
 use Rattle.q_model.specs.Message.{Logged, Recipient, is_logged, Message, unmarked_logged, written_marks}
 use Rattle.q_model.specs.Notices.{bounce_message}
-use Rattle.q_model.specs.Orderly.{has_firm_failures, is_paired, is_sealed, is_settled}
+use Rattle.q_model.specs.Orderly.{has_firm_failures, is_paired, is_sealed, is_sound}
 use Rattle.q_model.specs.Past.{arrivals, is_arrive}
 use Rattle.q_model.specs.Places.{is_active, is_incoming}
 use Rattle.q_model.specs.Settings.{World}
@@ -39,8 +38,8 @@ use Rattle.q_model.specs.declared.rows.Mark.TheVariants as marks
 
 -- ---- a message without failures and marks has nothing to settle
 
-fresh_settled : (x : Message) → x.failures ≡ [] → ((r : Recipient) → IsIn r x.recipients → is_written r.mark ≡ false) → is_settled x ≡ true
-fresh_settled x none unwritten =
+fresh_sound : (x : Message) → x.failures ≡ [] → ((r : Recipient) → IsIn r x.recipients → is_written r.mark ≡ false) → is_sound x ≡ true
+fresh_sound x none unwritten =
     and_from (has_none (unmarked_logged x) && has_none (written_marks x)) (has_firm_failures x)
     (and_from (has_none (unmarked_logged x)) (has_none (written_marks x))
     (ap has_none (nothing_in (unmarked_logged x) (λ q k. unlogged q (logged_bare x q k).1)))
@@ -72,7 +71,7 @@ new_addable l sender to content h = record {
   new = λ inside. not_later l.book.generation (arrivals l) (all_at (has_come l) (next_id l) (all_ids l.book) h.come inside);
   generation = le-leb l.book.generation l.book.generation (le_refl l.book.generation);
   incoming = refl;
-  settled = fresh_settled (new_message l sender to content) refl (λ r inside.
+  sound = fresh_sound (new_message l sender to content) refl (λ r inside.
       let one = in_unmap (λ (address : List ℕ). record { address = address; mark = marks.Unmarked }) r to inside in
       ap (λ (x : Recipient). is_written x.mark) (sym one.2));
   childless = λ i inside bounce same.
@@ -113,7 +112,7 @@ bounce_addable l m h there active done alone unsaid =
     let b = l.book in
     let inside = (message_in b m.id m there).0 in
     let test : Id → Bool = λ i. nat_le i.generation b.generation && is_paired b i in
-    let ids : list_all test (all_ids b) ≡ true = (and_parts (list_all test (all_ids b)) (list_all (λ (x : Message). is_active x.place || is_settled x) b.messages) h.orderly).0 in
+    let ids : list_all test (all_ids b) ≡ true = (and_parts (list_all test (all_ids b)) (list_all (λ (x : Message). is_active x.place || is_sound x) b.messages) h.orderly).0 in
     record {
       new = λ k.
           let pair = (and_parts (nat_le m.id.generation b.generation) (is_paired b (bounce_of m.id)) (all_at test (bounce_of m.id) (all_ids b) ids k)).1 in
@@ -123,7 +122,7 @@ bounce_addable l m h there active done alone unsaid =
           absurd cc;
       generation = (and_parts (nat_le m.id.generation b.generation) (is_paired b m.id) (all_at test m.id (all_ids b) ids (message_listed b m inside))).0;
       incoming = refl;
-      settled = fresh_settled (bounce_message l.now m) refl (λ r k. unmarked r k);
+      sound = fresh_sound (bounce_message l.now m) refl (λ r k. unmarked r k);
       childless = λ i k bounce same. let bad : false ≡ true = ap (λ (j : Id). j.bounce) same in absurd cc;
       cause = λ k. ap (λ (o : Option Message). option_map_or (λ x. is_active x.place && is_sealed x) o false) (ap (message_of b) (same_cause m.id alone) ∙ there)
           ∙ and_from (is_active m.place) (is_sealed m) active (done_sealed m done (all_at has_firm_failures m b.messages h.firm inside));

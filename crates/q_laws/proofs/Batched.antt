@@ -1,6 +1,7 @@
 -- The positions that a load takes: which they are, how many, and that its rows hold each once.
-use Rattle.std.proofs.Common.{◌≡◌, ℕ, zero, suc, ◌+◌, ◌-◌, ◌≤◌, ◌<◌, Bool, true, false, cond, not, List, [], ◌∷◌, ◌++◌, length, filter, Option, Some, None, inl, inr, refl, sym, ap, ◌∙◌, arith, if◌then◌else◌, eqb-true, leb-true, ltb-true, length-append}
-use Rattle.std.proofs.lemmas.Bool.{not-true, or_parts}
+use Rattle.std.proofs.Common.{◌≡◌, ℕ, zero, suc, ◌+◌, ◌-◌, ◌≤◌, ◌<◌, Bool, true, false, cond, not, List, [], ◌∷◌, ◌++◌, length, filter, Option, Some, None, inl, inr, refl, sym, ap, ◌∙◌, arith, if◌then◌else◌, eqb-true, leb-true, ltb-true, lt-ltb, length-append}
+use Rattle.std.proofs.lemmas.Bool.{and_from, and_parts, not-true, or_parts}
+use Rattle.std.specs.List.{list_all}
 use Rattle.std.specs.Option.{option_map_or}
 use Rattle.std.specs.Prelude.{◌==◌, ◌&&◌, ◌||◌, nat_le, nat_lt, slice_get}
 use Rattle.q_laws.proofs.Counts.{times, times_append, times_none}
@@ -8,9 +9,9 @@ use Rattle.q_laws.proofs.Members.{IsIn, in_filtered}
 use Rattle.q_laws.proofs.Places.{got_below, got_in, place_is}
 use Rattle.q_laws.proofs.RowCounts.{lengths_more, row_lengths, row_positions}
 use Rattle.q_laws.proofs.Unmarked.{unmarked_from}
-use Rattle.q_laws.specs.Consistency.{waiting_positions}
+use Rattle.q_laws.specs.Consistency.{is_filled, waiting_positions}
 use Rattle.q_model.specs.Batches.{join_rows, load_end, load_positions, pending_from, rows_from}
-use Rattle.q_model.specs.Destinations.{site_eq}
+use Rattle.q_model.specs.Sites.{site_eq}
 use Rattle.q_model.specs.Ids.{id_eq}
 use Rattle.q_model.specs.Lists.{places_from}
 use Rattle.q_model.specs.Marking.{is_unmarked_at}
@@ -231,3 +232,21 @@ rows_length w m rs (p ∷ ps) =
     let a = rows_length w m (join_rows w.settings.entry_limit m.id site p rs) ps in
     let b = join_length w.settings.entry_limit m.id site p rs in
     omega (arith, a, b)
+
+filled_one : (p : ℕ) (r : Row) (rs few : List Row) (b : Bool) → list_all is_filled (r ∷ rs) ≡ true → list_all is_filled few ≡ true → list_all is_filled (if b then record r { positions = r.positions ++ p ∷ [] } ∷ rs else r ∷ few) ≡ true
+filled_one p r rs few true h k =
+    let a = length-append r.positions (p ∷ []) in
+    and_from (is_filled (record r { positions = r.positions ++ p ∷ [] })) (list_all is_filled rs) (lt-ltb 0 (length (r.positions ++ p ∷ [])) (omega (arith, a))) (and_parts (is_filled r) (list_all is_filled rs) h).1
+filled_one p r rs few false h k = and_from (is_filled r) (list_all is_filled few) (and_parts (is_filled r) (list_all is_filled rs) h).0 k
+
+join_filled : (limit : ℕ) (id : Id) (site : Site) (p : ℕ) (rs : List Row) → list_all is_filled rs ≡ true → list_all is_filled (join_rows limit id site p rs) ≡ true
+join_filled limit id site p [] h = refl
+join_filled limit id site p (r ∷ rs) h =
+    filled_one p r rs (join_rows limit id site p rs) (site_eq r.site site && nat_lt (length r.positions) limit) h (join_filled limit id site p rs (and_parts (is_filled r) (list_all is_filled rs) h).1)
+
+-- no row of a load is empty
+pub rows_filled : (w : World) (m : Message) (rs : List Row) (ps : List ℕ) → list_all is_filled rs ≡ true → list_all is_filled (rows_from w m rs ps) ≡ true
+rows_filled w m rs [] h = h
+rows_filled w m rs (p ∷ ps) h =
+    let site = w.table.route (address_at m p) in
+    rows_filled w m (join_rows w.settings.entry_limit m.id site p rs) ps (join_filled w.settings.entry_limit m.id site p rs h)

@@ -5,15 +5,15 @@ use Rattle.std.specs.List.{list_all}
 use Rattle.std.specs.Prelude.{◌&&◌, ◌||◌, nat_le, nat_lt}
 use Rattle.q_laws.proofs.Mapped.{KeepsOrder, all_ids_mapped, mapped, orderly_mapped}
 use Rattle.q_laws.proofs.Members.{all_from, all_weaker, in_unmap}
-use Rattle.q_laws.proofs.Messages.{firm_is, sealed_firm, settled_firm}
-use Rattle.q_laws.proofs.Settled.{IsReady, after_consistent}
+use Rattle.q_laws.proofs.Messages.{firm_is, sealed_firm, sound_firm}
+use Rattle.q_laws.proofs.Tidied.{IsReady, after_consistent}
 use Rattle.q_laws.specs.Consistency.{IsBookConsistent, IsConsistent, IsUsable, has_come}
-use Rattle.q_model.specs.Book.{Book}
-use Rattle.q_model.specs.FilesStand.{all_ids, are_distinct}
+use Rattle.q_model.specs.Book.{Book, all_ids}
+use Rattle.q_model.specs.Ids.{are_distinct}
 use Rattle.q_model.specs.Ledger.{Ledger, opening}
 use Rattle.q_model.specs.Lives.{after_life, firm_failures}
 use Rattle.q_model.specs.Message.{Message}
-use Rattle.q_model.specs.Orderly.{has_firm_failures, is_orderly, is_paired, is_sealed, is_settled}
+use Rattle.q_model.specs.Orderly.{has_firm_failures, is_orderly, is_paired, is_sealed, is_sound}
 use Rattle.q_model.specs.Places.{is_active}
 use Rattle.q_model.specs.Settings.{World}
 use Rattle.q_model.specs.Step.{after, noted}
@@ -26,19 +26,19 @@ firm_keeps b = record {
   name = λ m. refl;
   cause = λ m there h. let two = and_parts (is_active m.place) (is_sealed m) h in and_from (is_active m.place) (is_sealed (firm_failures m)) two.0 (sealed_firm m two.1);
   incoming = λ m there h bounce stands. h;
-  settled = λ m there h. settled_one (is_active m.place) m h;
+  sound = λ m there h. sound_one (is_active m.place) m h;
 }
   where
-    settled_one : (a : Bool) (m : Message) → (a || is_settled m) ≡ true → (a || is_settled (firm_failures m)) ≡ true
-    settled_one true m h = refl
-    settled_one false m h = settled_firm m h
+    sound_one : (a : Bool) (m : Message) → (a || is_sound m) ≡ true → (a || is_sound (firm_failures m)) ≡ true
+    sound_one true m h = refl
+    sound_one false m h = sound_firm m h
 
 -- an id of a book is of an earlier life than the next
 before_next : (b : Book) → is_orderly b ≡ true → list_all (λ (id : Id). nat_le id.generation b.generation) (all_ids b) ≡ true
 before_next b h =
     let test : Id → Bool = λ id. nat_le id.generation b.generation && is_paired b id in
     all_weaker test (λ id. nat_le id.generation b.generation) (all_ids b) (λ id there e. (and_parts (nat_le id.generation b.generation) (is_paired b id) e).0)
-    (and_parts (list_all test (all_ids b)) (list_all (λ (m : Message). is_active m.place || is_settled m) b.messages) h).0
+    (and_parts (list_all test (all_ids b)) (list_all (λ (m : Message). is_active m.place || is_sound m) b.messages) h).0
 
 all_empty : (n : ℕ) → list_all are_distinct (replicate n []) ≡ true
 all_empty zero = refl
@@ -71,6 +71,7 @@ begun_ready w l mode usable distinct orderly = record {
     present = refl;
     within = refl;
     waiting = refl;
+    filled = refl;
     flights = refl;
     unsettled = refl;
     held = λ a m e f. absurd cc;

@@ -9,12 +9,11 @@ use Rattle.q_laws.proofs.Books.{left_from, left_parts, placed_listed}
 use Rattle.q_laws.proofs.Leaving.{well_still}
 use Rattle.q_laws.proofs.Members.{IsIn, all_append, all_at, all_from, all_weaker, find_in}
 use Rattle.q_laws.proofs.Quiet.{IsQuiet, account_kept, begun_noted, still_come}
-use Rattle.q_laws.proofs.Settled.{IsReady}
+use Rattle.q_laws.proofs.Tidied.{IsReady}
 use Rattle.q_laws.specs.Consistency.{IsBookConsistent, IsConsistent, has_come, is_present, is_synced_well, is_within}
 use Rattle.q_model.proofs.IdLaws.{id_eq-true}
-use Rattle.q_model.specs.Book.{Book, ids_at, message_of}
+use Rattle.q_model.specs.Book.{Book, all_ids, ids_at, message_of}
 use Rattle.q_model.specs.BookChanges.{add_message}
-use Rattle.q_model.specs.FilesStand.{all_ids}
 use Rattle.q_model.specs.Ids.{id_eq}
 use Rattle.q_model.specs.Ledger.{Ledger}
 use Rattle.q_model.specs.Leftovers.{is_leftover}
@@ -53,6 +52,7 @@ book_ready w l b e c quiet book same synced =
         present = all_weaker (is_present l) (is_present k) l.admitted (λ a inside h. ap (λ (o : Option Message). option_map_or (λ x. is_active x.place) o false) (same a inside) ∙ h) m.present;
         within = all_weaker (is_within l) (is_within k) l.admitted (λ a inside h. ap (λ (o : Option Message). option_map_or (λ x. nat_le a.unread (length x.recipients)) o false) (same a inside) ∙ h) m.within;
         waiting = m.waiting;
+        filled = m.filled;
         flights = m.flights;
         unsettled = m.unsettled;
         held = λ a x here there.

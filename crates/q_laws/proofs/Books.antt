@@ -3,9 +3,8 @@ use Rattle.std.proofs.Common.{◌≡◌, Bool, true, not, List, map, filter, Som
 use Rattle.q_laws.proofs.Distinct.{distinct_parts, in_listed, listed_in, same_named}
 use Rattle.q_laws.proofs.Members.{IsIn, find_in, in_either, in_filter, in_filtered, in_left, in_map, in_right, in_unmap}
 use Rattle.q_model.proofs.IdLaws.{id_eq-true}
-use Rattle.q_model.specs.Book.{Book, Damaged, ids_at, message_of}
-use Rattle.q_model.specs.FilesStand.{all_ids, are_distinct}
-use Rattle.q_model.specs.Ids.{id_eq}
+use Rattle.q_model.specs.Book.{Book, Damaged, all_ids, ids_at, message_of}
+use Rattle.q_model.specs.Ids.{are_distinct, id_eq}
 use Rattle.q_model.specs.Ledger.{Ledger}
 use Rattle.q_model.specs.Leftovers.{is_leftover, leftovers}
 use Rattle.q_model.specs.Memory.{is_admitted}

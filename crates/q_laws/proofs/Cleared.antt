@@ -12,16 +12,15 @@ use Rattle.q_laws.proofs.Members.{IsIn, all_weaker, any_from}
 use Rattle.q_laws.proofs.Moved.{move_to, moved_at, other_moved}
 use Rattle.q_laws.proofs.Places.{none_of}
 use Rattle.q_laws.proofs.Quiet.{otherwise_ready, still_come}
-use Rattle.q_laws.proofs.Settled.{IsReady, after_consistent}
+use Rattle.q_laws.proofs.Tidied.{IsReady, after_consistent}
 use Rattle.q_laws.proofs.Synced.{mine_or_not}
 use Rattle.q_laws.proofs.Unmarked.{pending_not_sealed}
 use Rattle.q_laws.specs.Consistency.{IsConsistent, has_come}
 use Rattle.q_model.specs.Admissions.{cause_gone, has_room}
-use Rattle.q_model.specs.Book.{Book, damaged_of, message_of}
+use Rattle.q_model.specs.Book.{Book, all_ids, damaged_of, message_of}
 use Rattle.q_model.specs.BookChanges.{move_damaged, move_message}
-use Rattle.q_model.specs.FilesStand.{all_ids, are_distinct}
 use Rattle.q_model.specs.Finishing.{is_clean}
-use Rattle.q_model.specs.Ids.{id_eq}
+use Rattle.q_model.specs.Ids.{are_distinct, id_eq}
 use Rattle.q_model.specs.Leaving.{may_back, may_corrupt}
 use Rattle.q_model.specs.Ledger.{Ledger}
 use Rattle.q_model.specs.Leftovers.{is_leftover, is_next_leftover, was_synced}
@@ -32,7 +31,7 @@ use Rattle.q_model.specs.Orderly.{has_firm_failures}
 use Rattle.q_model.specs.Places.{is_active}
 use Rattle.q_model.specs.Settings.{World}
 use Rattle.q_model.specs.Step.{after, noted}
-use Rattle.q_model.specs.Turns.{Pick, from_deferred, from_incoming, is_pick, passed, pick, taken}
+use Rattle.q_model.specs.Turns.{Pick, from_deferred, from_incoming, is_pick, passed, pick, after_pick}
 use Rattle.q_model.specs.declared.entry.Entry.{Entry}
 use Rattle.q_model.specs.declared.id.Id.{Id}
 use Rattle.q_model.specs.declared.rows.Admitted.{Admitted}
@@ -100,7 +99,7 @@ taken_ready : (w : World) (l : Ledger) (b : Book) (e : Entry) (o : Option Pick) 
 taken_ready w l b e None h = h
 taken_ready w l b e (Some p) h = turned w l b e p h
 
-corrupt_on : (w : World) (l : Ledger) (b : Book) (e : Entry) (t : Bool) → IsReady w (with_book l b e) → IsReady w (noted e (record (if t then l else taken l) { book = b }))
+corrupt_on : (w : World) (l : Ledger) (b : Book) (e : Entry) (t : Bool) → IsReady w (with_book l b e) → IsReady w (noted e (record (if t then l else after_pick l) { book = b }))
 corrupt_on w l b e true h = h
 corrupt_on w l b e false h = taken_ready w l b e (pick l) h
 

@@ -3,7 +3,7 @@ use Rattle.std.proofs.Common.{ℕ, Bool, true, false, Option, Some, None, refl, 
 use Rattle.std.specs.Option.{option_map_or}
 use Rattle.std.specs.Prelude.{nat_le}
 use Rattle.q_laws.proofs.Quiet.{otherwise_ready, quiet_ready}
-use Rattle.q_laws.proofs.Settled.{IsReady, after_consistent}
+use Rattle.q_laws.proofs.Tidied.{IsReady, after_consistent}
 use Rattle.q_laws.specs.Consistency.{IsConsistent}
 use Rattle.q_model.specs.Clock.{scheduled, woken}
 use Rattle.q_model.specs.Ledger.{Ledger}

@@ -9,15 +9,15 @@ use Rattle.q_laws.proofs.Books.{message_in}
 use Rattle.q_laws.proofs.Counts.{once_fewer, times}
 use Rattle.q_laws.proofs.Members.{IsIn, all_at, all_filtered, all_from, find_in, in_dropped}
 use Rattle.q_laws.proofs.Quiet.{begun_noted}
-use Rattle.q_laws.proofs.RowCounts.{IsTaken, left_flights, left_lengths, row_positions, taken}
+use Rattle.q_laws.proofs.RowCounts.{IsRemoved, left_flights, left_lengths, removed, row_positions}
 use Rattle.q_laws.proofs.Rows.{outcomes_ready, with_rows}
-use Rattle.q_laws.proofs.Settled.{IsReady, after_consistent}
+use Rattle.q_laws.proofs.Tidied.{IsReady, after_consistent}
 use Rattle.q_laws.proofs.Synced.{admitted_active}
-use Rattle.q_laws.specs.Consistency.{IsConsistent}
+use Rattle.q_laws.specs.Consistency.{IsConsistent, is_filled}
 use Rattle.q_model.proofs.IdLaws.{id_eq-true, site_eq-true}
 use Rattle.q_model.specs.Book.{message_of}
 use Rattle.q_model.specs.Deliveries.{flight_of}
-use Rattle.q_model.specs.Destinations.{site_eq}
+use Rattle.q_model.specs.Sites.{site_eq}
 use Rattle.q_model.specs.Ids.{id_eq}
 use Rattle.q_model.specs.Ledger.{Ledger}
 use Rattle.q_model.specs.Lists.{drop_first}
@@ -55,7 +55,7 @@ this_row id site ps r h =
     let one = and_parts (id_eq r.id id) (site_eq r.site site) two.0 in
     record { name = id_eq-true r.id id one.0; at = site_eq-true r.site site one.1; positions = (bytes_eq-Decides r.positions ps).0 two.1 }
 
-skip_ready : (w : World) (l : Ledger) (id : Id) (site : Site) (ps : List ℕ) (os : List Outcome) (x : Message) → IsConsistent w l → message_of l.book id ≡ Some x → IsTaken (is_row id site ps) l.waiting →
+skip_ready : (w : World) (l : Ledger) (id : Id) (site : Site) (ps : List ℕ) (os : List Outcome) (x : Message) → IsConsistent w l → message_of l.book id ≡ Some x → IsRemoved (is_row id site ps) l.waiting →
     IsReady w (with_rows l (drop_first (is_row id site ps) l.waiting) l.flights (l.unsettled ++ needs_of w l.now x ps os) l.served l.sites (entries.Skip id site ps))
 skip_ready w l id site ps os x c there t =
     let this = this_row id site ps t.row t.passes in
@@ -64,6 +64,7 @@ skip_ready w l id site ps os x c there t =
     (λ i k. record { admit = refl; start = refl; charge = refl })
     (ap (is_admitted l) (name ∙ sym this.name) ∙ all_at (λ (r : Row). is_admitted l r.id) t.row l.waiting c.memory.waiting t.inside)
     (all_from (λ (r : Row). is_admitted l r.id) (drop_first (is_row id site ps) l.waiting) (λ r inside. all_at (λ (y : Row). is_admitted l y.id) r l.waiting c.memory.waiting (in_dropped (is_row id site ps) r l.waiting inside)))
+    (all_from is_filled (drop_first (is_row id site ps) l.waiting) (λ r inside. all_at is_filled r l.waiting c.memory.filled (in_dropped (is_row id site ps) r l.waiting inside)))
     c.memory.flights c.memory.numbers (begun_noted l (entries.Skip id site ps) c.memory.begun)
     (λ i q.
     let n = t.count i q in
@@ -72,7 +73,7 @@ skip_ready w l id site ps os x c there t =
     omega (arith, n, same))
     (let n = t.lengths in let m : length t.row.positions ≡ length ps = ap length this.positions in omega (arith, n, m))
 
-skip_on : (w : World) (l : Ledger) (id : Id) (site : Site) (ps : List ℕ) (o : Option Message) → IsConsistent w l → message_of l.book id ≡ o → (x : Message) → message_of l.book id ≡ Some x → IsTaken (is_row id site ps) l.waiting →
+skip_on : (w : World) (l : Ledger) (id : Id) (site : Site) (ps : List ℕ) (o : Option Message) → IsConsistent w l → message_of l.book id ≡ o → (x : Message) → message_of l.book id ≡ Some x → IsRemoved (is_row id site ps) l.waiting →
     IsReady w (noted (entries.Skip id site ps) (option_map_or (λ m. record (unqueued l id site ps) { unsettled = l.unsettled ++ needs_of w l.now m ps (replicate (length ps) (outcomes.Later 0)) }) o (unqueued l id site ps)))
 skip_on w l id site ps None c same x there t = absurd cc
 skip_on w l id site ps (Some m) c same x there t = skip_ready w l id site ps (replicate (length ps) (outcomes.Later 0)) m c same t
@@ -80,7 +81,7 @@ skip_on w l id site ps (Some m) c same x there t = skip_ready w l id site ps (re
 -- a row is skipped
 pub skip_consistent : (w : World) (l : Ledger) (id : Id) (site : Site) (ps : List ℕ) → IsConsistent w l → may_skip l id site ps ≡ true → IsConsistent w (after w l (entries.Skip id site ps))
 skip_consistent w l id site ps c may =
-    let t = taken (is_row id site ps) l.waiting (and_parts (list_any (is_row id site ps) l.waiting) (is_dead_site l site) may).0 in
+    let t = removed (is_row id site ps) l.waiting (and_parts (list_any (is_row id site ps) l.waiting) (is_dead_site l site) may).0 in
     let this = this_row id site ps t.row t.passes in
     let mine = admitted_active w l id c (ap (is_admitted l) (sym this.name) ∙ all_at (λ (r : Row). is_admitted l r.id) t.row l.waiting c.memory.waiting t.inside) in
     after_consistent w l (entries.Skip id site ps) (skip_on w l id site ps (message_of l.book id) c refl mine.0 mine.1.there t)
@@ -110,6 +111,7 @@ reply_ready w l number state os f x c inside there =
     (λ i k. record { admit = refl; start = refl; charge = refl })
     (ap (is_admitted l) name ∙ all_at (λ (g : Delivery). is_admitted l g.row.id) f l.flights c.memory.flights inside)
     c.memory.waiting
+    c.memory.filled
     (all_filtered (λ (g : Delivery). is_admitted l g.row.id) others l.flights c.memory.flights)
     (once_fewer (map (λ (g : Delivery). g.number) l.flights) (map (λ (g : Delivery). g.number) (other_flights f l.flights)) (λ q. numbers_kept others q l.flights) c.memory.numbers)
     (all_filtered (λ (g : Delivery). nat_le g.number (starts (noted e l))) others l.flights (begun_noted l e c.memory.begun))
@@ -119,10 +121,10 @@ reply_ready w l number state os f x c inside there =
     omega (arith, n, same))
     (let n = left_lengths others f l.flights inside gone in omega (arith, n))
 
-settled_on : (w : World) (l : Ledger) (number : ℕ) (state : SiteState) (os : List Outcome) (f : Delivery) (o : Option Message) → IsConsistent w l → IsIn f l.flights → message_of l.book f.row.id ≡ o → (x : Message) → message_of l.book f.row.id ≡ Some x →
+tidied_on : (w : World) (l : Ledger) (number : ℕ) (state : SiteState) (os : List Outcome) (f : Delivery) (o : Option Message) → IsConsistent w l → IsIn f l.flights → message_of l.book f.row.id ≡ o → (x : Message) → message_of l.book f.row.id ≡ Some x →
     IsReady w (noted (entries.Reply number state os) (option_map_or (λ m. record (landed w l state f) { unsettled = l.unsettled ++ needs_of w l.now m f.row.positions os }) o (landed w l state f)))
-settled_on w l number state os f None c inside same x there = absurd cc
-settled_on w l number state os f (Some m) c inside same x there = reply_ready w l number state os f m c inside same
+tidied_on w l number state os f None c inside same x there = absurd cc
+tidied_on w l number state os f (Some m) c inside same x there = reply_ready w l number state os f m c inside same
 
 reply_on : (w : World) (l : Ledger) (number : ℕ) (state : SiteState) (os : List Outcome) (o : Option Delivery) → IsConsistent w l → flight_of l number ≡ o → option_map_or (λ (f : Delivery). (length os == length f.row.positions) && fits_state state os) o false ≡ true →
     IsReady w (noted (entries.Reply number state os) (option_map_or (λ (f : Delivery). replied w l state os f) o l))
@@ -130,7 +132,7 @@ reply_on w l number state os None c here may = absurd cc
 reply_on w l number state os (Some f) c here may =
     let inside = (find_in (λ (g : Delivery). g.number == number) f l.flights here).0 in
     let mine = admitted_active w l f.row.id c (all_at (λ (g : Delivery). is_admitted l g.row.id) f l.flights c.memory.flights inside) in
-    settled_on w l number state os f (message_of l.book f.row.id) c inside refl mine.0 mine.1.there
+    tidied_on w l number state os f (message_of l.book f.row.id) c inside refl mine.0 mine.1.there
 
 -- a delivery ends
 pub reply_consistent : (w : World) (l : Ledger) (number : ℕ) (state : SiteState) (os : List Outcome) → IsConsistent w l → may_reply l number state os ≡ true → IsConsistent w (after w l (entries.Reply number state os))

@@ -4,8 +4,7 @@ use Rattle.std.proofs.lemmas.Bool.{and_from, and_parts, not-true, not_from_false
 use Rattle.std.specs.List.{list_any}
 use Rattle.q_laws.proofs.Members.{IsIn, any_from, any_in, find_one, in_either, in_filtered, in_left, in_map, in_right, in_unmap, none_at, none_from}
 use Rattle.q_model.proofs.IdLaws.{id_eq-refl, id_eq-true}
-use Rattle.q_model.specs.FilesStand.{are_distinct}
-use Rattle.q_model.specs.Ids.{id_eq}
+use Rattle.q_model.specs.Ids.{are_distinct, id_eq}
 use Rattle.q_model.specs.declared.id.Id.{Id}
 
 pub id_same : (a b : Id) → a ≡ b → id_eq a b ≡ true

@@ -15,22 +15,21 @@ use Rattle.q_laws.proofs.Members.{in_unmap, in_left, in_right, none_at, find_non
 use Rattle.q_laws.proofs.Moved.{keeps_move, move_to, moved_at, other_moved}
 use Rattle.q_laws.proofs.Places.{none_of, got_in}
 use Rattle.q_laws.proofs.Quiet.{account_kept, begun_noted, otherwise_ready}
-use Rattle.q_laws.proofs.Settled.{IsReady, after_consistent}
+use Rattle.q_laws.proofs.Tidied.{IsReady, after_consistent}
 use Rattle.q_laws.proofs.Synced.{admitted_active, mine_or_not}
 use Rattle.q_laws.specs.Consistency.{IsHeld, are_once, flight_positions, held_positions, logged_of, unsettled_positions, IsBookConsistent, IsConsistent, is_present, is_synced_well, is_within}
 use Rattle.q_model.proofs.IdLaws.{id_eq-refl, id_eq-true}
 use Rattle.q_model.specs.Admissions.{delivers, may_admit, cause_gone, has_room}
-use Rattle.q_model.specs.Book.{Book, ids_at, message_of, stands}
+use Rattle.q_model.specs.Book.{Book, all_ids, ids_at, message_of, stands}
 use Rattle.q_model.specs.BookChanges.{move_message}
-use Rattle.q_model.specs.FilesStand.{all_ids, are_distinct}
-use Rattle.q_model.specs.Ids.{cause_of, id_eq}
+use Rattle.q_model.specs.Ids.{are_distinct, cause_of, id_eq}
 use Rattle.q_model.specs.Ledger.{Ledger}
 use Rattle.q_model.specs.Leftovers.{is_leftover}
 use Rattle.q_model.specs.Lists.{has_none}
 use Rattle.q_model.specs.Marking.{is_unmarked_at}
 use Rattle.q_model.specs.Memory.{admitted_of, is_admitted, unread_count, unread_of, free}
 use Rattle.q_model.specs.Message.{Message, unmarked_logged, written_marks}
-use Rattle.q_model.specs.Orderly.{has_firm_failures, is_paired, is_sealed, is_settled}
+use Rattle.q_model.specs.Orderly.{has_firm_failures, is_paired, is_sealed, is_sound}
 use Rattle.q_model.specs.Places.{is_active, is_incoming}
 use Rattle.q_model.specs.Settings.{World}
 use Rattle.q_model.specs.Step.{after, noted}
@@ -148,12 +147,12 @@ entered_message l id m there =
     find_mapped (changed id (move_to places.Active)) (changed_name id (move_to places.Active) (λ x. refl)) id l.book.messages
     ∙ ap (option_map (changed id (move_to places.Active))) there ∙ ap Some (changed_same id (move_to places.Active) m (id_same m.id id (message_in l.book id m there).1))
 
-settled_before : (l : Ledger) (m : Message) → IsBookConsistent l → IsIn m l.book.messages → is_active m.place ≡ false → unmarked_logged m ≡ []
-settled_before l m h inside out =
-    let rest : Message → Bool = λ x. is_active x.place || is_settled x in
+tidied_before : (l : Ledger) (m : Message) → IsBookConsistent l → IsIn m l.book.messages → is_active m.place ≡ false → unmarked_logged m ≡ []
+tidied_before l m h inside out =
+    let rest : Message → Bool = λ x. is_active x.place || is_sound x in
     let all = (and_parts (list_all (λ id. nat_le id.generation l.book.generation && is_paired l.book id) (all_ids l.book)) (list_all rest l.book.messages) h.orderly).1 in
-    let settled : is_settled m ≡ true = sym (ap (λ b. b || is_settled m) out) ∙ all_at rest m l.book.messages all inside in
-    none_of (unmarked_logged m) (and_parts (has_none (unmarked_logged m)) (has_none (written_marks m)) (and_parts (has_none (unmarked_logged m) && has_none (written_marks m)) (has_firm_failures m) settled).0).0
+    let sound : is_sound m ≡ true = sym (ap (λ b. b || is_sound m) out) ∙ all_at rest m l.book.messages all inside in
+    none_of (unmarked_logged m) (and_parts (has_none (unmarked_logged m)) (has_none (written_marks m)) (and_parts (has_none (unmarked_logged m) && has_none (written_marks m)) (has_firm_failures m) sound).0).0
 
 enter_held : (w : World) (l : Ledger) (id : Id) (m : Message) → IsConsistent w l → MayEnter w l id m → (a : Admitted) (x : Message) → admitted_of (entered l id) a.id ≡ Some a → message_of (move_message l.book id places.Active) a.id ≡ Some x → IsHeld (entered l id) a x
 enter_held w l id m c p a x here there = elim (id_cases a.id id) [
@@ -163,7 +162,7 @@ enter_held w l id m c p a x here there = elim (id_cases a.id id) [
       let mine : move_to places.Active m ≡ x = same_Some (move_to places.Active m) x (sym (entered_message l id m p.there) ∙ ap (message_of (move_message l.book id places.Active)) (sym same.0) ∙ there) in
       let found = message_in l.book id m p.there in
       subst (λ (b : Admitted). IsHeld (entered l id) b x) it (subst (λ (y : Message). IsHeld (entered l id) (new_admitted id) y) mine
-      (new_held l id (move_to places.Active m) found.1 (absent_rows w l id c p.absent) (settled_before l m c.book found.0 p.out)))
+      (new_held l id (move_to places.Active m) found.1 (absent_rows w l id c p.absent) (tidied_before l m c.book found.0 p.out)))
   | inr other ↦
       let h = c.memory.held a x (sym (find_passed (λ (b : Admitted). id_eq b.id a.id) l.admitted (new_admitted id) (id_eq-sym a.id id other)) ∙ here) (sym (other_moved l.book id a.id (move_to places.Active) (λ y. refl) other) ∙ there) in
       record { read = h.read; once = h.once; unmarked = h.unmarked; logged = h.logged }
@@ -205,6 +204,7 @@ enter_ready w l id m c p =
             (all_weaker (is_within l) (is_within k) l.admitted (λ a inside g. ap (λ (o : Option Message). option_map_or (λ x. nat_le a.unread (length x.recipients)) o false) (same a inside) ∙ g) h.within)
             (and_from (is_within k (new_admitted id)) true (ap (λ (o : Option Message). option_map_or (λ x. nat_le 0 (length x.recipients)) o false) now ∙ le-leb 0 (length m.recipients) (omega arith)) refl);
         waiting = all_weaker (λ (r : Row). is_admitted l r.id) (λ (r : Row). is_admitted k r.id) l.waiting (λ r inside g. still_admitted l id r.id g) h.waiting;
+        filled = h.filled;
         flights = all_weaker (λ (f : Delivery). is_admitted l f.row.id) (λ (f : Delivery). is_admitted k f.row.id) l.flights (λ f inside g. still_admitted l id f.row.id g) h.flights;
         unsettled = all_weaker (λ (u : Unsettled). is_admitted l u.id) (λ (u : Unsettled). is_admitted k u.id) l.unsettled (λ u inside g. still_admitted l id u.id g) h.unsettled;
         held = enter_held w l id m c p;

@@ -8,13 +8,12 @@ use Rattle.q_laws.proofs.InPlace.{change_book, changed}
 use Rattle.q_laws.proofs.Members.{IsIn, all_at, all_filtered, all_from}
 use Rattle.q_laws.proofs.Moved.{keeps_move, move_to, moved_at, other_left, other_moved, removed_at, removed_distinct, removed_ids, removed_orderly}
 use Rattle.q_laws.proofs.Quiet.{IsQuiet, still_come}
-use Rattle.q_laws.proofs.Settled.{IsReady, after_consistent}
+use Rattle.q_laws.proofs.Tidied.{IsReady, after_consistent}
 use Rattle.q_laws.proofs.Synced.{admitted_active, mine_or_not}
 use Rattle.q_laws.proofs.Unmarked.{pending_not_sealed}
 use Rattle.q_laws.specs.Consistency.{IsBookConsistent, IsConsistent, has_come}
-use Rattle.q_model.specs.Book.{message_of}
+use Rattle.q_model.specs.Book.{all_ids, message_of}
 use Rattle.q_model.specs.BookChanges.{move_message, remove_message}
-use Rattle.q_model.specs.FilesStand.{all_ids}
 use Rattle.q_model.specs.Finishing.{has_bounce, is_at_rest, is_clean, is_done, wants_bounce}
 use Rattle.q_model.specs.Ids.{id_eq}
 use Rattle.q_model.specs.Leaving.{may_defer, may_remove}
@@ -23,7 +22,7 @@ use Rattle.q_model.specs.Leftovers.{is_leftover, was_synced}
 use Rattle.q_model.specs.Lists.{has_none}
 use Rattle.q_model.specs.Memory.{is_admitted, is_idle}
 use Rattle.q_model.specs.Message.{Message, pending, unmarked_logged, written_marks}
-use Rattle.q_model.specs.Orderly.{has_firm_failures, is_sealed, is_settled}
+use Rattle.q_model.specs.Orderly.{has_firm_failures, is_sealed, is_sound}
 use Rattle.q_model.specs.Places.{is_active}
 use Rattle.q_model.specs.Settings.{World}
 use Rattle.q_model.specs.Step.{after, noted}
@@ -34,7 +33,7 @@ use Rattle.q_model.specs.declared.entry.Entry.TheVariants as entries
 use Rattle.q_model.specs.declared.rows.Place.TheVariants as places
 use Rattle.std.proofs.lemmas.Option.{same_Some}
 use Rattle.q_laws.proofs.Mapped.{KeepsOrder}
-use Rattle.q_laws.proofs.Leaving.{HasNoRows, absent_rows, idle_admitted, idle_rows, leave_ready, left_ledger, left_well, settled_rows}
+use Rattle.q_laws.proofs.Leaving.{HasNoRows, absent_rows, idle_admitted, idle_rows, leave_ready, left_ledger, left_well, tidied_rows}
 
 quiet_defer : (id : Id) (t : ℕ) → IsQuiet (entries.Defer id t)
 quiet_defer id t i k = record { admit = refl; start = refl; charge = refl }
@@ -48,7 +47,7 @@ leave_order l id place m h there active open_still none clean =
     keeps_move l.book id place m h.distinct there
     (λ k. absurd (open_still (and_parts (is_active m.place) (is_sealed m) k).1))
     (λ k bounce standing. absurd (active_not_incoming m.place active k))
-    (or_right (is_active place) (is_settled m) (and_from (has_none (unmarked_logged m) && has_none (written_marks m)) (has_firm_failures m)
+    (or_right (is_active place) (is_sound m) (and_from (has_none (unmarked_logged m) && has_none (written_marks m)) (has_firm_failures m)
     (and_from (has_none (unmarked_logged m)) (has_none (written_marks m)) (ap has_none none) clean) (firm_of l m h (message_in l.book id m there).0)))
 
 defer_ready : (w : World) (l : Ledger) (id : Id) (t : ℕ) (o : Option Message) → IsConsistent w l → is_idle l id ≡ true → message_of l.book id ≡ o → option_map_or (λ m. not (has_none (pending m)) && is_clean m && (t == due w l.now m)) o false ≡ true →
@@ -65,7 +64,7 @@ defer_ready w l id t (Some m) c idle there may =
     let one = and_parts (not (has_none (pending m))) (is_clean m) two.0 in
     let same : (i : Id) → id_eq i id ≡ false → message_of (move_message l.book id place) i ≡ message_of l.book i = λ i other. other_moved l.book id i (move_to place) (λ x. refl) other in
     let book = change_book l id (move_to place) l.unsettled l.synced e c.book
-    (leave_order l id place m c.book there active (pending_not_sealed m one.0) (settled_rows w l id m c adm there none.unsettled) one.1)
+    (leave_order l id place m c.book there active (pending_not_sealed m one.0) (tidied_rows w l id m c adm there none.unsettled) one.1)
     (λ x inside firm. mine_or_not id (move_to place) x (λ y. has_firm_failures y ≡ true) (λ k. firm) (λ k. firm)) in
     leave_ready w l id (move_message l.book id place) e c (quiet_defer id t)
     (record { distinct = book.distinct; orderly = book.orderly; firm = book.firm; come = book.come }) none same

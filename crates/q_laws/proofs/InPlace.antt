@@ -10,19 +10,18 @@ use Rattle.q_laws.proofs.Distinct.{id_cases}
 use Rattle.q_laws.proofs.Mapped.{KeepsOrder, all_ids_mapped, find_mapped, orderly_mapped}
 use Rattle.q_laws.proofs.Members.{IsIn, all_at, all_from, all_weaker, in_unmap}
 use Rattle.q_laws.proofs.Quiet.{IsQuiet, account_kept, begun_noted, still_come}
-use Rattle.q_laws.proofs.Settled.{IsReady}
+use Rattle.q_laws.proofs.Tidied.{IsReady}
 use Rattle.q_laws.specs.Consistency.{IsBookConsistent, IsConsistent, IsHeld, has_come, is_present, is_synced_well, is_within}
-use Rattle.q_model.specs.Book.{Book, Damaged, ids_at, message_of}
+use Rattle.q_model.specs.Book.{Book, Damaged, all_ids, ids_at, message_of}
 use Rattle.q_model.specs.BookChanges.{change_message}
-use Rattle.q_model.specs.FilesStand.{all_ids, are_distinct}
 use Rattle.q_model.specs.Finishing.{is_clean}
-use Rattle.q_model.specs.Ids.{id_eq}
+use Rattle.q_model.specs.Ids.{are_distinct, id_eq}
 use Rattle.q_model.specs.Ledger.{Ledger}
 use Rattle.q_model.specs.Leftovers.{is_leftover}
 use Rattle.q_model.specs.Lists.{has_none}
 use Rattle.q_model.specs.Memory.{admitted_of, is_admitted, unread_count, unread_of}
 use Rattle.q_model.specs.Message.{Message, unmarked_logged}
-use Rattle.q_model.specs.Orderly.{has_firm_failures, is_sealed, is_settled}
+use Rattle.q_model.specs.Orderly.{has_firm_failures, is_sealed, is_sound}
 use Rattle.q_model.specs.Places.{is_active, is_incoming}
 use Rattle.q_model.specs.Settings.{World}
 use Rattle.q_model.specs.declared.entry.Entry.{Entry}
@@ -157,8 +156,8 @@ keeps_active b id f m distinct there s active sealed = record {
   cause = keeps_one b id f (λ x y. (is_active x.place && is_sealed x) ≡ true → (is_active y.place && is_sealed y) ≡ true) m distinct there
       (λ h. let two = and_parts (is_active m.place) (is_sealed m) h in and_from (is_active (f m).place) (is_sealed (f m)) (ap is_active (s.place m) ∙ active) (sealed two.1)) (λ x h. h);
   incoming = λ x h e bounce stands. ap is_incoming (kept_by (λ y. y.place) f (id_eq x.id id) x (s.place x)) ∙ e;
-  settled = keeps_one b id f (λ x y. (is_active x.place || is_settled x) ≡ true → (is_active y.place || is_settled y) ≡ true) m distinct there
-      (λ h. or_left (is_active (f m).place) (is_settled (f m)) (ap is_active (s.place m) ∙ active)) (λ x h. h);
+  sound = keeps_one b id f (λ x y. (is_active x.place || is_sound x) ≡ true → (is_active y.place || is_sound y) ≡ true) m distinct there
+      (λ h. or_left (is_active (f m).place) (is_sound (f m)) (ap is_active (s.place m) ∙ active)) (λ x h. h);
 }
 
 pub change_book : (l : Ledger) (id : Id) (f : Message → Message) (us : List Unsettled) (ss : List Id) (e : Entry) → IsBookConsistent l → KeepsOrder l.book (changed id f) → ((m : Message) → IsIn m l.book.messages → has_firm_failures m ≡ true → has_firm_failures (changed id f m) ≡ true) → IsBookConsistent (changed_ledger l id f us ss e)
@@ -196,6 +195,7 @@ change_ready w l id f us ss e c s o firm q theirs fewer held synced =
         present = all_weaker (is_present l) (is_present k) l.admitted (λ a there h. on_change false (λ x. is_active x.place) id f s.name (λ x. ap is_active (s.place x)) l.book a.id ∙ h) m.present;
         within = all_weaker (is_within l) (is_within k) l.admitted (λ a there h. on_change false (λ x. nat_le a.unread (length x.recipients)) id f s.name (λ x. ap (nat_le a.unread) (s.count x)) l.book a.id ∙ h) m.within;
         waiting = m.waiting;
+        filled = m.filled;
         flights = m.flights;
         unsettled = theirs;
         held = λ a n mine there.

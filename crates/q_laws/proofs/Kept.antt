@@ -15,7 +15,7 @@ use Rattle.q_laws.proofs.Marked.{mark_consistent}
 use Rattle.q_laws.proofs.Preempted.{preempt_consistent}
 use Rattle.q_laws.proofs.Quiet.{quiet_ready}
 use Rattle.q_laws.proofs.Reading.{load_consistent}
-use Rattle.q_laws.proofs.Settled.{after_consistent}
+use Rattle.q_laws.proofs.Tidied.{after_consistent}
 use Rattle.q_laws.proofs.Started.{start_consistent}
 use Rattle.q_laws.proofs.Stored.{log_consistent}
 use Rattle.q_laws.proofs.Synced.{sync_consistent}

@@ -7,17 +7,16 @@ use Rattle.std.specs.Prelude.{◌+◌, nat_le}
 use Rattle.q_laws.proofs.Beginnings.{life_consistent}
 use Rattle.q_laws.proofs.Kept.{entry_consistent}
 use Rattle.q_laws.proofs.Loaded.{records_is}
-use Rattle.q_laws.proofs.Settled.{settle_scan_is}
+use Rattle.q_laws.proofs.Tidied.{tidy_scan_is}
 use Rattle.q_laws.specs.Consistency.{IsConsistent, IsUsable}
 use Rattle.q_laws.specs.Traces.{IsEntryOf}
 use Rattle.q_model.specs.Batches.{load_rows}
-use Rattle.q_model.specs.Book.{Book, Damaged, message_of}
+use Rattle.q_model.specs.Book.{Book, Damaged, all_ids, message_of}
 use Rattle.q_model.specs.BookChanges.{add_message}
 use Rattle.q_model.specs.Clock.{after_at, scheduled, woken}
 use Rattle.q_model.specs.Deliveries.{flight_of}
-use Rattle.q_model.specs.FilesStand.{all_ids, are_distinct}
 use Rattle.q_model.specs.declared.event.Mode.{Mode}
-use Rattle.q_model.specs.Ids.{id_eq}
+use Rattle.q_model.specs.Ids.{are_distinct, id_eq}
 use Rattle.q_model.specs.Ledger.{Ledger}
 use Rattle.q_model.specs.Loads.{loaded}
 use Rattle.q_model.specs.Message.{Message}
@@ -26,10 +25,10 @@ use Rattle.q_model.specs.Orderly.{is_lawful, is_orderly}
 use Rattle.q_model.specs.Replies.{landed, replied}
 use Rattle.q_model.specs.Scans.{ask_scan, joined_request, new_scan}
 use Rattle.q_model.specs.Settings.{World}
-use Rattle.q_model.specs.Settling.{needs_of, settle}
+use Rattle.q_model.specs.Settling.{needs_of, with_outcomes}
 use Rattle.q_model.specs.Skips.{unqueued}
-use Rattle.q_model.specs.SpoolFiles.{is_corrupt}
-use Rattle.q_model.specs.Step.{after, change, noted, settled}
+use Rattle.q_model.specs.Places.{is_corrupt}
+use Rattle.q_model.specs.Step.{after, change, noted, tidied}
 use Rattle.q_model.specs.Triggers.{after_trigger}
 use Rattle.q_model.specs.declared.entry.Entry.{Entry}
 use Rattle.q_model.specs.declared.event.Trigger.{Trigger}
@@ -67,16 +66,16 @@ trigger_book w l triggers.D = ask_book l
 trigger_book w l triggers.A = refl
 trigger_book w l triggers.F = refl
 
-settle_on : (w : World) (l : Ledger) (ps : List ℕ) (os : List Outcome) (o : Option Message) → (option_map_or (λ m. record l { unsettled = l.unsettled ++ needs_of w l.now m ps os }) o l).book ≡ l.book
-settle_on w l ps os None = refl
-settle_on w l ps os (Some m) = refl
+tidy_on : (w : World) (l : Ledger) (ps : List ℕ) (os : List Outcome) (o : Option Message) → (option_map_or (λ m. record l { unsettled = l.unsettled ++ needs_of w l.now m ps os }) o l).book ≡ l.book
+tidy_on w l ps os None = refl
+tidy_on w l ps os (Some m) = refl
 
-settle_book : (w : World) (id : Id) (ps : List ℕ) (os : List Outcome) (l : Ledger) → (settle w id ps os l).book ≡ l.book
-settle_book w id ps os l = settle_on w l ps os (message_of l.book id)
+with_outcomes_book : (w : World) (id : Id) (ps : List ℕ) (os : List Outcome) (l : Ledger) → (with_outcomes w id ps os l).book ≡ l.book
+with_outcomes_book w id ps os l = tidy_on w l ps os (message_of l.book id)
 
 reply_book : (w : World) (l : Ledger) (state : SiteState) (os : List Outcome) (o : Option Delivery) → (option_map_or (λ (f : Delivery). replied w l state os f) o l).book ≡ l.book
 reply_book w l state os None = refl
-reply_book w l state os (Some f) = settle_book w f.row.id f.row.positions os (landed w l state f)
+reply_book w l state os (Some f) = with_outcomes_book w f.row.id f.row.positions os (landed w l state f)
 
 load_book : (w : World) (l : Ledger) (id : Id) (from to : ℕ) (o : Option Message) → (option_map_or (λ m. loaded w l id to (load_rows w m from to)) o l).book ≡ l.book
 load_book w l id from to None = refl
@@ -112,7 +111,7 @@ damaged_change w l (entries.Load id from to) h = by_book l.book (change w l (ent
 damaged_change w l (entries.Start number id site positions) h = h
 damaged_change w l (entries.Preempt child parent transport need) h = h
 damaged_change w l (entries.Reply number state outcomes) h = by_book l.book (change w l (entries.Reply number state outcomes)).book (reply_book w l state outcomes (flight_of l number)) h
-damaged_change w l (entries.Skip id site positions) h = by_book l.book (change w l (entries.Skip id site positions)).book (settle_book w id positions (replicate (length positions) (outcomes.Later 0)) (unqueued l id site positions)) h
+damaged_change w l (entries.Skip id site positions) h = by_book l.book (change w l (entries.Skip id site positions)).book (with_outcomes_book w id positions (replicate (length positions) (outcomes.Later 0)) (unqueued l id site positions)) h
 damaged_change w l (entries.Log id failure) h = h
 damaged_change w l (entries.Mark id position) h = h
 damaged_change w l (entries.Sync id) h = h
@@ -123,12 +122,12 @@ damaged_change w l (entries.Corrupt id) h = moved_corrupt id l.book.damaged h
 damaged_change w l (entries.Trigger kind) h = by_book l.book (after_trigger w l kind).book (trigger_book w l kind) h
 damaged_change w l entries.End h = h
 
-settled_book : (w : World) (before l : Ledger) → (settled w before l).book ≡ l.book
-settled_book w before l = ap (λ (k : Ledger). k.book) (settle_scan_is l).2
+tidied_book : (w : World) (before l : Ledger) → (tidied w before l).book ≡ l.book
+tidied_book w before l = ap (λ (k : Ledger). k.book) (tidy_scan_is l).2
 
 damaged_after : (w : World) (l : Ledger) (e : Entry) → are_corrupt l.book.damaged ≡ true → are_corrupt (after w l e).book.damaged ≡ true
 unfolding after
-damaged_after w l e h = by_book (change w l e).book (after w l e).book (settled_book w l (noted e (change w l e))) (damaged_change w l e h)
+damaged_after w l e h = by_book (change w l e).book (after w l e).book (tidied_book w l (noted e (change w l e))) (damaged_change w l e h)
 
 -- a lawful book stays lawful
 pub entry_lawful : (w : World) (l : Ledger) (e : Entry) → IsConsistent w l → IsEntryOf w l e → is_lawful l.book ≡ true → is_lawful (after w l e).book ≡ true

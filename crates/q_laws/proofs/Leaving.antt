@@ -10,7 +10,7 @@ use Rattle.q_laws.proofs.First.{other_logged}
 use Rattle.q_laws.proofs.Members.{IsIn, all_at, all_from, all_weaker, any_from, any_in, find_in, find_none_from, in_filter, in_filtered, none_at, none_from}
 use Rattle.q_laws.proofs.Places.{got_in}
 use Rattle.q_laws.proofs.Quiet.{IsQuiet, account_kept, begun_noted}
-use Rattle.q_laws.proofs.Settled.{IsReady}
+use Rattle.q_laws.proofs.Tidied.{IsReady}
 use Rattle.q_laws.proofs.Synced.{found_admitted}
 use Rattle.q_laws.specs.Consistency.{IsBookConsistent, IsConsistent, is_present, is_synced_well, is_within, logged_of}
 use Rattle.q_model.proofs.IdLaws.{id_eq-true}
@@ -122,6 +122,7 @@ leave_ready w l id b e c quiet book none same synced =
             let two = in_filtered (λ (x : Admitted). not (id_eq x.id id)) a l.admitted inside in
             ap (λ (o : Option Message). option_map_or (λ x. nat_le a.unread (length x.recipients)) o false) (same a.id (not-true (id_eq a.id id) two.1)) ∙ all_at (is_within l) a l.admitted m.within two.0);
         waiting = all_weaker (λ (r : Row). is_admitted l r.id) (λ (r : Row). is_admitted k r.id) l.waiting (λ r inside h. any_without id r.id l.admitted (none_at (λ (x : Row). id_eq x.id id) r l.waiting none.waiting inside) h) m.waiting;
+        filled = m.filled;
         flights = all_weaker (λ (f : Delivery). is_admitted l f.row.id) (λ (f : Delivery). is_admitted k f.row.id) l.flights (λ f inside h. any_without id f.row.id l.admitted (none_at (λ (x : Delivery). id_eq x.row.id id) f l.flights none.flights inside) h) m.flights;
         unsettled = all_weaker (λ (u : Unsettled). is_admitted l u.id) (λ (u : Unsettled). is_admitted k u.id) l.unsettled (λ u inside h. any_without id u.id l.admitted (none_at (λ (x : Unsettled). id_eq x.id id) u l.unsettled none.unsettled inside) h) m.unsettled;
         held = λ a x here there.
@@ -162,8 +163,8 @@ absent_rows w l id c out = record {
     apart i adm true e = let bad : true ≡ false = sym adm ∙ ap (is_admitted l) (id_eq-true i id e) ∙ out in absurd cc
 
 -- where no unsettled outcome is of a message, none of its positions is logged without a mark
-pub settled_rows : (w : World) (l : Ledger) (id : Id) (m : Message) → IsConsistent w l → is_admitted l id ≡ true → message_of l.book id ≡ Some m → list_any (λ (u : Unsettled). id_eq u.id id) l.unsettled ≡ false → unmarked_logged m ≡ []
-settled_rows w l id m c adm there none =
+pub tidied_rows : (w : World) (l : Ledger) (id : Id) (m : Message) → IsConsistent w l → is_admitted l id ≡ true → message_of l.book id ≡ Some m → list_any (λ (u : Unsettled). id_eq u.id id) l.unsettled ≡ false → unmarked_logged m ≡ []
+tidied_rows w l id m c adm there none =
     let a = found_admitted w l id c adm in
     let h = c.memory.held a.0 m a.1 (ap (message_of l.book) a.2 ∙ there) in
     h.logged ∙ on (slice_get l.unsettled 0) refl

@@ -1,6 +1,6 @@
 pub mod Members
 pub mod Distinct
-pub mod Settled
+pub mod Tidied
 pub mod Mapped
 pub mod Places
 pub mod Messages
@@ -39,4 +39,7 @@ pub mod Lawful
 pub mod Runs
 pub mod SiteLists
 pub mod Sites
-pub mod Destinations
+pub mod SiteEntries
+pub mod Living
+pub mod Standing
+pub mod Rests

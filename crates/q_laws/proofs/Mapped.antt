@@ -7,11 +7,10 @@ use Rattle.std.specs.Prelude.{◌&&◌, ◌||◌, nat_le}
 use Rattle.q_laws.proofs.Distinct.{id_same}
 use Rattle.q_laws.proofs.Members.{IsIn, all_at, all_from, all_weaker, any_from, any_in, find_in, in_map, in_unmap}
 use Rattle.q_model.proofs.IdLaws.{id_eq-true}
-use Rattle.q_model.specs.Book.{Book, Damaged, damaged_of, message_of, stands, stands_in}
-use Rattle.q_model.specs.FilesStand.{all_ids}
+use Rattle.q_model.specs.Book.{Book, Damaged, all_ids, damaged_of, message_of, stands, stands_in}
 use Rattle.q_model.specs.Ids.{cause_of, id_eq}
 use Rattle.q_model.specs.Message.{Message}
-use Rattle.q_model.specs.Orderly.{is_orderly, is_paired, is_sealed, is_settled}
+use Rattle.q_model.specs.Orderly.{is_orderly, is_paired, is_sealed, is_sound}
 use Rattle.q_model.specs.Places.{is_active, is_incoming}
 use Rattle.q_model.specs.declared.id.Id.{Id}
 
@@ -24,7 +23,7 @@ pub record KeepsOrder (b : Book) (f : Message → Message) : Type 0 where
   pub name : (m : Message) → (f m).id ≡ m.id
   pub cause : (m : Message) → IsIn m b.messages → (is_active m.place && is_sealed m) ≡ true → (is_active (f m).place && is_sealed (f m)) ≡ true
   pub incoming : (m : Message) → IsIn m b.messages → is_incoming m.place ≡ true → m.id.bounce ≡ true → stands b (cause_of m.id) ≡ true → is_incoming (f m).place ≡ true
-  pub settled : (m : Message) → IsIn m b.messages → (is_active m.place || is_settled m) ≡ true → (is_active (f m).place || is_settled (f m)) ≡ true
+  pub sound : (m : Message) → IsIn m b.messages → (is_active m.place || is_sound m) ≡ true → (is_active (f m).place || is_sound (f m)) ≡ true
 
 -- ---- what is found
 
@@ -107,7 +106,7 @@ pub orderly_mapped : (b : Book) (g : ℕ) (f : Message → Message) → b.genera
 orderly_mapped b g f up k h =
     let c = mapped b g f in
     let test : Book → Id → Bool = λ x id. nat_le id.generation x.generation && is_paired x id in
-    let rest : Message → Bool = λ m. is_active m.place || is_settled m in
+    let rest : Message → Bool = λ m. is_active m.place || is_sound m in
     let two = and_parts (list_all (test b) (all_ids b)) (list_all rest b.messages) h in
     let each : list_all (test c) (all_ids b) ≡ true = all_weaker (test b) (test c) (all_ids b) (λ id there e.
     let parts = and_parts (nat_le id.generation b.generation) (is_paired b id) e in
@@ -116,4 +115,4 @@ orderly_mapped b g f up k h =
     (ap (list_all (test c)) (all_ids_mapped b g f k.name) ∙ each)
     (all_from rest (map f b.messages) (λ x there.
     let one = in_unmap f x b.messages there in
-    subst (λ y. rest y ≡ true) one.2 (k.settled one.0 one.1 (all_at rest one.0 b.messages two.1 one.1))))
+    subst (λ y. rest y ≡ true) one.2 (k.sound one.0 one.1 (all_at rest one.0 b.messages two.1 one.1))))

@@ -12,7 +12,7 @@ use Rattle.q_laws.proofs.InPlace.{KeepsShape, admitted_not_left, change_ready, c
 use Rattle.q_laws.proofs.Places.{got_in, length-numbered, none_in}
 use Rattle.q_laws.proofs.Members.{find_in, IsIn, all_at, all_weaker, any_from, in_right}
 use Rattle.q_laws.proofs.RowCounts.{unsettled_held}
-use Rattle.q_laws.proofs.Settled.{IsReady, after_consistent}
+use Rattle.q_laws.proofs.Tidied.{IsReady, after_consistent}
 use Rattle.q_laws.proofs.Unmarked.{bare_logged, bare_mark, bare_not_sealed, none_logged, none_more}
 use Rattle.q_laws.specs.Consistency.{IsConsistent, IsHeld, flight_positions, held_positions, is_synced_well, logged_of, unsettled_positions, waiting_positions}
 use Rattle.q_model.proofs.IdLaws.{id_eq-refl, id_eq-true}

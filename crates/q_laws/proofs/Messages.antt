@@ -9,7 +9,7 @@ use Rattle.q_model.specs.Lists.{has_none, places_from}
 use Rattle.q_model.specs.Lives.{firm_failures}
 use Rattle.q_model.specs.Marks.{is_marked, is_written, sync_mark}
 use Rattle.q_model.specs.Message.{Logged, Message, Recipient, is_logged, unmarked_logged, written_marks}
-use Rattle.q_model.specs.Orderly.{has_firm_failures, is_sealed, is_settled}
+use Rattle.q_model.specs.Orderly.{has_firm_failures, is_sealed, is_sound}
 use Rattle.q_model.specs.Syncs.{sync_all}
 use Rattle.q_model.specs.declared.rows.Mark.{Mark}
 use Rattle.q_model.specs.declared.rows.Mark.TheVariants as marks
@@ -31,8 +31,8 @@ pub unmarked_firm : (m : Message) → unmarked_logged (firm_failures m) ≡ unma
 unmarked_firm m = places_same (λ i (r : Recipient). not (is_marked r.mark) && is_logged (firm_failures m) i) (λ i (r : Recipient). not (is_marked r.mark) && is_logged m i)
     (λ i r. ap (λ z. not (is_marked r.mark) && z) (any_mapped (λ (f : Logged). f.failure.position == i) (λ (f : Logged). record f { firm = true }) m.failures)) 0 m.recipients
 
-pub settled_firm : (m : Message) → is_settled m ≡ true → is_settled (firm_failures m) ≡ true
-settled_firm m h =
+pub sound_firm : (m : Message) → is_sound m ≡ true → is_sound (firm_failures m) ≡ true
+sound_firm m h =
     let two = and_parts (has_none (unmarked_logged m) && has_none (written_marks m)) (has_firm_failures m) h in
     and_from (has_none (unmarked_logged (firm_failures m)) && has_none (written_marks m)) (has_firm_failures (firm_failures m))
     (ap (λ (ps : List ℕ). has_none ps && has_none (written_marks m)) (unmarked_firm m) ∙ two.0) (firm_is m)

@@ -10,12 +10,11 @@ use Rattle.q_laws.proofs.InPlace.{changed, changed_name, changed_other, changed_
 use Rattle.q_laws.proofs.Mapped.{KeepsOrder, find_mapped, paired_from}
 use Rattle.q_laws.proofs.Members.{IsIn, all_at, all_filtered, all_from, any_from, any_in, find_none, find_none_from, find_one, in_either, in_filter, in_filtered, in_left, in_right, in_unmap}
 use Rattle.q_model.proofs.IdLaws.{id_eq-true}
-use Rattle.q_model.specs.Book.{Book, Damaged, damaged_of, ids_at, message_of, stands, stands_in}
+use Rattle.q_model.specs.Book.{Book, Damaged, all_ids, damaged_of, ids_at, message_of, stands, stands_in}
 use Rattle.q_model.specs.BookChanges.{change_message, move_message, remove_message}
-use Rattle.q_model.specs.FilesStand.{all_ids, are_distinct}
-use Rattle.q_model.specs.Ids.{cause_of, id_eq}
+use Rattle.q_model.specs.Ids.{are_distinct, cause_of, id_eq}
 use Rattle.q_model.specs.Message.{Message}
-use Rattle.q_model.specs.Orderly.{is_orderly, is_paired, is_sealed, is_settled}
+use Rattle.q_model.specs.Orderly.{is_orderly, is_paired, is_sealed, is_sound}
 use Rattle.q_model.specs.Places.{is_active, is_incoming}
 use Rattle.q_model.specs.declared.id.Id.{Id}
 use Rattle.q_model.specs.declared.rows.Place.{Place}
@@ -29,15 +28,15 @@ move_to place m = record m { place = place }
 pub keeps_move : (b : Book) (id : Id) (place : Place) (m : Message) → are_distinct (all_ids b) ≡ true → message_of b id ≡ Some m →
     ((is_active m.place && is_sealed m) ≡ true → (is_active place && is_sealed m) ≡ true) →
     (is_incoming m.place ≡ true → id.bounce ≡ true → stands b (cause_of id) ≡ true → is_incoming place ≡ true) →
-    (is_active place || is_settled m) ≡ true → KeepsOrder b (changed id (move_to place))
-keeps_move b id place m distinct there cause incoming settled =
+    (is_active place || is_sound m) ≡ true → KeepsOrder b (changed id (move_to place))
+keeps_move b id place m distinct there cause incoming sound =
     let name = (message_in b id m there).1 in
     record {
       name = changed_name id (move_to place) (λ x. refl);
       cause = keeps_one b id (move_to place) (λ x y. (is_active x.place && is_sealed x) ≡ true → (is_active y.place && is_sealed y) ≡ true) m distinct there cause (λ x h. h);
       incoming = keeps_one b id (move_to place) (λ x y. is_incoming x.place ≡ true → x.id.bounce ≡ true → stands b (cause_of x.id) ≡ true → is_incoming y.place ≡ true) m distinct there
           (λ h bounce standing. incoming h (ap (λ (i : Id). i.bounce) (sym name) ∙ bounce) (ap (λ (i : Id). stands b (cause_of i)) (sym name) ∙ standing)) (λ x h bounce standing. h);
-      settled = keeps_one b id (move_to place) (λ x y. (is_active x.place || is_settled x) ≡ true → (is_active y.place || is_settled y) ≡ true) m distinct there (λ h. settled) (λ x h. h);
+      sound = keeps_one b id (move_to place) (λ x y. (is_active x.place || is_sound x) ≡ true → (is_active y.place || is_sound y) ≡ true) m distinct there (λ h. sound) (λ x h. h);
     }
 
 -- another message stays as it is
@@ -167,7 +166,7 @@ pub removed_orderly : (b : Book) (id : Id) (m : Message) → are_distinct (all_i
 removed_orderly b id m distinct there h =
     let c = remove_message b id in
     let test : Book → Id → Bool = λ x i. nat_le i.generation x.generation && is_paired x i in
-    let rest : Message → Bool = λ x. is_active x.place || is_settled x in
+    let rest : Message → Bool = λ x. is_active x.place || is_sound x in
     let two = and_parts (list_all (test b) (all_ids b)) (list_all rest b.messages) h in
     and_from (list_all (test c) (all_ids c)) (list_all rest (others id b.messages))
     (all_from (test c) (all_ids c) (λ i inside.

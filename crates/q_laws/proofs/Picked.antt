@@ -1,19 +1,18 @@
--- What is taken next stands in incoming or in deferred.
-use Rattle.std.proofs.Common.{◌≡◌, Bool, true, false, List, [], ◌∷◌, filter, filter_map, Option, Some, None, option_map, option_and_then, ◌⊎◌, inl, inr, refl, sym, ap, ◌∙◌, subst, if◌then◌else◌}
+-- What is picked next stands in incoming or in deferred.
+use Rattle.std.proofs.Common.{◌≡◌, Bool, true, false, List, [], ◌∷◌, filter, filter_map, Option, Some, None, option_and_then, ◌⊎◌, inl, inr, refl, sym, ap, ◌∙◌, subst}
 use Rattle.std.proofs.lemmas.Option.{same_Some}
 use Rattle.std.specs.List.{cons_option}
 use Rattle.std.specs.Option.{option_map_or}
 use Rattle.q_laws.proofs.Books.{active_not_incoming, message_at, message_in, not_damaged, only_message}
 use Rattle.q_laws.proofs.Members.{IsIn, in_either, in_filtered, least_in}
 use Rattle.q_model.proofs.IdLaws.{id_eq-true}
-use Rattle.q_model.specs.Book.{Book, Damaged, ids_at, message_of}
-use Rattle.q_model.specs.FilesStand.{all_ids, are_distinct}
-use Rattle.q_model.specs.Ids.{id_before, id_eq}
+use Rattle.q_model.specs.Book.{Book, Damaged, all_ids, ids_at, message_of}
+use Rattle.q_model.specs.Ids.{are_distinct, id_before, id_eq}
 use Rattle.q_model.specs.Ledger.{Ledger}
 use Rattle.q_model.specs.Message.{Message}
 use Rattle.q_model.specs.Places.{is_active, is_incoming}
 use Rattle.q_model.specs.Scans.{deferred_name, deferred_names, is_ahead, name_before, scan_next}
-use Rattle.q_model.specs.Turns.{Pick, deferred_next, from_deferred, from_incoming, incoming_next, is_pick, pick, pick_id}
+use Rattle.q_model.specs.Turns.{Pick, deferred_next, from_deferred, from_incoming, incoming_next, is_pick, pick, pick_id, pick_of}
 use Rattle.q_model.specs.declared.id.Id.{Id}
 use Rattle.q_model.specs.declared.rows.DeferredName.{DeferredName}
 use Rattle.q_model.specs.declared.rows.Place.{Place}
@@ -27,7 +26,7 @@ given_in f y x xs None e rest h = let k = rest h in (k.0, inr k.1, k.2)
 given_in f y x xs (Some v) e rest (inl same) = (x, inl refl, e ∙ ap Some same)
 given_in f y x xs (Some v) e rest (inr h) = let k = rest h in (k.0, inr k.1, k.2)
 
-in_given : {A B : Type 0} (f : A → Option B) (y : B) (xs : List A) → IsIn y (filter_map f xs) → (x : A) × IsIn x xs × (f x ≡ Some y)
+pub in_given : {A B : Type 0} (f : A → Option B) (y : B) (xs : List A) → IsIn y (filter_map f xs) → (x : A) × IsIn x xs × (f x ≡ Some y)
 in_given f y [] h = absurd h
 in_given f y (x ∷ xs) h = given_in f y x xs (f x) refl (in_given f y xs) h
 
@@ -67,7 +66,7 @@ incoming_out l distinct id m h there = which (is_active m.place) refl
 -- ---- the pick
 
 -- it is the next of incoming, or the next of the scan
-pick_is : (turn : Bool) (o : Option Id) (q : Option DeferredName) (p : Pick) → option_map_or (λ id. option_map_or (λ name. Some (if turn then from_deferred name else from_incoming id)) q (Some (from_incoming id))) o (option_map (λ name. from_deferred name) q) ≡ Some p →
+pick_is : (turn : Bool) (o : Option Id) (q : Option DeferredName) (p : Pick) → pick_of turn o q ≡ Some p →
     (o ≡ Some (pick_id p)) ⊎ ((n : DeferredName) × (q ≡ Some n) × (n.id ≡ pick_id p))
 pick_is turn None None p h = absurd cc
 pick_is turn None (Some n) p h = inr (n, refl, ap pick_id (same_Some (from_deferred n) p h))
@@ -85,6 +84,6 @@ picked_on l id m (Some p) distinct e h there =
       | inr name ↦ scanned_out l distinct l.scan name.0 m name.1 (ap (message_of l.book) name.2 ∙ mine)
     ]
 
--- a message that is taken next isn't in active
+-- a message that is picked next isn't in active
 pub picked_out : (l : Ledger) (id : Id) (m : Message) → are_distinct (all_ids l.book) ≡ true → is_pick l id ≡ true → message_of l.book id ≡ Some m → is_active m.place ≡ false
 picked_out l id m distinct h there = picked_on l id m (pick l) distinct refl h there

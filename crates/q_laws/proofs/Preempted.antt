@@ -8,13 +8,12 @@ use Rattle.q_laws.proofs.Distinct.{distinct_cons, distinct_filter, distinct_tail
 use Rattle.q_laws.proofs.Members.{IsIn, all_at, find_in, in_filter, in_filtered, least_in, none_from}
 use Rattle.q_laws.proofs.Places.{got_in}
 use Rattle.q_laws.proofs.Quiet.{LeavesAccount, account_kept, begun_noted, book_noted}
-use Rattle.q_laws.proofs.Settled.{IsReady, after_consistent, line_mapped}
+use Rattle.q_laws.proofs.Tidied.{IsReady, after_consistent, line_mapped}
 use Rattle.q_laws.specs.Consistency.{IsConsistent}
 use Rattle.q_model.proofs.IdLaws.{id_eq-true}
 use Rattle.q_model.specs.Accounts.{rest, starts_of}
-use Rattle.q_model.specs.Candidates.{behind, best, candidates, is_better, is_candidate, pays}
-use Rattle.q_model.specs.FilesStand.{are_distinct}
-use Rattle.q_model.specs.Ids.{id_eq}
+use Rattle.q_model.specs.Candidates.{ids_behind, best, candidates, is_better, is_candidate, pays}
+use Rattle.q_model.specs.Ids.{are_distinct, id_eq}
 use Rattle.q_model.specs.Ledger.{Ledger}
 use Rattle.q_model.specs.Preemptions.{after_preempt, is_best, is_current, may_preempt, preempt_line, put_before}
 use Rattle.q_model.specs.Settings.{World}
@@ -63,12 +62,12 @@ put_distinct child parent [] out h = refl
 put_distinct child parent (y ∷ ys) out h =
     put_single child parent y ys (put_before child parent ys) (id_eq y parent) out h (put_distinct child parent ys (λ k. out (inr k)) (distinct_tail y ys h).1) (in_put child parent y ys)
 
-behind_one : (parent x y : Id) (ys : List Id) (b : Bool) → id_eq y parent ≡ b → (IsIn y ys → ⊥) → (IsIn x (behind parent ys) → x ≡ parent → ⊥) → IsIn x (if b then ys else behind parent ys) → x ≡ parent → ⊥
+behind_one : (parent x y : Id) (ys : List Id) (b : Bool) → id_eq y parent ≡ b → (IsIn y ys → ⊥) → (IsIn x (ids_behind parent ys) → x ≡ parent → ⊥) → IsIn x (if b then ys else ids_behind parent ys) → x ≡ parent → ⊥
 behind_one parent x y ys true e out rest h same = out (subst (λ i. IsIn i ys) (same ∙ sym (id_eq-true y parent e)) h)
 behind_one parent x y ys false e out rest h same = rest h same
 
 -- who stands behind another is another
-behind_other : (parent x : Id) (ids : List Id) → are_distinct ids ≡ true → IsIn x (behind parent ids) → x ≡ parent → ⊥
+behind_other : (parent x : Id) (ids : List Id) → are_distinct ids ≡ true → IsIn x (ids_behind parent ids) → x ≡ parent → ⊥
 behind_other parent x [] d h same = absurd h
 behind_other parent x (y ∷ ys) d h same =
     let two = distinct_tail y ys d in
@@ -143,19 +142,19 @@ current_on : (w : World) (l : Ledger) (transport : ℕ) (parent : Id) (o : Optio
 current_on w l transport parent None e h = absurd cc
 current_on w l transport parent (Some c) e h = subst (λ i. IsIn i (line_of l transport)) (id_eq-true c parent h) (find_in (can_start w l transport) c (line_of l transport) e).0
 
-best_on : (w : World) (l : Ledger) (transport : ℕ) (parent child : Id) (o : Option Id) → best w l transport parent ≡ o → option_map_or (λ b. id_eq b child) o false ≡ true → IsIn child (behind parent (line_of l transport))
+best_on : (w : World) (l : Ledger) (transport : ℕ) (parent child : Id) (o : Option Id) → best w l transport parent ≡ o → option_map_or (λ b. id_eq b child) o false ≡ true → IsIn child (ids_behind parent (line_of l transport))
 best_on w l transport parent child None e h = absurd cc
 best_on w l transport parent child (Some b) e h =
     let good = (in_filtered (is_candidate w l transport parent) b (map (λ (a : Admitted). a.id) l.admitted) (least_in (is_better l transport) b (candidates w l transport parent) e)).1 in
     let a = not (w.settings.slot_cost == 0) in
-    let d = list_any (id_eq b) (behind parent (line_of l transport)) in
+    let d = list_any (id_eq b) (ids_behind parent (line_of l transport)) in
     let f = starts_of l b transport == 0 in
     let g = can_start w l transport b in
     let one = and_parts (a && d && f && g) (pays w l transport parent (rest l b transport)) good in
     let two = and_parts (a && d && f) g one.0 in
     let three = and_parts (a && d) f two.0 in
     let four = and_parts a d three.0 in
-    subst (λ i. IsIn i (behind parent (line_of l transport))) (id_eq-true b child h) (listed_in b (behind parent (line_of l transport)) four.1)
+    subst (λ i. IsIn i (ids_behind parent (line_of l transport))) (id_eq-true b child h) (listed_in b (ids_behind parent (line_of l transport)) four.1)
 
 preempting : (w : World) (l : Ledger) (child parent : Id) (transport need : ℕ) → list_all are_distinct l.lines ≡ true → may_preempt w l child parent transport need ≡ true → ArePreempting l child parent transport
 preempting w l child parent transport need single may =
@@ -188,6 +187,7 @@ preempt_ready w l child parent transport need c p =
         present = m.present;
         within = m.within;
         waiting = m.waiting;
+        filled = m.filled;
         flights = m.flights;
         unsettled = m.unsettled;
         held = λ a x f g. let k = m.held a x f g in record { read = k.read; once = k.once; unmarked = k.unmarked; logged = k.logged };

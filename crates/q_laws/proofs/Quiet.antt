@@ -6,10 +6,10 @@ use Rattle.std.specs.List.{list_all}
 use Rattle.std.specs.Prelude.{nat_le, nat_lt}
 use Rattle.q_laws.proofs.Mapped.{raise}
 use Rattle.q_laws.proofs.Members.{all_weaker}
-use Rattle.q_laws.proofs.Settled.{IsReady}
+use Rattle.q_laws.proofs.Tidied.{IsReady}
 use Rattle.q_laws.specs.Consistency.{IsBookConsistent, IsConsistent, has_come}
 use Rattle.q_model.specs.Accounts.{charge_of, charged, is_admit_of, is_start_of, since_admit, starts_of}
-use Rattle.q_model.specs.FilesStand.{all_ids}
+use Rattle.q_model.specs.Book.{all_ids}
 use Rattle.q_model.specs.Ledger.{Ledger}
 use Rattle.q_model.specs.Past.{arrivals, is_arrive, is_start, starts}
 use Rattle.q_model.specs.Settings.{World}
@@ -90,6 +90,7 @@ quiet_ready w l e q c =
         present = m.present;
         within = m.within;
         waiting = m.waiting;
+        filled = m.filled;
         flights = m.flights;
         unsettled = m.unsettled;
         held = λ a x f g. let k = m.held a x f g in record { read = k.read; once = k.once; unmarked = k.unmarked; logged = k.logged };
@@ -119,6 +120,7 @@ otherwise_ready w l now timed next_run scan asked ignores turn served sites h =
         present = m.present;
         within = m.within;
         waiting = m.waiting;
+        filled = m.filled;
         flights = m.flights;
         unsettled = m.unsettled;
         held = λ a x f g. let k = m.held a x f g in record { read = k.read; once = k.once; unmarked = k.unmarked; logged = k.logged };

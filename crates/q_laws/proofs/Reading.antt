@@ -7,21 +7,20 @@ use Rattle.std.proofs.lemmas.Option.{same_Some}
 use Rattle.std.specs.List.{enumerate_from, list_all, list_any}
 use Rattle.std.specs.Option.{option_map_or}
 use Rattle.std.specs.Prelude.{◌==◌, ◌&&◌, ◌||◌, nat_le, slice_get}
-use Rattle.q_laws.proofs.Batched.{rows_length, rows_of}
+use Rattle.q_laws.proofs.Batched.{rows_filled, rows_length, rows_of}
 use Rattle.q_laws.proofs.Books.{message_in}
 use Rattle.q_laws.proofs.Distinct.{id_eq-sym, distinct_join, gone_listed}
 use Rattle.q_laws.proofs.Members.{filter_same, none_at, IsIn, all_append, all_at, all_from, all_weaker, any_from, find_in, in_left, in_unmap, none_from}
 use Rattle.q_laws.proofs.Places.{got_numbered}
 use Rattle.q_laws.proofs.Quiet.{account_kept, begun_noted, book_noted}
 use Rattle.q_laws.proofs.RowCounts.{row_lengths}
-use Rattle.q_laws.proofs.Settled.{IsReady, after_consistent}
-use Rattle.q_laws.specs.Consistency.{IsConsistent, IsHeld, is_present, is_synced_well, is_within}
+use Rattle.q_laws.proofs.Tidied.{IsReady, after_consistent}
+use Rattle.q_laws.specs.Consistency.{IsConsistent, IsHeld, is_filled, is_present, is_synced_well, is_within}
 use Rattle.q_model.proofs.IdLaws.{id_eq-true}
 use Rattle.q_model.specs.Batches.{load_positions, load_rows}
 use Rattle.q_model.specs.Book.{ids_at, message_of}
-use Rattle.q_model.specs.FilesStand.{are_distinct}
 use Rattle.q_model.specs.Finishing.{is_clean}
-use Rattle.q_model.specs.Ids.{id_eq}
+use Rattle.q_model.specs.Ids.{are_distinct, id_eq}
 use Rattle.q_model.specs.Ledger.{Ledger}
 use Rattle.q_model.specs.Lists.{has_none}
 use Rattle.q_model.specs.Loads.{join_lines, joins, loaded, may_load, with_records}
@@ -160,6 +159,7 @@ load_ready w l id from to sites c load =
             (all_weaker (λ (r : Row). is_admitted l r.id) (λ (r : Row). is_admitted k r.id) l.waiting (λ r inside h. adm r.id ∙ h) m.waiting)
             (all_from (λ (r : Row). is_admitted k r.id) rows (λ r inside. adm r.id ∙ ap (is_admitted l) (rows_of w load.message [] (load_positions load.message from to) (λ x g. absurd g) r inside ∙ name)
             ∙ (let mine = find_in (λ (x : Admitted). id_eq x.id id) load.row l.admitted load.found in any_from (λ (x : Admitted). id_eq x.id id) load.row l.admitted mine.0 mine.1)));
+        filled = all_append is_filled l.waiting rows m.filled (rows_filled w load.message [] (load_positions load.message from to) refl);
         flights = all_weaker (λ (f : Delivery). is_admitted l f.row.id) (λ (f : Delivery). is_admitted k f.row.id) l.flights (λ f inside h. adm f.row.id ∙ h) m.flights;
         unsettled = all_weaker (λ (u : Unsettled). is_admitted l u.id) (λ (u : Unsettled). is_admitted k u.id) l.unsettled (λ u inside h. adm u.id ∙ h) m.unsettled;
         held = λ a x here there. load_held w l id from to sites e c load a x here there;

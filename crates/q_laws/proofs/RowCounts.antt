@@ -1,4 +1,4 @@
--- How often positions stand in rows that wait, deliveries in flight and unsettled outcomes, as rows are taken and added.
+-- How often positions stand in rows that wait, deliveries in flight and unsettled outcomes, as rows are removed and added.
 use Rattle.std.proofs.Common.{◌≡◌, ℕ, suc, ◌+◌, ◌≤◌, Bool, true, false, cond, List, [], ◌∷◌, ◌++◌, length, filter, sum_by, Option, Some, None, option_map, inl, inr, refl, sym, ap, ◌∙◌, subst, arith, if◌then◌else◌}
 use Rattle.std.proofs.lemmas.List.Sums.{sum_by-cons}
 use Rattle.std.specs.List.{cons_option, list_any}
@@ -35,25 +35,25 @@ lengths_more r rs = sum_by-cons (λ (x : Row). length x.positions) r rs
 pub flights_more : (f : Delivery) (fs : List Delivery) → flight_lengths (f ∷ fs) ≡ length f.row.positions + flight_lengths fs
 flights_more f fs = sum_by-cons (λ (x : Delivery). length x.row.positions) f fs
 
--- ---- a row that is taken
+-- ---- a row that is removed
 
 -- the first row that passes, and what the others hold
-pub record IsTaken (p : Row → Bool) (rs : List Row) : Type 0 where
+pub record IsRemoved (p : Row → Bool) (rs : List Row) : Type 0 where
   pub row : Row
   pub inside : IsIn row rs
   pub passes : p row ≡ true
   pub count : (id : Id) (q : ℕ) → times q (waiting_positions id rs) ≡ times q (row_positions id row) + times q (waiting_positions id (drop_first p rs))
   pub lengths : row_lengths rs ≡ length row.positions + row_lengths (drop_first p rs)
 
-take_one : (p : Row → Bool) (r : Row) (rs : List Row) (b : Bool) → p r ≡ b → drop_first p (r ∷ rs) ≡ (if b then rs else r ∷ drop_first p rs) → (b ≡ false → IsTaken p rs) → IsTaken p (r ∷ rs)
-take_one p r rs true e drops rest = record {
+remove_one : (p : Row → Bool) (r : Row) (rs : List Row) (b : Bool) → p r ≡ b → drop_first p (r ∷ rs) ≡ (if b then rs else r ∷ drop_first p rs) → (b ≡ false → IsRemoved p rs) → IsRemoved p (r ∷ rs)
+remove_one p r rs true e drops rest = record {
   row = r;
   inside = inl refl;
   passes = e;
   count = λ id q. let s = times_append q (row_positions id r) (waiting_positions id rs) in s ∙ ap (λ xs. times q (row_positions id r) + times q (waiting_positions id xs)) (sym drops);
   lengths = lengths_more r rs ∙ ap (λ xs. length r.positions + row_lengths xs) (sym drops);
 }
-take_one p r rs false e drops rest =
+remove_one p r rs false e drops rest =
     let t = rest refl in
     record {
       row = t.row;
@@ -73,12 +73,12 @@ take_one p r rs false e drops rest =
           omega (arith, s, u, v, d);
     }
 
-taken_here : (p : Row → Bool) (r : Row) (rs : List Row) → (p r || list_any p rs) ≡ true → (b : Bool) → p r ≡ b → b ≡ false → list_any p rs ≡ true
-taken_here p r rs h b e f = ap (λ c. c || list_any p rs) (sym (e ∙ f)) ∙ h
+removed_here : (p : Row → Bool) (r : Row) (rs : List Row) → (p r || list_any p rs) ≡ true → (b : Bool) → p r ≡ b → b ≡ false → list_any p rs ≡ true
+removed_here p r rs h b e f = ap (λ c. c || list_any p rs) (sym (e ∙ f)) ∙ h
 
-pub taken : (p : Row → Bool) (rs : List Row) → list_any p rs ≡ true → IsTaken p rs
-taken p [] h = absurd cc
-taken p (r ∷ rs) h = take_one p r rs (p r) refl refl (λ e. taken p rs (taken_here p r rs h (p r) refl e))
+pub removed : (p : Row → Bool) (rs : List Row) → list_any p rs ≡ true → IsRemoved p rs
+removed p [] h = absurd cc
+removed p (r ∷ rs) h = remove_one p r rs (p r) refl refl (λ e. removed p rs (removed_here p r rs h (p r) refl e))
 
 -- ---- deliveries that leave
 

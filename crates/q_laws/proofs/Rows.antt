@@ -9,9 +9,9 @@ use Rattle.q_laws.proofs.Members.{IsIn, all_append, all_at, all_from, in_right}
 use Rattle.q_laws.proofs.Places.{got_in}
 use Rattle.q_laws.proofs.Quiet.{IsQuiet, LeavesAccount, account_kept, book_noted}
 use Rattle.q_laws.proofs.RowCounts.{flight_lengths, needs_count, needs_length, needs_owner, row_lengths, unsettled_held}
-use Rattle.q_laws.proofs.Settled.{IsReady}
+use Rattle.q_laws.proofs.Tidied.{IsReady}
 use Rattle.q_laws.proofs.Unmarked.{none_logged}
-use Rattle.q_laws.specs.Consistency.{IsConsistent, IsHeld, are_once, flight_positions, held_positions, logged_of, unsettled_positions, waiting_positions}
+use Rattle.q_laws.specs.Consistency.{IsConsistent, IsHeld, are_once, flight_positions, held_positions, is_filled, logged_of, unsettled_positions, waiting_positions}
 use Rattle.q_model.specs.Book.{message_of}
 use Rattle.q_model.specs.Ids.{id_eq}
 use Rattle.q_model.specs.Ledger.{Ledger}
@@ -38,12 +38,12 @@ with_rows l ws fs us sv ss e = record l { waiting = ws; flights = fs; unsettled 
 
 -- the ledger is ready with these rows
 pub rows_ready : (w : World) (l : Ledger) (ws : List Row) (fs : List Delivery) (us : List Unsettled) (sv : List Served) (ss : List SiteRecord) (e : Entry) → IsConsistent w l →
-    list_all (λ (r : Row). is_admitted l r.id) ws ≡ true → list_all (λ (f : Delivery). is_admitted l f.row.id) fs ≡ true → list_all (λ (u : Unsettled). is_admitted l u.id) us ≡ true →
+    list_all (λ (r : Row). is_admitted l r.id) ws ≡ true → list_all is_filled ws ≡ true → list_all (λ (f : Delivery). is_admitted l f.row.id) fs ≡ true → list_all (λ (u : Unsettled). is_admitted l u.id) us ≡ true →
     ((a : Admitted) (m : Message) → admitted_of l a.id ≡ Some a → message_of l.book a.id ≡ Some m → IsHeld (with_rows l ws fs us sv ss e) a m) →
     are_once (map (λ (f : Delivery). f.number) fs) ≡ true → list_all (λ (f : Delivery). nat_le f.number (starts (noted e l))) fs ≡ true →
     ((id : Id) (t : ℕ) → (unread_of l id == 0) ≡ false → list_any (id_eq id) (line_of l t) ≡ false → LeavesAccount id t e) →
     in_memory (with_rows l ws fs us sv ss e) ≤ in_memory l → IsReady w (with_rows l ws fs us sv ss e)
-rows_ready w l ws fs us sv ss e c waiting flights unsettled held numbers begun accounts fewer =
+rows_ready w l ws fs us sv ss e c waiting filled flights unsettled held numbers begun accounts fewer =
     let m = c.memory in
     let b = book_noted l e c.book in
     record {
@@ -54,6 +54,7 @@ rows_ready w l ws fs us sv ss e c waiting flights unsettled held numbers begun a
         present = m.present;
         within = m.within;
         waiting = waiting;
+        filled = filled;
         flights = flights;
         unsettled = unsettled;
         held = held;
@@ -106,12 +107,12 @@ outcomes_held w l ws fs sv ss e x ps os less a m name h =
 
 -- rows that leave become outcomes of their message
 pub outcomes_ready : (w : World) (l : Ledger) (ws : List Row) (fs : List Delivery) (sv : List Served) (ss : List SiteRecord) (e : Entry) (x : Message) (ps : List ℕ) (os : List Outcome) → IsConsistent w l → IsQuiet e → is_admitted l x.id ≡ true →
-    list_all (λ (r : Row). is_admitted l r.id) ws ≡ true → list_all (λ (f : Delivery). is_admitted l f.row.id) fs ≡ true → are_once (map (λ (f : Delivery). f.number) fs) ≡ true → list_all (λ (f : Delivery). nat_le f.number (starts (noted e l))) fs ≡ true →
+    list_all (λ (r : Row). is_admitted l r.id) ws ≡ true → list_all is_filled ws ≡ true → list_all (λ (f : Delivery). is_admitted l f.row.id) fs ≡ true → are_once (map (λ (f : Delivery). f.number) fs) ≡ true → list_all (λ (f : Delivery). nat_le f.number (starts (noted e l))) fs ≡ true →
     ((id : Id) (q : ℕ) → times q (if id_eq x.id id then ps else []) + (times q (waiting_positions id ws) + times q (flight_positions id fs)) ≤ times q (waiting_positions id l.waiting) + times q (flight_positions id l.flights)) →
     length ps + (row_lengths ws + flight_lengths fs) ≤ row_lengths l.waiting + flight_lengths l.flights →
     IsReady w (with_rows l ws fs (l.unsettled ++ needs_of w l.now x ps os) sv ss e)
-outcomes_ready w l ws fs sv ss e x ps os c quiet adm waiting flights numbers begun less lengths =
-    rows_ready w l ws fs (l.unsettled ++ needs_of w l.now x ps os) sv ss e c waiting flights
+outcomes_ready w l ws fs sv ss e x ps os c quiet adm waiting filled flights numbers begun less lengths =
+    rows_ready w l ws fs (l.unsettled ++ needs_of w l.now x ps os) sv ss e c waiting filled flights
     (all_append (λ (u : Unsettled). is_admitted l u.id) l.unsettled (needs_of w l.now x ps os) c.memory.unsettled
     (all_from (λ (u : Unsettled). is_admitted l u.id) (needs_of w l.now x ps os) (λ u inside. ap (is_admitted l) (needs_owner w l.now x ps os u inside) ∙ adm)))
     (λ a m here there. outcomes_held w l ws fs sv ss e x ps os less a m (message_in l.book a.id m there).1 (c.memory.held a m here there))

@@ -7,20 +7,20 @@ use Rattle.q_laws.proofs.Kept.{entry_consistent}
 use Rattle.q_laws.proofs.Lawful.{entry_lawful, life_lawful}
 use Rattle.q_laws.specs.Consistency.{IsConsistent, IsUsable}
 use Rattle.q_laws.specs.Traces.{AreAllowed, AreEntriesOf, IsWithinLimits, is_outside}
-use Rattle.q_model.specs.Book.{Book}
-use Rattle.q_model.specs.FilesStand.{all_ids, are_distinct}
+use Rattle.q_model.specs.Book.{Book, all_ids}
+use Rattle.q_model.specs.Ids.{are_distinct}
 use Rattle.q_model.specs.Ledger.{Ledger, opening}
 use Rattle.q_model.specs.Next.{next}
 use Rattle.q_model.specs.Orderly.{is_lawful, is_orderly}
 use Rattle.std.specs.List.{list_all}
-use Rattle.q_model.specs.SpoolFiles.{is_corrupt}
+use Rattle.q_model.specs.Places.{is_corrupt}
 use Rattle.q_model.specs.Run.{decide, decisions, entry_of, event_entry, goes_on, run, run_of, turn}
 use Rattle.q_model.specs.Settings.{World}
 use Rattle.q_model.specs.Step.{after, after_all, allowed}
 use Rattle.q_model.specs.declared.entry.Entry.{Entry}
 use Rattle.q_model.specs.declared.event.Event.{Event}
-use Rattle.q_model.specs.declared.event.Item.{Item}
-use Rattle.q_model.specs.declared.event.Item.TheVariants.{Begin, Finish, Heard}
+use Rattle.q_model.specs.declared.event.LifeEvent.{LifeEvent}
+use Rattle.q_model.specs.declared.event.LifeEvent.TheVariants.{Begin, Finish, Heard}
 use Rattle.q_model.specs.declared.event.Mode.{Mode}
 use Rattle.q_model.specs.declared.entry.Entry.TheVariants as entries
 use Rattle.q_model.specs.declared.event.Event.TheVariants as events
@@ -76,7 +76,7 @@ event_outside l (events.Mail sender to content) = refl
 event_outside l (events.Reply number state outcomes) = refl
 event_outside l (events.Trigger kind) = refl
 
-item_outside : (l : Ledger) (item : Item) → is_outside (entry_of l item) ≡ true
+item_outside : (l : Ledger) (item : LifeEvent) → is_outside (entry_of l item) ≡ true
 item_outside l Begin = refl
 item_outside l (Heard event) = event_outside l event
 item_outside l Finish = refl
@@ -85,12 +85,12 @@ follow : (w : World) (l : Ledger) (b : Bool) → AreEntriesOf w l (if b then dec
 follow w l true = decisions_entries w l
 follow w l false = tt
 
-turn_entries : (w : World) (l : Ledger) (item : Item) → allowed w l (entry_of l item) ≡ true → AreEntriesOf w l (turn w l item)
+turn_entries : (w : World) (l : Ledger) (item : LifeEvent) → allowed w l (entry_of l item) ≡ true → AreEntriesOf w l (turn w l item)
 unfolding turn
 turn_entries w l item h = (inl (and_from (is_outside (entry_of l item)) (allowed w l (entry_of l item)) (item_outside l item) h), follow w (after w l (entry_of l item)) (goes_on item))
 
 -- each entry of a run whose items are allowed comes from outside and is allowed, or is the next decision
-pub run_entries : (w : World) (l : Ledger) (items : List Item) → AreAllowed w l items → AreEntriesOf w l (run w l items)
+pub run_entries : (w : World) (l : Ledger) (items : List LifeEvent) → AreAllowed w l items → AreEntriesOf w l (run w l items)
 unfolding run
 run_entries w l [] h = tt
 run_entries w l (item ∷ items) h = entries_append w l (turn w l item) (run w (after_all w l (turn w l item)) items) (turn_entries w l item h.0) (run_entries w (after_all w l (turn w l item)) items h.1)
@@ -101,27 +101,27 @@ limits_of : (w : World) (l : Ledger) → IsConsistent w l → IsWithinLimits w l
 limits_of w l c = record { messages = c.memory.messages; recipients = c.memory.recipients }
 
 -- at each moment of a run that goes on from a consistent ledger the ledger is consistent
-pub run_consistent : (w : World) (l : Ledger) (items : List Item) → IsConsistent w l → AreAllowed w l items → (es fs : List Entry) → run w l items ≡ es ++ fs → IsConsistent w (after_all w l es)
+pub run_consistent : (w : World) (l : Ledger) (items : List LifeEvent) → IsConsistent w l → AreAllowed w l items → (es fs : List Entry) → run w l items ≡ es ++ fs → IsConsistent w (after_all w l es)
 run_consistent w l items c h es fs e = front_consistent w l es fs c (subst (AreEntriesOf w l) e (run_entries w l items h))
 
 -- at each moment of a run that goes on from a consistent ledger the limits hold
-pub limits_hold : (w : World) (l : Ledger) (items : List Item) → IsConsistent w l → AreAllowed w l items → (es fs : List Entry) → run w l items ≡ es ++ fs → IsWithinLimits w (after_all w l es)
+pub limits_hold : (w : World) (l : Ledger) (items : List LifeEvent) → IsConsistent w l → AreAllowed w l items → (es fs : List Entry) → run w l items ≡ es ++ fs → IsWithinLimits w (after_all w l es)
 limits_hold w l items c h es fs e = limits_of w (after_all w l es) (run_consistent w l items c h es fs e)
 
 -- the first entry of a run on a book
-first_entry : (w : World) (mode : Mode) (book : Book) (items : List Item) → (rest : List Entry) × (run_of w mode book items ≡ entries.Life (book.generation + 1) mode ∷ rest)
+first_entry : (w : World) (mode : Mode) (book : Book) (items : List LifeEvent) → (rest : List Entry) × (run_of w mode book items ≡ entries.Life (book.generation + 1) mode ∷ rest)
 unfolding run_of run turn
 first_entry w mode book items = (_, refl)
 
 same_first : {A : Type 0} (x y : A) (xs ys : List A) → ◌≡◌ {A = List A} (x ∷ xs) (y ∷ ys) → x ≡ y
 same_first x y xs ys h = cc
 
-runs_on : (w : World) (mode : Mode) (book : Book) (items : List Item) → AreAllowed w (opening mode book) (Begin ∷ items) → AreEntriesOf w (opening mode book) (run_of w mode book items)
+runs_on : (w : World) (mode : Mode) (book : Book) (items : List LifeEvent) → AreAllowed w (opening mode book) (Begin ∷ items) → AreEntriesOf w (opening mode book) (run_of w mode book items)
 unfolding run_of
 runs_on w mode book items h = run_entries w (opening mode book) (Begin ∷ items) h
 
 -- of a run on a book, the entry with which it begins and the others
-begins_with : (w : World) (mode : Mode) (book : Book) (items : List Item) (e : Entry) (es fs : List Entry) → AreAllowed w (opening mode book) (Begin ∷ items) → run_of w mode book items ≡ e ∷ (es ++ fs) →
+begins_with : (w : World) (mode : Mode) (book : Book) (items : List LifeEvent) (e : Entry) (es fs : List Entry) → AreAllowed w (opening mode book) (Begin ∷ items) → run_of w mode book items ≡ e ∷ (es ++ fs) →
     (entries.Life (book.generation + 1) mode ≡ e) × AreEntriesOf w (after w (opening mode book) e) (es ++ fs)
 begins_with w mode book items e es fs h same =
     let all = subst (AreEntriesOf w (opening mode book)) same (runs_on w mode book items h) in
@@ -129,7 +129,7 @@ begins_with w mode book items e es fs h same =
     (same_first (entries.Life (book.generation + 1) mode) e first.0 (es ++ fs) (sym first.1 ∙ same), all.1)
 
 -- at each moment of a run on an orderly book the limits hold
-pub run_limits : (w : World) (mode : Mode) (book : Book) (items : List Item) → IsUsable w → are_distinct (all_ids book) ≡ true → is_orderly book ≡ true → AreAllowed w (opening mode book) (Begin ∷ items) →
+pub run_limits : (w : World) (mode : Mode) (book : Book) (items : List LifeEvent) → IsUsable w → are_distinct (all_ids book) ≡ true → is_orderly book ≡ true → AreAllowed w (opening mode book) (Begin ∷ items) →
     (es fs : List Entry) → run_of w mode book items ≡ es ++ fs → IsWithinLimits w (after_all w (opening mode book) es)
 unfolding after_all
 run_limits w mode book items usable distinct orderly h [] fs same = record { messages = omega arith; recipients = omega arith }
@@ -139,7 +139,7 @@ run_limits w mode book items usable distinct orderly h (e ∷ es) fs same =
     limits_of w (after_all w (after w (opening mode book) e) es) (front_consistent w (after w (opening mode book) e) es fs first two.1)
 
 -- at each moment of a run on a lawful book the book is lawful
-pub run_lawful : (w : World) (mode : Mode) (book : Book) (items : List Item) → IsUsable w → are_distinct (all_ids book) ≡ true → is_lawful book ≡ true → AreAllowed w (opening mode book) (Begin ∷ items) →
+pub run_lawful : (w : World) (mode : Mode) (book : Book) (items : List LifeEvent) → IsUsable w → are_distinct (all_ids book) ≡ true → is_lawful book ≡ true → AreAllowed w (opening mode book) (Begin ∷ items) →
     (es fs : List Entry) → run_of w mode book items ≡ es ++ fs → is_lawful (after_all w (opening mode book) es).book ≡ true
 unfolding after_all
 run_lawful w mode book items usable distinct lawful h [] fs same = lawful

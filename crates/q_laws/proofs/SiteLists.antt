@@ -5,16 +5,16 @@ use Rattle.std.proofs.lemmas.List.Sums.{sum_by-append, sum_by-cons}
 use Rattle.std.specs.List.{list_all, list_any}
 use Rattle.std.specs.Prelude.{◌&&◌, nat_lt}
 use Rattle.q_laws.proofs.Members.{IsIn, all_append, all_at, all_filtered, all_from, in_dropped, in_either, in_filtered, in_unmap, none_at, none_from}
-use Rattle.q_laws.proofs.Settled.{settle_scan_is}
+use Rattle.q_laws.proofs.Tidied.{tidy_scan_is}
 use Rattle.q_laws.specs.SitesConsistency.{IsSitesConsistent, are_apart, is_window}
 use Rattle.q_model.proofs.IdLaws.{site_eq-refl, site_eq-true}
-use Rattle.q_model.specs.Destinations.{site_eq}
+use Rattle.q_model.specs.Sites.{site_eq}
 use Rattle.q_model.specs.Ledger.{Ledger}
 use Rattle.q_model.specs.Lists.{drop_first}
 use Rattle.q_model.specs.Settings.{World}
 use Rattle.q_model.specs.SiteRecords.{is_alive}
-use Rattle.q_model.specs.Step.{after, change, noted, settled}
-use Rattle.q_model.specs.UnusedSites.{is_kept_dead, is_unused, settled_sites}
+use Rattle.q_model.specs.Step.{after, change, noted, tidied}
+use Rattle.q_model.specs.UnusedSites.{is_kept_dead, is_unused, tidied_sites}
 use Rattle.q_model.specs.Values.{Site, SiteRecord}
 use Rattle.q_model.specs.declared.entry.Entry.{Entry}
 use Rattle.q_model.specs.declared.rows.Delivery.{Delivery}
@@ -80,7 +80,7 @@ apart_map f keeps (r ∷ rs) h =
     let one = in_unmap f s rs inside in
     two.0 one.0 one.1 (sym (keeps one.0) ∙ ap (λ (y : SiteRecord). y.site) one.2 ∙ same ∙ keeps r)) (apart_map f keeps rs two.1)
 
--- ---- records are settled
+-- ---- records are tidied
 
 forgotten : (w : World) (l : Ledger) (rs : List SiteRecord) (P : List SiteRecord → Type 0) → P rs → P (drop_first (is_kept_dead l) rs) → (b : Bool) → P (if b then drop_first (is_kept_dead l) rs else rs)
 forgotten w l rs P h k true = k
@@ -90,8 +90,8 @@ both_ways : (b : Bool) → not b ≡ true → b ≡ true → ⊥
 both_ways true h k = absurd cc
 both_ways false h k = absurd cc
 
-settled_apart : (w : World) (before l : Ledger) → are_apart l.sites ≡ true → are_apart (settled_sites w before l) ≡ true
-settled_apart w before l h =
+tidied_apart : (w : World) (before l : Ledger) → are_apart l.sites ≡ true → are_apart (tidied_sites w before l) ≡ true
+tidied_apart w before l h =
     let newly : SiteRecord → Bool = λ r. is_unused l r && not (is_unused before r) in
     let older : SiteRecord → Bool = λ r. not (newly r) in
     let ordered = filter older l.sites ++ filter newly l.sites in
@@ -103,8 +103,8 @@ settled_apart w before l h =
     let second : are_apart used ≡ true = apart_filter (λ r. not (is_unused l r && is_alive r.health)) ordered first in
     forgotten w l used (λ rs. are_apart rs ≡ true) second (apart_dropped (is_kept_dead l) used second) (nat_lt w.settings.recipient_limit (length (filter (is_kept_dead l) used)))
 
-settled_windows : (w : World) (before l : Ledger) → list_all (is_window w) l.sites ≡ true → list_all (is_window w) (settled_sites w before l) ≡ true
-settled_windows w before l h =
+tidied_windows : (w : World) (before l : Ledger) → list_all (is_window w) l.sites ≡ true → list_all (is_window w) (tidied_sites w before l) ≡ true
+tidied_windows w before l h =
     let newly : SiteRecord → Bool = λ r. is_unused l r && not (is_unused before r) in
     let older : SiteRecord → Bool = λ r. not (newly r) in
     let ordered = filter older l.sites ++ filter newly l.sites in
@@ -114,19 +114,19 @@ settled_windows w before l h =
     (all_from (is_window w) (drop_first (is_kept_dead l) used) (λ r inside. all_at (is_window w) r used all (in_dropped (is_kept_dead l) r used inside)))
     (nat_lt w.settings.recipient_limit (length (filter (is_kept_dead l) used)))
 
-sites_settled : (w : World) (before l : Ledger) → IsSitesConsistent w l → IsSitesConsistent w (settled w before l)
-sites_settled w before l h =
-    let scan = settle_scan_is l in
+sites_tidied : (w : World) (before l : Ledger) → IsSitesConsistent w l → IsSitesConsistent w (tidied w before l)
+sites_tidied w before l h =
+    let scan = tidy_scan_is l in
     subst (λ k. IsSitesConsistent w (record k {
-      lines = (settled w before l).lines;
-      served = (settled w before l).served;
-      sites = settled_sites w before l;
-    })) (sym scan.2) (record { settings = h.settings; apart = settled_apart w before l h.apart; windows = settled_windows w before l h.windows; busy = h.busy })
+      lines = (tidied w before l).lines;
+      served = (tidied w before l).served;
+      sites = tidied_sites w before l;
+    })) (sym scan.2) (record { settings = h.settings; apart = tidied_apart w before l h.apart; windows = tidied_windows w before l h.windows; busy = h.busy })
 
 -- after an entry: what it changes has to fit together
 pub sites_after : (w : World) (l : Ledger) (e : Entry) → IsSitesConsistent w (change w l e) → IsSitesConsistent w (after w l e)
 unfolding after
-sites_after w l e h = sites_settled w l (noted e (change w l e)) (record { settings = h.settings; apart = h.apart; windows = h.windows; busy = h.busy })
+sites_after w l e h = sites_tidied w l (noted e (change w l e)) (record { settings = h.settings; apart = h.apart; windows = h.windows; busy = h.busy })
 
 -- ---- deliveries by site
 

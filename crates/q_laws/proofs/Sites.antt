@@ -1,4 +1,4 @@
--- What becomes of windows and of deliveries in flight at each destination.
+-- What becomes of windows and of deliveries in flight at each site.
 use Rattle.std.proofs.Common.{◌≡◌, ℕ, zero, suc, ◌+◌, ◌-◌, ◌≤◌, ◌<◌, max, Bool, true, false, cond, not, List, [], ◌∷◌, ◌++◌, map, find, Option, Some, None, inl, inr, refl, sym, ap, ◌∙◌, subst, arith, if◌then◌else◌, leb-true, ltb-true, le-leb}
 use Rattle.std.proofs.lemmas.Bool.{and_from, and_parts}
 use Rattle.std.specs.List.{list_all, list_any}
@@ -10,7 +10,7 @@ use Rattle.q_laws.proofs.SiteLists.{apart_join, apart_map, busy_in, busy_more}
 use Rattle.q_laws.specs.SitesConsistency.{IsOpen, IsSitesConsistent, are_apart, is_window}
 use Rattle.q_model.proofs.IdLaws.{site_eq-refl, site_eq-true}
 use Rattle.q_model.specs.Deliveries.{busy, flights_of}
-use Rattle.q_model.specs.Destinations.{site_eq}
+use Rattle.q_model.specs.Sites.{site_eq}
 use Rattle.q_model.specs.Feedbacks.{amount, parts, unit}
 use Rattle.q_model.specs.Ledger.{Ledger}
 use Rattle.q_model.specs.Loads.{with_records}

@@ -11,12 +11,12 @@ use Rattle.q_laws.proofs.Delivered.{this_row}
 use Rattle.q_laws.proofs.Distinct.{gone_listed}
 use Rattle.q_laws.proofs.Members.{IsIn, all_append, all_at, all_from, any_from, any_in, in_dropped, in_unmap}
 use Rattle.q_laws.proofs.Quiet.{LeavesAccount, begun_noted}
-use Rattle.q_laws.proofs.RowCounts.{IsTaken, flight_lengths, row_positions, taken}
+use Rattle.q_laws.proofs.RowCounts.{IsRemoved, flight_lengths, removed, row_positions}
 use Rattle.q_laws.proofs.Rows.{rows_ready, with_rows}
-use Rattle.q_laws.proofs.Settled.{IsReady, after_consistent}
-use Rattle.q_laws.specs.Consistency.{IsConsistent, IsHeld, are_once, flight_positions, held_positions, unsettled_positions, waiting_positions}
+use Rattle.q_laws.proofs.Tidied.{IsReady, after_consistent}
+use Rattle.q_laws.specs.Consistency.{IsConsistent, IsHeld, are_once, flight_positions, held_positions, unsettled_positions, waiting_positions, is_filled}
 use Rattle.q_model.proofs.IdLaws.{id_eq-true}
-use Rattle.q_model.specs.Destinations.{site_eq}
+use Rattle.q_model.specs.Sites.{site_eq}
 use Rattle.q_model.specs.Ids.{id_eq}
 use Rattle.q_model.specs.Ledger.{Ledger}
 use Rattle.q_model.specs.Lists.{drop_first}
@@ -83,7 +83,7 @@ other_account l number id site ps inside i t gone = record { admit = refl; start
         let two = and_parts (id_eq id i) (site.transport == t) e in
         absurd (gone_listed i (line_of l t) gone (subst (λ j. IsIn j (line_of l t)) (id_eq-true id i two.0) (subst (λ k. IsIn id (line_of l k)) (eqb-true site.transport t two.1) inside)))
 
-started_held : (l : Ledger) (number : ℕ) (id : Id) (site : Site) (ps : List ℕ) (sv : List Served) (t : IsTaken (is_row id site ps) l.waiting) (a : Admitted) (m : Message) → IsHeld l a m →
+started_held : (l : Ledger) (number : ℕ) (id : Id) (site : Site) (ps : List ℕ) (sv : List Served) (t : IsRemoved (is_row id site ps) l.waiting) (a : Admitted) (m : Message) → IsHeld l a m →
     IsHeld (with_rows l (drop_first (is_row id site ps) l.waiting) (l.flights ++ new_flight number id site ps ∷ []) l.unsettled sv l.sites (entries.Start number id site ps)) a m
 started_held l number id site ps sv t a m h =
     let k = with_rows l (drop_first (is_row id site ps) l.waiting) (l.flights ++ new_flight number id site ps ∷ []) l.unsettled sv l.sites (entries.Start number id site ps) in
@@ -123,12 +123,13 @@ start_ready w l number id site ps sv c may inside =
     let f = new_flight number id site ps in
     let two = and_parts (number == starts l + 1) (list_any (λ r. is_row id site ps r && is_startable w l r) l.waiting) may in
     let next : number ≡ starts l + 1 = eqb-true number (starts l + 1) two.0 in
-    let t = taken (is_row id site ps) l.waiting (row_there w l id site ps two.1) in
+    let t = removed (is_row id site ps) l.waiting (row_there w l id site ps two.1) in
     let this = this_row id site ps t.row t.passes in
     let adm : is_admitted l id ≡ true = ap (is_admitted l) (sym this.name) ∙ all_at (λ (r : Row). is_admitted l r.id) t.row l.waiting c.memory.waiting t.inside in
     let s = starts_more l number id site ps in
     rows_ready w l (drop_first (is_row id site ps) l.waiting) (l.flights ++ f ∷ []) l.unsettled sv l.sites e c
     (all_from (λ (r : Row). is_admitted l r.id) (drop_first (is_row id site ps) l.waiting) (λ r there. all_at (λ (y : Row). is_admitted l y.id) r l.waiting c.memory.waiting (in_dropped (is_row id site ps) r l.waiting there)))
+    (all_from is_filled (drop_first (is_row id site ps) l.waiting) (λ r there. all_at is_filled r l.waiting c.memory.filled (in_dropped (is_row id site ps) r l.waiting there)))
     (all_append (λ (g : Delivery). is_admitted l g.row.id) l.flights (f ∷ []) c.memory.flights (and_from (is_admitted l id) true adm refl))
     c.memory.unsettled
     (λ a m here there. started_held l number id site ps sv t a m (c.memory.held a m here there))

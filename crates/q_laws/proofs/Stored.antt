@@ -6,7 +6,7 @@ use Rattle.q_laws.proofs.Books.{message_in}
 use Rattle.q_laws.proofs.Distinct.{id_eq-sym}
 use Rattle.q_laws.proofs.InPlace.{KeepsShape, change_ready, changed, changed_ledger, keeps_active, well_kept}
 use Rattle.q_laws.proofs.Members.{IsIn, all_at}
-use Rattle.q_laws.proofs.Settled.{after_consistent}
+use Rattle.q_laws.proofs.Tidied.{after_consistent}
 use Rattle.q_laws.proofs.Unmarked.{firm_more, logged_alone, logged_itself, sealed_more}
 use Rattle.q_laws.specs.Consistency.{are_once, IsConsistent, IsHeld, flight_positions, held_positions, logged_of, unsettled_positions, waiting_positions}
 use Rattle.q_model.specs.Ids.{id_eq}

@@ -12,7 +12,7 @@ use Rattle.q_laws.proofs.Mapped.{find_mapped}
 use Rattle.q_laws.proofs.InPlace.{KeepsShape, admitted_not_left, change_ready, changed, changed_ledger, changed_name, changed_other, changed_same, keeps_active, well_kept, well_other}
 use Rattle.q_laws.proofs.Members.{all_at, all_weaker, any_in}
 use Rattle.q_laws.proofs.Messages.{sealed_sync, unmarked_sync, written_sync}
-use Rattle.q_laws.proofs.Settled.{IsReady, after_consistent}
+use Rattle.q_laws.proofs.Tidied.{IsReady, after_consistent}
 use Rattle.q_laws.proofs.Unmarked.{bare_sync}
 use Rattle.q_laws.specs.Consistency.{IsConsistent, IsHeld, held_positions, is_present, is_synced_well}
 use Rattle.q_model.proofs.IdLaws.{id_eq-true}

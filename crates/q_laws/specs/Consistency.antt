@@ -8,10 +8,9 @@ use Rattle.q_model.specs.declared.rows.Delivery.{Delivery}
 use Rattle.q_model.specs.declared.rows.Row.{Row}
 use Rattle.q_model.specs.declared.rows.Unsettled.{Unsettled}
 use Rattle.q_model.specs.Accounts.{charged, starts_of}
-use Rattle.q_model.specs.Book.{message_of}
-use Rattle.q_model.specs.FilesStand.{all_ids, are_distinct}
+use Rattle.q_model.specs.Book.{all_ids, message_of}
 use Rattle.q_model.specs.Finishing.{is_clean}
-use Rattle.q_model.specs.Ids.{id_eq}
+use Rattle.q_model.specs.Ids.{are_distinct, id_eq}
 use Rattle.q_model.specs.Ledger.{Ledger}
 use Rattle.q_model.specs.Leftovers.{is_leftover}
 use Rattle.q_model.specs.Lists.{has_none}
@@ -89,12 +88,17 @@ is_synced_well l id = not (is_leftover l id) || option_map_or (λ m. is_clean m 
 abbrev pub IsFresh : Ledger → Id → ℕ → Type 0
 IsFresh l id transport = (unread_of l id == 0) ≡ false → list_any (id_eq id) (line_of l transport) ≡ false → (starts_of l id transport ≡ 0) × (charged l id transport ≡ 0)
 
--- Messages in memory stand in active, once each; recipients in memory are theirs. Both are within their limits. Deliveries have numbers of their own. No line has an id twice.
+-- the row has a recipient
+abbrev pub is_filled : Row → Bool
+is_filled r = nat_lt 0 (length r.positions)
+
+-- Messages in memory stand in active, once each; recipients in memory are theirs. Both are within their limits. No row that waits is empty. Deliveries have numbers of their own. No line has an id twice.
 pub record IsMemoryConsistent (w : World) (l : Ledger) : Type 0 where
   pub admitted : are_distinct (map (λ a. a.id) l.admitted) ≡ true
   pub present : list_all (is_present l) l.admitted ≡ true
   pub within : list_all (is_within l) l.admitted ≡ true
   pub waiting : list_all (λ r. is_admitted l r.id) l.waiting ≡ true
+  pub filled : list_all is_filled l.waiting ≡ true
   pub flights : list_all (λ f. is_admitted l f.row.id) l.flights ≡ true
   pub unsettled : list_all (λ u. is_admitted l u.id) l.unsettled ≡ true
   pub held : (a : Admitted) (m : Message) → admitted_of l a.id ≡ Some a → message_of l.book a.id ≡ Some m → IsHeld l a m

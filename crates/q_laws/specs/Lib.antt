@@ -1,3 +1,4 @@
 pub mod Consistency
 pub mod SitesConsistency
 pub mod Traces
+pub mod Laws

@@ -8,10 +8,10 @@ use Rattle.std.specs.Option.{option_map}
 use Rattle.q_model.specs.declared.spot.Area.{Area}
 use Rattle.q_model.specs.FailureLog.{IsFailure, is_log_code, log_bytes, log_records}
 use Rattle.q_model.proofs.FailureLogLaws.{log_records-log_bytes}
-use Rattle.q_host.specs.View.{Goes, Remains, View}
-use Rattle.q_store.specs.Stores.{MayStore, Stores}
+use Rattle.q_host.specs.View.{Remains, View}
+use Rattle.q_store.specs.Stores.{Holds, Stores}
 use Rattle.q_logfile.specs.Codes.{are_log_codes}
-use Rattle.q_logfile.specs.HasRecords.{HasRecords}
+use Rattle.q_logfile.specs.HasRecords.{HasRecords, LeavesRecords}
 
 -- each position fits in four bytes
 abbrev pub do_fit : List Failure → Bool
@@ -26,12 +26,12 @@ are_failures (f ∷ fs) codes fit =
 
 -- ---- what is read where the log is stored
 
-module _ (a : Area) (n : List ℕ) (fs : List Failure) (lawful : AllByRecursion IsFailure fs) (log : List ℕ) (is : log ≡ log_bytes fs) where
-  pub stored_records : (d c : Remains) → Stores a n log d c → HasRecords c.files a n fs
+module _ (t : List ℕ) (a : Area) (n : List ℕ) (fs : List Failure) (lawful : AllByRecursion IsFailure fs) (log : List ℕ) (is : log ≡ log_bytes fs) where
+  pub stored_records : (d c : Remains) → Stores t a n log d c → HasRecords c.files a n fs
   stored_records d c s =
       ap (option_map log_records) s.files.whole
       ∙ ap (λ (bytes : List ℕ). Some (log_records bytes)) is
       ∙ ap (λ (gs : List Failure). Some gs) (log_records-log_bytes fs lawful)
 
-  pub left_records : (old new : View) → Goes (Stores a n log) (MayStore a n log) old new → (c : Remains) → new.may_leave c → HasRecords c.files a n fs
-  left_records old new goes c left = let from = goes.crash c left in stored_records from.0 c from.2
+  pub left_records : (old new : View) → Holds t a n log old new → LeavesRecords new a n fs
+  left_records old new held c left = let from = held.goes.crash c left in stored_records from.0 c from.2

@@ -1,13 +1,13 @@
 //! Writing a log anew.
-ghost use Rattle.std.specs.Prelude.{◌≡◌, ◌≢◌, ℕ, true, Some, IfOk, OnOk, IsTrue, IfSome};
+ghost use Rattle.std.specs.Prelude.{◌≡◌, ◌≢◌, true, IfOk, OnErr, OnOk, IsTrue};
 ghost use Rattle.std.specs.List.{AllByRecursion};
-ghost use Rattle.q_host.specs.View.{Goes, LeavesOnly, After, Remains, now};
 ghost use Rattle.q_host.specs.Faults.{DiskCause};
+ghost use Rattle.q_host.specs.View.{Told};
 ghost use Rattle.q_model.specs.declared.spot.Area.TheVariants.{Tmp};
 ghost use Rattle.q_model.specs.FailureLog.{IsFailure, log_bytes};
-ghost use Rattle.q_store.specs.Stores.{MayStore, Stores};
 ghost use Rattle.q_logfile.specs.Codes.{are_log_codes};
-ghost use Rattle.q_logfile.specs.HasRecords.{HasRecords};
+ghost use Rattle.q_logfile.specs.HasRecords.{HasRecords, LeavesRecords};
+ghost use Rattle.q_logfile.specs.StoredLogs.{HoldsLog, LeavesLog, MayGoLog, MayHoldLog};
 ghost use Rattle.q_logfile.specs.TmpNames.{log_prefix, tmp_name};
 
 use crate::record::push_failure;
@@ -62,12 +62,11 @@ fn store_log<H: Host>(
 ) -> Result<(), HostError>
     requires place { area ≢ Tmp }
     requires codes { are_log_codes failures.now ≡ true }
-    ensures stored { OnOk result (IsTrue H.tells → Stores area name (log_bytes failures.now) (now (H.view host.old)) (now (H.view host.new))) }
+    ensures ok { OnOk result (Told H.tells H.view host.old host.new (HoldsLog area name failures.now)) }
+    ensures err { OnErr result (Told H.tells H.view host.old host.new (MayHoldLog area name failures.now)) }
     ensures again { OnOk result (IsTrue H.tells → HasRecords (H.view host.new).files area name failures.now) }
-    ensures left { OnOk result (IsTrue H.tells → (c : Remains) → (H.view host.new).may_leave c → HasRecords c.files area name failures.now) }
-    ensures reads { IsTrue H.tells → MayStore area name (log_bytes failures.now) (now (H.view host.old)) (now (H.view host.new)) }
-    ensures ok { OnOk result (IsTrue H.tells → Goes (Stores area name (log_bytes failures.now)) (MayStore area name (log_bytes failures.now)) (H.view host.old) (H.view host.new)) }
-    ensures goes { IsTrue H.tells → Goes (MayStore area name (log_bytes failures.now)) (MayStore area name (log_bytes failures.now)) (H.view host.old) (H.view host.new) }
+    ensures left { OnOk result (IsTrue H.tells → LeavesRecords (H.view host.new) area name failures.now) }
+    ensures goes { Told H.tells H.view host.old host.new (MayGoLog area name failures.now) }
     ensures cause { DiskCause (H.faults host.old) (H.faults host.new) result }
 {
     let tmp = tmp_name(alloc, area, name)?;
@@ -78,7 +77,8 @@ fn store_log<H: Host>(
 
 /// Writes a failure log anew, in place of any file at its place. It is written in tmp and synced
 /// before it is renamed; its name in tmp is `log-` (in area defer `def-`) and its own, or its own
-/// alone where a name has no room for both.
+/// alone where a name has no room for both. It is an error to call it for a place in tmp, or with a
+/// code that is neither 0 nor 400 to 599.
 pub fn replace<H: Host>(
     alloc: Global,
     host: &mut H,
@@ -86,23 +86,19 @@ pub fn replace<H: Host>(
     failures: &Records,
 ) -> Result<(), HostError>
     requires place { spot.area ≢ Tmp }
-    // Each is 0, or 400 to 599.
     requires codes { are_log_codes failures.now ≡ true }
-    // What reads give afterwards; after a refusal the log is there, whole, or all but tmp is as
-    // before.
-    ensures stored { OnOk result (IsTrue H.tells → Stores spot.area spot.name (log_bytes failures.now) (now (H.view host.old)) (now (H.view host.new))) }
-    ensures reads { IsTrue H.tells → MayStore spot.area spot.name (log_bytes failures.now) (now (H.view host.old)) (now (H.view host.new)) }
+    // After Ok reads and every crash give the log whole, and all but its name in tmp as before.
+    ensures ok { OnOk result (Told H.tells H.view host.old host.new (HoldsLog spot.area spot.name failures.now)) }
+
+    // After a refusal reads and crashes alike give the new log, or both give what stood there.
+    ensures err { OnErr result (Told H.tells H.view host.old host.new (MayHoldLog spot.area spot.name failures.now)) }
 
     // After Ok the records of the log are the failures, also behind every crash.
     ensures again { OnOk result (IsTrue H.tells → HasRecords (H.view host.new).files spot.area spot.name failures.now) }
-    ensures left { OnOk result (IsTrue H.tells → (c : Remains) → (H.view host.new).may_leave c → HasRecords c.files spot.area spot.name failures.now) }
+    ensures left { OnOk result (IsTrue H.tells → LeavesRecords (H.view host.new) spot.area spot.name failures.now) }
 
-    // After Ok every crash leaves the log whole, and all else but tmp as before.
-    ensures ok { OnOk result (IsTrue H.tells → Goes (Stores spot.area spot.name (log_bytes failures.now)) (MayStore spot.area spot.name (log_bytes failures.now)) (H.view host.old) (H.view host.new)) }
-    ensures goes { IsTrue H.tells → Goes (MayStore spot.area spot.name (log_bytes failures.now)) (MayStore spot.area spot.name (log_bytes failures.now)) (H.view host.old) (H.view host.new) }
-
-    // A crash at any moment of the call leaves all but tmp as before, or as after it.
-    ensures any_moment { IsTrue H.tells → LeavesOnly (H.view host.old) (H.view host.new) (After (MayStore spot.area spot.name (log_bytes failures.now)) (H.view host.old).may_leave) }
+    // A crash at any moment of the call leaves the new log, or what a crash might have left before.
+    ensures any_moment { Told H.tells H.view host.old host.new (LeavesLog spot.area spot.name failures.now) }
     ensures cause { DiskCause (H.faults host.old) (H.faults host.new) result }
 {
     store_log(alloc, host, spot.area, spot.name, failures)

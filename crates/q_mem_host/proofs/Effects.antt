@@ -2,16 +2,17 @@
 use Rattle.std.proofs.Common.{◌≡◌, ℕ, ◌≤◌, Bool, true, false, List, [], ◌∷◌, ◌++◌, length, take, Option, Some, None, refl, sym, ◌∙◌, ap, subst, arith, take_all, true≢false}
 use Rattle.std.specs.Option.{option_map}
 use Rattle.q_model.specs.declared.spot.Area.{Area}
-use Rattle.q_host.specs.Files.{Table, Files, put, same_place, with_file, without_file, moved, written}
+use Rattle.q_host.specs.Files.{Table, put, same_place, with_file, without_file, moved, written}
+use Rattle.q_model.specs.SpoolFiles.{Files}
 use Rattle.q_host.specs.View.{Remains, After}
-use Rattle.q_host.specs.Steps.{Stay, Become, Tear, Settle, Add, AddSome}
+use Rattle.q_host.specs.Steps.{Stay, Become, Tear, Sync, Add, AddSome}
 use Rattle.q_host.specs.Calls.{Stays, Changes, Writes, Syncs, Tells, IsAsItWas}
 use Rattle.q_host.proofs.Puts.{put-here, put-other, put-is, same_place-true, same_place-refl}
 use Rattle.q_mem_host.specs.Kept.{Kept, firm, overwritten}
 use Rattle.q_mem_host.specs.Event.{Event, State, after, state_of, create, write, sync, rename, remove, tell}
 use Rattle.q_mem_host.specs.Left.{IsRemnant, IsLeft, MayLeave, read_of, files_of, view_of}
 use Rattle.q_mem_host.proofs.History.{state_more, goes_by, goes_idle}
-use Rattle.q_mem_host.proofs.Steps.{whole, settled, before, was_left, is_torn}
+use Rattle.q_mem_host.proofs.Steps.{whole, firm-only, before, was_left, is_torn}
 
 -- ---- what is left at one place
 
@@ -21,7 +22,7 @@ none_left (Some c) h = absurd h
 
 pub firm_left : (bytes : List ℕ) (o : Option (List ℕ)) → IsLeft (Some (firm bytes)) o → o ≡ Some bytes
 firm_left bytes None h = absurd h
-firm_left bytes (Some c) h = ap (λ (l : List ℕ). Some l) (settled bytes c h)
+firm_left bytes (Some c) h = ap (λ (l : List ℕ). Some l) (firm-only bytes c h)
 
 reads_left : (o : Option Kept) → IsLeft o (read_of o)
 reads_left None = tt
@@ -110,7 +111,7 @@ told_all h bytes = record {
 -- ---- synced files
 
 sync_step : (s : State) (a : Area) (n : List ℕ) (k : Kept) → s.disk a n ≡ Some k → (c : Remains)
-    → MayLeave (after (sync a n) s) c → After (Settle a n (read_of (s.disk a n))) (MayLeave s) c
+    → MayLeave (after (sync a n) s) c → After (Sync a n (read_of (s.disk a n))) (MayLeave s) c
 sync_step s a n k is c left = (c, record { told = left.told; each = each }, record { same = refl; whole = here })
   where
     to : option_map (λ (q : Kept). firm q.bytes) (s.disk a n) ≡ Some (firm k.bytes)
@@ -139,7 +140,7 @@ synced h a n k is = record {
       ∙ ap (λ (o : Option (List ℕ)). put (files_of (state_of h).disk) a n o) (firm_reads ((state_of h).disk a n))
       ∙ sym (put-is (files_of (state_of h).disk) (files_of (state_of h).disk) a n (read_of ((state_of h).disk a n)) refl (λ b m e. refl));
   told = ap (λ (s : State). s.told) (state_more h (sync a n));
-  goes = goes_by (Settle a n (read_of ((state_of h).disk a n))) Stay h (sync a n) (sync_step (state_of h) a n k is) (λ d c st. st.same);
+  goes = goes_by (Sync a n (read_of ((state_of h).disk a n))) Stay h (sync a n) (sync_step (state_of h) a n k is) (λ d c st. st.same);
 }
 
 -- ---- written bytes

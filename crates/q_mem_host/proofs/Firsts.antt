@@ -1,8 +1,8 @@
 -- The first entry of a place: changed, and taken away.
-use Rattle.std.proofs.Common.{◌≡◌, ℕ, ◌<◌, ◌+◌, true, false, List, [], ◌∷◌, ◌++◌, length, take, drop, get_or, slice_set, if◌then◌else◌, Option, Some, None, refl, sym, ◌∙◌, ap, subst, take-append-drop}
+use Rattle.std.proofs.Common.{◌≡◌, ℕ, ◌<◌, ◌≤◌, ◌+◌, true, false, List, [], ◌∷◌, ◌++◌, length, take, drop, get_or, slice_set, if◌then◌else◌, Option, Some, None, refl, sym, ◌∙◌, ap, subst, take-append-drop}
 use Rattle.std.proofs.lemmas.List.{take_more, drop_more, take-set, drop-set}
 use Rattle.std.proofs.lemmas.Option.{slice_get_read}
-use Rattle.std.specs.Option.{option_map}
+use Rattle.std.specs.Option.{IsSomeAnd, option_map}
 use Rattle.q_model.specs.declared.spot.Area.{Area}
 use Rattle.q_host.specs.Files.{put, same_place}
 use Rattle.q_host.proofs.Puts.{put-here, put-other, put-is, put-same}
@@ -64,6 +64,10 @@ module _ (es : List Entry) (i : ℕ) (a : Area) (n : List ℕ) (first : IsFirst 
   -- its file is that of the place
   pub first_found : table es a n ≡ Some (kept e.file)
   first_found = ap (λ (l : List Entry). table l a n) (sym whole) ∙ found_here (take i es) (drop (i + 1) es) e a n first.before at_place
+
+  -- a place whose file reaches so far
+  pub first_reaches : (at : ℕ) → IsSomeAnd (table es a n) (λ k. at ≤ length k.bytes) → at ≤ length e.file.bytes.items
+  first_reaches at reaches = subst (λ (o : Option Kept). IsSomeAnd o (λ k. at ≤ length k.bytes)) first_found reaches
 
   -- with another file
   pub first_set : (new : Entry) → new.area ≡ e.area → new.name ≡ e.name → table (slice_set es i new) ≡ put (table es) a n (Some (kept new.file))

@@ -75,8 +75,8 @@ pub whole : (k : Kept) → IsRemnant k k.bytes
 whole k = record { no_shorter = omega arith; no_longer = omega arith; firm = λ i h out. refl }
 
 -- of bytes on the disk all is left
-pub settled : (bytes c : List ℕ) → IsRemnant (firm bytes) c → c ≡ bytes
-settled bytes c r = ext_get_or 0 c bytes (omega (arith, r.no_shorter, r.no_longer)) (λ i h. r.firm i h refl)
+pub firm-only : (bytes c : List ℕ) → IsRemnant (firm bytes) c → c ≡ bytes
+firm-only bytes c r = ext_get_or 0 c bytes (omega (arith, r.no_shorter, r.no_longer)) (λ i h. r.firm i h refl)
 
 module _ (at : ℕ) (over : List ℕ) (k : Kept) (c : List ℕ) (within : at ≤ length k.bytes) (r : IsRemnant (overwritten at over k) c) where
   len : ℕ

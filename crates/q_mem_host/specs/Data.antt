@@ -3,7 +3,7 @@ use Rattle.std.specs.Prelude.{◌≡◌, ◌<◌, ℕ, true, List, [], ◌∷◌
 use Rattle.q_model.specs.declared.spot.Area.{Area}
 use Rattle.std.specs.Option.{option_map}
 use Rattle.std.specs.declared.alloc.Global.{Global}
-use Rattle.q_host.specs.Files.{Table, same_place}
+use Rattle.q_host.specs.Files.{put, same_place, Table}
 use Rattle.q_mem_host.specs.Kept.{Kept}
 use Rattle.q_mem_host.specs.Event.{Event, state_of}
 use Rattle.q_mem_host.specs.declared.file.File.{File}
@@ -15,7 +15,11 @@ items_of v = v.items
 
 -- a file without its memory
 abbrev pub kept : File → Kept
-kept f = record { bytes = f.bytes.items; soft = f.soft.items; synced = unwrap_or (option_map items_of f.synced) f.bytes.items }
+kept f = record {
+  bytes = f.bytes.items;
+  soft = f.soft.items;
+  synced = unwrap_or (option_map items_of f.synced) f.bytes.items;
+}
 
 -- the first entry of each place counts
 abbrev pub table : List Entry → Table Kept
@@ -27,6 +31,14 @@ pub record IsFirst (es : List Entry) (i : ℕ) (a : Area) (n : List ℕ) : Type 
   pub within : i < length es
   pub here : (e : Entry) → slice_get es i ≡ Some e → same_place e.area e.name a n ≡ true
   pub before : table (take i es) a n ≡ None
+
+-- the file of the place is changed by a function, and all else is as before
+abbrev pub IsChanged : Area → List ℕ → (Kept → Kept) → List Entry → List Entry → Type 0
+IsChanged a n change old new = table new ≡ put (table old) a n (option_map change (table old a n))
+
+-- the file of the first place stands at the second, and all else is as before
+abbrev pub IsMoved : Area → List ℕ → Area → List ℕ → List Entry → List Entry → Type 0
+IsMoved a n b m old new = table new ≡ put (put (table old) a n None) b m (table old a n)
 
 -- the files and the told bytes are those that the history leads to
 pub record KeepsUp (entries : List Entry) (bytes : List ℕ) (h : List Event) : Type 0 where

@@ -4,7 +4,7 @@ use Rattle.std.specs.Option.{option_map}
 use Rattle.q_model.specs.declared.spot.Area.{Area}
 use Rattle.q_host.specs.Files.{Table, put}
 use Rattle.q_mem_host.specs.declared.rot.Rot.{Rot}
-use Rattle.q_mem_host.specs.Kept.{Kept, firm, overwritten, fallen}
+use Rattle.q_mem_host.specs.Kept.{fallen, firm, Kept, overwritten, synced}
 
 -- a call that changed something, a file that was put there synced, or a crash
 pub data Event : Type 0 where
@@ -29,8 +29,11 @@ start = record { disk = λ a n. None; told = [] }
 -- the state after an event
 abbrev pub after : Event → State → State
 after (create a n) s = record { disk = put s.disk a n (Some (firm [])); told = s.told }
-after (write a n at bytes) s = record { disk = put s.disk a n (option_map (overwritten at bytes) (s.disk a n)); told = s.told }
-after (sync a n) s = record { disk = put s.disk a n (option_map (λ k. firm k.bytes) (s.disk a n)); told = s.told }
+after (write a n at bytes) s = record {
+  disk = put s.disk a n (option_map (overwritten at bytes) (s.disk a n));
+  told = s.told;
+}
+after (sync a n) s = record { disk = put s.disk a n (option_map synced (s.disk a n)); told = s.told }
 after (rename a n b m) s = record { disk = put (put s.disk a n None) b m (s.disk a n); told = s.told }
 after (remove a n) s = record { disk = put s.disk a n None; told = s.told }
 after (tell bytes) s = record { disk = s.disk; told = s.told ++ bytes }

@@ -23,9 +23,17 @@ is_soft rs i = list_any (λ r. in_range r.0 r.1 i) rs
 abbrev pub firm : List ℕ → Kept
 firm bytes = record { bytes = bytes; soft = []; synced = bytes }
 
+-- the file with all its bytes on the disk
+abbrev pub synced : Kept → Kept
+synced k = firm k.bytes
+
 -- the file with other bytes over its own
 abbrev pub overwritten : ℕ → List ℕ → Kept → Kept
-overwritten at over k = record { bytes = written at over k.bytes; soft = k.soft ++ (at, length over) ∷ []; synced = k.synced }
+overwritten at over k = record {
+  bytes = written at over k.bytes;
+  soft = k.soft ++ (at, length over) ∷ [];
+  synced = k.synced;
+}
 
 -- each byte that isn't synced is b, from offset i on
 abbrev pub rotten : ℕ → List (ℕ × ℕ) → ℕ → List ℕ → List ℕ

@@ -3,7 +3,8 @@ use Rattle.std.specs.Prelude.{◌≡◌, ◌≤◌, ◌<◌, min, ℕ, false, Li
 use Rattle.std.specs.Option.{option_map}
 use Rattle.std.specs.List.{slice_index}
 use Rattle.q_model.specs.declared.spot.Area.{Area}
-use Rattle.q_host.specs.Files.{Table, Files}
+use Rattle.q_host.specs.Files.{Table}
+use Rattle.q_model.specs.SpoolFiles.{Files}
 use Rattle.q_host.specs.View.{Remains, View}
 use Rattle.q_mem_host.specs.Kept.{Kept, is_soft}
 use Rattle.q_mem_host.specs.Event.{Event, State, state_of}

@@ -7,3 +7,4 @@ pub mod Record
 pub mod Plans
 pub mod Memo
 pub mod Least
+pub mod Planned

@@ -1,11 +1,13 @@
 //! The calls of a host in memory that may change it, by what they add to its record.
-ghost use Rattle.std.specs.Prelude.{◌≡◌, ◌≤◌, ◌++◌, ◌∷◌, [], true, OnOk, OnErr, IsErrOf};
-ghost use Rattle.q_host.specs.Faults.{Rose, DiskCause, TellCause};
+ghost use Rattle.std.specs.Prelude.{◌≡◌, ◌≤◌, IsErrOf, IsSome, IsSomeAnd, length, OnOk};
+ghost use Rattle.q_host.specs.Faults.{DiskCause, TellCause};
+ghost use Rattle.q_model.specs.FaultCounts.{Rose};
 ghost use Rattle.q_mem_host.specs.Event.{create, write, sync, rename, remove, tell};
-ghost use Rattle.q_mem_host.specs.Plans.{fails_next, after_call};
+ghost use Rattle.q_mem_host.specs.Left.{view_of};
+ghost use Rattle.q_mem_host.specs.Planned.{Did, IsPlanned};
 
 use crate::MemHost;
-use crate::entries::{move_file, overwrite_at, put_file, settle_at, take_away};
+use crate::entries::{move_file, overwrite_at, put_file, sync_at, take_away};
 use crate::file::File;
 use crate::record::{Call, make_room, note};
 use q_host::HostError;
@@ -20,42 +22,25 @@ fn count(faults: &mut u64)
 }
 
 impl MemHost {
-    /// Counts a fault of the disk.
-    pub(crate) fn disk_fault(&mut self) -> HostError
-        ensures disk { result ≡ HostError.Disk }
-        ensures history { self.new.history ≡ self.old.history }
-        ensures plan { self.new.plan ≡ self.old.plan }
-        ensures rose { Rose self.old.faults.disk self.new.faults.disk }
-        ensures disk_later { self.old.faults.disk ≤ self.new.faults.disk }
-        ensures tell_same { self.new.faults.tell ≡ self.old.faults.tell }
-    {
-        count(&mut self.disk_faults);
-        HostError::Disk
-    }
-
     /// Counts a call for files, which may be one that is to fail.
     pub(crate) fn pass(&mut self) -> Result<(), HostError>
         ensures history { self.new.history ≡ self.old.history }
-        ensures plan { self.new.plan ≡ after_call self.old.plan }
-        ensures fails { fails_next self.old.plan ≡ true → IsErrOf result HostError.Disk }
+        ensures planned { IsPlanned HostError.Disk self.old self.new result }
         ensures ok { OnOk result (self.new.faults ≡ self.old.faults) }
-        ensures memory { IsErrOf result HostError.NoMemory → self.new.faults ≡ self.old.faults }
         ensures cause { DiskCause self.old.faults self.new.faults result }
     {
         if self.plan.count_call() {
-            return Err(self.disk_fault());
+            count(&mut self.disk_faults);
+            return Err(HostError::Disk);
         }
         Ok(())
     }
 
     /// Makes an empty file.
     pub(crate) fn make(&mut self, area: Area, name: Name) -> Result<(), HostError>
-        ensures ok { OnOk result (self.new.history ≡ self.old.history ++ create area name ∷ []) }
-        ensures err { OnErr result (self.new.history ≡ self.old.history) }
-        ensures memory { IsErrOf result HostError.NoMemory → self.new.faults ≡ self.old.faults }
+        ensures done { OnOk result (Did (create area name) self.old self.new) }
         ensures cause { DiskCause self.old.faults self.new.faults result }
-        ensures plan { self.new.plan ≡ after_call self.old.plan }
-        ensures fails { fails_next self.old.plan ≡ true → IsErrOf result HostError.Disk }
+        ensures planned { IsPlanned HostError.Disk self.old self.new result }
     {
         self.pass()?;
         self.entries.reserve(1)?;
@@ -66,7 +51,7 @@ impl MemHost {
         Ok(())
     }
 
-    /// Writes over a file, and past its end. Where there is none that reaches so far, that is a fault.
+    /// Writes over a file, and past its end.
     pub(crate) fn overwrite(
         &mut self,
         area: Area,
@@ -74,19 +59,15 @@ impl MemHost {
         at: u64,
         bytes: &[u8],
     ) -> Result<(), HostError>
-        ensures ok { OnOk result (self.new.history ≡ self.old.history ++ write area name at bytes.now ∷ []) }
-        ensures err { OnErr result (self.new.history ≡ self.old.history) }
-        ensures memory { IsErrOf result HostError.NoMemory → self.new.faults ≡ self.old.faults }
+        requires { IsSomeAnd ((view_of self.old.history).files area name) (λ file. at ≤ length file) }
+        ensures done { OnOk result (Did (write area name at bytes.now) self.old self.new) }
         ensures cause { DiskCause self.old.faults self.new.faults result }
-        ensures plan { self.new.plan ≡ after_call self.old.plan }
-        ensures fails { fails_next self.old.plan ≡ true → IsErrOf result HostError.Disk }
+        ensures planned { IsPlanned HostError.Disk self.old self.new result }
     {
         self.pass()?;
         let copy = bytes.to_vec(self.alloc)?;
         make_room(&mut self.calls)?;
-        if !overwrite_at(self.alloc, &mut self.entries, area, name, at, bytes)? {
-            return Err(self.disk_fault());
-        }
+        overwrite_at(self.alloc, &mut self.entries, area, name, at, bytes)?;
         note(
             &mut self.calls,
             &mut self.crashed,
@@ -95,25 +76,21 @@ impl MemHost {
         Ok(())
     }
 
-    /// Syncs a file. Where there is none, that is a fault.
-    pub(crate) fn settle(&mut self, area: Area, name: Name) -> Result<(), HostError>
-        ensures ok { OnOk result (self.new.history ≡ self.old.history ++ sync area name ∷ []) }
-        ensures err { OnErr result (self.new.history ≡ self.old.history) }
-        ensures memory { IsErrOf result HostError.NoMemory → self.new.faults ≡ self.old.faults }
+    /// Syncs a file.
+    pub(crate) fn sync_file(&mut self, area: Area, name: Name) -> Result<(), HostError>
+        requires { IsSome ((view_of self.old.history).files area name) }
+        ensures done { OnOk result (Did (sync area name) self.old self.new) }
         ensures cause { DiskCause self.old.faults self.new.faults result }
-        ensures plan { self.new.plan ≡ after_call self.old.plan }
-        ensures fails { fails_next self.old.plan ≡ true → IsErrOf result HostError.Disk }
+        ensures planned { IsPlanned HostError.Disk self.old self.new result }
     {
         self.pass()?;
         make_room(&mut self.calls)?;
-        if !settle_at(&mut self.entries, area, name) {
-            return Err(self.disk_fault());
-        }
+        sync_at(&mut self.entries, area, name);
         note(&mut self.calls, &mut self.crashed, Call::Sync(area, name));
         Ok(())
     }
 
-    /// Moves a file. Where there is none, that is a fault.
+    /// Moves a file.
     pub(crate) fn relocate(
         &mut self,
         area: Area,
@@ -121,18 +98,14 @@ impl MemHost {
         to: Area,
         new: Name,
     ) -> Result<(), HostError>
-        ensures ok { OnOk result (self.new.history ≡ self.old.history ++ rename area name to new ∷ []) }
-        ensures err { OnErr result (self.new.history ≡ self.old.history) }
-        ensures memory { IsErrOf result HostError.NoMemory → self.new.faults ≡ self.old.faults }
+        requires { IsSome ((view_of self.old.history).files area name) }
+        ensures done { OnOk result (Did (rename area name to new) self.old self.new) }
         ensures cause { DiskCause self.old.faults self.new.faults result }
-        ensures plan { self.new.plan ≡ after_call self.old.plan }
-        ensures fails { fails_next self.old.plan ≡ true → IsErrOf result HostError.Disk }
+        ensures planned { IsPlanned HostError.Disk self.old self.new result }
     {
         self.pass()?;
         make_room(&mut self.calls)?;
-        if !move_file(&mut self.entries, area, name, to, new) {
-            return Err(self.disk_fault());
-        }
+        move_file(&mut self.entries, area, name, to, new);
         note(
             &mut self.calls,
             &mut self.crashed,
@@ -143,12 +116,9 @@ impl MemHost {
 
     /// Takes a file away.
     pub(crate) fn discard(&mut self, area: Area, name: Name) -> Result<(), HostError>
-        ensures ok { OnOk result (self.new.history ≡ self.old.history ++ remove area name ∷ []) }
-        ensures err { OnErr result (self.new.history ≡ self.old.history) }
-        ensures memory { IsErrOf result HostError.NoMemory → self.new.faults ≡ self.old.faults }
+        ensures done { OnOk result (Did (remove area name) self.old self.new) }
         ensures cause { DiskCause self.old.faults self.new.faults result }
-        ensures plan { self.new.plan ≡ after_call self.old.plan }
-        ensures fails { fails_next self.old.plan ≡ true → IsErrOf result HostError.Disk }
+        ensures planned { IsPlanned HostError.Disk self.old self.new result }
     {
         self.pass()?;
         make_room(&mut self.calls)?;
@@ -159,12 +129,9 @@ impl MemHost {
 
     /// Tells bytes.
     pub(crate) fn say(&mut self, bytes: &[u8]) -> Result<(), HostError>
-        ensures ok { OnOk result (self.new.history ≡ self.old.history ++ tell bytes.now ∷ []) }
-        ensures err { OnErr result (self.new.history ≡ self.old.history) }
-        ensures memory { IsErrOf result HostError.NoMemory → self.new.faults ≡ self.old.faults }
+        ensures done { OnOk result (Did (tell bytes.now) self.old self.new) }
         ensures cause { TellCause self.old.faults self.new.faults result }
-        ensures plan { self.new.plan ≡ after_call self.old.plan }
-        ensures fails { fails_next self.old.plan ≡ true → IsErrOf result HostError.Tell }
+        ensures planned { IsPlanned HostError.Tell self.old self.new result }
     {
         if self.plan.count_call() {
             count(&mut self.tell_faults);

@@ -1,9 +1,9 @@
 //! Files by area and name, in a list. The first entry of a place counts.
-ghost use Rattle.std.specs.Prelude.{◌≡◌, ◌≤◌, ◌<◌, [], ◌∷◌, ◌++◌, ℕ, true, false, not, filter, vec_len, vec_capacity, Some, None, length, IsTrue, option_copied, IfOk, IfSome, IsNone, OnOk, OnErr, if◌then◌else◌};
+ghost use Rattle.std.specs.Prelude.{◌≡◌, ◌≤◌, ◌<◌, [], ◌∷◌, ◌++◌, filter, IfSome, IsNone, IsSome, IsSomeAnd, length, None, not, OnErr, OnOk, option_copied, Some, vec_capacity, vec_len};
 ghost use Rattle.std.specs.Option.{option_map};
 ghost use Rattle.q_host.specs.Files.{area_number, same_place, put};
-ghost use Rattle.q_mem_host.specs.Kept.{firm, overwritten, fallen};
-ghost use Rattle.q_mem_host.specs.Data.{kept, table, IsFirst};
+ghost use Rattle.q_mem_host.specs.Kept.{fallen, overwritten, synced};
+ghost use Rattle.q_mem_host.specs.Data.{IsChanged, IsFirst, IsMoved, kept, table};
 
 use crate::Rot;
 use crate::file::File;
@@ -90,8 +90,8 @@ pub(crate) fn put_file(entries: &mut Vec<Entry>, area: Area, name: Name, file: F
     push_within(entries, Entry { area, name, file });
 }
 
-/// Writes over the bytes of a place's file, and answers whether there is one that reaches that
-/// far. Where there is none, or memory runs out, nothing has changed.
+/// Writes over the bytes of a place's file, which reaches that far. Where memory runs out, nothing
+/// has changed.
 pub(crate) fn overwrite_at(
     alloc: Global,
     entries: &mut Vec<Entry>,
@@ -99,53 +99,36 @@ pub(crate) fn overwrite_at(
     name: Name,
     at: u64,
     over: &[u8],
-) -> Result<bool, AllocError>
-    ensures ok { IfOk result (λ done. table entries.new.items ≡ (if done then put (table entries.old.items) area name (option_map (overwritten at over.now) (table entries.old.items area name)) else table entries.old.items)) }
+) -> Result<(), AllocError>
+    requires { IsSomeAnd (table entries.old.items area name) (λ k. at ≤ length k.bytes) }
+    ensures ok { OnOk result (IsChanged area name (overwritten at over.now) entries.old.items entries.new.items) }
     ensures err { OnErr result (table entries.new.items ≡ table entries.old.items) }
 {
-    match position(entries, area, name) {
-        Some(i) => {
-            if at as usize > entries[i].file.bytes.len() {
-                return Ok(false);
-            }
-            entries[i].file.overwrite(alloc, at as usize, over)?;
-            Ok(true)
-        }
-        None => Ok(false),
+    if let Some(i) = position(entries, area, name) {
+        entries[i].file.overwrite(alloc, at as usize, over)?;
+    }
+    Ok(())
+}
+
+/// Syncs the file of a place.
+pub(crate) fn sync_at(entries: &mut Vec<Entry>, area: Area, name: Name)
+    requires { IsSome (table entries.old.items area name) }
+    ensures { IsChanged area name synced entries.old.items entries.new.items }
+{
+    if let Some(i) = position(entries, area, name) {
+        entries[i].file.sync();
     }
 }
 
-/// Settles the file of a place, and answers whether there is one.
-pub(crate) fn settle_at(entries: &mut Vec<Entry>, area: Area, name: Name) -> bool
-    ensures { table entries.new.items ≡ (if result then put (table entries.old.items) area name (option_map (λ k. firm k.bytes) (table entries.old.items area name)) else table entries.old.items) }
+/// Moves the file of a place to another, over any file there.
+pub(crate) fn move_file(entries: &mut Vec<Entry>, area: Area, name: Name, to: Area, new: Name)
+    requires { IsSome (table entries.old.items area name) }
+    ensures { IsMoved area name to new entries.old.items entries.new.items }
 {
-    match position(entries, area, name) {
-        Some(i) => {
-            entries[i].file.settle();
-            true
-        }
-        None => false,
-    }
-}
-
-/// Moves the file of a place to another, over any file there, and answers whether there is one.
-pub(crate) fn move_file(
-    entries: &mut Vec<Entry>,
-    area: Area,
-    name: Name,
-    to: Area,
-    new: Name,
-) -> bool
-    ensures { table entries.new.items ≡ (if result then put (put (table entries.old.items) area name None) to new (table entries.old.items area name) else table entries.old.items) }
-{
-    match position(entries, area, name) {
-        Some(i) => {
-            let entry = entries.remove(i);
-            take_away(entries, area, name);
-            put_file(entries, to, new, entry.file);
-            true
-        }
-        None => false,
+    if let Some(i) = position(entries, area, name) {
+        let entry = entries.remove(i);
+        take_away(entries, area, name);
+        put_file(entries, to, new, entry.file);
     }
 }
 

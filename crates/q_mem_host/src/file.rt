@@ -19,7 +19,7 @@ pub(crate) struct File {
 
 // Writes over the bytes from an offset on, and past their end. Where memory runs out, nothing has changed.
 fn write_over(bytes: &mut Vec<u8>, at: usize, over: &[u8]) -> Result<(), AllocError>
-    requires { at ≤ vec_len bytes.old }
+    requires { at ≤ length bytes.old.items }
     ensures ok { OnOk result (bytes.new.items ≡ written at over.now bytes.old.items) }
     ensures err { OnErr result (bytes.new.items ≡ bytes.old.items) }
 {
@@ -80,7 +80,7 @@ impl File {
         at: usize,
         over: &[u8],
     ) -> Result<(), AllocError>
-        requires { at ≤ vec_len self.old.bytes }
+        requires { at ≤ length self.old.bytes.items }
         ensures ok { OnOk result (kept self.new ≡ overwritten at over.now (kept self.old)) }
         ensures err { OnErr result (kept self.new ≡ kept self.old) }
     {
@@ -92,7 +92,7 @@ impl File {
     }
 
     /// Its bytes are on the disk.
-    pub(crate) fn settle(&mut self)
+    pub(crate) fn sync(&mut self)
         ensures { kept self.new ≡ firm (kept self.old).bytes }
     {
         self.soft.clear();
@@ -112,6 +112,6 @@ impl File {
             }
             Rot::Byte(byte) => rot_bytes(&mut self.bytes, &self.soft, byte),
         }
-        self.settle();
+        self.sync();
     }
 }

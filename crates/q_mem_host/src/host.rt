@@ -1,7 +1,12 @@
 //! The calls of a host, on one in memory.
-ghost use Rattle.std.specs.Prelude.{◌≡◌, ◌≤◌, length, OnOk};
-ghost use Rattle.q_host.specs.Reads.{IsListing, IsRead};
+ghost use Rattle.std.specs.Prelude.{◌≡◌, ◌≤◌, false, IfOk, is_some, IsSome, IsSomeAnd, length, OnErr, OnOk, Some};
+ghost use Rattle.q_host.specs.Calls.{Creates, Removes, Renames, Stays, Syncs, TellsAll, TellsSome, WritesAll, WritesSome};
+ghost use Rattle.q_host.specs.Faults.{DiskCause, TellCause};
+ghost use Rattle.q_host.specs.Files.{same_place};
+ghost use Rattle.q_host.specs.Reads.{IsListing, IsPart, IsRead, IsSize, Rise};
 ghost use Rattle.q_mem_host.specs.Left.{view_of};
+ghost use Rattle.q_mem_host.specs.Memo.{Turns};
+ghost use Rattle.q_mem_host.specs.Planned.{IsPlanned};
 
 use crate::MemHost;
 use crate::listing::list_names;
@@ -21,6 +26,14 @@ fn names_after(
     list_names(&host.entries, area, after, out)
 }
 
+// The bytes of a file that is there.
+fn bytes_of(host: &MemHost, area: Area, name: Name) -> &[u8]
+    requires { IsSome ((view_of host.now.history).files area name) }
+    ensures { (view_of host.now.history).files area name ≡ Some result.now }
+{
+    host.file(area, name).unwrap_or(&[])
+}
+
 // Reads from an offset on into a buffer.
 fn read_part(bytes: &[u8], at: u64, buf: &mut [u8]) -> usize
     ensures { IsRead bytes.now at buf.old buf.new result }
@@ -37,7 +50,7 @@ fn read_part(bytes: &[u8], at: u64, buf: &mut [u8]) -> usize
 impl Host for MemHost {
     ghost use Rattle.std.specs.Prelude.{true};
     ghost use Rattle.q_mem_host.specs.Left.{view_of};
-    ghost use Rattle.q_mem_host.specs.Laws.{mem_counts_now, mem_only_now, mem_stays_whole};
+    ghost use Rattle.q_mem_host.specs.Laws.{mem_counts_now, mem_names_stay, mem_only_now, mem_stays_whole};
 
     ghost tells = { true };
 
@@ -51,6 +64,8 @@ impl Host for MemHost {
 
     ghost told_stays = { λ m c left. left.told };
 
+    ghost names_stay = { λ m c left. mem_names_stay m.history c left };
+
     ghost stays_whole = { λ m. mem_stays_whole m.history };
 
     fn list_after(
@@ -58,60 +73,107 @@ impl Host for MemHost {
         area: Area,
         after: Option<Name>,
         out: &mut Names,
-    ) -> Result<(), HostError> {
+    ) -> Result<(), HostError>
+        ensures form { OnOk result (Rise after out.new × (length out.new ≤ 64)) }
+        ensures names { OnOk result (IsListing ((view_of self.old.history).files area) after out.new) }
+        ensures same { self.new.history ≡ self.old.history }
+        ensures planned { IsPlanned HostError.Disk self.old self.new result }
+        ensures cause { DiskCause self.old.faults self.new.faults result }
+    {
         self.pass()?;
         names_after(self, area, after, out)?;
         Ok(())
     }
 
-    fn has(&mut self, area: Area, name: Name) -> Result<bool, HostError> {
+    fn has(&mut self, area: Area, name: Name) -> Result<bool, HostError>
+        ensures found { IfOk result (λ found. found ≡ is_some ((view_of self.old.history).files area name)) }
+        ensures same { self.new.history ≡ self.old.history }
+        ensures planned { IsPlanned HostError.Disk self.old self.new result }
+        ensures cause { DiskCause self.old.faults self.new.faults result }
+    {
         self.pass()?;
         Ok(self.file(area, name).is_some())
     }
 
-    fn size(&mut self, area: Area, name: Name) -> Result<u64, HostError> {
+    fn size(&mut self, area: Area, name: Name) -> Result<u64, HostError>
+        requires { IsSome ((view_of self.old.history).files area name) }
+        ensures size { IfOk result (IsSize (view_of self.old.history) area name) }
+        ensures same { self.new.history ≡ self.old.history }
+        ensures planned { IsPlanned HostError.Disk self.old self.new result }
+        ensures cause { DiskCause self.old.faults self.new.faults result }
+    {
         self.pass()?;
-        match self.file(area, name) {
-            Some(bytes) => Ok(bytes.len() as u64),
-            None => Err(self.disk_fault()),
-        }
+        Ok(bytes_of(self, area, name).len() as u64)
     }
 
-    fn read(
-        &mut self,
-        area: Area,
-        name: Name,
-        at: u64,
-        buf: &mut [u8],
-    ) -> Result<usize, HostError> {
+    fn read(&mut self, area: Area, name: Name, at: u64, buf: &mut [u8]) -> Result<usize, HostError>
+        requires { IsSome ((view_of self.old.history).files area name) }
+        ensures within { IfOk result (λ count. count ≤ length buf.new) }
+        ensures bytes { IfOk result (IsPart (view_of self.old.history) area name at buf.old buf.new) }
+        ensures same { self.new.history ≡ self.old.history }
+        ensures planned { IsPlanned HostError.Disk self.old self.new result }
+        ensures cause { DiskCause self.old.faults self.new.faults result }
+    {
         self.pass()?;
-        match self.file(area, name) {
-            Some(bytes) => Ok(read_part(bytes, at, buf)),
-            None => Err(self.disk_fault()),
-        }
+        Ok(read_part(bytes_of(self, area, name), at, buf))
     }
 
-    fn create(&mut self, area: Area, name: Name) -> Result<(), HostError> {
+    fn create(&mut self, area: Area, name: Name) -> Result<(), HostError>
+        ensures ok { OnOk result (Turns (Creates area name) self.old self.new) }
+        ensures err { OnErr result (Turns Stays self.old self.new) }
+        ensures planned { IsPlanned HostError.Disk self.old self.new result }
+        ensures cause { DiskCause self.old.faults self.new.faults result }
+    {
         self.make(area, name)
     }
 
-    fn write_at(&mut self, area: Area, name: Name, at: u64, bytes: &[u8]) -> Result<(), HostError> {
+    fn write_at(&mut self, area: Area, name: Name, at: u64, bytes: &[u8]) -> Result<(), HostError>
+        requires { IsSomeAnd ((view_of self.old.history).files area name) (λ file. at ≤ length file) }
+        ensures ok { OnOk result (Turns (WritesAll area name at bytes.now) self.old self.new) }
+        ensures err { OnErr result (Turns (WritesSome area name at bytes.now) self.old self.new) }
+        ensures planned { IsPlanned HostError.Disk self.old self.new result }
+        ensures cause { DiskCause self.old.faults self.new.faults result }
+    {
         self.overwrite(area, name, at, bytes)
     }
 
-    fn sync(&mut self, area: Area, name: Name) -> Result<(), HostError> {
-        self.settle(area, name)
+    fn sync(&mut self, area: Area, name: Name) -> Result<(), HostError>
+        requires { IsSome ((view_of self.old.history).files area name) }
+        ensures ok { OnOk result (Turns (Syncs area name) self.old self.new) }
+        ensures err { OnErr result (Turns Stays self.old self.new) }
+        ensures planned { IsPlanned HostError.Disk self.old self.new result }
+        ensures cause { DiskCause self.old.faults self.new.faults result }
+    {
+        self.sync_file(area, name)
     }
 
-    fn rename(&mut self, area: Area, name: Name, to: Area, new: Name) -> Result<(), HostError> {
+    fn rename(&mut self, area: Area, name: Name, to: Area, new: Name) -> Result<(), HostError>
+        requires there { IsSome ((view_of self.old.history).files area name) }
+        requires differ { same_place area name to new ≡ false }
+        ensures ok { OnOk result (Turns (Renames area name to new) self.old self.new) }
+        ensures err { OnErr result (Turns Stays self.old self.new) }
+        ensures planned { IsPlanned HostError.Disk self.old self.new result }
+        ensures cause { DiskCause self.old.faults self.new.faults result }
+    {
         self.relocate(area, name, to, new)
     }
 
-    fn remove(&mut self, area: Area, name: Name) -> Result<(), HostError> {
+    fn remove(&mut self, area: Area, name: Name) -> Result<(), HostError>
+        requires { IsSome ((view_of self.old.history).files area name) }
+        ensures ok { OnOk result (Turns (Removes area name) self.old self.new) }
+        ensures err { OnErr result (Turns Stays self.old self.new) }
+        ensures planned { IsPlanned HostError.Disk self.old self.new result }
+        ensures cause { DiskCause self.old.faults self.new.faults result }
+    {
         self.discard(area, name)
     }
 
-    fn tell(&mut self, bytes: &[u8]) -> Result<(), HostError> {
+    fn tell(&mut self, bytes: &[u8]) -> Result<(), HostError>
+        ensures ok { OnOk result (Turns (TellsAll bytes.now) self.old self.new) }
+        ensures err { OnErr result (Turns (TellsSome bytes.now) self.old self.new) }
+        ensures planned { IsPlanned HostError.Tell self.old self.new result }
+        ensures cause { TellCause self.old.faults self.new.faults result }
+    {
         self.say(bytes)
     }
 }

@@ -1,9 +1,8 @@
 //! Names in order.
-ghost use Rattle.std.specs.Prelude.{◌≡◌, ◌≤◌, ℕ, length, OnOk, ◌&&◌, nat_eq};
-ghost use Rattle.q_host.specs.Files.{area_number};
+ghost use Rattle.std.specs.Prelude.{◌≡◌, ◌≤◌, length, OnOk};
 ghost use Rattle.q_host.specs.Reads.{IsListing};
 ghost use Rattle.q_mem_host.specs.Data.{table};
-ghost use Rattle.q_mem_host.specs.Least.{IsLeastAfter, after_test, before_test};
+ghost use Rattle.q_mem_host.specs.Least.{after_test, before_test, is_better, IsLeastAfter};
 
 use crate::entries::{Entry, number};
 use q_model::{Area, Name, Names, NoMemory};
@@ -28,7 +27,7 @@ fn is_before(name: &Name, best: &Option<Name>) -> bool
 
 // Whether the entry's name is the best so far.
 fn is_better(entry: &Entry, area: Area, after: &Option<Name>, best: &Option<Name>) -> bool
-    ensures { result ≡ (nat_eq (area_number entry.now.area) (area_number area) && after_test after.now entry.now.name && before_test entry.now.name best.now) }
+    ensures { result ≡ is_better entry.now area after.now best.now }
 {
     number(entry.area) == number(area)
         && is_after(after, &entry.name)

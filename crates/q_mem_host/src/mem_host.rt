@@ -1,10 +1,10 @@
 //! A host in memory, its making and its crashes.
-ghost use Rattle.std.specs.Prelude.{◌≡◌, ◌++◌, ◌∷◌, [], OnOk, OnErr, None, option_copied};
+ghost use Rattle.std.specs.Prelude.{◌≡◌, OnOk, OnErr, option_copied};
 ghost use Rattle.q_model.specs.declared.spot.Area.{Area};
 ghost use Rattle.q_host.specs.View.{Remains, now};
 ghost use Rattle.q_mem_host.specs.Event.{place, crash, state_of, after};
 ghost use Rattle.q_mem_host.specs.Left.{MayLeave, nothing, view_of};
-ghost use Rattle.q_mem_host.specs.Memo.{new_memo};
+ghost use Rattle.q_mem_host.specs.Memo.{new_memo, with_event, with_plan};
 ghost use Rattle.q_mem_host.specs.Plans.{no_plan, stopping, failing_at};
 
 use crate::Rot;
@@ -17,8 +17,7 @@ use std::alloc::Global;
 use std::marker::Model;
 
 /// Files in memory with what isn't synced, the told bytes, and a record of what was done. A
-/// contract sees it as this record, its counts of faults, and the calls that are to fail. Its calls
-/// fail only where they are made to, or where memory runs out.
+/// contract sees it as this record, its counts of faults, and the calls that are to fail.
 #[derive(Drop)]
 pub struct MemHost {
     pub(crate) alloc: Global,
@@ -39,7 +38,11 @@ impl Model for MemHost {
 
     ghost Value = { Memo };
 
-    ghost view = { λ m. record { history = history m.calls.items m.crashed; faults = record { disk = m.disk_faults; tell = m.tell_faults }; plan = m.plan } };
+    ghost view = { λ m. record {
+      history = history m.calls.items m.crashed;
+      faults = record { disk = m.disk_faults; tell = m.tell_faults };
+      plan = m.plan;
+    } };
 
     ghost invariant = { λ m. KeepsUp m.entries.items m.told.items (history m.calls.items m.crashed) };
 }
@@ -66,7 +69,7 @@ impl MemHost {
     /// Puts a synced file at a place, over any file there. This is no call of the host: it isn't
     /// counted, and isn't made to fail.
     pub fn put_file(&mut self, area: Area, name: Name, bytes: &[u8]) -> Result<(), NoMemory>
-        ensures ok { OnOk result (self.new ≡ record { history = self.old.history ++ place area name bytes.now ∷ []; faults = self.old.faults; plan = self.old.plan }) }
+        ensures ok { OnOk result (self.new ≡ with_event (place area name bytes.now) self.old) }
         ensures err { OnErr result (self.new ≡ self.old) }
     {
         let copy = bytes.to_vec(self.alloc)?;
@@ -101,7 +104,7 @@ impl MemHost {
 
     /// After so many further calls every call fails. A call that is made to fail does nothing.
     pub fn stop_after(&mut self, calls: u64)
-        ensures { self.new ≡ record { history = self.old.history; faults = self.old.faults; plan = stopping calls self.old.plan } }
+        ensures { self.new ≡ with_plan (stopping calls self.old.plan) self.old }
     {
         self.plan.stop_after(calls);
     }
@@ -109,7 +112,7 @@ impl MemHost {
     /// The call of that number from now, counted from 1, fails alone and does nothing. There is
     /// one such call at most: the last number given counts.
     pub fn fail_call(&mut self, call: u64)
-        ensures { self.new ≡ record { history = self.old.history; faults = self.old.faults; plan = failing_at call self.old.plan } }
+        ensures { self.new ≡ with_plan (failing_at call self.old.plan) self.old }
     {
         self.plan.fail_call(call);
     }

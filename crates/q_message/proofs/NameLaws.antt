@@ -9,12 +9,12 @@ use Rattle.q_model.specs.QueueFile.{FileMessage, FileRecipient, queue_file}
 use Rattle.q_model.specs.QueueFileBytes.{first_at, recipient_at}
 use Rattle.q_model.specs.Values.{FileHead, Spot}
 use Rattle.q_host.specs.Calls.{Stays}
-use Rattle.q_host.specs.Files.{Files}
+use Rattle.q_model.specs.SpoolFiles.{Files}
 use Rattle.q_host.specs.View.{View}
 use Rattle.q_model.proofs.RecordLaws.{map_some}
 use Rattle.q_message.specs.FileHeads.{head_of}
 use Rattle.q_message.specs.Pending.{HasCursor}
-use Rattle.q_message.specs.Names.{HasHead, StandsAt, address_at}
+use Rattle.q_message.specs.Names.{HasHead, StandsAt, address_in}
 use Rattle.q_message.specs.Windows.{Seen, Shows}
 use Rattle.q_message.proofs.PendingLaws.{cursor_with, first_cursor, nothing_shown}
 
@@ -46,7 +46,7 @@ stands_first found m i first n v w s is none new = record {
   place = ap (λ (w : Seen). w.at) new ∙ is ∙ ap (recipient_at m) (sym none);
 }
 
-pub address_is : (m : FileMessage) (i : ℕ) (r : FileRecipient) → slice_get m.recipients i ≡ Some r → r.address ≡ address_at m i
+pub address_is : (m : FileMessage) (i : ℕ) (r : FileRecipient) → slice_get m.recipients i ≡ Some r → r.address ≡ address_in m i
 address_is m i r is = ap (λ (o : Option FileRecipient). option_map_or (λ (x : FileRecipient). x.address) o []) (sym is)
 
 -- ---- answers that hand an error on
@@ -77,19 +77,19 @@ names_begin (Some bytes) file w ps there h new within =
     no_more : (n : ℕ) → n ≡ n + 0
     no_more n = omega arith
 
-pub names_end : (o : Option (List ℕ)) (m : FileMessage) (i : ℕ) (w : Seen) (names : List (List ℕ)) (ps : List ℕ) → StandsAt o m i w → names ≡ map (address_at m) ps → IfSome o (λ bytes. IfSome (queue_file bytes) (λ m. names ≡ map (address_at m) ps))
+pub names_end : (o : Option (List ℕ)) (m : FileMessage) (i : ℕ) (w : Seen) (names : List (List ℕ)) (ps : List ℕ) → StandsAt o m i w → names ≡ map (address_in m) ps → IfSome o (λ bytes. IfSome (queue_file bytes) (λ m. names ≡ map (address_in m) ps))
 names_end o m i w names ps s is =
-    subst (λ (o : Option (List ℕ)). IfSome o (λ bytes. IfSome (queue_file bytes) (λ m. names ≡ map (address_at m) ps))) (sym s.here)
-    (subst (λ (q : Option FileMessage). IfSome q (λ m. names ≡ map (address_at m) ps)) (sym s.reads) is)
+    subst (λ (o : Option (List ℕ)). IfSome o (λ bytes. IfSome (queue_file bytes) (λ m. names ≡ map (address_in m) ps))) (sym s.here)
+    (subst (λ (q : Option FileMessage). IfSome q (λ m. names ≡ map (address_in m) ps)) (sym s.reads) is)
 
 -- one address more
-pub names_more : (m : FileMessage) (ps : List ℕ) (i p : ℕ) (names more : List (List ℕ)) (a : List ℕ) → i < length ps → p ≡ get_or ps i 0 → names ≡ map (address_at m) (take i ps) → a ≡ address_at m p → more ≡ names ++ a ∷ []
-    → more ≡ map (address_at m) (take (i + 1) ps)
+pub names_more : (m : FileMessage) (ps : List ℕ) (i p : ℕ) (names more : List (List ℕ)) (a : List ℕ) → i < length ps → p ≡ get_or ps i 0 → names ≡ map (address_in m) (take i ps) → a ≡ address_in m p → more ≡ names ++ a ∷ []
+    → more ≡ map (address_in m) (take (i + 1) ps)
 names_more m ps i p names more a within read is one pushed =
-    pushed ∙ ap (λ (xs : List (List ℕ)). xs ++ a ∷ []) is ∙ ap (λ (x : List ℕ). map (address_at m) (take i ps) ++ x ∷ []) one
-    ∙ sym (map-append (address_at m) (take i ps) (p ∷ []))
-    ∙ ap (λ (x : ℕ). map (address_at m) (take i ps ++ x ∷ [])) read
-    ∙ ap (map (address_at m)) (sym (take_more ps i 0 within))
+    pushed ∙ ap (λ (xs : List (List ℕ)). xs ++ a ∷ []) is ∙ ap (λ (x : List ℕ). map (address_in m) (take i ps) ++ x ∷ []) one
+    ∙ sym (map-append (address_in m) (take i ps) (p ∷ []))
+    ∙ ap (λ (x : ℕ). map (address_in m) (take i ps ++ x ∷ [])) read
+    ∙ ap (map (address_in m)) (sym (take_more ps i 0 within))
 
 -- ---- behind a call that answered the head
 

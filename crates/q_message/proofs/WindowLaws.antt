@@ -8,7 +8,7 @@ use Rattle.std.proofs.lemmas.List.Sums.{sum_by-cons}
 use Rattle.q_model.specs.QueueFile.{FileRecipient}
 use Rattle.q_model.specs.Values.{Spot}
 use Rattle.q_host.specs.Calls.{Stays}
-use Rattle.q_host.specs.Files.{Files}
+use Rattle.q_model.specs.SpoolFiles.{Files}
 use Rattle.q_host.specs.Steps.{Stay}
 use Rattle.q_host.specs.View.{View}
 use Rattle.q_host.proofs.Moments.{goes_nowhere, goes_on}

@@ -1,6 +1,7 @@
 -- The errors of the calls that read a queue file.
 use Rattle.std.specs.Prelude.{◌≤◌, ◌≡◌, ℕ, Err, IsErrOf, Ok, Result}
-use Rattle.q_host.specs.Faults.{Faults, Rose}
+use Rattle.q_host.specs.Faults.{Faults}
+use Rattle.q_model.specs.FaultCounts.{Rose}
 use Rattle.q_host.specs.declared.error.HostError.{HostError}
 use Rattle.q_host.specs.declared.error.HostError.TheVariants as host_errors
 use Rattle.q_message.specs.declared.error.MessageError.{MessageError}

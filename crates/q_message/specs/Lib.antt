@@ -5,4 +5,5 @@ pub mod Names
 pub mod NewFile
 pub mod Pending
 pub mod Readings
+pub mod Told
 pub mod Windows

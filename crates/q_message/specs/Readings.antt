@@ -1,9 +1,12 @@
--- What the records of a queue file say, with their offsets; or the offset of the first that breaks the form.
+-- What the records of a queue file say, with their offsets; or the offset of the first that breaks
+-- the form.
 use Rattle.std.specs.Option.{option_and_then, option_map_or}
 use Rattle.std.specs.Prelude.{◌&&◌, ◌+◌, [], count_by, drop, Err, if◌then◌else◌, length, List, nat_le, not, Ok, Option, Result, suc, unwrap_or, zero, ℕ, ◌∷◌}
 use Rattle.q_model.specs.QueueFile.{arrival_of, Counts, counts_of, FileRecipient, recipient_of, sender_of}
 use Rattle.q_model.specs.Values.{FileHead, Head}
+use Rattle.q_message.specs.Causes.{Gives}
 use Rattle.q_message.specs.Fronts.{begins_record, front_body}
+use Rattle.q_message.specs.declared.error.MessageError.{MessageError}
 
 infixl 10 ◌>>=◌
 abbrev pub ◌>>=◌ : {A B : Type 0} → Result A ℕ → (A → Result B ℕ) → Result B ℕ
@@ -46,7 +49,9 @@ with_first r (Err place) = Err place
 -- so many recipients from an offset on, and the offset behind them
 abbrev pub recipients_from : ℕ → ℕ → List ℕ → Result (List FileRecipient × ℕ) ℕ
 recipients_from zero at bytes = Ok ([], at)
-recipients_from (suc n) at bytes = option_map_or (λ r. with_first r (recipients_from n (at + recipient_size r) (drop (recipient_size r) bytes))) (front_recipient bytes) (Err at)
+recipients_from (suc n) at bytes =
+    option_map_or (λ r. with_first r (recipients_from n (at + recipient_size r) (drop (recipient_size r) bytes)))
+    (front_recipient bytes) (Err at)
 
 -- how many of them are marked, beside so many before them
 abbrev pub marks_counted : ℕ → Result (List FileRecipient × ℕ) ℕ → Result (ℕ × ℕ) ℕ
@@ -55,11 +60,14 @@ marks_counted before (Err place) = Err place
 
 -- a content of this length, and the offset behind its record
 abbrev pub content_from : ℕ → ℕ → List ℕ → Result ℕ ℕ
-content_from n at bytes = if begins_record 78 n bytes && nat_le (5 + n) (length bytes) then Ok (at + 5 + n) else Err at
+content_from n at bytes =
+    if begins_record 78 n bytes && nat_le (5 + n) (length bytes) then Ok (at + 5 + n) else Err at
 
 -- the last record, with nothing behind it
 abbrev pub end_from : ℕ → List ℕ → Result (Unit {0}) ℕ
-end_from at bytes = if not (begins_record 69 0 bytes) then Err at else if nat_le (length bytes) 5 then Ok tt else Err (at + 5)
+end_from at bytes =
+    if not (begins_record 69 0 bytes) then Err at
+    else if nat_le (length bytes) 5 then Ok tt else Err (at + 5)
 
 -- the head of a file with these bytes
 abbrev pub head_from : List ℕ → Result FileHead ℕ
@@ -77,3 +85,22 @@ head_from bytes = do
     content_at = r.1 + 5;
     content_len = s.counts.content;
   })
+
+-- ---- what a call answered is what reading gives, unless the disk or the memory failed
+
+abbrev pub StartRead : Result Start MessageError → List ℕ → Type 0
+StartRead result file = Gives (λ s. s) result (start_from file)
+
+-- from an offset on to another one
+abbrev pub MarksRead : ℕ → ℕ → ℕ → Result ℕ MessageError → List ℕ → Type 0
+MarksRead recipients at to result file =
+    Gives (λ marked. (marked, to)) result (marks_counted 0 (recipients_from recipients at (drop at file)))
+
+abbrev pub ContentRead : ℕ → ℕ → ℕ → Result (Unit {0}) MessageError → List ℕ → Type 0
+ContentRead content at to result file = Gives (λ x. to) result (content_from content at (drop at file))
+
+abbrev pub EndRead : ℕ → Result (Unit {0}) MessageError → List ℕ → Type 0
+EndRead at result file = Gives (λ x. tt) result (end_from at (drop at file))
+
+abbrev pub HeadRead : Result FileHead MessageError → List ℕ → Type 0
+HeadRead result file = Gives (λ head. head) result (head_from file)

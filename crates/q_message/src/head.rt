@@ -1,14 +1,14 @@
 //! Reading the head of a queue file, for which the whole file is passed over.
-ghost use Rattle.std.specs.Prelude.{◌≡◌, ◌≤◌, ◌+◌, ◌*◌, ◌<◌, ◌^◌, ℕ, List, drop, Some, None, Err, IsTrue, IsSome, IfOk, IfSome, IsErrOf, OnOk, option_map};
+ghost use Rattle.std.specs.Prelude.{◌≡◌, ◌≤◌, ◌+◌, ◌*◌, drop, IfOk, IsTrue, OnOk};
 ghost use Rattle.std.specs.Option.{option_and_then};
-ghost use Rattle.q_model.specs.QueueFile.{arrival_of, counts_of, queue_file, sender_of};
+ghost use Rattle.q_model.specs.QueueFile.{arrival_of, counts_of, sender_of};
 ghost use Rattle.q_host.specs.Calls.{Stays};
-ghost use Rattle.q_message.specs.Causes.{Gives, ReadCause};
-ghost use Rattle.q_message.specs.FileHeads.{fault_at, head_of};
+ghost use Rattle.q_message.specs.Causes.{ReadCause};
+ghost use Rattle.q_message.specs.FileHeads.{IsFault, IsHead};
 ghost use Rattle.q_message.specs.Fronts.{front_body};
-ghost use Rattle.q_message.specs.Readings.{content_from, end_from, head_from, marks_counted, recipients_from, start_from, start_size};
+ghost use Rattle.q_message.specs.Readings.{ContentRead, EndRead, HeadRead, MarksRead, start_from, start_size, StartRead};
+ghost use Rattle.q_message.specs.Told.{IsThere, OnNoMessage, TellsEach, TellsOf, TellsShown};
 ghost use Rattle.q_message.specs.Windows.{Shows};
-ghost use Rattle.q_message.specs.declared.error.MessageError.TheVariants.{NotAMessage};
 
 use crate::body::{Counts, VERSION, arrival_in, counts_in, sender_in};
 use crate::error::MessageError;
@@ -44,7 +44,7 @@ const ARRIVAL_AT: u64 = 17;
 const SENDER_AT: u64 = 30;
 
 /// The bytes from an offset on; none, where there are fewer.
-fn behind(bytes: &[u8], offset: u64) -> &[u8]
+fn from_offset(bytes: &[u8], offset: u64) -> &[u8]
     ensures { result.now ≡ drop offset bytes.now }
 {
     if offset > bytes.len() as u64 {
@@ -76,8 +76,8 @@ fn start_in(bytes: &[u8]) -> Result<Start, u64>
     ensures { result ≡ start_from bytes.now }
 {
     let counts = front_counts(bytes).ok_or(COUNTS_AT)?;
-    let arrival = front_arrival(behind(bytes, ARRIVAL_AT)).ok_or(ARRIVAL_AT)?;
-    let sender = front_sender(behind(bytes, SENDER_AT)).ok_or(SENDER_AT)?;
+    let arrival = front_arrival(from_offset(bytes, ARRIVAL_AT)).ok_or(ARRIVAL_AT)?;
+    let sender = front_sender(from_offset(bytes, SENDER_AT)).ok_or(SENDER_AT)?;
     Ok(Start {
         counts,
         head: Head { sender, arrival },
@@ -97,10 +97,11 @@ fn start_size(head: &Head) -> u32
 
 /// Reads the records before those of the recipients.
 fn read_start<H: Host>(host: &mut H, spot: Spot, window: &mut Window) -> Result<Start, MessageError>
-    requires there { IsTrue H.tells → IsSome ((H.view host.old).files spot.area spot.name) }
+    requires there { IsThere H.tells (H.view host.old) spot }
     requires front { window.old.at ≡ 0 }
-    ensures reads { IsTrue H.tells → (file : List ℕ) → (H.view host.old).files spot.area spot.name ≡ Some file → Shows file window.old → Gives (λ s. s) result (start_from file) }
-    ensures shows { OnOk result (IsTrue H.tells → (file : List ℕ) → (H.view host.old).files spot.area spot.name ≡ Some file → Shows file window.old → Shows file window.new) }
+    ensures reads { TellsShown H.tells (H.view host.old) spot window.old (StartRead result) }
+    ensures shows { OnOk result (TellsShown H.tells (H.view host.old) spot window.old
+        (λ file. Shows file window.new)) }
     ensures at { IfOk result (λ s. window.new.at ≡ start_size s.head) }
     ensures near { OnOk result (window.new.at ≤ 289) }
     ensures few { IfOk result (λ s. s.counts.recipients ≤ 50000) }
@@ -125,11 +126,13 @@ fn count_marked<H: Host>(
     window: &mut Window,
     recipients: u32,
 ) -> Result<u32, MessageError>
-    requires there { IsTrue H.tells → IsSome ((H.view host.old).files spot.area spot.name) }
+    requires there { IsThere H.tells (H.view host.old) spot }
     requires near { window.old.at ≤ 289 }
     requires few { recipients ≤ 50000 }
-    ensures reads { IsTrue H.tells → (file : List ℕ) → (H.view host.old).files spot.area spot.name ≡ Some file → Shows file window.old → Gives (λ marked. (marked, window.new.at)) result (marks_counted 0 (recipients_from recipients window.old.at (drop window.old.at file))) }
-    ensures shows { OnOk result (IsTrue H.tells → (file : List ℕ) → (H.view host.old).files spot.area spot.name ≡ Some file → Shows file window.old → Shows file window.new) }
+    ensures reads { TellsShown H.tells (H.view host.old) spot window.old
+        (MarksRead recipients window.old.at window.new.at result) }
+    ensures shows { OnOk result (TellsShown H.tells (H.view host.old) spot window.old
+        (λ file. Shows file window.new)) }
     ensures near { window.new.at ≤ 289 + 260 * recipients }
     ensures stays { IsTrue H.tells → Stays (H.view host.old) (H.view host.new) }
     ensures cause { ReadCause (H.faults host.old) (H.faults host.new) result }
@@ -155,11 +158,13 @@ fn pass_content<H: Host>(
     window: &mut Window,
     content: u32,
 ) -> Result<(), MessageError>
-    requires there { IsTrue H.tells → IsSome ((H.view host.old).files spot.area spot.name) }
+    requires there { IsThere H.tells (H.view host.old) spot }
     requires near { window.old.at ≤ 20000000 }
     requires short { content ≤ 20000000 }
-    ensures reads { IsTrue H.tells → (file : List ℕ) → (H.view host.old).files spot.area spot.name ≡ Some file → Shows file window.old → Gives (λ _. window.new.at) result (content_from content window.old.at (drop window.old.at file)) }
-    ensures shows { OnOk result (IsTrue H.tells → (file : List ℕ) → (H.view host.old).files spot.area spot.name ≡ Some file → Shows file window.old → Shows file window.new) }
+    ensures reads { TellsShown H.tells (H.view host.old) spot window.old
+        (ContentRead content window.old.at window.new.at result) }
+    ensures shows { OnOk result (TellsShown H.tells (H.view host.old) spot window.old
+        (λ file. Shows file window.new)) }
     ensures near { window.new.at ≤ 40000005 }
     ensures stays { IsTrue H.tells → Stays (H.view host.old) (H.view host.new) }
     ensures cause { ReadCause (H.faults host.old) (H.faults host.new) result }
@@ -176,9 +181,9 @@ fn pass_content<H: Host>(
 
 /// Reads the last record, behind which nothing stands.
 fn read_end<H: Host>(host: &mut H, spot: Spot, window: &mut Window) -> Result<(), MessageError>
-    requires there { IsTrue H.tells → IsSome ((H.view host.old).files spot.area spot.name) }
+    requires there { IsThere H.tells (H.view host.old) spot }
     requires near { window.old.at ≤ 40000005 }
-    ensures reads { IsTrue H.tells → (file : List ℕ) → (H.view host.old).files spot.area spot.name ≡ Some file → Shows file window.old → Gives (λ _. tt) result (end_from window.old.at (drop window.old.at file)) }
+    ensures reads { TellsShown H.tells (H.view host.old) spot window.old (EndRead window.old.at result) }
     ensures stays { IsTrue H.tells → Stays (H.view host.old) (H.view host.new) }
     ensures cause { ReadCause (H.faults host.old) (H.faults host.new) result }
 {
@@ -195,8 +200,8 @@ fn read_end<H: Host>(host: &mut H, spot: Spot, window: &mut Window) -> Result<()
 
 /// What the records say, or the offset of the first that breaks the form.
 fn read_whole<H: Host>(host: &mut H, spot: Spot) -> Result<FileHead, MessageError>
-    requires { IsTrue H.tells → IsSome ((H.view host.old).files spot.area spot.name) }
-    ensures reads { IsTrue H.tells → (file : List ℕ) → (H.view host.old).files spot.area spot.name ≡ Some file → Gives (λ head. head) result (head_from file) }
+    requires { IsThere H.tells (H.view host.old) spot }
+    ensures reads { TellsEach H.tells (H.view host.old) spot (HeadRead result) }
     ensures stays { IsTrue H.tells → Stays (H.view host.old) (H.view host.new) }
     ensures cause { ReadCause (H.faults host.old) (H.faults host.new) result }
 {
@@ -225,9 +230,9 @@ fn read_whole<H: Host>(host: &mut H, spot: Spot) -> Result<FileHead, MessageErro
 /// `NotAMessage` comes exactly where the bytes are no queue file of version 1. Its place is the
 /// offset of the first record that breaks the form, or of the first byte behind the last record.
 pub fn read_head<H: Host>(host: &mut H, spot: Spot) -> Result<FileHead, MessageError>
-    requires { IsTrue H.tells → IsSome ((H.view host.old).files spot.area spot.name) }
-    ensures head { IfOk result (λ head. IsTrue H.tells → IfSome ((H.view host.old).files spot.area spot.name) (λ file. option_map head_of (queue_file file) ≡ Some head)) }
-    ensures no_message { (place : ℕ) → IsErrOf result (NotAMessage place) → IsTrue H.tells → IfSome ((H.view host.old).files spot.area spot.name) (λ file. (queue_file file ≡ None) × (place ≡ fault_at file)) }
+    requires { IsThere H.tells (H.view host.old) spot }
+    ensures head { IfOk result (λ head. TellsOf H.tells (H.view host.old) spot (IsHead head)) }
+    ensures no_message { OnNoMessage result (λ place. TellsOf H.tells (H.view host.old) spot (IsFault place)) }
     // Nothing is changed.
     ensures stays { IsTrue H.tells → Stays (H.view host.old) (H.view host.new) }
     ensures cause { ReadCause (H.faults host.old) (H.faults host.new) result }

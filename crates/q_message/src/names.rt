@@ -1,11 +1,9 @@
 //! Reading the addresses at positions of a queue file.
-ghost use Rattle.std.specs.Prelude.{◌≡◌, ◌≤◌, ◌+◌, ◌-◌, ◌<◌, ℕ, All, List, Option, length, map, slice_get, Some, IsTrue, IsSome, IfOk, IfSome, OnOk, IsErrOf};
-ghost use Rattle.q_model.specs.QueueFile.{FileMessage, queue_file};
-ghost use Rattle.q_model.specs.QueueFileBytes.{recipient_at};
+ghost use Rattle.std.specs.Prelude.{◌≡◌, ◌≤◌, ◌<◌, All, IsTrue, IfOk, OnOk};
 ghost use Rattle.q_host.specs.Calls.{Stays};
 ghost use Rattle.q_message.specs.Causes.{ReadCause};
-ghost use Rattle.q_message.specs.Names.{address_at, HasHead, StandsAt};
-ghost use Rattle.q_message.specs.declared.error.MessageError.TheVariants.{NotAMessage};
+ghost use Rattle.q_message.specs.Names.{AreNames, HasHead, IsAddress, IsBehind, IsNext, IsOnBy, IsPast, IsPastBy, IsRecipient, IsSought, TellsAt, TellsFrom};
+ghost use Rattle.q_message.specs.Told.{IsThere, OnNoMessage, TellsOf};
 
 use crate::body::Recipient;
 use crate::error::MessageError;
@@ -21,10 +19,10 @@ fn next_recipient<H: Host>(
     spot: Spot,
     window: &mut Window,
 ) -> Result<Recipient, MessageError>
-    requires { IsTrue H.tells → IsSome ((H.view host.old).files spot.area spot.name) }
-    ensures is { IfOk result (λ r. IsTrue H.tells → (m : FileMessage) (i : ℕ) → StandsAt ((H.view host.old).files spot.area spot.name) m i window.old → i < length m.recipients → slice_get m.recipients i ≡ Some r) }
-    ensures stands { OnOk result (IsTrue H.tells → (m : FileMessage) (i : ℕ) → StandsAt ((H.view host.old).files spot.area spot.name) m i window.old → i < length m.recipients → StandsAt ((H.view host.old).files spot.area spot.name) m (i + 1) window.new) }
-    ensures no_message { (place : ℕ) → IsErrOf result (NotAMessage place) → IsTrue H.tells → (m : FileMessage) (i : ℕ) → StandsAt ((H.view host.old).files spot.area spot.name) m i window.old → length m.recipients ≤ i }
+    requires { IsThere H.tells (H.view host.old) spot }
+    ensures is { IfOk result (λ r. TellsAt H.tells (H.view host.old) spot window.old (IsRecipient r)) }
+    ensures stands { OnOk result (TellsAt H.tells (H.view host.old) spot window.old (IsNext window.new)) }
+    ensures no_message { OnNoMessage result (λ _. TellsAt H.tells (H.view host.old) spot window.old IsPast) }
     ensures stays { IsTrue H.tells → Stays (H.view host.old) (H.view host.new) }
     ensures cause { ReadCause (H.faults host.old) (H.faults host.new) result }
 {
@@ -43,9 +41,10 @@ fn pass_recipients<H: Host>(
     window: &mut Window,
     count: u32,
 ) -> Result<(), MessageError>
-    requires { IsTrue H.tells → IsSome ((H.view host.old).files spot.area spot.name) }
-    ensures stands { OnOk result (IsTrue H.tells → (m : FileMessage) (i : ℕ) → StandsAt ((H.view host.old).files spot.area spot.name) m i window.old → i + count ≤ length m.recipients → StandsAt ((H.view host.old).files spot.area spot.name) m (i + count) window.new) }
-    ensures no_message { (place : ℕ) → IsErrOf result (NotAMessage place) → IsTrue H.tells → (m : FileMessage) (i : ℕ) → StandsAt ((H.view host.old).files spot.area spot.name) m i window.old → length m.recipients < i + count }
+    requires { IsThere H.tells (H.view host.old) spot }
+    ensures stands { OnOk result (TellsAt H.tells (H.view host.old) spot window.old (IsOnBy count window.new)) }
+    ensures no_message { OnNoMessage result (λ _. TellsAt H.tells (H.view host.old) spot window.old
+        (IsPastBy count)) }
     ensures stays { IsTrue H.tells → Stays (H.view host.old) (H.view host.new) }
     ensures cause { ReadCause (H.faults host.old) (H.faults host.new) result }
 {
@@ -59,7 +58,7 @@ fn pass_recipients<H: Host>(
 /// the first one where it stood behind the position.
 fn seek(window: &mut Window, first_at: u64, from: u32, position: u32) -> u32
     ensures within { result ≤ position }
-    ensures stands { (found : Option (List ℕ)) (m : FileMessage) → StandsAt found m from window.old → first_at ≡ recipient_at m 0 → StandsAt found m (position - result) window.new }
+    ensures stands { IsSought first_at from position window.old window.new result }
 {
     if position < from {
         window.restart(first_at);
@@ -70,7 +69,7 @@ fn seek(window: &mut Window, first_at: u64, from: u32, position: u32) -> u32
 
 /// Reads the address at a position, and moves to the position behind it. The window stands at the
 /// recipient of the position `from`.
-fn address_at<H: Host>(
+fn read_address<H: Host>(
     host: &mut H,
     spot: Spot,
     window: &mut Window,
@@ -78,10 +77,13 @@ fn address_at<H: Host>(
     from: u32,
     position: u32,
 ) -> Result<Address, MessageError>
-    requires { IsTrue H.tells → IsSome ((H.view host.old).files spot.area spot.name) }
-    ensures address { IfOk result (λ a. IsTrue H.tells → (m : FileMessage) → StandsAt ((H.view host.old).files spot.area spot.name) m from window.old → first_at ≡ recipient_at m 0 → position < length m.recipients → a ≡ address_at m position) }
-    ensures stands { OnOk result (IsTrue H.tells → (m : FileMessage) → StandsAt ((H.view host.old).files spot.area spot.name) m from window.old → first_at ≡ recipient_at m 0 → position < length m.recipients → StandsAt ((H.view host.old).files spot.area spot.name) m (position + 1) window.new) }
-    ensures no_message { (place : ℕ) → IsErrOf result (NotAMessage place) → IsTrue H.tells → (m : FileMessage) → StandsAt ((H.view host.old).files spot.area spot.name) m from window.old → first_at ≡ recipient_at m 0 → length m.recipients ≤ position }
+    requires { IsThere H.tells (H.view host.old) spot }
+    ensures address { IfOk result (λ a. TellsFrom H.tells (H.view host.old) spot window.old from first_at
+        (IsAddress position a)) }
+    ensures stands { OnOk result (TellsFrom H.tells (H.view host.old) spot window.old from first_at
+        (IsBehind position window.new)) }
+    ensures no_message { OnNoMessage result (λ _. TellsFrom H.tells (H.view host.old) spot window.old from first_at
+        (λ found m. IsPast found m position)) }
     ensures stays { IsTrue H.tells → Stays (H.view host.old) (H.view host.new) }
     ensures cause { ReadCause (H.faults host.old) (H.faults host.new) result }
 {
@@ -105,11 +107,11 @@ pub fn read_names<H: Host>(
     file: &FileHead,
     positions: &Positions,
 ) -> Result<Addresses, MessageError>
-    requires there { IsTrue H.tells → IsSome ((H.view host.old).files spot.area spot.name) }
-    requires reading { IsTrue H.tells → IfSome ((H.view host.old).files spot.area spot.name) (λ bytes. HasHead bytes file.now) }
+    requires there { IsThere H.tells (H.view host.old) spot }
+    requires reading { TellsOf H.tells (H.view host.old) spot (λ bytes. HasHead bytes file.now) }
     requires within { All (λ position. position < file.now.recipients) positions.now }
-    ensures names { IfOk result (λ names. IsTrue H.tells → IfSome ((H.view host.old).files spot.area spot.name) (λ bytes. IfSome (queue_file bytes) (λ m. names ≡ map (address_at m) positions.now))) }
-    ensures no_message { (place : ℕ) → IsErrOf result (NotAMessage place) → IsTrue H.tells → ⊥ }
+    ensures names { IfOk result (λ names. TellsOf H.tells (H.view host.old) spot (AreNames positions.now names)) }
+    ensures no_message { OnNoMessage result (λ _. IsTrue H.tells → ⊥) }
     ensures stays { IsTrue H.tells → Stays (H.view host.old) (H.view host.new) }
     ensures cause { ReadCause (H.faults host.old) (H.faults host.new) result }
 {
@@ -119,7 +121,7 @@ pub fn read_names<H: Host>(
     let mut names = Addresses::new(alloc);
     for position in positions.as_slice() {
         let position = *position;
-        let address = address_at(host, spot, &mut window, first_at, from, position)?;
+        let address = read_address(host, spot, &mut window, first_at, from, position)?;
         names.push(address)?;
         from = position.saturating_add(1);
     }

@@ -1,12 +1,10 @@
 //! Reading recipients of a queue file.
-ghost use Rattle.std.specs.Prelude.{◌≡◌, ◌≤◌, ◌+◌, ◌<◌, ℕ, List, [], length, Some, IsTrue, IsSome, IfOk, IfSome, IsErrOf};
-ghost use Rattle.std.specs.Option.{IsSomeAnd};
-ghost use Rattle.q_model.specs.QueueFile.{queue_file};
+ghost use Rattle.std.specs.Prelude.{◌≡◌, ◌≤◌, [], IsTrue, IfOk};
 ghost use Rattle.q_host.specs.Calls.{Stays};
 ghost use Rattle.q_message.specs.Causes.{ReadCause};
-ghost use Rattle.q_message.specs.Pending.{HasCursor, cursor_at, position_behind, taken_from};
+ghost use Rattle.q_message.specs.Pending.{AreTaken, HasCursor, IsPlaceBehind};
 ghost use Rattle.q_message.specs.Readings.{front_recipient, recipient_size};
-ghost use Rattle.q_message.specs.declared.error.MessageError.TheVariants.{NotAMessage};
+ghost use Rattle.q_message.specs.Told.{IsThere, OnNoMessage, TellsOf};
 
 use crate::body::{Recipient, recipient_in};
 use crate::error::MessageError;
@@ -49,14 +47,16 @@ pub fn read_recipients<H: Host>(
     max: u32,
     out: &mut Batch,
 ) -> Result<Cursor, MessageError>
-    requires there { IsTrue H.tells → IsSome ((H.view host.old).files spot.area spot.name) }
+    requires there { IsThere H.tells (H.view host.old) spot }
     requires some { 1 ≤ max }
     requires empty { out.old.items ≡ [] }
     requires room { max ≤ out.old.room }
-    requires reading { IsTrue H.tells → IfSome ((H.view host.old).files spot.area spot.name) (λ bytes. HasCursor bytes file.now cursor) }
-    ensures taken { IfOk result (λ next. IsTrue H.tells → IfSome ((H.view host.old).files spot.area spot.name) (λ bytes. IfSome (queue_file bytes) (λ m. out.new.items ≡ taken_from m cursor.position max))) }
-    ensures next { IfOk result (λ next. IsTrue H.tells → IfSome ((H.view host.old).files spot.area spot.name) (λ bytes. IfSome (queue_file bytes) (λ m. next ≡ cursor_at m (position_behind m cursor.position max)))) }
-    ensures no_message { (place : ℕ) → IsErrOf result (NotAMessage place) → IsTrue H.tells → ⊥ }
+    requires reading { TellsOf H.tells (H.view host.old) spot (λ bytes. HasCursor bytes file.now cursor) }
+    ensures taken { IfOk result (λ next. TellsOf H.tells (H.view host.old) spot
+        (AreTaken cursor.position max out.new.items)) }
+    ensures next { IfOk result (λ next. TellsOf H.tells (H.view host.old) spot
+        (IsPlaceBehind cursor.position max next)) }
+    ensures no_message { OnNoMessage result (λ _. IsTrue H.tells → ⊥) }
     ensures room { out.new.room ≡ out.old.room }
     ensures stays { IsTrue H.tells → Stays (H.view host.old) (H.view host.new) }
     ensures cause { ReadCause (H.faults host.old) (H.faults host.new) result }

@@ -14,18 +14,54 @@ const FILE: &[u8] = b"C\x00\x00\x00\x0c\x00\x00\x00\x01\x00\x00\x00\x01\x00\x00\
     N\x00\x00\x00\x00\
     E\x00\x00\x00\x00";
 
-// The records of this file, one by one.
-const C: &[u8] = b"C\x00\x00\x00\x0c\x00\x00\x00\x01\x00\x00\x00\x01\x00\x00\x00\x00";
-
-const T: &[u8] = b"T\x00\x00\x00\x08\x00\x00\x00\x00\x00\x00\x03\xe8";
-
-const S: &[u8] = b"S\x00\x00\x00\x0ba@x.example";
-
-const R: &[u8] = b"R\x00\x00\x00\x0cPb@y.example";
-
-const N: &[u8] = b"N\x00\x00\x00\x00";
-
-const E: &[u8] = b"E\x00\x00\x00\x00";
+/// Records, each by a letter: those of the file above by the letter of their kind, and others.
+fn record(letter: u8) -> &'static [u8] {
+    match letter {
+        // counts: of one recipient, of two, and of content of 4 bytes and of 5
+        b'C' => b"C\x00\x00\x00\x0c\x00\x00\x00\x01\x00\x00\x00\x01\x00\x00\x00\x00",
+        b'2' => b"C\x00\x00\x00\x0c\x00\x00\x00\x01\x00\x00\x00\x02\x00\x00\x00\x00",
+        b'4' => b"C\x00\x00\x00\x0c\x00\x00\x00\x01\x00\x00\x00\x01\x00\x00\x00\x04",
+        b'5' => b"C\x00\x00\x00\x0c\x00\x00\x00\x01\x00\x00\x00\x01\x00\x00\x00\x05",
+        // of version 2, of version 0, of no recipient, of 50,001, and of 20,000,001 bytes of content
+        b'v' => b"C\x00\x00\x00\x0c\x00\x00\x00\x02\x00\x00\x00\x01\x00\x00\x00\x00",
+        b'w' => b"C\x00\x00\x00\x0c\x00\x00\x00\x00\x00\x00\x00\x01\x00\x00\x00\x00",
+        b'0' => b"C\x00\x00\x00\x0c\x00\x00\x00\x01\x00\x00\x00\x00\x00\x00\x00\x00",
+        b'm' => b"C\x00\x00\x00\x0c\x00\x00\x00\x01\x00\x00\xc3\x51\x00\x00\x00\x00",
+        b'l' => b"C\x00\x00\x00\x0c\x00\x00\x00\x01\x00\x00\x00\x01\x01\x31\x2d\x01",
+        // too short, too long, and cut off in the body and in the length
+        b's' => b"C\x00\x00\x00\x08\x00\x00\x00\x01\x00\x00\x00\x01",
+        b'u' => b"C\x00\x00\x00\x0d\x00\x00\x00\x01\x00\x00\x00\x01\x00\x00\x00\x00\x00",
+        b'j' => b"C\x00\x00\x00\x0c\x00\x00",
+        b'k' => b"C\x00\x00",
+        // arrivals: at 1000, at the last moment, past it, and of 7 bytes
+        b'T' => b"T\x00\x00\x00\x08\x00\x00\x00\x00\x00\x00\x03\xe8",
+        b'L' => b"T\x00\x00\x00\x08\x00\x00\x00\xe8\xd4\x0c\x79\x80",
+        b'p' => b"T\x00\x00\x00\x08\x00\x00\x00\xe8\xd4\x0c\x79\x81",
+        b'h' => b"T\x00\x00\x00\x07\x00\x00\x00\x00\x00\x03\xe8",
+        // senders: the null sender, and two that are no address
+        b'S' => b"S\x00\x00\x00\x0ba@x.example",
+        b'O' => b"S\x00\x00\x00\x00",
+        b'a' => b"S\x00\x00\x00\x03abc",
+        b'b' => b"S\x00\x00\x00\x02a@",
+        // recipients: pending, done, of a byte that is no mark, and of the shortest address
+        b'R' => b"R\x00\x00\x00\x0cPb@y.example",
+        b'D' => b"R\x00\x00\x00\x0cDb@y.example",
+        b'd' => b"R\x00\x00\x00\x0cdb@y.example",
+        b'A' => b"R\x00\x00\x00\x04Pa@b",
+        // without an address, without a body, and cut off
+        b'q' => b"R\x00\x00\x00\x04Pabc",
+        b'e' => b"R\x00\x00\x00\x00",
+        b'c' => b"R\x00\x00\x00\x0cPb@y",
+        // contents: empty, the front of one of 5 bytes, and one that is cut off
+        b'N' => b"N\x00\x00\x00\x00",
+        b'f' => b"N\x00\x00\x00\x05",
+        b'x' => b"N\x00\x00\x00\x04xyz",
+        // ends: with a body too; else a line feed
+        b'E' => b"E\x00\x00\x00\x00",
+        b'y' => b"E\x00\x00\x00\x01x",
+        _ => b"\n",
+    }
+}
 
 fn address(text: &str) -> Result<Address, Fail> {
     Ok(Address::new(text.as_bytes()).ok_or("no address")?)
@@ -52,11 +88,11 @@ pub(crate) fn host_with(alloc: Global, spot: Spot, file: &[u8]) -> Result<MemHos
     Ok(host)
 }
 
-// A host with a file of these parts, one behind the other.
-fn host_of(alloc: Global, spot: Spot, parts: [&[u8]; 7]) -> Result<MemHost, Fail> {
+// A host with a file of these records, one behind the other.
+fn host_of(alloc: Global, spot: Spot, letters: &[u8]) -> Result<MemHost, Fail> {
     let mut file = Vec::new(alloc);
-    for part in parts {
-        file.extend_from_slice(part)?;
+    for letter in letters {
+        file.extend_from_slice(record(*letter))?;
     }
     host_with(alloc, spot, &file)
 }
@@ -91,80 +127,21 @@ fn worked_queue_file(rt: HostRuntime) -> Result<(), Fail> {
 
 #[test]
 fn files_within_the_form(rt: HostRuntime) -> Result<(), Fail> {
-    // the parts of a file, then its recipients, its marked ones, and its first and content's offsets
-    let rows: [([&[u8]; 7], u32, u32, u64, u64); 8] = [
-        ([C, T, S, R, N, E, b""], 1, 0, 46, 68),
-        // the null sender
-        ([C, T, b"S\x00\x00\x00\x00", R, N, E, b""], 1, 0, 35, 57),
-        // a mark, and a byte that is none
-        (
-            [C, T, S, b"R\x00\x00\x00\x0cDb@y.example", N, E, b""],
-            1,
-            1,
-            46,
-            68,
-        ),
-        (
-            [C, T, S, b"R\x00\x00\x00\x0cdb@y.example", N, E, b""],
-            1,
-            0,
-            46,
-            68,
-        ),
-        // the shortest address
-        ([C, T, S, b"R\x00\x00\x00\x04Pa@b", N, E, b""], 1, 0, 46, 60),
-        // the last moment
-        (
-            [
-                C,
-                b"T\x00\x00\x00\x08\x00\x00\x00\xe8\xd4\x0c\x79\x80",
-                S,
-                R,
-                N,
-                E,
-                b"",
-            ],
-            1,
-            0,
-            46,
-            68,
-        ),
-        // two recipients
-        (
-            [
-                b"C\x00\x00\x00\x0c\x00\x00\x00\x01\x00\x00\x00\x02\x00\x00\x00\x00",
-                T,
-                S,
-                R,
-                b"R\x00\x00\x00\x0cDb@y.example",
-                N,
-                E,
-            ],
-            2,
-            1,
-            46,
-            85,
-        ),
-        // a content that looks like records
-        (
-            [
-                b"C\x00\x00\x00\x0c\x00\x00\x00\x01\x00\x00\x00\x01\x00\x00\x00\x05",
-                T,
-                S,
-                R,
-                b"N\x00\x00\x00\x05",
-                E,
-                E,
-            ],
-            1,
-            0,
-            46,
-            68,
-        ),
+    // the records, then the recipients, the marked ones, and the first one's and the content's offsets
+    let rows: [(&[u8], u32, u32, u64, u64); 8] = [
+        (b"CTSRNE", 1, 0, 46, 68),
+        (b"CTORNE", 1, 0, 35, 57),
+        (b"CTSDNE", 1, 1, 46, 68),
+        (b"CTSdNE", 1, 0, 46, 68),
+        (b"CTSANE", 1, 0, 46, 60),
+        (b"CLSRNE", 1, 0, 46, 68),
+        (b"2TSRDNE", 2, 1, 46, 85),
+        // a content that looks like a record
+        (b"5TSRfEE", 1, 0, 46, 68),
     ];
     let spot = spot()?;
-    for (parts, recipients, marked, first_at, content_at) in rows {
-        let mut host = host_of(rt.alloc(), spot, parts)?;
+    for (letters, recipients, marked, first_at, content_at) in rows {
+        let mut host = host_of(rt.alloc(), spot, letters)?;
         let found = head(&rt, &mut host, spot)?;
         assert_eq!(rt; found.recipients, recipients);
         assert_eq!(rt; found.marked, marked);
@@ -176,207 +153,35 @@ fn files_within_the_form(rt: HostRuntime) -> Result<(), Fail> {
 
 #[test]
 fn files_outside_the_form(rt: HostRuntime) -> Result<(), Fail> {
-    // the parts of a file, and the offset where it breaks the form
-    let rows: [([&[u8]; 7], u64); 36] = [
-        // nothing
-        ([b"", b"", b"", b"", b"", b"", b""], 0),
-        // another version
+    // the offset where the form is broken, and files that break it there
+    let rows: [(u64, &[u8]); 9] = [
+        // no counts, or none that are lawful and whole
         (
-            [
-                b"C\x00\x00\x00\x0c\x00\x00\x00\x02\x00\x00\x00\x01\x00\x00\x00\x00",
-                T,
-                S,
-                R,
-                N,
-                E,
-                b"",
-            ],
             0,
+            b" vTSRNE wTSRNE 0TSNE mTSRNE lTSRNE sTSRNE uTSRNE j k TSRNE",
         ),
-        // version 0
-        (
-            [
-                b"C\x00\x00\x00\x0c\x00\x00\x00\x00\x00\x00\x00\x01\x00\x00\x00\x00",
-                T,
-                S,
-                R,
-                N,
-                E,
-                b"",
-            ],
-            0,
-        ),
-        // no recipient
-        (
-            [
-                b"C\x00\x00\x00\x0c\x00\x00\x00\x01\x00\x00\x00\x00\x00\x00\x00\x00",
-                T,
-                S,
-                N,
-                E,
-                b"",
-                b"",
-            ],
-            0,
-        ),
-        // more recipients than a file may have
-        (
-            [
-                b"C\x00\x00\x00\x0c\x00\x00\x00\x01\x00\x00\xc3\x51\x00\x00\x00\x00",
-                T,
-                S,
-                R,
-                N,
-                E,
-                b"",
-            ],
-            0,
-        ),
-        // more content than a file may have
-        (
-            [
-                b"C\x00\x00\x00\x0c\x00\x00\x00\x01\x00\x00\x00\x01\x01\x31\x2d\x01",
-                T,
-                S,
-                R,
-                N,
-                E,
-                b"",
-            ],
-            0,
-        ),
-        // counts that are too short, too long or cut off
-        (
-            [
-                b"C\x00\x00\x00\x08\x00\x00\x00\x01\x00\x00\x00\x01",
-                T,
-                S,
-                R,
-                N,
-                E,
-                b"",
-            ],
-            0,
-        ),
-        (
-            [
-                b"C\x00\x00\x00\x0d\x00\x00\x00\x01\x00\x00\x00\x01\x00\x00\x00\x00\x00",
-                T,
-                S,
-                R,
-                N,
-                E,
-                b"",
-            ],
-            0,
-        ),
-        (
-            [b"C\x00\x00\x00\x0c\x00\x00", b"", b"", b"", b"", b"", b""],
-            0,
-        ),
-        ([b"C\x00\x00", b"", b"", b"", b"", b"", b""], 0),
-        // each record missing
-        ([T, S, R, N, E, b"", b""], 0),
-        ([C, S, R, N, E, b"", b""], 17),
-        ([C, T, R, N, E, b"", b""], 30),
-        ([C, T, S, N, E, b"", b""], 46),
-        ([C, T, S, R, E, b"", b""], 63),
-        ([C, T, S, R, N, b"", b""], 68),
-        // each record twice
-        ([C, C, T, S, R, N, E], 17),
-        ([C, T, T, S, R, N, E], 30),
-        ([C, T, S, S, R, N, E], 46),
-        ([C, T, S, R, R, N, E], 63),
-        ([C, T, S, R, N, N, E], 68),
-        ([C, T, S, R, N, E, E], 73),
-        // out of order
-        ([C, S, T, R, N, E, b""], 17),
-        ([C, T, S, N, R, E, b""], 46),
-        // an arrival past the last moment
-        (
-            [
-                C,
-                b"T\x00\x00\x00\x08\x00\x00\x00\xe8\xd4\x0c\x79\x81",
-                S,
-                R,
-                N,
-                E,
-                b"",
-            ],
-            17,
-        ),
-        // an arrival of another length
-        (
-            [
-                C,
-                b"T\x00\x00\x00\x07\x00\x00\x00\x00\x00\x03\xe8",
-                S,
-                R,
-                N,
-                E,
-                b"",
-            ],
-            17,
-        ),
-        // a sender that is no address
-        ([C, T, b"S\x00\x00\x00\x03abc", R, N, E, b""], 30),
-        ([C, T, b"S\x00\x00\x00\x02a@", R, N, E, b""], 30),
-        // a recipient that is no address
-        ([C, T, S, b"R\x00\x00\x00\x04Pabc", N, E, b""], 46),
-        ([C, T, S, b"R\x00\x00\x00\x00", N, E, b""], 46),
-        // a recipient that is cut off
-        ([C, T, S, b"R\x00\x00\x00\x0cPb@y", b"", b"", b""], 46),
-        // fewer recipients than are counted
-        (
-            [
-                b"C\x00\x00\x00\x0c\x00\x00\x00\x01\x00\x00\x00\x02\x00\x00\x00\x00",
-                T,
-                S,
-                R,
-                N,
-                E,
-                b"",
-            ],
-            63,
-        ),
-        // a content of another length
-        (
-            [
-                b"C\x00\x00\x00\x0c\x00\x00\x00\x01\x00\x00\x00\x01\x00\x00\x00\x04",
-                T,
-                S,
-                R,
-                N,
-                E,
-                b"",
-            ],
-            63,
-        ),
-        // a content that is cut off
-        (
-            [
-                b"C\x00\x00\x00\x0c\x00\x00\x00\x01\x00\x00\x00\x01\x00\x00\x00\x04",
-                T,
-                S,
-                R,
-                b"N\x00\x00\x00\x04xyz",
-                b"",
-                b"",
-            ],
-            63,
-        ),
-        // an end with a body
-        ([C, T, S, R, N, b"E\x00\x00\x00\x01x", b""], 68),
-        // a byte behind the end
-        ([C, T, S, R, N, E, b"\n"], 73),
+        // no arrival behind them, a second one, and unlawful ones
+        (17, b"CSRNE CCTSRNE CSTRNE CpSRNE ChSRNE"),
+        // the same of the sender
+        (30, b"CTRNE CTTSRNE CTaRNE CTbRNE"),
+        // of a recipient
+        (46, b"CTSNE CTSSRNE CTSNRE CTSqNE CTSeNE CTSc"),
+        // of the content, of its length too; and fewer or more recipients than are counted
+        (63, b"CTSRE CTSRRNE 2TSRNE 4TSRNE 4TSRx"),
+        // of the end
+        (68, b"CTSRN CTSRNNE CTSRNy"),
+        // something behind it
+        (73, b"CTSRNEE CTSRNE\n"),
+        (85, b"2TSRDN"),
+        (90, b"2TSRDNE\n"),
     ];
     let spot = spot()?;
-    for (parts, place) in rows {
-        let mut host = host_of(rt.alloc(), spot, parts)?;
-        assert_eq!(rt;
-            head(&rt, &mut host, spot),
-            Err(MessageError::NotAMessage { place })
-        );
+    for (place, files) in rows {
+        for letters in files.split(|letter| *letter == b' ') {
+            let mut host = host_of(rt.alloc(), spot, letters)?;
+            let found = head(&rt, &mut host, spot);
+            assert_eq!(rt; found, Err(MessageError::NotAMessage { place }));
+        }
     }
     Ok(())
 }

@@ -1,10 +1,10 @@
 //! A window on a file that is read once, from its front to its end.
-ghost use Rattle.std.specs.Prelude.{◌≡◌, ◌≤◌, ◌+◌, ◌<◌, ◌^◌, ℕ, List, [], false, drop, Some, IsTrue, IsSome, OnOk, IsErrOf};
+ghost use Rattle.std.specs.Prelude.{◌≡◌, ◌+◌, ◌<◌, ◌^◌, [], false, drop, IsTrue, OnOk};
 ghost use Rattle.q_host.specs.Calls.{Stays};
 ghost use Rattle.q_message.specs.Causes.{ReadCause};
 ghost use Rattle.q_message.specs.Fronts.{IsFront};
+ghost use Rattle.q_message.specs.Told.{IsThere, OnNoMessage, TellsShown};
 ghost use Rattle.q_message.specs.Windows.{moved_on, Shows};
-ghost use Rattle.q_message.specs.declared.error.MessageError.TheVariants.{NotAMessage};
 
 use crate::error::MessageError;
 use q_host::Host;
@@ -87,11 +87,13 @@ impl Window {
 
     /// Reads on where less than a record may be seen.
     pub(crate) fn fill<H: Host>(&mut self, host: &mut H, spot: Spot) -> Result<(), MessageError>
-        requires { IsTrue H.tells → IsSome ((H.view host.old).files spot.area spot.name) }
+        requires { IsThere H.tells (H.view host.old) spot }
         ensures at { self.new.at ≡ self.old.at }
-        ensures shows { OnOk result (IsTrue H.tells → (file : List ℕ) → (H.view host.old).files spot.area spot.name ≡ Some file → Shows file self.old → Shows file self.new) }
-        ensures front { OnOk result (IsTrue H.tells → (file : List ℕ) → (H.view host.old).files spot.area spot.name ≡ Some file → Shows file self.old → IsFront self.new.bytes (drop self.old.at file)) }
-        ensures only { (place : ℕ) → IsErrOf result (NotAMessage place) → ⊥ }
+        ensures shows { OnOk result (TellsShown H.tells (H.view host.old) spot self.old
+            (λ file. Shows file self.new)) }
+        ensures front { OnOk result (TellsShown H.tells (H.view host.old) spot self.old
+            (λ file. IsFront self.new.bytes (drop self.old.at file))) }
+        ensures only { OnNoMessage result (λ _. ⊥) }
         ensures stays { IsTrue H.tells → Stays (H.view host.old) (H.view host.new) }
         ensures cause { ReadCause (H.faults host.old) (H.faults host.new) result }
     {

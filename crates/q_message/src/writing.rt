@@ -1,12 +1,12 @@
 //! Writing a queue file.
-ghost use Rattle.std.specs.Prelude.{◌≡◌, ◌≤◌, ◌++◌, ◌∷◌, [], length, flat_map, replicate, unwrap_or, true, IfOk, OnOk};
+ghost use Rattle.std.specs.Prelude.{◌≡◌, ◌≤◌, ◌++◌, ◌∷◌, [], length, flat_map, unwrap_or, true, IfOk, OnOk};
 ghost use Rattle.std.specs.List.{list_all};
 ghost use Rattle.std.specs.Option.{option_map_or};
-ghost use Rattle.q_model.specs.QueueFileBytes.{IsFileOf, file_bytes};
+ghost use Rattle.q_model.specs.QueueFileBytes.{IsFileOf};
 ghost use Rattle.q_model.specs.Records.{record_bytes};
 ghost use Rattle.q_model.specs.Texts.{is_address};
 ghost use Rattle.q_record.specs.Kinds.{is_length};
-ghost use Rattle.q_message.specs.NewFile.{counts_text, head_text, new_message, new_record};
+ghost use Rattle.q_message.specs.NewFile.{counts_text, head_text, new_file, new_message, new_record};
 
 use q_model::{Address, Addresses, Bytes, Head, NoMemory};
 use q_record::put;
@@ -95,7 +95,9 @@ fn push_content(out: &mut Vec<u8>, alloc: Global, content: &[u8]) -> Result<(), 
     Ok(())
 }
 
-/// The bytes of the queue file of a new message, in which every recipient is pending.
+/// The bytes of the queue file of a new message, in which every recipient is pending. It is an error
+/// to call it past the form's bounds: 999,990,000,000 for the arrival, 1 to 50,000 recipients, and
+/// 20,000,000 bytes of content.
 pub fn write_message(
     alloc: Global,
     head: &Head,
@@ -106,7 +108,7 @@ pub fn write_message(
     requires some { 1 ≤ length to.now }
     requires few { length to.now ≤ 50000 }
     requires short { length content.now ≤ 20000000 }
-    ensures written { IfOk result (λ bytes. bytes ≡ file_bytes (new_message head.now to.now content.now) (replicate (length to.now) 80)) }
+    ensures written { IfOk result (λ bytes. bytes ≡ new_file head.now to.now content.now) }
     ensures reads { IfOk result (λ bytes. IsFileOf bytes (new_message head.now to.now content.now)) }
 {
     let mut out = head_records(alloc, head, to.len() as u32, content.len() as u32)?;

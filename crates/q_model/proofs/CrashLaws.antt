@@ -7,16 +7,14 @@ use Rattle.std.proofs.lemmas.Bool.{and_from, and_parts, or_cases, or_left, or_ri
 use Rattle.q_model.specs.declared.id.Id.{Id}
 use Rattle.q_model.specs.declared.rows.Mark.{Mark}
 use Rattle.q_model.specs.declared.rows.Place.{Place}
-use Rattle.q_model.specs.Book.{Book, Damaged, message_of, stands, stands_in}
+use Rattle.q_model.specs.Book.{Book, Damaged, all_ids, message_of, stands, stands_in}
 use Rattle.q_model.specs.Crashes.{EachTo, FailuresAfter, IsCrashOf, MarkAfter, MessageAfter, RecipientAfter}
-use Rattle.q_model.specs.FilesStand.{all_ids}
 use Rattle.q_model.specs.Ids.{cause_of, id_eq}
 use Rattle.q_model.specs.Lists.{has_none, places_from}
 use Rattle.q_model.specs.Marks.{is_marked, is_written}
 use Rattle.q_model.specs.Message.{Logged, Message, Recipient, unmarked_logged, written_marks}
-use Rattle.q_model.specs.Orderly.{has_firm_failures, is_lawful, is_orderly, is_paired, is_sealed, is_settled}
-use Rattle.q_model.specs.Places.{is_active, is_incoming}
-use Rattle.q_model.specs.SpoolFiles.{is_corrupt}
+use Rattle.q_model.specs.Orderly.{has_firm_failures, is_lawful, is_orderly, is_paired, is_sealed, is_sound}
+use Rattle.q_model.specs.Places.{is_active, is_corrupt, is_incoming}
 use Rattle.q_model.specs.declared.rows.Mark.TheVariants as marks
 
 -- ---- a message of which all is sure stays as it is
@@ -38,7 +36,7 @@ recipients-kept [] (n ∷ ns) h sure = absurd h
 recipients-kept (o ∷ os) [] h sure = absurd h
 recipients-kept (o ∷ os) (n ∷ ns) h sure = ap (λ (r : Recipient). r ∷ ns) (recipient-kept o n h.0 sure.0) ∙ ap (λ (rs : List Recipient). o ∷ rs) (recipients-kept os ns h.1 sure.1)
 
-failures-kept : (olds news : List Logged) → FailuresAfter olds news → list_all (λ f. f.firm) olds ≡ true → news ≡ olds
+pub failures-kept : (olds news : List Logged) → FailuresAfter olds news → list_all (λ f. f.firm) olds ≡ true → news ≡ olds
 failures-kept [] news h sure = h
 failures-kept (f ∷ fs) news (inl kept) sure =
     let two = and_parts f.firm (list_all (λ (x : Logged). x.firm) fs) sure in
@@ -81,8 +79,8 @@ sealed_unwritten (r ∷ rs) h =
     let two = and_parts (is_marked r.mark && not (is_written r.mark)) (list_all (λ (x : Recipient). is_marked x.mark && not (is_written x.mark)) rs) h in
     (not-true (is_written r.mark) (and_parts (is_marked r.mark) (not (is_written r.mark)) two.0).1, sealed_unwritten rs two.1)
 
-settled-kept : (old new : Message) → MessageAfter old new → is_settled old ≡ true → new ≡ old
-settled-kept old new h s =
+sound-kept : (old new : Message) → MessageAfter old new → is_sound old ≡ true → new ≡ old
+sound-kept old new h s =
     let two = and_parts (has_none (unmarked_logged old) && has_none (written_marks old)) (has_firm_failures old) s in
     let one = and_parts (has_none (unmarked_logged old)) (has_none (written_marks old)) two.0 in
     message-kept old new h (unwritten 0 old.recipients one.1) two.1
@@ -110,7 +108,7 @@ places-after place id (o ∷ os) (n ∷ ns) h =
     ∙ ap (λ (t : Bool). (id_eq o.id id && place o.place) || t) (places-after place id os ns h.1)
 
 -- what is found after the crash is what became of what was found before
-abbrev FoundAfter : Option Message → Option Message → Type 0
+abbrev pub FoundAfter : Option Message → Option Message → Type 0
 FoundAfter None new = new ≡ None
 FoundAfter (Some m) new = (n : Message) × (new ≡ Some n) × MessageAfter m n
 
@@ -120,7 +118,7 @@ first-after o n old new true false e h rest = absurd cc
 first-after o n old new false true e h rest = absurd cc
 first-after o n old new false false e h rest = rest
 
-find-after : (id : Id) (olds news : List Message) → EachTo MessageAfter olds news → FoundAfter (find (λ m. id_eq m.id id) olds) (find (λ m. id_eq m.id id) news)
+pub find-after : (id : Id) (olds news : List Message) → EachTo MessageAfter olds news → FoundAfter (find (λ m. id_eq m.id id) olds) (find (λ m. id_eq m.id id) news)
 find-after id [] [] h = refl
 find-after id [] (n ∷ ns) h = absurd h
 find-after id (o ∷ os) [] h = absurd h
@@ -146,8 +144,9 @@ paired false b b2 s s2 o o2 eb es eo h =
       | inr there ↦ or_right b2 (s2 && o2) (and_from s2 o2 (es ∙ (and_parts s o there).0) (eo (and_parts s o there).1))
     ]
 
-stands-after : (b c : Book) (id : Id) → IsCrashOf b c → stands c id ≡ stands b id
-stands-after b c id h =
+-- the same ids stand
+pub stands-crash : (b c : Book) (id : Id) → IsCrashOf b c → stands c id ≡ stands b id
+stands-crash b c id h =
     ap (λ (t : Bool). t || is_some (find (λ (d : Damaged). id_eq d.id id) c.damaged)) (some-after (message_of b id) (message_of c id) (find-after id b.messages c.messages h.messages))
     ∙ ap (λ (ds : List Damaged). is_some (message_of b id) || is_some (find (λ (d : Damaged). id_eq d.id id) ds)) h.damaged
 
@@ -160,7 +159,7 @@ paired-after : (b c : Book) (id : Id) → IsCrashOf b c → is_paired b id ≡ t
 paired-after b c id h good =
     paired (not id.bounce) (not (stands b (cause_of id))) (not (stands c (cause_of id))) (stands_in is_incoming b id) (stands_in is_incoming c id)
     (option_map_or (λ m. is_active m.place && is_sealed m) (message_of b (cause_of id)) false) (option_map_or (λ m. is_active m.place && is_sealed m) (message_of c (cause_of id)) false)
-    (ap not (stands-after b c (cause_of id) h)) (stands_in-after is_incoming b c id h)
+    (ap not (stands-crash b c (cause_of id) h)) (stands_in-after is_incoming b c id h)
     (good-after (message_of b (cause_of id)) (message_of c (cause_of id)) (find-after (cause_of id) b.messages c.messages h.messages)) good
 
 all_ids-after : (b c : Book) → IsCrashOf b c → all_ids c ≡ all_ids b
@@ -172,30 +171,30 @@ all-weaker p q (x ∷ xs) step h =
     let two = and_parts (p x) (list_all p xs) h in
     and_from (q x) (list_all q xs) (step x two.0) (all-weaker p q xs step two.1)
 
-one-settled : (o n : Message) → MessageAfter o n → (is_active o.place || is_settled o) ≡ true → (is_active n.place || is_settled n) ≡ true
-one-settled o n h good =
-    elim (or_cases (is_active o.place) (is_settled o) good) [
-      | inl active ↦ or_left (is_active n.place) (is_settled n) (ap is_active h.place ∙ active)
-      | inr settled ↦ or_right (is_active n.place) (is_settled n) (ap is_settled (settled-kept o n h settled) ∙ settled)
+one-sound : (o n : Message) → MessageAfter o n → (is_active o.place || is_sound o) ≡ true → (is_active n.place || is_sound n) ≡ true
+one-sound o n h good =
+    elim (or_cases (is_active o.place) (is_sound o) good) [
+      | inl active ↦ or_left (is_active n.place) (is_sound n) (ap is_active h.place ∙ active)
+      | inr sound ↦ or_right (is_active n.place) (is_sound n) (ap is_sound (sound-kept o n h sound) ∙ sound)
     ]
 
-settled-after : (olds news : List Message) → EachTo MessageAfter olds news → list_all (λ m. is_active m.place || is_settled m) olds ≡ true → list_all (λ m. is_active m.place || is_settled m) news ≡ true
-settled-after [] [] h good = refl
-settled-after [] (n ∷ ns) h good = absurd h
-settled-after (o ∷ os) [] h good = absurd h
-settled-after (o ∷ os) (n ∷ ns) h good =
-    let two = and_parts (is_active o.place || is_settled o) (list_all (λ (m : Message). is_active m.place || is_settled m) os) good in
-    and_from (is_active n.place || is_settled n) (list_all (λ (m : Message). is_active m.place || is_settled m) ns) (one-settled o n h.0 two.0) (settled-after os ns h.1 two.1)
+sound-after : (olds news : List Message) → EachTo MessageAfter olds news → list_all (λ m. is_active m.place || is_sound m) olds ≡ true → list_all (λ m. is_active m.place || is_sound m) news ≡ true
+sound-after [] [] h good = refl
+sound-after [] (n ∷ ns) h good = absurd h
+sound-after (o ∷ os) [] h good = absurd h
+sound-after (o ∷ os) (n ∷ ns) h good =
+    let two = and_parts (is_active o.place || is_sound o) (list_all (λ (m : Message). is_active m.place || is_sound m) os) good in
+    and_from (is_active n.place || is_sound n) (list_all (λ (m : Message). is_active m.place || is_sound m) ns) (one-sound o n h.0 two.0) (sound-after os ns h.1 two.1)
 
 pub is_orderly-crash : (b c : Book) → IsCrashOf b c → is_orderly b ≡ true → is_orderly c ≡ true
 is_orderly-crash b c h good =
     let test = λ (k : Book) (id : Id). nat_le id.generation k.generation && is_paired k id in
-    let two = and_parts (list_all (test b) (all_ids b)) (list_all (λ (m : Message). is_active m.place || is_settled m) b.messages) good in
+    let two = and_parts (list_all (test b) (all_ids b)) (list_all (λ (m : Message). is_active m.place || is_sound m) b.messages) good in
     let each : list_all (test c) (all_ids b) ≡ true = all-weaker (test b) (test c) (all_ids b) (λ id k.
     let parts = and_parts (nat_le id.generation b.generation) (is_paired b id) k in
     and_from (nat_le id.generation c.generation) (is_paired c id) (ap (nat_le id.generation) h.generation ∙ parts.0) (paired-after b c id h parts.1)) two.0 in
-    and_from (list_all (test c) (all_ids c)) (list_all (λ (m : Message). is_active m.place || is_settled m) c.messages)
-    (ap (list_all (test c)) (all_ids-after b c h) ∙ each) (settled-after b.messages c.messages h.messages two.1)
+    and_from (list_all (test c) (all_ids c)) (list_all (λ (m : Message). is_active m.place || is_sound m) c.messages)
+    (ap (list_all (test c)) (all_ids-after b c h) ∙ each) (sound-after b.messages c.messages h.messages two.1)
 
 pub is_lawful-crash : (b c : Book) → IsCrashOf b c → is_lawful b ≡ true → is_lawful c ≡ true
 is_lawful-crash b c h good =

@@ -1,5 +1,5 @@
 -- What is read from a failure log stands at its front, and what follows it is no record.
-use Rattle.std.proofs.Common.{◌≡◌, ℕ, zero, suc, ◌+◌, ◌/◌, ◌^◌, ◌<◌, ◌≤◌, Bool, true, false, ◌&&◌, eqb, List, [], ◌∷◌, ◌++◌, length, get_or, drop, flat_map, Option, Some, None, if◌then◌else◌, refl, sym, ap, subst, ◌∙◌, append_assoc, arith}
+use Rattle.std.proofs.Common.{◌≡◌, ℕ, zero, suc, ◌/◌, ◌^◌, ◌<◌, ◌≤◌, Bool, true, false, eqb, List, [], ◌∷◌, ◌++◌, length, drop, flat_map, Option, Some, None, if◌then◌else◌, refl, sym, ap, subst, ◌∙◌, append_assoc, arith}
 use Rattle.std.specs.Int.{w16, w32, from_be_bytes, to_be_bytes}
 use Rattle.std.specs.List.{AllByRecursion}
 use Rattle.std.specs.Option.{option_map, option_map_or}
@@ -9,7 +9,7 @@ use Rattle.std.proofs.lemmas.Nat.{be_bytes_2, be_bytes_4}
 use Rattle.q_model.specs.declared.outcome.Failure.{Failure}
 use Rattle.q_model.specs.declared.outcome.Why.{Why}
 use Rattle.q_model.specs.declared.outcome.Why.TheVariants.{Expired, Refused}
-use Rattle.q_model.specs.FailureLog.{code_in, failure_bytes, failure_in, IsFailure, is_log_code, is_open, log_records, position_in, records_with, why_byte, why_of}
+use Rattle.q_model.specs.FailureLog.{failure_bytes, failure_in, IsFailure, is_log_code, is_open, log_records, records_with, why_byte, why_of}
 use Rattle.q_model.proofs.FailureLogLaws.{no_record}
 use Rattle.q_model.proofs.RecordLaws.{AreBytes, AreBytes-drop, map_some}
 

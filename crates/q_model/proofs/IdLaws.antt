@@ -10,7 +10,7 @@ use Rattle.std.specs.List.{list_all}
 use Rattle.std.specs.Str.Parse.{digits_value}
 use Rattle.std.specs.Prelude.{◌&&◌, ◌==◌, bytes_eq, nat_le}
 use Rattle.q_model.specs.declared.id.Id.{Id}
-use Rattle.q_model.specs.Destinations.{site_eq}
+use Rattle.q_model.specs.Sites.{site_eq}
 use Rattle.q_model.specs.Ids.{bool_eq, id_eq}
 use Rattle.q_model.specs.IdTexts.{decimals, due_text, hex, id_text, IsId}
 use Rattle.q_model.specs.Texts.{is_name, is_name_byte}

@@ -4,7 +4,7 @@ use Rattle.std.specs.List.{list_all}
 use Rattle.std.proofs.lemmas.List.{length-append, set-append_right, set_split}
 use Rattle.std.proofs.lemmas.List.Sums.{sum_by-cons}
 use Rattle.q_model.specs.QueueFile.{FileMessage, FileRecipient, queue_file}
-use Rattle.q_model.specs.QueueFileBytes.{IsFileMessage, AreMarks, file_bytes, first_at, head_bytes, mark_at, mark_recipient, recipients_bytes, with_mark}
+use Rattle.q_model.specs.QueueFileBytes.{IsFileMessage, AreMarks, file_bytes, first_at, head_bytes, mark_at, mark_recipient, recipients_bytes, with_mark_byte}
 use Rattle.q_model.specs.Records.{record_bytes}
 use Rattle.q_model.specs.Texts.{is_address}
 use Rattle.q_model.proofs.QueueFileLaws.{queue_file_again}
@@ -73,7 +73,7 @@ mark_written m marks i v h len = written_byte (file_bytes m marks) (mark_at m i)
 
 -- ---- the message with another mark
 
-marks_agree : (rs : List FileRecipient) (marks : List ℕ) (i v : ℕ) → map (λ b. eqb b 68) marks ≡ map (λ r. r.marked) rs → map (λ b. eqb b 68) (set marks i v) ≡ map (λ r. r.marked) (with_mark rs i (eqb v 68))
+marks_agree : (rs : List FileRecipient) (marks : List ℕ) (i v : ℕ) → map (λ b. eqb b 68) marks ≡ map (λ r. r.marked) rs → map (λ b. eqb b 68) (set marks i v) ≡ map (λ r. r.marked) (with_mark_byte rs i (eqb v 68))
 marks_agree [] [] i v same = refl
 marks_agree [] (mark ∷ marks) i v same = absurd cc
 marks_agree (r ∷ rs) [] i v same = absurd cc
@@ -89,18 +89,18 @@ marks_agree (r ∷ rs) (mark ∷ marks) (suc i) v same =
 pub AreMarks-set : (m : FileMessage) (marks : List ℕ) (i v : ℕ) → AreMarks marks m → AreMarks (set marks i v) (mark_recipient m i (eqb v 68))
 AreMarks-set m marks i v same = marks_agree m.recipients marks i v same
 
-with_mark-length : (rs : List FileRecipient) (i : ℕ) (b : Bool) → length (with_mark rs i b) ≡ length rs
+with_mark-length : (rs : List FileRecipient) (i : ℕ) (b : Bool) → length (with_mark_byte rs i b) ≡ length rs
 with_mark-length [] i b = refl
 with_mark-length (r ∷ rs) zero b = refl
 with_mark-length (r ∷ rs) (suc i) b = ap suc (with_mark-length rs i b)
 
-with_mark-bytes : (rs : List FileRecipient) (marks : List ℕ) (i : ℕ) (b : Bool) → recipients_bytes marks (with_mark rs i b) ≡ recipients_bytes marks rs
+with_mark-bytes : (rs : List FileRecipient) (marks : List ℕ) (i : ℕ) (b : Bool) → recipients_bytes marks (with_mark_byte rs i b) ≡ recipients_bytes marks rs
 with_mark-bytes [] marks i b = refl
 with_mark-bytes (r ∷ rs) [] i b = refl
 with_mark-bytes (r ∷ rs) (mark ∷ marks) zero b = refl
 with_mark-bytes (r ∷ rs) (mark ∷ marks) (suc i) b = ap (λ (xs : List ℕ). record_bytes 82 (mark ∷ r.address) ++ xs) (with_mark-bytes rs marks i b)
 
-with_mark-addresses : (rs : List FileRecipient) (i : ℕ) (b : Bool) → list_all (λ r. is_address r.address) (with_mark rs i b) ≡ list_all (λ r. is_address r.address) rs
+with_mark-addresses : (rs : List FileRecipient) (i : ℕ) (b : Bool) → list_all (λ r. is_address r.address) (with_mark_byte rs i b) ≡ list_all (λ r. is_address r.address) rs
 with_mark-addresses [] i b = refl
 with_mark-addresses (r ∷ rs) zero b = refl
 with_mark-addresses (r ∷ rs) (suc i) b = rw (with_mark-addresses rs i b) refl

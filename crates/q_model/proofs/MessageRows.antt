@@ -6,7 +6,7 @@ use Rattle.q_model.specs.Run.{decide, decisions, run, run_of, turn}
 use Rattle.q_model.specs.Settings.{defaults}
 use Rattle.q_model.specs.Step.{after, after_all}
 use Rattle.q_model.specs.Text.{line, text}
-use Rattle.q_model.specs.declared.event.Item.TheVariants.{Begin, Finish}
+use Rattle.q_model.specs.declared.event.LifeEvent.TheVariants.{Begin, Finish}
 use Rattle.std.proofs.Common.{refl}
 use Rattle.std.specs.Fmt.{digits}
 use Rattle.std.specs.Prelude.{[], codes, ◌∷◌, ◌≡◌}

@@ -4,13 +4,13 @@ use Rattle.q_model.specs.Book.{empty_book}
 use Rattle.q_model.specs.IdTexts.{hex}
 use Rattle.q_model.specs.Next.{next}
 use Rattle.q_model.specs.PreemptingStarts.{preempting_starts, starts_through}
-use Rattle.q_model.specs.Routes.{world_of}
+use Rattle.q_model.specs.Routes.{world_without_table}
 use Rattle.q_model.specs.Run.{decide, decisions, run, run_of, turn}
 use Rattle.q_model.specs.Settings.{defaults}
 use Rattle.q_model.specs.Step.{after, after_all}
 use Rattle.q_model.specs.Text.{line, text}
 use Rattle.q_model.specs.declared.entry.Entry.{Entry}
-use Rattle.q_model.specs.declared.event.Item.TheVariants.{Finish}
+use Rattle.q_model.specs.declared.event.LifeEvent.TheVariants.{Finish}
 use Rattle.q_model.specs.declared.event.Mode.TheVariants.{Deliver}
 use Rattle.std.proofs.Common.{refl}
 use Rattle.std.specs.Fmt.{digits}
@@ -79,7 +79,7 @@ nested_preemption = refl
 -- the entries of the nested preemption
 abbrev nested_entries : List Entry
 unfolding run_of
-nested_entries = run_of (world_of (record defaults { process_limit = 1; slot_cost = 2; slot_loan = 40; slot_discount = 0; minimum_slots = 1 })) Deliver empty_book (at 1000 ∷ mail (codes "a@x.example") (many 1 0 (own_domain (codes "c"))) ∷ mail (codes "a@x.example") (many 40 0 (own_domain (codes "d"))) ∷ mail (codes "a@x.example") (many 20 0 (own_domain (codes "e"))) ∷ up 1 (outcomes.Ok ∷ []) ∷ mail (codes "a@x.example") (many 10 0 (own_domain (codes "f"))) ∷ up 2 (outcomes.Ok ∷ []) ∷ up 3 (outcomes.Ok ∷ []) ∷ Finish ∷ [])
+nested_entries = run_of (world_without_table (record defaults { process_limit = 1; slot_cost = 2; slot_loan = 40; slot_discount = 0; minimum_slots = 1 })) Deliver empty_book (at 1000 ∷ mail (codes "a@x.example") (many 1 0 (own_domain (codes "c"))) ∷ mail (codes "a@x.example") (many 40 0 (own_domain (codes "d"))) ∷ mail (codes "a@x.example") (many 20 0 (own_domain (codes "e"))) ∷ up 1 (outcomes.Ok ∷ []) ∷ mail (codes "a@x.example") (many 10 0 (own_domain (codes "f"))) ∷ up 2 (outcomes.Ok ∷ []) ∷ up 3 (outcomes.Ok ∷ []) ∷ Finish ∷ [])
 
 -- two deliveries of the third message and two of the fourth went before the second; those of the fourth count once through the third
 nested_preempting_starts : preempting_starts (id 2) 0 (drop 8 nested_entries) ≡ 3

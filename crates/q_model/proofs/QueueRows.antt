@@ -5,13 +5,13 @@ use Rattle.q_model.specs.IdTexts.{hex}
 use Rattle.q_model.specs.Message.{Message}
 use Rattle.q_model.specs.Next.{next}
 use Rattle.q_model.specs.Notices.{notice}
-use Rattle.q_model.specs.Routes.{no_table, world_of}
+use Rattle.q_model.specs.Routes.{no_table, world_without_table}
 use Rattle.q_model.specs.Run.{decide, decisions, run, run_of, turn}
 use Rattle.q_model.specs.Settings.{defaults}
 use Rattle.q_model.specs.Step.{after, after_all}
 use Rattle.q_model.specs.Text.{line, text}
 use Rattle.q_model.specs.Times.{due}
-use Rattle.q_model.specs.declared.event.Item.TheVariants.{Finish, Heard}
+use Rattle.q_model.specs.declared.event.LifeEvent.TheVariants.{Finish, Heard}
 use Rattle.q_model.specs.declared.event.Mode.TheVariants.{Deliver}
 use Rattle.q_model.specs.declared.outcome.Why.TheVariants.{Refused}
 use Rattle.std.proofs.Common.{refl}
@@ -93,7 +93,7 @@ unfolding run_of text run turn decisions decide after after_all next line digits
 triggers_A_and_D = refl
 
 -- a crash that lost the mark: the message is sent again
-mark_lost_in_a_crash : text no_table (run_of (world_of defaults) Deliver (record { generation = 1; messages = one_to 1 marks.Unmarked places.Active ∷ []; damaged = [] }) (at 2000 ∷ Finish ∷ [])) ≡ lines (
+mark_lost_in_a_crash : text no_table (run_of (world_without_table defaults) Deliver (record { generation = 1; messages = one_to 1 marks.Unmarked places.Active ∷ []; damaged = [] }) (at 2000 ∷ Finish ∷ [])) ≡ lines (
     codes "life 2"
     ∷ codes "at 2000"
     ∷ codes "sync 00000001-00000001"
@@ -107,7 +107,7 @@ unfolding run_of text run turn decisions decide after after_all next line digits
 mark_lost_in_a_crash = refl
 
 -- a crash that kept the mark: the message is only removed
-mark_kept_in_a_crash : text no_table (run_of (world_of defaults) Deliver (record { generation = 1; messages = one_to 1 marks.Synced places.Active ∷ []; damaged = [] }) (at 2000 ∷ Finish ∷ [])) ≡ lines (
+mark_kept_in_a_crash : text no_table (run_of (world_without_table defaults) Deliver (record { generation = 1; messages = one_to 1 marks.Synced places.Active ∷ []; damaged = [] }) (at 2000 ∷ Finish ∷ [])) ≡ lines (
     codes "life 2"
     ∷ codes "at 2000"
     ∷ codes "sync 00000001-00000001"
@@ -117,8 +117,8 @@ mark_kept_in_a_crash : text no_table (run_of (world_of defaults) Deliver (record
 unfolding run_of text run turn decisions decide after after_all next line digits hex
 mark_kept_in_a_crash = refl
 
--- a damaged file goes to corrupt, and the next is taken
-damaged_file : text no_table (run_of (world_of defaults) Deliver (record { generation = 1; messages = one_to 2 marks.Unmarked places.Incoming ∷ []; damaged = record { id = id 1; place = places.Incoming } ∷ [] }) (at 2000 ∷ Finish ∷ [])) ≡ lines (
+-- a damaged file goes to corrupt, and the next is picked
+damaged_file : text no_table (run_of (world_without_table defaults) Deliver (record { generation = 1; messages = one_to 2 marks.Unmarked places.Incoming ∷ []; damaged = record { id = id 1; place = places.Incoming } ∷ [] }) (at 2000 ∷ Finish ∷ [])) ≡ lines (
     codes "life 2"
     ∷ codes "at 2000"
     ∷ codes "corrupt 00000001-00000001"
@@ -148,5 +148,5 @@ feedback_amount : amount (record { numerator = 1; denominator = 1; by_window = t
 feedback_amount = refl
 
 -- the delay about doubles the age, until it reaches the greatest
-due_times : (due (world_of defaults) 1000 refused_one ≡ 1300) × (due (world_of defaults) 1301 refused_one ≡ 1602) × (due (world_of defaults) 11000 refused_one ≡ 15000)
+due_times : (due (world_without_table defaults) 1000 refused_one ≡ 1300) × (due (world_without_table defaults) 1301 refused_one ≡ 1602) × (due (world_without_table defaults) 11000 refused_one ≡ 15000)
 due_times = (refl, refl, refl)

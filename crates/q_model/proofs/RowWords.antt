@@ -1,8 +1,8 @@
 -- Words of worked runs: events, and the lines that they lead to.
 use Rattle.std.specs.Prelude.{ℕ, zero, suc, ◌+◌, drop, List, [], ◌∷◌, ◌++◌, codes, decimal, flat_map, Some, false}
 use Rattle.q_model.specs.declared.event.Event.TheVariants as events
-use Rattle.q_model.specs.declared.event.Item.{Item}
-use Rattle.q_model.specs.declared.event.Item.TheVariants.{Heard}
+use Rattle.q_model.specs.declared.event.LifeEvent.{LifeEvent}
+use Rattle.q_model.specs.declared.event.LifeEvent.TheVariants.{Heard}
 use Rattle.q_model.specs.declared.event.Mode.TheVariants.{Deliver}
 use Rattle.q_model.specs.declared.id.Id.{Id}
 use Rattle.q_model.specs.declared.outcome.Outcome.{Outcome}
@@ -12,38 +12,38 @@ use Rattle.q_model.specs.declared.rows.Mark.{Mark}
 use Rattle.q_model.specs.declared.rows.Place.{Place}
 use Rattle.q_model.specs.Book.{empty_book}
 use Rattle.q_model.specs.Message.{Message}
-use Rattle.q_model.specs.Notices.{text_line}
-use Rattle.q_model.specs.Routes.{no_table, world_of}
+use Rattle.q_model.specs.TextParts.{text_line}
+use Rattle.q_model.specs.Routes.{no_table, world_without_table}
 use Rattle.q_model.specs.Run.{run_of}
 use Rattle.q_model.specs.Settings.{Settings}
 use Rattle.q_model.specs.Text.{text}
 
-abbrev pub at : ℕ → Item
+abbrev pub at : ℕ → LifeEvent
 at t = Heard (events.At t)
 
-abbrev pub mail : List ℕ → List (List ℕ) → Item
+abbrev pub mail : List ℕ → List (List ℕ) → LifeEvent
 mail sender to = Heard (events.Mail (Some sender) to [])
 
-abbrev pub up : ℕ → List Outcome → Item
+abbrev pub up : ℕ → List Outcome → LifeEvent
 up number outcomes = Heard (events.Reply number Up outcomes)
 
-abbrev pub down : ℕ → List Outcome → Item
+abbrev pub down : ℕ → List Outcome → LifeEvent
 down number outcomes = Heard (events.Reply number Down outcomes)
 
 -- n deliveries from number i on succeed
-abbrev pub ups : ℕ → ℕ → List Item
+abbrev pub ups : ℕ → ℕ → List LifeEvent
 ups zero i = []
 ups (suc n) i = up i (outcomes.Ok ∷ []) ∷ ups n (i + 1)
 
 -- what is told for these items on an empty spool
-abbrev pub told : Settings → List Item → List ℕ
+abbrev pub told : Settings → List LifeEvent → List ℕ
 unfolding run_of text
-told settings items = text no_table (run_of (world_of settings) Deliver empty_book items)
+told settings items = text no_table (run_of (world_without_table settings) Deliver empty_book items)
 
 -- the same from the n-th line on
-abbrev pub told_from : ℕ → Settings → List Item → List ℕ
+abbrev pub told_from : ℕ → Settings → List LifeEvent → List ℕ
 unfolding run_of text
-told_from n settings items = text no_table (drop n (run_of (world_of settings) Deliver empty_book items))
+told_from n settings items = text no_table (drop n (run_of (world_without_table settings) Deliver empty_book items))
 
 abbrev pub lines : List (List ℕ) → List ℕ
 lines texts = flat_map text_line texts

@@ -2,7 +2,7 @@
 use Rattle.std.proofs.Common.{Some, None, zero, suc, ◌+◌, ◌-◌, ◌<◌, ◌≡◌, ℕ, List, [], ◌∷◌, ◌++◌, refl, sym, ap, ◌∙◌, append_assoc, arith}
 use Rattle.std.proofs.lemmas.List.{append-nil}
 use Rattle.q_model.specs.declared.entry.Entry.{Entry}
-use Rattle.q_model.specs.declared.event.Item.{Item}
+use Rattle.q_model.specs.declared.event.LifeEvent.{LifeEvent}
 use Rattle.q_model.specs.Ledger.{Ledger}
 use Rattle.q_model.specs.Next.{next}
 use Rattle.q_model.specs.Run.{turn, run, decide}
@@ -15,7 +15,7 @@ after_all-append w l [] fs = refl
 after_all-append w l (x ∷ es) fs = after_all-append w (after w l x) es fs
 
 -- a run goes on by one turn
-pub run-turn : (w : World) (l : Ledger) (items : List Item) (item : Item) → run w l (items ++ item ∷ []) ≡ run w l items ++ turn w (after_all w l (run w l items)) item
+pub run-turn : (w : World) (l : Ledger) (items : List LifeEvent) (item : LifeEvent) → run w l (items ++ item ∷ []) ≡ run w l items ++ turn w (after_all w l (run w l items)) item
 unfolding run after_all
 run-turn w l [] item = append-nil (turn w l item)
 run-turn w l (i ∷ items) item =

@@ -1,4 +1,4 @@
--- Worked runs in which destinations die, revive and widen their windows.
+-- Worked runs in which sites die, revive and widen their windows.
 use Rattle.q_model.proofs.RowWords.{at, down, lines, mail, many, same_domain, told_from, up, ups}
 use Rattle.q_model.specs.IdTexts.{hex}
 use Rattle.q_model.specs.Next.{next}
@@ -6,7 +6,7 @@ use Rattle.q_model.specs.Run.{decide, decisions, run, run_of, turn}
 use Rattle.q_model.specs.Settings.{defaults}
 use Rattle.q_model.specs.Step.{after, after_all}
 use Rattle.q_model.specs.Text.{line, text}
-use Rattle.q_model.specs.declared.event.Item.TheVariants.{Finish, Heard}
+use Rattle.q_model.specs.declared.event.LifeEvent.TheVariants.{Finish, Heard}
 use Rattle.std.proofs.Common.{refl}
 use Rattle.std.specs.Fmt.{digits}
 use Rattle.std.specs.Prelude.{[], codes, true, ◌++◌, ◌∷◌, ◌≡◌}

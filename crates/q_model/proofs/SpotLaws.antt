@@ -7,7 +7,8 @@ use Rattle.q_model.specs.declared.id.Id.{Id}
 use Rattle.q_model.specs.declared.rows.Place.{Place}
 use Rattle.q_model.specs.declared.spot.Area.{Area}
 use Rattle.q_model.specs.IdTexts.{decimals, due_text, id_text, IsId}
-use Rattle.q_model.specs.SpoolFiles.{area_of, IsPlace, name_at, place_eq}
+use Rattle.q_model.specs.SpoolFiles.{area_of, IsPlace, name_at}
+use Rattle.q_model.specs.Places.{place_eq}
 use Rattle.q_model.specs.declared.rows.Place.TheVariants as places
 use Rattle.q_model.specs.declared.spot.Area.TheVariants as areas
 use Rattle.q_model.proofs.IdLaws.{id_text-injective}

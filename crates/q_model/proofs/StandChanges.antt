@@ -7,11 +7,12 @@ use Rattle.q_model.specs.declared.id.Id.{Id}
 use Rattle.q_model.specs.declared.rows.Place.{Place}
 use Rattle.q_model.specs.Book.{Book, Damaged, message_of, stands_in}
 use Rattle.q_model.specs.BookChanges.{change_message}
-use Rattle.q_model.specs.FilesStand.{are_distinct, DamagedStands, MessageStands, Stands}
-use Rattle.q_model.specs.Ids.{id_eq}
+use Rattle.q_model.specs.FilesStand.{DamagedStands, MessageStands, Stands}
+use Rattle.q_model.specs.Ids.{are_distinct, id_eq}
 use Rattle.q_model.specs.IdTexts.{IsId}
 use Rattle.q_model.specs.Message.{Message}
-use Rattle.q_model.specs.SpoolFiles.{file_at, Files, IsPlace, place_eq}
+use Rattle.q_model.specs.SpoolFiles.{file_at, Files, IsPlace}
+use Rattle.q_model.specs.Places.{place_eq}
 use Rattle.q_model.specs.declared.spot.Area.TheVariants as areas
 use Rattle.q_model.proofs.EachLaws.{any-map, each-both, each-map, each-same, each-unmap, find-any, find-has, find-passes, none-each}
 use Rattle.q_model.proofs.IdLaws.{id_eq-true}
@@ -46,20 +47,26 @@ distinct-behind (x ∷ xs) ys id h there =
 abbrev pub IsOnly : Id → Message → Message → Type 0
 IsOnly id m x = id_eq x.id id ≡ true → x ≡ m
 
-only_first : (x : Message) (ms : List Message) (id : Id) (m : Message) (t : Bool) → id_eq x.id id ≡ t → AllByRecursion (λ y. id_eq y.id x.id ≡ false) ms → (if t then Some x else find (λ y. id_eq y.id id) ms) ≡ Some m → (find (λ y. id_eq y.id id) ms ≡ Some m → AllByRecursion (IsOnly id m) ms) → IsOnly id m x × AllByRecursion (IsOnly id m) ms
-only_first x ms id m true e others found rest =
-    let same : x ≡ m = cc in
-    let here = id_eq-true x.id id e in
-    (λ k. same, each-same (λ y. id_eq y.id x.id ≡ false) (IsOnly id m) ms (λ y k j. absurd (true_false (id_eq y.id id) j (ap (id_eq y.id) (sym here) ∙ k))) others)
-only_first x ms id m false e others found rest = (λ k. absurd (true_false (id_eq x.id id) k e), rest found)
+module _ {A : Type 0} (id_of : A → Id) where
+  only_first : (x : A) (xs : List A) (id : Id) (a : A) (t : Bool) → id_eq (id_of x) id ≡ t → AllByRecursion (λ y. id_eq (id_of y) (id_of x) ≡ false) xs → (if t then Some x else find (λ y. id_eq (id_of y) id) xs) ≡ Some a
+      → (find (λ y. id_eq (id_of y) id) xs ≡ Some a → AllByRecursion (λ y. id_eq (id_of y) id ≡ true → y ≡ a) xs) → AllByRecursion (λ y. id_eq (id_of y) id ≡ true → y ≡ a) (x ∷ xs)
+  only_first x xs id a true e others found rest =
+      let same : x ≡ a = cc in
+      let here = id_eq-true (id_of x) id e in
+      (λ k. same, each-same (λ y. id_eq (id_of y) (id_of x) ≡ false) (λ y. id_eq (id_of y) id ≡ true → y ≡ a) xs (λ y k j. absurd (true_false (id_eq (id_of y) id) j (ap (id_eq (id_of y)) (sym here) ∙ k))) others)
+  only_first x xs id a false e others found rest = (λ k. absurd (true_false (id_eq (id_of x) id) k e), rest found)
+
+  -- where ids are distinct, what is found of an id is all that there is of it
+  pub only_of : (xs : List A) (id : Id) (a : A) → are_distinct (map id_of xs) ≡ true → find (λ x. id_eq (id_of x) id) xs ≡ Some a → AllByRecursion (λ x. id_eq (id_of x) id ≡ true → x ≡ a) xs
+  only_of [] id a h found = tt
+  only_of (x ∷ xs) id a h found =
+      let two = and_parts (not (list_any (λ i. id_eq i (id_of x)) (map id_of xs))) (are_distinct (map id_of xs)) h in
+      let none : list_any (λ i. id_eq i (id_of x)) (map id_of xs) ≡ false = not-true (list_any (λ i. id_eq i (id_of x)) (map id_of xs)) two.0 in
+      let others = each-unmap (λ i. id_eq i (id_of x) ≡ false) id_of xs (none-each (λ i. id_eq i (id_of x)) (map id_of xs) none) in
+      only_first x xs id a (id_eq (id_of x) id) refl others found (only_of xs id a two.1)
 
 pub only_one : (ms : List Message) (id : Id) (m : Message) → are_distinct (map (λ x. x.id) ms) ≡ true → find (λ x. id_eq x.id id) ms ≡ Some m → AllByRecursion (IsOnly id m) ms
-only_one [] id m h found = tt
-only_one (x ∷ ms) id m h found =
-    let two = and_parts (not (list_any (λ i. id_eq i x.id) (map (λ (y : Message). y.id) ms))) (are_distinct (map (λ (y : Message). y.id) ms)) h in
-    let none : list_any (λ i. id_eq i x.id) (map (λ (y : Message). y.id) ms) ≡ false = not-true (list_any (λ i. id_eq i x.id) (map (λ (y : Message). y.id) ms)) two.0 in
-    let others = each-unmap (λ i. id_eq i x.id ≡ false) (λ (y : Message). y.id) ms (none-each (λ i. id_eq i x.id) (map (λ (y : Message). y.id) ms) none) in
-    only_first x ms id m (id_eq x.id id) refl others found (only_one ms id m two.1)
+only_one ms id m h found = only_of (λ (x : Message). x.id) ms id m h found
 
 pub any-found : (ms : List Message) (id : Id) (m : Message) → find (λ x. id_eq x.id id) ms ≡ Some m → list_any (λ i. id_eq i id) (map (λ x. x.id) ms) ≡ true
 any-found ms id m found = any-map (λ i. id_eq i id) (λ x. x.id) ms ∙ sym (find-any (λ x. id_eq x.id id) ms) ∙ ap is_some found
@@ -74,11 +81,11 @@ pub record KeepsPlace (change : Message → Message) : Type 0 where
 abbrev pub changed : Id → (Message → Message) → Message → Message
 changed id change m = if id_eq m.id id then change m else m
 
-changed-id : (id : Id) (change : Message → Message) → KeepsPlace change → (m : Message) → (changed id change m).id ≡ m.id
+changed-id : (id : Id) (change : Message → Message) → ((m : Message) → (change m).id ≡ m.id) → (m : Message) → (changed id change m).id ≡ m.id
 changed-id id change keeps m = by (id_eq m.id id)
   where
     by : (t : Bool) → (if t then change m else m).id ≡ m.id
-    by true = keeps.id m
+    by true = keeps m
     by false = refl
 
 changed-place : (id : Id) (change : Message → Message) → KeepsPlace change → (m : Message) → (changed id change m).place ≡ m.place
@@ -92,7 +99,8 @@ pub any-same : {A : Type 0} (p q : A → Bool) (xs : List A) → ((x : A) → p 
 any-same p q [] same = refl
 any-same p q (x ∷ xs) same = ap (λ (t : Bool). t || list_any p xs) (same x) ∙ ap (λ (t : Bool). q x || t) (any-same p q xs same)
 
-pub map-ids : (id : Id) (change : Message → Message) → KeepsPlace change → (ms : List Message) → map (λ x. x.id) (map (changed id change) ms) ≡ map (λ x. x.id) ms
+-- a change that keeps ids keeps them all
+pub map-ids : (id : Id) (change : Message → Message) → ((m : Message) → (change m).id ≡ m.id) → (ms : List Message) → map (λ x. x.id) (map (changed id change) ms) ≡ map (λ x. x.id) ms
 map-ids id change keeps [] = refl
 map-ids id change keeps (m ∷ ms) = ap (λ (i : Id). i ∷ map (λ x. x.id) (map (changed id change) ms)) (changed-id id change keeps m) ∙ ap (λ (is : List Id). m.id ∷ is) (map-ids id change keeps ms)
 
@@ -103,7 +111,7 @@ stands-changed b id change keeps place i =
     ap (λ (t : Bool). t || there)
     (any-map (λ (x : Message). id_eq x.id i && place_eq place x.place) (changed id change) b.messages
     ∙ any-same (λ (x : Message). id_eq (changed id change x).id i && place_eq place (changed id change x).place) (λ (x : Message). id_eq x.id i && place_eq place x.place) b.messages
-    (λ x. ap (λ (k : Id). id_eq k i && place_eq place (changed id change x).place) (changed-id id change keeps x) ∙ ap (λ (p : Place). id_eq x.id i && place_eq place p) (changed-place id change keeps x)))
+    (λ x. ap (λ (k : Id). id_eq k i && place_eq place (changed id change x).place) (changed-id id change keeps.id x) ∙ ap (λ (p : Place). id_eq x.id i && place_eq place p) (changed-place id change keeps x)))
 
 -- what doesn't change with the files of an id
 pub record KeepsOthers (id : Id) (f g : Files) : Type 0 where
@@ -130,7 +138,7 @@ Stands-change f g b id change m keeps found others new h =
     let damaged = each-both (DamagedStands f) (λ d. id_eq d.id id ≡ false) b.damaged h.damaged (each-unmap (λ i. id_eq i id ≡ false) (λ (d : Damaged). d.id) b.damaged (none-each (λ i. id_eq i id) ds none)) in
     record {
       boot = BootStands-kept f g b.generation others.boot h.boot;
-      distinct = ap (λ (is : List Id). are_distinct (is ++ ds)) (map-ids id change keeps b.messages) ∙ h.distinct;
+      distinct = ap (λ (is : List Id). are_distinct (is ++ ds)) (map-ids id change keeps.id b.messages) ∙ h.distinct;
       messages = each-map (λ x. MessageStands f x × IsOnly id m x) (MessageStands g) (changed id change) b.messages (λ x k. one_changed f g id change m x others new (id_eq x.id id) refl k.0 k.1) (each-both (MessageStands f) (IsOnly id m) b.messages h.messages only);
       damaged = each-same (λ d. DamagedStands f d × (id_eq d.id id ≡ false)) (DamagedStands g) b.damaged (λ d k. others.damaged d (not_same d.id id k.1) k.0) damaged;
       nothing_else = λ place i bytes hi hp there.

@@ -20,8 +20,9 @@ use Rattle.q_model.specs.Marks.{is_marked}
 use Rattle.q_model.specs.Message.{is_logged, Logged, Message, Recipient}
 use Rattle.q_model.specs.QueueFile.{FileMessage, FileRecipient}
 use Rattle.q_model.specs.QueueFileBytes.{IsFileOf, mark_at, mark_recipient}
-use Rattle.q_model.specs.SpoolFiles.{area_of, file_at, Files, IsPlace, logged_in, name_at, place_eq}
-use Rattle.q_model.specs.QueueFileBytes.{with_mark as with_file_mark}
+use Rattle.q_model.specs.SpoolFiles.{area_of, file_at, Files, IsPlace, logged_in, name_at}
+use Rattle.q_model.specs.Places.{place_eq}
+use Rattle.q_model.specs.QueueFileBytes.{with_mark_byte}
 use Rattle.q_model.specs.declared.rows.Mark.TheVariants as marks
 use Rattle.q_model.specs.declared.spot.Area.TheVariants as areas
 use Rattle.q_model.proofs.EachLaws.{any-map}
@@ -93,7 +94,7 @@ file_marks-past (r ∷ rs) n place mark h =
     ap (λ (x : FileRecipient). x ∷ map to_file (map (set_mark place mark) (enumerate_from (n + 1) rs))) (not_at_place n place mark r (λ e. absurd (omega arith)))
     ∙ ap (λ (xs : List FileRecipient). to_file r ∷ xs) (file_marks-past rs (n + 1) place mark (omega arith))
 
-file_marks : (rs : List Recipient) (n position place : ℕ) (mark : Mark) → place ≡ n + position → map to_file (map (set_mark place mark) (enumerate_from n rs)) ≡ with_file_mark (map to_file rs) position (is_marked mark)
+file_marks : (rs : List Recipient) (n position place : ℕ) (mark : Mark) → place ≡ n + position → map to_file (map (set_mark place mark) (enumerate_from n rs)) ≡ with_mark_byte (map to_file rs) position (is_marked mark)
 file_marks [] n position place mark e = refl
 file_marks (r ∷ rs) n zero place mark e =
     ap (λ (x : FileRecipient). x ∷ map to_file (map (set_mark place mark) (enumerate_from (n + 1) rs))) (at_place n place mark r (omega arith))

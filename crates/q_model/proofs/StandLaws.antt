@@ -7,16 +7,17 @@ use Rattle.std.proofs.lemmas.List.Folds.{list_any-append}
 use Rattle.q_model.specs.declared.id.Id.{Id}
 use Rattle.q_model.specs.declared.rows.Place.{Place}
 use Rattle.q_model.specs.declared.spot.Area.{Area}
-use Rattle.q_model.specs.Book.{Book, Damaged, damaged_of, empty_book, message_of, stands, stands_in}
+use Rattle.q_model.specs.Book.{Book, Damaged, all_ids, damaged_of, empty_book, message_of, stands, stands_in}
 use Rattle.q_model.specs.BookChanges.{add_message}
 use Rattle.std.specs.Option.{option_map_or}
 use Rattle.q_model.specs.FailureLog.{failures_of, log_records}
-use Rattle.q_model.specs.FilesStand.{all_ids, are_distinct, BootStands, DamagedStands, MessageStands, Stands}
-use Rattle.q_model.specs.Ids.{id_eq}
+use Rattle.q_model.specs.FilesStand.{BootStands, DamagedStands, MessageStands, Stands}
+use Rattle.q_model.specs.Ids.{are_distinct, id_eq}
 use Rattle.q_model.specs.IdTexts.{id_text, IsId}
 use Rattle.q_model.specs.Message.{Message}
 use Rattle.q_model.specs.Orderly.{is_lawful}
-use Rattle.q_model.specs.SpoolFiles.{area_of, file_at, Files, IsPlace, name_at, place_eq}
+use Rattle.q_model.specs.SpoolFiles.{area_of, file_at, Files, IsPlace, name_at}
+use Rattle.q_model.specs.Places.{place_eq}
 use Rattle.q_model.specs.Texts.{is_name}
 use Rattle.q_model.specs.declared.spot.Area.TheVariants as areas
 use Rattle.q_model.proofs.EachLaws.{any-map, each-append, each-both, each-same, find-any, none-each}

@@ -9,17 +9,18 @@ use Rattle.q_model.specs.declared.rows.Place.{Place}
 use Rattle.q_model.specs.Book.{Book, Damaged, message_of, stands_in}
 use Rattle.q_model.specs.BookChanges.{move_message, remove_message}
 use Rattle.q_model.specs.FailureLog.{failures_of, log_records}
-use Rattle.q_model.specs.FilesStand.{are_distinct, DamagedStands, file_message, MessageStands, Stands}
+use Rattle.q_model.specs.FilesStand.{DamagedStands, file_message, MessageStands, Stands}
 use Rattle.q_model.specs.QueueFileBytes.{IsFileOf}
-use Rattle.q_model.specs.Ids.{id_eq}
+use Rattle.q_model.specs.Ids.{are_distinct, id_eq}
 use Rattle.q_model.specs.IdTexts.{id_text, IsId}
 use Rattle.q_model.specs.Message.{Message}
-use Rattle.q_model.specs.SpoolFiles.{file_at, Files, is_corrupt, IsPlace, place_eq}
+use Rattle.q_model.specs.SpoolFiles.{file_at, Files, IsPlace}
+use Rattle.q_model.specs.Places.{is_corrupt, place_eq}
 use Rattle.q_model.specs.declared.spot.Area.TheVariants as areas
 use Rattle.q_model.proofs.EachLaws.{any-map, each-both, each-map, each-same, each-unmap, find-any, none-each}
 use Rattle.q_model.proofs.IdLaws.{id_eq-true}
 use Rattle.q_model.proofs.SpotLaws.{place_eq-refl, place_eq-true}
-use Rattle.q_model.proofs.StandChanges.{any-found, any-same, changed, distinct-behind, distinct-front, IsOnly, only_one, Stands-message}
+use Rattle.q_model.proofs.StandChanges.{any-found, any-same, changed, distinct-behind, distinct-front, IsOnly, map-ids, only_one, Stands-message}
 use Rattle.q_model.proofs.StandLaws.{BootStands-kept, DamagedStands-kept, MessageStands-kept, not_same, true_false}
 
 -- only files of this id changed, among those that are looked at
@@ -28,10 +29,10 @@ pub record ChangesOnly (id : Id) (f g : Files) : Type 0 where
   pub files : (place : Place) (i : Id) → IsPlace place → IsId i → (i ≡ id → ⊥) → file_at g place i ≡ file_at f place i
   pub logs : (i : Id) → IsId i → (i ≡ id → ⊥) → g areas.Bounce (id_text i) ≡ f areas.Bounce (id_text i)
 
-other_message : (f g : Files) (id : Id) → ChangesOnly id f g → (m : Message) → (m.id ≡ id → ⊥) → MessageStands f m → MessageStands g m
+pub other_message : (f g : Files) (id : Id) → ChangesOnly id f g → (m : Message) → (m.id ≡ id → ⊥) → MessageStands f m → MessageStands g m
 other_message f g id only m apart h = MessageStands-kept f g m (only.files m.place m.id h.place h.id apart) (only.logs m.id h.id apart) h
 
-other_damaged : (f g : Files) (id : Id) → ChangesOnly id f g → (d : Damaged) → (id_eq d.id id ≡ false) → DamagedStands f d → DamagedStands g d
+pub other_damaged : (f g : Files) (id : Id) → ChangesOnly id f g → (d : Damaged) → (id_eq d.id id ≡ false) → DamagedStands f d → DamagedStands g d
 other_damaged f g id only d apart h = DamagedStands-kept f g d (only.files d.place d.id h.place h.id (not_same d.id id apart)) h
 
 damaged-kept : (f g : Files) (b : Book) (id : Id) (m : Message) → ChangesOnly id f g → message_of b id ≡ Some m → Stands f b → AllByRecursion (DamagedStands g) b.damaged
@@ -135,7 +136,7 @@ arrived : (id : Id) (q : Place) (x : Message) (t : Bool) → id_eq x.id id ≡ t
 arrived id q x true e k = and_from (id_eq x.id id) (place_eq q q) e (place_eq-refl q)
 arrived id q x false e k = absurd (true_false false k refl)
 
-found-any : {A : Type 0} (p q : A → Bool) (xs : List A) → ((x : A) → p x ≡ true → q x ≡ true) → list_any p xs ≡ true → list_any q xs ≡ true
+pub found-any : {A : Type 0} (p q : A → Bool) (xs : List A) → ((x : A) → p x ≡ true → q x ≡ true) → list_any p xs ≡ true → list_any q xs ≡ true
 found-any p q [] step h = h
 found-any p q (x ∷ xs) step h =
     elim (or_cases (p x) (list_any p xs) h) [
@@ -146,10 +147,6 @@ found-any p q (x ∷ xs) step h =
 one_moved : (f g : Files) (id : Id) (q : Place) (m x : Message) → ChangesOnly id f g → MessageStands g (put_at q m) → (t : Bool) → id_eq x.id id ≡ t → MessageStands f x → IsOnly id m x → MessageStands g (if t then put_at q x else x)
 one_moved f g id q m x only new true e h is = subst (λ (y : Message). MessageStands g (put_at q y)) (sym (is e)) new
 one_moved f g id q m x only new false e h is = other_message f g id only x (not_same x.id id e) h
-
-moved_ids : (id : Id) (q : Place) (ms : List Message) → map (λ x. x.id) (map (changed id (put_at q)) ms) ≡ map (λ x. x.id) ms
-moved_ids id q [] = refl
-moved_ids id q (m ∷ ms) = ap (λ (i : Id). i ∷ map (λ x. x.id) (map (changed id (put_at q)) ms)) (moved_id id q m (id_eq m.id id)) ∙ ap (λ (is : List Id). m.id ∷ is) (moved_ids id q ms)
 
 -- the file of a message that moved, with its log as before
 moved_message : (f g : Files) (id : Id) (q : Place) (m : Message) (bytes : List ℕ) → m.id ≡ id → IsPlace q → is_corrupt q ≡ false → file_at f m.place id ≡ Some bytes → file_at g q id ≡ Some bytes → g areas.Bounce (id_text id) ≡ f areas.Bounce (id_text id) → MessageStands f m → MessageStands g (put_at q m)
@@ -181,7 +178,7 @@ Stands-move f g b id q m bytes found hq sound only was now gone log h =
     let is = only_one b.messages id m (distinct-front ms ds h.distinct) found in
     record {
       boot = BootStands-kept f g b.generation only.boot h.boot;
-      distinct = ap (λ (js : List Id). are_distinct (js ++ ds)) (moved_ids id q b.messages) ∙ h.distinct;
+      distinct = ap (λ (js : List Id). are_distinct (js ++ ds)) (map-ids id (put_at q) (λ x. refl) b.messages) ∙ h.distinct;
       messages = each-map (λ x. MessageStands f x × IsOnly id m x) (MessageStands g) (changed id (put_at q)) b.messages (λ x k. one_moved f g id q m x only new (id_eq x.id id) refl k.0 k.1) (each-both (MessageStands f) (IsOnly id m) b.messages h.messages is);
       damaged = damaged-kept f g b id m only found h;
       nothing_else = λ place i bytes hi hp there. by place i bytes hi hp there (id_eq i id) refl (place_eq place q) refl;

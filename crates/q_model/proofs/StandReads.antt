@@ -7,14 +7,15 @@ use Rattle.q_model.specs.declared.rows.Place.{Place}
 use Rattle.q_model.specs.Book.{Book, Damaged}
 use Rattle.q_model.specs.Crashes.{EachTo}
 use Rattle.q_model.specs.FailureLog.{failures_of}
-use Rattle.q_model.specs.FilesStand.{are_distinct, BootStands, DamagedStands, file_message, MessageStands, Stands}
-use Rattle.q_model.specs.Ids.{id_eq}
+use Rattle.q_model.specs.FilesStand.{BootStands, DamagedStands, file_message, MessageStands, Stands}
+use Rattle.q_model.specs.Ids.{are_distinct, id_eq}
 use Rattle.q_model.specs.IdTexts.{IsId}
 use Rattle.q_model.specs.Marks.{is_marked}
 use Rattle.q_model.specs.Message.{Message, Recipient}
 use Rattle.q_model.specs.QueueFile.{FileMessage}
 use Rattle.q_model.specs.QueueFileBytes.{IsFileOf}
-use Rattle.q_model.specs.SpoolFiles.{file_at, Files, is_corrupt, IsPlace, logged_in, place_eq}
+use Rattle.q_model.specs.SpoolFiles.{file_at, Files, IsPlace, logged_in}
+use Rattle.q_model.specs.Places.{is_corrupt, place_eq}
 
 -- the same to a reader of the files
 pub record ReadsSame (old new : Message) : Type 0 where

@@ -1,4 +1,5 @@
--- The account of a job, counted from the entries of this life (SCHEDULER_README, "Preemptive scheduling": delivery slots).
+-- The account of a job, counted from the entries of this life (SCHEDULER_README, "Preemptive
+-- scheduling": delivery slots).
 use Rattle.std.specs.Prelude.{◌&&◌, ◌+◌, ◌==◌, Bool, count_by, false, if◌then◌else◌, List, not, sum_by, take_while, ℕ}
 use Rattle.q_model.specs.declared.entry.Entry.{Entry}
 use Rattle.q_model.specs.declared.id.Id.{Id}

@@ -1,4 +1,5 @@
--- Entry `admit`: a message comes into memory (qmgr(8): the active queue; postconf(5): qmgr_message_active_limit, qmgr_message_recipient_minimum).
+-- Entry `admit`: a message comes into memory (qmgr(8): the active queue; postconf(5):
+-- qmgr_message_active_limit, qmgr_message_recipient_minimum).
 use Rattle.std.specs.Prelude.{◌&&◌, ◌++◌, [], Bool, false, is_some, length, nat_le, nat_lt, not, true, ◌∷◌}
 use Rattle.q_model.specs.declared.event.Mode.{Mode}
 use Rattle.q_model.specs.declared.event.Mode.TheVariants.{Deliver, Intake}
@@ -9,7 +10,7 @@ use Rattle.q_model.specs.Ids.{cause_of}
 use Rattle.q_model.specs.Ledger.{Ledger}
 use Rattle.q_model.specs.Memory.{free}
 use Rattle.q_model.specs.Settings.{World}
-use Rattle.q_model.specs.Turns.{is_pick, taken}
+use Rattle.q_model.specs.Turns.{is_pick, after_pick}
 use Rattle.q_model.specs.declared.rows.Place.TheVariants as places
 
 -- the life delivers
@@ -19,7 +20,9 @@ delivers Intake = false
 
 -- another message may come into memory
 abbrev pub has_room : World → Ledger → Bool
-has_room w l = delivers l.mode && nat_lt (length l.admitted) w.settings.active_limit && nat_le w.settings.recipient_minimum (free w l)
+has_room w l =
+    delivers l.mode && nat_lt (length l.admitted) w.settings.active_limit
+    && nat_le w.settings.recipient_minimum (free w l)
 
 -- a bounce stands alone: the message that it is of is gone
 abbrev pub cause_gone : Book → Id → Bool
@@ -31,4 +34,9 @@ may_admit w l id = has_room w l && is_pick l id && is_some (message_of l.book id
 
 -- the message is in active, all of it unread
 abbrev pub after_admit : Ledger → Id → Ledger
-after_admit l id = let t = taken l in record t { book = move_message l.book id places.Active; admitted = l.admitted ++ record { id = id; unread = 0 } ∷ [] }
+after_admit l id =
+    let t = after_pick l in
+    record t {
+      book = move_message l.book id places.Active;
+      admitted = l.admitted ++ record { id = id; unread = 0 } ∷ [];
+    }

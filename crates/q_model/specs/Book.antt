@@ -40,4 +40,10 @@ stands_in place b id = list_any (λ m. id_eq m.id id && place m.place) b.message
 
 -- the ids at the places that pass
 abbrev pub ids_at : (Place → Bool) → Book → List Id
-ids_at place b = map (λ m. m.id) (filter (λ m. place m.place) b.messages) ++ map (λ d. d.id) (filter (λ d. place d.place) b.damaged)
+ids_at place b =
+    map (λ m. m.id) (filter (λ m. place m.place) b.messages)
+    ++ map (λ d. d.id) (filter (λ d. place d.place) b.damaged)
+
+-- the ids of the messages and of the damaged files
+abbrev pub all_ids : Book → List Id
+all_ids b = map (λ m. m.id) b.messages ++ map (λ d. d.id) b.damaged

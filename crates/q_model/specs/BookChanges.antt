@@ -8,7 +8,8 @@ use Rattle.q_model.specs.Message.{Message}
 
 -- the message of this id is changed
 abbrev pub change_message : Book → Id → (Message → Message) → Book
-change_message b id change = record b { messages = map (λ (m : Message). if id_eq m.id id then change m else m) b.messages }
+change_message b id change =
+    record b { messages = map (λ (m : Message). if id_eq m.id id then change m else m) b.messages }
 
 -- the message of this id stands at another place
 abbrev pub move_message : Book → Id → Place → Book
@@ -16,7 +17,8 @@ move_message b id place = change_message b id (λ (m : Message). record m { plac
 
 -- the damaged file of this id stands at another place
 abbrev pub move_damaged : Book → Id → Place → Book
-move_damaged b id place = record b { damaged = map (λ (d : Damaged). if id_eq d.id id then record d { place = place } else d) b.damaged }
+move_damaged b id place =
+    record b { damaged = map (λ (d : Damaged). if id_eq d.id id then record d { place = place } else d) b.damaged }
 
 -- the message of this id is gone
 abbrev pub remove_message : Book → Id → Book

@@ -1,4 +1,5 @@
--- Which job may preempt the current one (SCHEDULER_README, "Preemptive scheduling": slot cost, loan, discount and minimum).
+-- Which job may preempt the current one (SCHEDULER_README, "Preemptive scheduling": slot cost,
+-- loan, discount and minimum).
 use Rattle.std.specs.List.{list_any}
 use Rattle.std.specs.Option.{option_map_or}
 use Rattle.std.specs.Prelude.{◌&&◌, ◌*◌, ◌+◌, ◌-◌, ◌==◌, [], Bool, filter, if◌then◌else◌, List, map, nat_le, nat_lt, not, Option, ℕ, ◌∷◌}
@@ -13,11 +14,12 @@ use Rattle.q_model.specs.Startable.{can_start, line_of}
 use Rattle.q_model.specs.Times.{age_of}
 
 -- those behind the id
-abbrev pub behind : Id → List Id → List Id
-behind id [] = []
-behind id (x ∷ xs) = if id_eq x id then xs else behind id xs
+abbrev pub ids_behind : Id → List Id → List Id
+ids_behind id [] = []
+ids_behind id (x ∷ xs) = if id_eq x id then xs else ids_behind id xs
 
--- The job `id` with this need may preempt `parent`. The account is starts - cost * charged; what it takes away stands on the other side here.
+-- The job `id` with this need may preempt `parent`. The account is starts - cost * charged; what it
+-- takes away stands on the other side here.
 abbrev pub pays : World → Ledger → ℕ → Id → ℕ → Bool
 pays w l transport parent need =
     let cost = w.settings.slot_cost in
@@ -31,7 +33,7 @@ pays w l transport parent need =
 -- the job stands behind the current one, has begun nothing, can start, and may preempt
 abbrev pub is_candidate : World → Ledger → ℕ → Id → Id → Bool
 is_candidate w l transport parent id = not (w.settings.slot_cost == 0)
-    && list_any (id_eq id) (behind parent (line_of l transport))
+    && list_any (id_eq id) (ids_behind parent (line_of l transport))
     && (starts_of l id transport == 0)
     && can_start w l transport id
     && pays w l transport parent (rest l id transport)

@@ -30,7 +30,8 @@ firm f = record f { firm = true }
 -- each failure is kept, or left out where it wasn't sure
 abbrev pub FailuresAfter : List Logged → List Logged → Type 0
 FailuresAfter [] new = new ≡ []
-FailuresAfter (f ∷ fs) new = ((rest : List Logged) × (new ≡ firm f ∷ rest) × FailuresAfter fs rest) ⊎ ((f.firm ≡ false) × FailuresAfter fs new)
+FailuresAfter (f ∷ fs) new =
+    ((rest : List Logged) × (new ≡ firm f ∷ rest) × FailuresAfter fs rest) ⊎ ((f.firm ≡ false) × FailuresAfter fs new)
 
 pub record MessageAfter (old new : Message) : Type 0 where
   pub id : new.id ≡ old.id

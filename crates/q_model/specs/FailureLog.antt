@@ -28,11 +28,17 @@ why_of b = if b == 82 then Some Refused else if b == 88 then Some Expired else N
 
 -- the failure of a record; None where there is none
 abbrev pub failure_in : List ℕ → Option Failure
-failure_in bytes = if is_open bytes then option_map (λ why. record { position = position_in bytes; why = why; code = code_in bytes }) (why_of (slice_index bytes 1)) else None
+failure_in bytes =
+    if is_open bytes
+    then option_map (λ why. record { position = position_in bytes; why = why; code = code_in bytes })
+    (why_of (slice_index bytes 1))
+    else None
 
 -- the note of a record of why `L`; None where there is none
 abbrev pub note_in : List ℕ → Option Note
-note_in bytes = if is_open bytes && (slice_index bytes 1 == 76) then Some (record { position = position_in bytes; code = code_in bytes }) else None
+note_in bytes =
+    if is_open bytes && (slice_index bytes 1 == 76)
+    then Some (record { position = position_in bytes; code = code_in bytes }) else None
 
 -- up to n records, as far as they mean something
 abbrev pub records_with : {A : Type 0} → (List ℕ → Option A) → ℕ → List ℕ → List A

@@ -1,4 +1,5 @@
--- What one answer adds to the feedback of a concurrency window (SCHEDULER_README, "Concurrency scheduling"), in whole units.
+-- What one answer adds to the feedback of a concurrency window (SCHEDULER_README, "Concurrency
+-- scheduling"), in whole units.
 use Rattle.std.specs.Prelude.{◌*◌, ◌/◌, if◌then◌else◌, ℕ}
 use Rattle.q_model.specs.Settings.{Feedback}
 

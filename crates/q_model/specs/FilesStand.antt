@@ -1,24 +1,26 @@
 -- Files stand for a book: what is read from them is what the book says.
-use Rattle.std.specs.List.{AllByRecursion, list_any}
-use Rattle.std.specs.Prelude.{◌&&◌, ◌++◌, ◌^◌, [], Bool, bytes_eq, false, is_some, length, List, map, nat_lt, None, not, Some, true, ℕ, ◌<◌, ◌≡◌, ◌∷◌}
+use Rattle.std.specs.List.{AllByRecursion}
+use Rattle.std.specs.Prelude.{◌&&◌, ◌^◌, bytes_eq, false, is_some, length, List, map, nat_lt, None, Some, true, ℕ, ◌<◌, ◌≡◌}
 use Rattle.q_model.specs.declared.id.Id.{Id}
 use Rattle.q_model.specs.declared.rows.Place.{Place}
-use Rattle.q_model.specs.Book.{Book, Damaged, stands_in}
+use Rattle.q_model.specs.Book.{all_ids, Book, Damaged, stands_in}
 use Rattle.q_model.specs.FailureLog.{failures_of}
-use Rattle.q_model.specs.Ids.{id_eq}
+use Rattle.q_model.specs.Ids.{are_distinct}
 use Rattle.q_model.specs.IdTexts.{hex, IsId}
 use Rattle.q_model.specs.Marks.{is_marked}
 use Rattle.q_model.specs.Message.{Message}
 use Rattle.q_model.specs.QueueFile.{FileMessage, queue_file}
 use Rattle.q_model.specs.QueueFileBytes.{IsFileOf}
-use Rattle.q_model.specs.SpoolFiles.{file_at, Files, is_corrupt, IsPlace, logged_in, place_eq}
+use Rattle.q_model.specs.SpoolFiles.{file_at, Files, IsPlace, logged_in}
+use Rattle.q_model.specs.Places.{is_corrupt, place_eq}
 use Rattle.q_model.specs.Texts.{is_name}
 use Rattle.q_model.specs.declared.spot.Area.TheVariants as areas
 
 -- Boot has one name, the generation in eight digits; without a generation it has none.
 pub record BootStands (f : Files) (generation : ℕ) : Type 0 where
   pub fits : generation < 2 ^ 32
-  pub names : (n : List ℕ) → is_name n ≡ true → is_some (f areas.Boot n) ≡ (nat_lt 0 generation && bytes_eq n (hex 8 generation))
+  pub names : (n : List ℕ) → is_name n ≡ true
+      → is_some (f areas.Boot n) ≡ (nat_lt 0 generation && bytes_eq n (hex 8 generation))
 
 -- what the file of a message says: a mark is set where the message's mark is, sure or not
 abbrev pub file_message : Message → FileMessage
@@ -47,19 +49,11 @@ pub record DamagedStands (f : Files) (d : Damaged) : Type 0 where
   pub there : file_at f d.place d.id ≡ Some bytes
   pub unread : is_corrupt d.place ≡ false → queue_file bytes ≡ None
 
--- no id twice
-abbrev pub are_distinct : List Id → Bool
-are_distinct [] = true
-are_distinct (id ∷ ids) = not (list_any (λ i. id_eq i id) ids) && are_distinct ids
-
--- the ids of the messages and of the damaged files
-abbrev pub all_ids : Book → List Id
-all_ids b = map (λ m. m.id) b.messages ++ map (λ d. d.id) b.damaged
-
 -- The files stand for the book. Files in Tmp and Conf, deferral logs, and logs whose id stands nowhere may be any.
 pub record Stands (f : Files) (b : Book) : Type 0 where
   pub boot : BootStands f b.generation
   pub distinct : are_distinct (all_ids b) ≡ true
   pub messages : AllByRecursion (MessageStands f) b.messages
   pub damaged : AllByRecursion (DamagedStands f) b.damaged
-  pub nothing_else : (place : Place) (id : Id) (bytes : List ℕ) → IsId id → IsPlace place → file_at f place id ≡ Some bytes → stands_in (place_eq place) b id ≡ true
+  pub nothing_else : (place : Place) (id : Id) (bytes : List ℕ) → IsId id → IsPlace place
+      → file_at f place id ≡ Some bytes → stands_in (place_eq place) b id ≡ true

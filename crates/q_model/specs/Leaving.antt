@@ -14,12 +14,15 @@ use Rattle.q_model.specs.Message.{pending, unmarked_logged}
 use Rattle.q_model.specs.Places.{is_active}
 use Rattle.q_model.specs.Settings.{World}
 use Rattle.q_model.specs.Times.{due}
-use Rattle.q_model.specs.Turns.{is_pick, taken}
+use Rattle.q_model.specs.Turns.{is_pick, after_pick}
 use Rattle.q_model.specs.declared.rows.Place.TheVariants as places
 
 -- the message is idle, and some recipient is pending
 abbrev pub may_defer : World → Ledger → Id → ℕ → Bool
-may_defer w l id t = is_idle l id && (option_map_or (λ m. not (has_none (pending m)) && is_clean m && (t == due w l.now m)) (message_of l.book id) false)
+may_defer w l id t =
+    is_idle l id
+    && (option_map_or (λ m. not (has_none (pending m)) && is_clean m && (t == due w l.now m))
+    (message_of l.book id) false)
 
 -- the message is in deferred until then
 abbrev pub after_defer : Ledger → Id → ℕ → Ledger
@@ -27,7 +30,10 @@ after_defer l id t = record l { book = move_message l.book id (places.Deferred t
 
 -- a leftover that was synced has a pending recipient
 abbrev pub may_back : Ledger → Id → Bool
-may_back l id = is_leftover l id && was_synced l id && (option_map_or (λ m. has_none (unmarked_logged m) && is_clean m && not (has_none (pending m))) (message_of l.book id) false)
+may_back l id =
+    is_leftover l id && was_synced l id
+    && (option_map_or (λ m. has_none (unmarked_logged m) && is_clean m && not (has_none (pending m)))
+    (message_of l.book id) false)
 
 -- it is in incoming again
 abbrev pub after_back : Ledger → Id → Ledger
@@ -35,16 +41,22 @@ after_back l id = record l { book = move_message l.book id places.Incoming }
 
 -- the message is done, and its bounce stands if it wants one
 abbrev pub may_remove : Ledger → Id → Bool
-may_remove l id = option_map_or (λ m. is_active m.place && is_at_rest l id && is_done m && (not (wants_bounce m) || has_bounce l id)) (message_of l.book id) false
+may_remove l id =
+    option_map_or (λ m. is_active m.place && is_at_rest l id && is_done m && (not (wants_bounce m) || has_bounce l id))
+    (message_of l.book id) false
 
 -- the message is gone
 abbrev pub after_remove : Ledger → Id → Ledger
 after_remove l id = record l { book = remove_message l.book id; admitted = without id l.admitted }
 
--- the file is no queue file, and is the next leftover or the next to be taken
+-- the file is no queue file, and is the next leftover or the next to be picked
 abbrev pub may_corrupt : World → Ledger → Id → Bool
-may_corrupt w l id = is_some (damaged_of l.book id) && (is_next_leftover l id || (has_room w l && is_pick l id)) && cause_gone l.book id
+may_corrupt w l id =
+    is_some (damaged_of l.book id) && (is_next_leftover l id || (has_room w l && is_pick l id))
+    && cause_gone l.book id
 
 -- it is in corrupt
 abbrev pub after_corrupt : Ledger → Id → Ledger
-after_corrupt l id = let t : Ledger = if is_next_leftover l id then l else taken l in record t { book = move_damaged l.book id places.Corrupt }
+after_corrupt l id =
+    let t : Ledger = if is_next_leftover l id then l else after_pick l in
+    record t { book = move_damaged l.book id places.Corrupt }

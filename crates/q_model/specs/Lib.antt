@@ -1,3 +1,4 @@
+pub mod FaultCounts
 pub mod Texts
 pub mod Padded
 pub mod Values
@@ -5,7 +6,7 @@ pub mod Lists
 pub mod Settings
 pub mod Ids
 pub mod IdTexts
-pub mod Destinations
+pub mod Sites
 pub mod Marks
 pub mod Places
 pub mod Message
@@ -27,6 +28,7 @@ pub mod Accounts
 pub mod Startable
 pub mod Candidates
 pub mod Choice
+pub mod TextParts
 pub mod Notices
 pub mod Turns
 pub mod Admissions

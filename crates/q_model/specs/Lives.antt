@@ -17,7 +17,9 @@ mode_eq Intake Deliver = false
 
 -- the generation is the next, and a restart keeps the mode
 abbrev pub may_life : Ledger → ℕ → Mode → Bool
-may_life l generation mode = (generation == l.book.generation + 1) && nat_lt generation (2 ^ 32) && (not (has_entries l) || mode_eq mode l.mode)
+may_life l generation mode =
+    (generation == l.book.generation + 1) && nat_lt generation (2 ^ 32)
+    && (not (has_entries l) || mode_eq mode l.mode)
 
 -- what was read at opening is sure
 abbrev pub firm_failures : Message → Message

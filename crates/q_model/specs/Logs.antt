@@ -27,7 +27,9 @@ needs_log f needs.Mark = false
 
 -- the first unsettled outcome needs this record
 abbrev pub may_log : Ledger → Id → Failure → Bool
-may_log l id f = option_map_or (λ u. id_eq u.id id && (u.position == f.position) && needs_log f u.need) (slice_get l.unsettled 0) false
+may_log l id f =
+    option_map_or (λ u. id_eq u.id id && (u.position == f.position) && needs_log f u.need)
+    (slice_get l.unsettled 0) false
 
 -- the message with one failure more, which is sure
 abbrev pub with_failure : Failure → Message → Message

@@ -26,11 +26,15 @@ is_unmarked_at m position = option_map_or (λ r. not (is_marked r.mark)) (slice_
 
 -- the mark is what the first unsettled outcome needs
 abbrev pub marks_first : Ledger → Id → ℕ → Bool
-marks_first l id position = option_map_or (λ u. id_eq u.id id && (u.position == position) && needs_mark u.need) (slice_get l.unsettled 0) false
+marks_first l id position =
+    option_map_or (λ u. id_eq u.id id && (u.position == position) && needs_mark u.need)
+    (slice_get l.unsettled 0) false
 
 -- a leftover has the failure and lacks the mark
 abbrev pub marks_leftover : Ledger → Id → ℕ → Bool
-marks_leftover l id position = is_leftover l id && (option_map_or (λ m. is_logged m position && is_unmarked_at m position) (message_of l.book id) false)
+marks_leftover l id position =
+    is_leftover l id
+    && (option_map_or (λ m. is_logged m position && is_unmarked_at m position) (message_of l.book id) false)
 
 -- the mark is needed in one of these two ways
 abbrev pub may_mark : Ledger → Id → ℕ → Bool
@@ -50,4 +54,5 @@ drop_unsettled l id position = if marks_first l id position then drop 1 l.unsett
 
 -- the mark is written
 abbrev pub after_mark : Ledger → Id → ℕ → Ledger
-after_mark l id position = record l { book = change_message l.book id (with_mark position); unsettled = drop_unsettled l id position }
+after_mark l id position =
+    record l { book = change_message l.book id (with_mark position); unsettled = drop_unsettled l id position }

@@ -27,7 +27,8 @@ unread_of l id = option_map_or (λ a. unread_count l a) (admitted_of l id) 0
 
 -- the recipients in memory
 abbrev pub in_memory : Ledger → ℕ
-in_memory l = sum_by (λ r. length r.positions) l.waiting + sum_by (λ f. length f.row.positions) l.flights + length l.unsettled
+in_memory l =
+    sum_by (λ r. length r.positions) l.waiting + sum_by (λ f. length f.row.positions) l.flights + length l.unsettled
 
 -- how many more recipients may be in memory
 abbrev pub free : World → Ledger → ℕ
@@ -39,7 +40,8 @@ has_waiting l id = list_any (λ r. id_eq r.id id) l.waiting
 
 -- the message has recipients that wait, are in flight or are unsettled
 abbrev pub has_rows : Ledger → Id → Bool
-has_rows l id = has_waiting l id || list_any (λ f. id_eq f.row.id id) l.flights || list_any (λ u. id_eq u.id id) l.unsettled
+has_rows l id =
+    has_waiting l id || list_any (λ f. id_eq f.row.id id) l.flights || list_any (λ u. id_eq u.id id) l.unsettled
 
 -- the message is in memory and nothing of it is unread, waiting, in flight or unsettled
 abbrev pub is_idle : Ledger → Id → Bool

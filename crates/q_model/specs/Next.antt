@@ -2,6 +2,7 @@
 use Rattle.std.specs.List.{enumerate_from}
 use Rattle.std.specs.Option.{option_map_or, option_or}
 use Rattle.std.specs.Prelude.{◌&&◌, [], ◌^◌, Bool, find, if◌then◌else◌, length, List, nat_le, nat_lt, None, not, Option, option_and_then, option_map, slice_get, Some, ◌||◌, ℕ, ◌∷◌}
+use Rattle.q_model.specs.declared.rows.Row.{Row}
 use Rattle.q_model.specs.declared.entry.Entry.{Entry}
 use Rattle.q_model.specs.declared.id.Id.{Id}
 use Rattle.q_model.specs.declared.rows.Admitted.{Admitted}
@@ -23,7 +24,7 @@ use Rattle.q_model.specs.Past.{starts}
 use Rattle.q_model.specs.Settings.{World}
 use Rattle.q_model.specs.SiteRecords.{is_dead_site}
 use Rattle.q_model.specs.Times.{due}
-use Rattle.q_model.specs.Turns.{pick, pick_id}
+use Rattle.q_model.specs.Turns.{pick, pick_id, Pick}
 use Rattle.q_model.specs.declared.entry.Entry.TheVariants as entries
 use Rattle.q_model.specs.declared.rows.Need.TheVariants as needs
 
@@ -42,19 +43,32 @@ marks_of l id = option_map_or (λ m. length (written_marks m)) (message_of l.boo
 
 -- the message has mark_sync_limit such marks, or some and is idle
 abbrev pub wants_sync : World → Ledger → Admitted → Bool
-wants_sync w l a = nat_le w.settings.mark_sync_limit (marks_of l a.id) || (nat_lt 0 (marks_of l a.id) && is_idle l a.id)
+wants_sync w l a = nat_le w.settings.mark_sync_limit (marks_of l a.id)
+    || (nat_lt 0 (marks_of l a.id) && is_idle l a.id)
 
 -- the marks of the first such message are synced
 abbrev pub sync_rule : World → Ledger → Option Entry
 sync_rule w l = option_map (λ a. entries.Sync a.id) (find (wants_sync w l) l.admitted)
 
+-- the row is put off
+abbrev pub skip_of : Row → Entry
+skip_of r = entries.Skip r.id r.site r.positions
+
 -- the first row at a dead site is skipped
 abbrev pub skip_rule : Ledger → Option Entry
-skip_rule l = option_map (λ r. entries.Skip r.id r.site r.positions) (find (λ r. is_dead_site l r.site) l.waiting)
+skip_rule l = option_map skip_of (find (λ r. is_dead_site l r.site) l.waiting)
 
--- an idle message is deferred, else its bounce is stored, else it is removed
+-- a message is deferred, else its bounce is stored, else it is removed
+abbrev pub finish_message : World → Ledger → Id → Message → Option Entry
+finish_message w l id m = first_of (
+    (may_defer w l id (due w l.now m), entries.Defer id (due w l.now m))
+    ∷ (may_bounce l id, entries.Bounce id)
+    ∷ (may_remove l id, entries.Remove id)
+    ∷ [])
+
+-- the same by its id
 abbrev pub finish : World → Ledger → Id → Option Entry
-finish w l id = option_and_then (λ m. first_of ((may_defer w l id (due w l.now m), entries.Defer id (due w l.now m)) ∷ (may_bounce l id, entries.Bounce id) ∷ (may_remove l id, entries.Remove id) ∷ [])) (message_of l.book id)
+finish w l id = option_and_then (finish_message w l id) (message_of l.book id)
 
 -- the first idle message is finished
 abbrev pub finishing_rule : World → Ledger → Option Entry
@@ -64,37 +78,74 @@ finishing_rule w l = option_and_then (λ a. finish w l a.id) (find (λ a. is_idl
 abbrev pub mark_logged : Message → Option Entry
 mark_logged m = option_map (λ p. entries.Mark m.id p) (slice_get (unmarked_logged m) 0)
 
+-- a leftover whose failures are marked is synced, then finished or moved back
+abbrev pub clear_marked : Ledger → Message → Option Entry
+clear_marked l m = first_of (
+    (not (was_synced l m.id), entries.Sync m.id)
+    ∷ (may_bounce l m.id, entries.Bounce m.id)
+    ∷ (may_remove l m.id, entries.Remove m.id)
+    ∷ (may_back l m.id, entries.Back m.id)
+    ∷ [])
+
 -- a leftover is marked, synced, finished or moved back
 abbrev pub clear_leftover : World → Ledger → Message → Option Entry
-clear_leftover w l m = option_or (mark_logged m) (first_of ((not (was_synced l m.id), entries.Sync m.id) ∷ (may_bounce l m.id, entries.Bounce m.id) ∷ (may_remove l m.id, entries.Remove m.id) ∷ (may_back l m.id, entries.Back m.id) ∷ []))
+clear_leftover w l m = option_or (mark_logged m) (clear_marked l m)
+
+-- a damaged leftover goes to corrupt
+abbrev pub clear_damaged : World → Ledger → Id → Option Entry
+clear_damaged w l id = first_of ((may_corrupt w l id, entries.Corrupt id) ∷ [])
 
 -- what is done with a leftover; a damaged one goes to corrupt
 abbrev pub leftover_decision : World → Ledger → Id → Option Entry
-leftover_decision w l id = option_map_or (λ m. clear_leftover w l m) (message_of l.book id) (first_of ((may_corrupt w l id, entries.Corrupt id) ∷ []))
+leftover_decision w l id = option_map_or (clear_leftover w l) (message_of l.book id) (clear_damaged w l id)
 
 -- the least leftover is cleared
 abbrev pub leftover_rule : World → Ledger → Option Entry
-leftover_rule w l = option_and_then (λ id. leftover_decision w l id) (next_leftover l)
+leftover_rule w l = option_and_then (leftover_decision w l) (next_leftover l)
+
+-- a file that is picked is admitted, or goes to corrupt
+abbrev pub admit_or_corrupt : World → Ledger → Pick → Option Entry
+admit_or_corrupt w l p = first_of (
+    (may_admit w l (pick_id p), entries.Admit (pick_id p))
+    ∷ (may_corrupt w l (pick_id p), entries.Corrupt (pick_id p))
+    ∷ [])
 
 -- the next file is admitted, or goes to corrupt
 abbrev pub admission_rule : World → Ledger → Option Entry
-admission_rule w l = if has_room w l then option_and_then (λ p. first_of ((may_admit w l (pick_id p), entries.Admit (pick_id p)) ∷ (may_corrupt w l (pick_id p), entries.Corrupt (pick_id p)) ∷ [])) (pick l) else None
+admission_rule w l = if has_room w l then option_and_then (admit_or_corrupt w l) (pick l) else None
 
--- the load of a message
+-- the load of a message, as far as there is room
+abbrev pub load_entry : World → Ledger → Admitted → Message → Option Entry
+load_entry w l a m = Some (entries.Load a.id a.unread (load_end m a.unread (free w l)))
+
+-- the same by its row
 abbrev pub load_of : World → Ledger → Admitted → Option Entry
-load_of w l a = option_and_then (λ m. Some (entries.Load a.id a.unread (load_end m a.unread (free w l)))) (message_of l.book a.id)
+load_of w l a = option_and_then (load_entry w l a) (message_of l.book a.id)
 
 -- the first message that may read reads
 abbrev pub load_rule : World → Ledger → Option Entry
-load_rule w l = option_and_then (λ a. load_of w l a) (find (may_read w l) l.admitted)
+load_rule w l = option_and_then (load_of w l) (find (may_read w l) l.admitted)
+
+-- the choice of a line, by its transport
+abbrev pub choice_of : World → Ledger → (ℕ × List Id) → Option Entry
+choice_of w l line = choice w l line.0
 
 -- the first transport that has a choice; 2^48 deliveries end a life
 abbrev pub start_rule : World → Ledger → Option Entry
-start_rule w l = if nat_lt (starts l) (2 ^ 48) then first_some (λ (line : ℕ × List Id). choice w l line.0) (enumerate_from 0 l.lines) else None
+start_rule w l =
+    if nat_lt (starts l) (2 ^ 48) then first_some (choice_of w l) (enumerate_from 0 l.lines) else None
 
 -- the first rule that applies
 abbrev pub first_rule : World → Ledger → Option Entry
-first_rule w l = option_or (settling_rule l) (option_or (sync_rule w l) (option_or (skip_rule l) (option_or (finishing_rule w l) (option_or (leftover_rule w l) (option_or (admission_rule w l) (option_or (load_rule w l) (start_rule w l)))))))
+first_rule w l =
+    option_or (settling_rule l)
+    (option_or (sync_rule w l)
+    (option_or (skip_rule l)
+    (option_or (finishing_rule w l)
+    (option_or (leftover_rule w l)
+    (option_or (admission_rule w l)
+    (option_or (load_rule w l)
+    (start_rule w l)))))))
 
 -- before the first `at` of a life there is none
 unfoldable pub next : World → Ledger → Option Entry

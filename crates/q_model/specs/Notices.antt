@@ -1,25 +1,16 @@
 -- The message that tells a sender which recipients failed (RFC 5321, section 6.1; RFC 3464 is not used).
 use Rattle.std.specs.Prelude.{◌++◌, [], codes, decimal, flat_map, length, List, min, None, take, unwrap_or, ℕ, ◌∷◌}
-use Rattle.q_model.specs.declared.outcome.Why.{Why}
-use Rattle.q_model.specs.declared.outcome.Why.TheVariants.{Expired, Refused}
 use Rattle.q_model.specs.IdTexts.{id_text}
 use Rattle.q_model.specs.Ids.{bounce_of}
 use Rattle.q_model.specs.Message.{address_at, Logged, Message}
+use Rattle.q_model.specs.TextParts.{text_line, why_text}
 use Rattle.q_model.specs.declared.rows.Mark.TheVariants as marks
 use Rattle.q_model.specs.declared.rows.Place.TheVariants as places
 
--- the word for a cause of failure
-abbrev pub why_text : Why → List ℕ
-why_text Refused = codes "refused"
-why_text Expired = codes "expired"
-
--- a line with its LF
-abbrev pub text_line : List ℕ → List ℕ
-text_line text = text ++ 10 ∷ []
-
 -- the line of one failure
 abbrev pub failure_line : Message → Logged → List ℕ
-failure_line m f = text_line (address_at m f.failure.position ++ codes ": " ++ why_text f.failure.why ++ 32 ∷ decimal f.failure.code)
+failure_line m f =
+    text_line (address_at m f.failure.position ++ codes ": " ++ why_text f.failure.why ++ 32 ∷ decimal f.failure.code)
 
 -- the content: which recipients failed and why, and the front of the message
 abbrev pub notice : Message → List ℕ
@@ -31,7 +22,8 @@ notice m = text_line (codes "From: MAILER-DAEMON")
     ++ text_line []
     ++ flat_map (failure_line m) m.failures
     ++ text_line []
-    ++ text_line (codes "The message had " ++ decimal (length m.content) ++ codes " bytes. Its first " ++ decimal (min (length m.content) 50000) ++ codes " bytes follow.")
+    ++ text_line (codes "The message had " ++ decimal (length m.content) ++ codes " bytes. Its first "
+    ++ decimal (min (length m.content) 50000) ++ codes " bytes follow.")
     ++ text_line []
     ++ take 50000 m.content
 

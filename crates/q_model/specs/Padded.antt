@@ -20,4 +20,5 @@ len_back n len bytes k = length-take-le len bytes (omega (arith, k.whole, k.with
 -- the text with its zeros is the array
 pub bytes_back : (n len : ℕ) (bytes : List ℕ) → IsPadded n len bytes → padded n (take len bytes) ≡ bytes
 bytes_back n len bytes k =
-    ap (λ m. take len bytes ++ replicate (n - m) 0) (len_back n len bytes k) ∙ ap (λ (r : List ℕ). take len bytes ++ r) (sym k.zeros) ∙ take-append-drop len bytes
+    ap (λ m. take len bytes ++ replicate (n - m) 0) (len_back n len bytes k)
+    ∙ ap (λ (r : List ℕ). take len bytes ++ r) (sym k.zeros) ∙ take-append-drop len bytes

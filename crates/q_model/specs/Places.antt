@@ -1,5 +1,5 @@
 -- The queues in which a message may stand.
-use Rattle.std.specs.Prelude.{Bool, false, None, Option, Some, true, ℕ}
+use Rattle.std.specs.Prelude.{◌==◌, Bool, false, None, Option, Some, true, ℕ}
 use Rattle.q_model.specs.declared.rows.Place.{Place}
 use Rattle.q_model.specs.declared.rows.Place.TheVariants as places
 
@@ -26,3 +26,16 @@ due_of places.Incoming = None
 due_of places.Active = None
 due_of places.Hold = None
 due_of places.Corrupt = None
+
+-- the same place
+abbrev pub place_eq : Place → Place → Bool
+place_eq places.Incoming places.Incoming = true
+place_eq places.Active places.Active = true
+place_eq (places.Deferred due) (places.Deferred other) = due == other
+place_eq places.Hold places.Hold = true
+place_eq places.Corrupt places.Corrupt = true
+place_eq place other = false
+
+-- in corrupt: files that are no queue files, put aside
+abbrev pub is_corrupt : Place → Bool
+is_corrupt place = place_eq place places.Corrupt

@@ -1,4 +1,5 @@
--- How many deliveries went before a job because it was preempted (SCHEDULER_README: what preemption may cost a message).
+-- How many deliveries went before a job because it was preempted (SCHEDULER_README: what preemption
+-- may cost a message).
 use Rattle.std.specs.Option.{option_map_or}
 use Rattle.std.specs.Prelude.{◌&&◌, ◌+◌, ◌==◌, [], Bool, if◌then◌else◌, List, None, Option, Some, ◌||◌, ℕ, ◌∷◌}
 use Rattle.q_model.specs.declared.entry.Entry.{Entry}
@@ -14,7 +15,8 @@ ends_job id e = is_admit_of id e || is_life e
 
 -- the job that preempts this one
 abbrev pub child_of : Id → ℕ → Entry → Option Id
-child_of id transport (entries.Preempt child parent t need) = if id_eq parent id && (t == transport) then Some child else None
+child_of id transport (entries.Preempt child parent t need) =
+    if id_eq parent id && (t == transport) then Some child else None
 child_of id transport _ = None
 
 -- the deliveries of a job, and of those that preempt it, in these entries (the oldest first)
@@ -25,8 +27,10 @@ starts_through id transport (e ∷ es) = if ends_job id e then 0
     + option_map_or (λ child. starts_through child transport es) (child_of id transport e) 0
     + starts_through id transport es
 
--- The deliveries that went before a job, of jobs that preempted it, directly or through others. The entries are those from its admission on, the oldest first.
+-- The deliveries that went before a job, of jobs that preempted it, directly or through others. The
+-- entries are those from its admission on, the oldest first.
 unfoldable pub preempting_starts : Id → ℕ → List Entry → ℕ
 preempting_starts id transport [] = 0
 preempting_starts id transport (e ∷ es) = if ends_job id e then 0
-    else option_map_or (λ child. starts_through child transport es) (child_of id transport e) 0 + preempting_starts id transport es
+    else option_map_or (λ child. starts_through child transport es) (child_of id transport e) 0
+    + preempting_starts id transport es

@@ -20,7 +20,8 @@ is_best w l transport parent id = option_map_or (λ b. id_eq b id) (best w l tra
 
 -- the best candidate preempts the current job, at its need
 abbrev pub may_preempt : World → Ledger → Id → Id → ℕ → ℕ → Bool
-may_preempt w l child parent transport need = is_current w l transport parent && is_best w l transport parent child && (need == rest l child transport)
+may_preempt w l child parent transport need =
+    is_current w l transport parent && is_best w l transport parent child && (need == rest l child transport)
 
 -- the id stands just before the other
 abbrev pub put_before : Id → Id → List Id → List Id
@@ -34,4 +35,5 @@ preempt_line child parent transport line = if line.0 == transport
 
 -- the child stands just before its parent
 abbrev pub after_preempt : Ledger → Id → Id → ℕ → Ledger
-after_preempt l child parent transport = record l { lines = map (preempt_line child parent transport) (enumerate_from 0 l.lines) }
+after_preempt l child parent transport =
+    record l { lines = map (preempt_line child parent transport) (enumerate_from 0 l.lines) }

@@ -35,11 +35,14 @@ counts_in body = record { recipients = number (drop 4 body); content = number (d
 
 -- `C`: the version, which is 1, and the counts
 abbrev pub counts_of : List ℕ → Option Counts
-counts_of body = if (length body == 12) && (number body == 1) && within_limits (counts_in body) then Some (counts_in body) else None
+counts_of body =
+    if (length body == 12) && (number body == 1) && within_limits (counts_in body) then Some (counts_in body)
+    else None
 
 -- `T`: the arrival in eight bytes
 abbrev pub arrival_of : List ℕ → Option ℕ
-arrival_of body = if (length body == 8) && nat_le (from_be_bytes w64 body) 999990000000 then Some (from_be_bytes w64 body) else None
+arrival_of body =
+    if (length body == 8) && nat_le (from_be_bytes w64 body) 999990000000 then Some (from_be_bytes w64 body) else None
 
 -- `S`: an address, or nothing for the null sender
 abbrev pub sender_of : List ℕ → Option (Option (List ℕ))
@@ -49,7 +52,8 @@ sender_of (b ∷ bytes) = if is_address (b ∷ bytes) then Some (Some (b ∷ byt
 -- `R`: the mark byte and an address; the mark is set where the byte is `D`
 abbrev pub recipient_of : List ℕ → Option FileRecipient
 recipient_of [] = None
-recipient_of (mark ∷ address) = if is_address address then Some (record { address = address; marked = mark == 68 }) else None
+recipient_of (mark ∷ address) =
+    if is_address address then Some (record { address = address; marked = mark == 68 }) else None
 
 -- so many records `R`, and the bytes behind them
 abbrev pub recipients_at : ℕ → List ℕ → Option (List FileRecipient × List ℕ)

@@ -32,11 +32,14 @@ recipients_bytes (mark ∷ marks) (r ∷ rs) = record_bytes 82 (mark ∷ r.addre
 
 -- the records before those of the recipients
 abbrev pub head_bytes : FileMessage → List ℕ
-head_bytes m = record_bytes 67 (counts_body m) ++ record_bytes 84 (to_be_bytes w64 m.arrival) ++ record_bytes 83 (unwrap_or m.sender [])
+head_bytes m =
+    record_bytes 67 (counts_body m) ++ record_bytes 84 (to_be_bytes w64 m.arrival)
+    ++ record_bytes 83 (unwrap_or m.sender [])
 
 -- the bytes of a message with these mark bytes
 unfoldable pub file_bytes : FileMessage → List ℕ → List ℕ
-file_bytes m marks = head_bytes m ++ recipients_bytes marks m.recipients ++ record_bytes 78 m.content ++ record_bytes 69 []
+file_bytes m marks =
+    head_bytes m ++ recipients_bytes marks m.recipients ++ record_bytes 78 m.content ++ record_bytes 69 []
 
 -- The bytes are a queue file of the message, whichever byte each mark has. `queue_file` says the same of such bytes.
 pub record IsFileOf (bytes : List ℕ) (m : FileMessage) : Type 0 where
@@ -62,11 +65,11 @@ abbrev pub content_at : FileMessage → ℕ
 content_at m = recipient_at m (length m.recipients) + 5
 
 -- the recipients with another mark at a position
-abbrev pub with_mark : List FileRecipient → ℕ → Bool → List FileRecipient
-with_mark [] position marked = []
-with_mark (r ∷ rs) zero marked = record r { marked = marked } ∷ rs
-with_mark (r ∷ rs) (suc position) marked = r ∷ with_mark rs position marked
+abbrev pub with_mark_byte : List FileRecipient → ℕ → Bool → List FileRecipient
+with_mark_byte [] position marked = []
+with_mark_byte (r ∷ rs) zero marked = record r { marked = marked } ∷ rs
+with_mark_byte (r ∷ rs) (suc position) marked = r ∷ with_mark_byte rs position marked
 
 -- the message with another mark at a position
 abbrev pub mark_recipient : FileMessage → ℕ → Bool → FileMessage
-mark_recipient m position marked = record m { recipients = with_mark m.recipients position marked }
+mark_recipient m position marked = record m { recipients = with_mark_byte m.recipients position marked }

@@ -14,11 +14,14 @@ is_whole bytes = nat_le 4 (length bytes) && nat_le (number bytes) (length (drop 
 -- the body of a record of this kind that the bytes begin with, and the bytes behind it
 abbrev pub take_record : ℕ → List ℕ → Option (List ℕ × List ℕ)
 take_record kind [] = None
-take_record kind (b ∷ bytes) = if (b == kind) && is_whole bytes then Some (take (number bytes) (drop 4 bytes), drop (number bytes) (drop 4 bytes)) else None
+take_record kind (b ∷ bytes) =
+    if (b == kind) && is_whole bytes
+    then Some (take (number bytes) (drop 4 bytes), drop (number bytes) (drop 4 bytes)) else None
 
 -- what the body of such a record says, and the bytes behind the record
 abbrev pub read_record : {A : Type 0} → ℕ → (List ℕ → Option A) → List ℕ → Option (A × List ℕ)
-read_record kind meaning bytes = option_and_then (λ r. option_map (λ a. (a, r.1)) (meaning r.0)) (take_record kind bytes)
+read_record kind meaning bytes =
+    option_and_then (λ r. option_map (λ a. (a, r.1)) (meaning r.0)) (take_record kind bytes)
 
 -- the bytes of a record
 abbrev pub record_bytes : ℕ → List ℕ → List ℕ

@@ -1,4 +1,4 @@
--- When dead destinations are alive again (SCHEDULER_README; qmgr(8), the trigger F).
+-- When dead sites are alive again (SCHEDULER_README; qmgr(8), the trigger F).
 use Rattle.std.specs.Prelude.{Bool, false, if◌then◌else◌, List, map, nat_le, ℕ}
 use Rattle.q_model.specs.declared.rows.Health.{Health}
 use Rattle.q_model.specs.Deliveries.{busy}

@@ -33,7 +33,7 @@ is_ahead s n = nat_le n.due s.until && (option_map_or (λ p. name_before p n) s.
 abbrev pub scan_next : Book → Scan → Option DeferredName
 scan_next b s = least name_before (filter (is_ahead s) (deferred_names b))
 
--- a scan that begins now
+-- a scan that opens now
 abbrev pub new_scan : ℕ → Request → Scan
 new_scan now requests.Due = record { place = None; until = now }
 new_scan now requests.All = record { place = None; until = 999999999999 }
@@ -44,15 +44,38 @@ joined_request None request = request
 joined_request (Some requests.Due) request = request
 joined_request (Some requests.All) request = requests.All
 
+-- the request is remembered
+abbrev pub remember_scan : Ledger → Request → Ledger
+remember_scan l request = record l { asked = Some (joined_request l.asked request); ignores = false }
+
+-- a scan opens
+abbrev pub open_scan : Ledger → Request → Ledger
+open_scan l request = record l { scan = Some (new_scan l.now request); ignores = false }
+
 -- asks for a scan, which ignores due times where the ledger says so
 abbrev pub ask_scan : Ledger → Ledger
 ask_scan l = let request : Request = if l.ignores then requests.All else requests.Due in
-    option_map_or (λ s. record l { asked = Some (joined_request l.asked request); ignores = false }) l.scan (record l { scan = Some (new_scan l.now request); ignores = false })
+    option_map_or (λ s. remember_scan l request) l.scan (open_scan l request)
 
 -- the scan, where it has a next message
 abbrev pub live : Book → Scan → Option Scan
 live b s = option_and_then (λ n. Some s) (scan_next b s)
 
--- A scan without a next message is over, and one that was asked for meanwhile begins.
-abbrev pub settle_scan : Ledger → Ledger
-settle_scan l = option_map_or (λ s. option_map_or (λ n. l) (scan_next l.book s) (option_map_or (λ request. record l { scan = live l.book (new_scan l.now request); asked = None }) l.asked (record l { scan = None }))) l.scan l
+-- a scan is over, and one that was asked for meanwhile opens
+abbrev pub end_scan : Ledger → Option Request → Ledger
+end_scan l None = record l { scan = None }
+end_scan l (Some request) = record l { scan = live l.book (new_scan l.now request); asked = None }
+
+-- it goes on while it has a next name
+abbrev pub tidy_scan_at : Ledger → Option DeferredName → Ledger
+tidy_scan_at l None = end_scan l l.asked
+tidy_scan_at l (Some name) = l
+
+-- the same by the scan
+abbrev pub tidy_scan_of : Ledger → Option Scan → Ledger
+tidy_scan_of l None = l
+tidy_scan_of l (Some s) = tidy_scan_at l (scan_next l.book s)
+
+-- A scan without a next message is over, and one that was asked for meanwhile opens.
+abbrev pub tidy_scan : Ledger → Ledger
+tidy_scan l = tidy_scan_of l l.scan

@@ -1,8 +1,10 @@
--- The numbers that the rules go by, each under a short form of its parameter's name (postconf(5)), and the routes of recipients (transport(5)).
+-- The numbers that the rules go by, each under a short form of its parameter's name (postconf(5)),
+-- and the routes of recipients (transport(5)).
 use Rattle.std.specs.Prelude.{Bool, false, List, ℕ}
 use Rattle.q_model.specs.Values.{Site}
 
--- numerator/denominator, or numerator/(the window): the feedback that one answer gives (postconf(5): default_destination_concurrency_positive_feedback)
+-- numerator/denominator, or numerator/(the window): the feedback that one answer gives
+-- (postconf(5): default_destination_concurrency_positive_feedback)
 pub record Feedback : Type 0 where
   pub numerator : ℕ
   pub denominator : ℕ

@@ -15,7 +15,8 @@ use Rattle.q_model.specs.Times.{is_expired}
 use Rattle.q_model.specs.declared.rows.Need.TheVariants as needs
 use Rattle.q_model.specs.declared.outcome.Outcome.TheVariants as outcomes
 
--- what an outcome needs: a mark, or a failure's record and then a mark; a delay needs nothing unless the message is too old
+-- what an outcome needs: a mark, or a failure's record and then a mark; a delay needs nothing
+-- unless the message is too old
 abbrev pub need_of : World → ℕ → Message → Outcome → Option Need
 need_of w now m outcomes.Ok = Some needs.Mark
 need_of w now m (outcomes.Never code) = Some (needs.Log Refused code)
@@ -29,8 +30,11 @@ unsettled_row id position need = record { id = id; position = position; need = n
 abbrev pub needs_of : World → ℕ → Message → List ℕ → List Outcome → List Unsettled
 needs_of w now m [] outcomes = []
 needs_of w now m (p ∷ ps) [] = []
-needs_of w now m (p ∷ ps) (o ∷ os) = cons_option (option_map (unsettled_row m.id p) (need_of w now m o)) (needs_of w now m ps os)
+needs_of w now m (p ∷ ps) (o ∷ os) =
+    cons_option (option_map (unsettled_row m.id p) (need_of w now m o)) (needs_of w now m ps os)
 
 -- the outcomes of these positions are settled in order
-abbrev pub settle : World → Id → List ℕ → List Outcome → Ledger → Ledger
-settle w id positions outcomes l = option_map_or (λ m. record l { unsettled = l.unsettled ++ needs_of w l.now m positions outcomes }) (message_of l.book id) l
+abbrev pub with_outcomes : World → Id → List ℕ → List Outcome → Ledger → Ledger
+with_outcomes w id positions outcomes l =
+    option_map_or (λ m. record l { unsettled = l.unsettled ++ needs_of w l.now m positions outcomes })
+    (message_of l.book id) l

@@ -1,9 +1,9 @@
--- What is known of a destination: found, made and changed.
+-- What is known of a site: found, made and changed.
 use Rattle.std.specs.List.{list_any}
 use Rattle.std.specs.Option.{option_map_or}
 use Rattle.std.specs.Prelude.{◌++◌, [], Bool, false, find, if◌then◌else◌, List, map, min, not, Option, true, ℕ, ◌∷◌}
 use Rattle.q_model.specs.declared.rows.Health.{Health}
-use Rattle.q_model.specs.Destinations.{site_eq}
+use Rattle.q_model.specs.Sites.{site_eq}
 use Rattle.q_model.specs.Ledger.{Ledger}
 use Rattle.q_model.specs.Settings.{World}
 use Rattle.q_model.specs.Values.{Site, SiteRecord}
@@ -28,7 +28,8 @@ initial_window w = min w.settings.initial_concurrency w.settings.concurrency_lim
 
 -- the record of a site that is used anew
 abbrev pub new_record : World → Site → SiteRecord
-new_record w site = record { site = site; window = initial_window w; success = 0; failure = 0; cohorts = 0; health = healths.Alive }
+new_record w site =
+    record { site = site; window = initial_window w; success = 0; failure = 0; cohorts = 0; health = healths.Alive }
 
 -- the records, with one for the site
 abbrev pub with_record : World → List SiteRecord → Site → List SiteRecord

@@ -1,6 +1,6 @@
 -- The files of a spool, and the area and the name of a message's file.
 use Rattle.std.specs.Option.{option_map_or}
-use Rattle.std.specs.Prelude.{◌==◌, ◌^◌, [], Bool, false, List, Option, true, ℕ, ◌<◌}
+use Rattle.std.specs.Prelude.{◌^◌, [], List, Option, ℕ, ◌<◌}
 use Rattle.q_model.specs.declared.id.Id.{Id}
 use Rattle.q_model.specs.declared.outcome.Failure.{Failure}
 use Rattle.q_model.specs.declared.rows.Place.{Place}
@@ -37,19 +37,6 @@ IsPlace places.Active = Unit {0}
 IsPlace (places.Deferred due) = due < 10 ^ 12
 IsPlace places.Hold = Unit {0}
 IsPlace places.Corrupt = Unit {0}
-
--- the same place
-abbrev pub place_eq : Place → Place → Bool
-place_eq places.Incoming places.Incoming = true
-place_eq places.Active places.Active = true
-place_eq (places.Deferred due) (places.Deferred other) = due == other
-place_eq places.Hold places.Hold = true
-place_eq places.Corrupt places.Corrupt = true
-place_eq place other = false
-
--- in corrupt: files that are no queue files, put aside
-abbrev pub is_corrupt : Place → Bool
-is_corrupt place = place_eq place places.Corrupt
 
 -- the file of an id at a place
 abbrev pub file_at : Files → Place → Id → Option (List ℕ)

@@ -17,11 +17,13 @@ is_startable w l r = nat_lt (flights_of l r.site.transport) w.settings.process_l
 
 -- the entries of a job that may be sent now
 abbrev pub startable_rows : World → Ledger → ℕ → Id → List Row
-startable_rows w l transport id = filter (λ r. id_eq r.id id && (r.site.transport == transport) && is_startable w l r) l.waiting
+startable_rows w l transport id =
+    filter (λ r. id_eq r.id id && (r.site.transport == transport) && is_startable w l r) l.waiting
 
 -- the job has such an entry
 abbrev pub can_start : World → Ledger → ℕ → Id → Bool
-can_start w l transport id = list_any (λ r. id_eq r.id id && (r.site.transport == transport) && is_startable w l r) l.waiting
+can_start w l transport id =
+    list_any (λ r. id_eq r.id id && (r.site.transport == transport) && is_startable w l r) l.waiting
 
 -- the jobs of a transport in order
 abbrev pub line_of : Ledger → ℕ → List Id

@@ -7,7 +7,7 @@ use Rattle.q_model.specs.Admissions.{after_admit, may_admit}
 use Rattle.q_model.specs.Arrivals.{after_arrive, may_arrive}
 use Rattle.q_model.specs.Bounces.{after_bounce, may_bounce}
 use Rattle.q_model.specs.Clock.{after_at, may_at}
-use Rattle.q_model.specs.Destinations.{site_eq}
+use Rattle.q_model.specs.Sites.{site_eq}
 use Rattle.q_model.specs.Ids.{id_eq}
 use Rattle.q_model.specs.Leaving.{after_back, after_corrupt, after_defer, after_remove, may_back, may_corrupt, may_defer, may_remove}
 use Rattle.q_model.specs.Ledger.{Ledger}
@@ -19,13 +19,13 @@ use Rattle.q_model.specs.Memory.{unread_of}
 use Rattle.q_model.specs.Past.{has_entries, is_life, is_living}
 use Rattle.q_model.specs.Preemptions.{after_preempt, may_preempt}
 use Rattle.q_model.specs.Replies.{after_reply, may_reply}
-use Rattle.q_model.specs.Scans.{settle_scan}
+use Rattle.q_model.specs.Scans.{tidy_scan}
 use Rattle.q_model.specs.Settings.{World}
 use Rattle.q_model.specs.Skips.{after_skip, may_skip}
 use Rattle.q_model.specs.Starts.{after_start, may_start}
 use Rattle.q_model.specs.Syncs.{after_sync, may_sync}
 use Rattle.q_model.specs.Triggers.{after_trigger}
-use Rattle.q_model.specs.UnusedSites.{settled_sites}
+use Rattle.q_model.specs.UnusedSites.{tidied_sites}
 use Rattle.q_model.specs.declared.entry.Entry.TheVariants as entries
 
 -- the rows, one for each kind of entry
@@ -78,20 +78,21 @@ change w l entries.End = l
 
 -- an id stays in a line while it has something unread, or waits there
 abbrev pub stays : Ledger → ℕ → Id → Bool
-stays l transport id = not (unread_of l id == 0) || list_any (λ r. id_eq r.id id && (r.site.transport == transport)) l.waiting
+stays l transport id =
+    not (unread_of l id == 0) || list_any (λ r. id_eq r.id id && (r.site.transport == transport)) l.waiting
 
 -- a line without those who have left it
-abbrev pub settle_line : Ledger → (ℕ × List Id) → List Id
-settle_line l line = filter (stays l line.0) line.1
+abbrev pub tidy_line : Ledger → (ℕ × List Id) → List Id
+tidy_line l line = filter (stays l line.0) line.1
 
--- what is true after each entry: lines, served rows and site records of what is left, and a scan that goes on
-abbrev pub settled : World → Ledger → Ledger → Ledger
-settled w before l =
-    let s = settle_scan l in
+-- The ledger tidied after an entry: lines, served rows and site records of what is left, and a scan that goes on
+abbrev pub tidied : World → Ledger → Ledger → Ledger
+tidied w before l =
+    let s = tidy_scan l in
     record s {
-      lines = map (settle_line l) (enumerate_from 0 l.lines);
+      lines = map (tidy_line l) (enumerate_from 0 l.lines);
       served = filter (λ s. list_any (λ r. id_eq r.id s.id && site_eq r.site s.site) l.waiting) l.served;
-      sites = settled_sites w before l;
+      sites = tidied_sites w before l;
     }
 
 -- the entry is of the past
@@ -100,7 +101,7 @@ noted e l = record l { past = e ∷ l.past }
 
 -- the ledger after an entry
 unfoldable pub after : World → Ledger → Entry → Ledger
-after w l e = settled w l (noted e (change w l e))
+after w l e = tidied w l (noted e (change w l e))
 
 -- the ledger after these entries
 unfoldable pub after_all : World → Ledger → List Entry → Ledger

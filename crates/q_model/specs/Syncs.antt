@@ -13,7 +13,9 @@ use Rattle.q_model.specs.Places.{is_active}
 
 -- the message is in active, and has marks to sync or is a leftover
 abbrev pub may_sync : Ledger → Id → Bool
-may_sync l id = option_map_or (λ m. is_active m.place && (is_leftover l id || not (has_none (written_marks m)))) (message_of l.book id) false
+may_sync l id =
+    option_map_or (λ m. is_active m.place && (is_leftover l id || not (has_none (written_marks m))))
+    (message_of l.book id) false
 
 -- every mark is sure
 abbrev pub sync_all : Message → Message
@@ -21,4 +23,9 @@ sync_all m = record m { recipients = map (λ (r : Recipient). record r { mark = 
 
 -- the marks are synced; a leftover counts as synced in this life
 abbrev pub after_sync : Ledger → Id → Ledger
-after_sync l id = record l { book = change_message l.book id sync_all; synced = if is_leftover l id then id ∷ l.synced else l.synced }
+after_sync l id =
+    record l {
+      book = change_message l.book id sync_all;
+      synced = if is_leftover l id then id ∷ l.synced
+          else l.synced;
+    }

@@ -8,7 +8,7 @@ use Rattle.q_model.specs.declared.outcome.Outcome.{Outcome}
 use Rattle.q_model.specs.declared.outcome.SiteState.{SiteState}
 use Rattle.q_model.specs.declared.outcome.SiteState.TheVariants.{Down, Up}
 use Rattle.q_model.specs.IdTexts.{id_text}
-use Rattle.q_model.specs.Notices.{text_line, why_text}
+use Rattle.q_model.specs.TextParts.{text_line, why_text}
 use Rattle.q_model.specs.Settings.{Table}
 use Rattle.q_model.specs.declared.entry.Entry.TheVariants as entries
 use Rattle.q_model.specs.declared.outcome.Outcome.TheVariants as outcomes
@@ -53,14 +53,20 @@ transport_text table n = unwrap_or (slice_get table.transports n) []
 abbrev pub words : Table → Entry → List (List ℕ)
 words table (entries.Life generation mode) = codes "life" ∷ decimal generation ∷ mode_words mode
 words table (entries.At t) = codes "at" ∷ decimal t ∷ []
-words table (entries.Arrive id sender to content) = codes "arrive" ∷ id_text id ∷ sender_text sender ∷ decimal (length content) ∷ to
+words table (entries.Arrive id sender to content) =
+    codes "arrive" ∷ id_text id ∷ sender_text sender ∷ decimal (length content) ∷ to
 words table (entries.Back id) = codes "back" ∷ id_text id ∷ []
 words table (entries.Admit id) = codes "admit" ∷ id_text id ∷ []
 words table (entries.Load id from to) = codes "load" ∷ id_text id ∷ decimal from ∷ decimal to ∷ []
-words table (entries.Start number id site positions) = codes "start" ∷ decimal number ∷ id_text id ∷ transport_text table site.transport ∷ site.hop ∷ map decimal positions
-words table (entries.Preempt child parent transport need) = codes "preempt" ∷ id_text child ∷ id_text parent ∷ transport_text table transport ∷ decimal need ∷ []
-words table (entries.Reply number state outcomes) = codes "reply" ∷ decimal number ∷ state_text state ∷ map outcome_text outcomes
-words table (entries.Skip id site positions) = codes "skip" ∷ id_text id ∷ transport_text table site.transport ∷ site.hop ∷ map decimal positions
+words table (entries.Start number id site positions) =
+    codes "start" ∷ decimal number ∷ id_text id ∷ transport_text table site.transport ∷ site.hop
+    ∷ map decimal positions
+words table (entries.Preempt child parent transport need) =
+    codes "preempt" ∷ id_text child ∷ id_text parent ∷ transport_text table transport ∷ decimal need ∷ []
+words table (entries.Reply number state outcomes) =
+    codes "reply" ∷ decimal number ∷ state_text state ∷ map outcome_text outcomes
+words table (entries.Skip id site positions) =
+    codes "skip" ∷ id_text id ∷ transport_text table site.transport ∷ site.hop ∷ map decimal positions
 words table (entries.Log id f) = codes "log" ∷ id_text id ∷ decimal f.position ∷ why_text f.why ∷ decimal f.code ∷ []
 words table (entries.Mark id position) = codes "mark" ∷ id_text id ∷ decimal position ∷ []
 words table (entries.Sync id) = codes "sync" ∷ id_text id ∷ []

@@ -1,4 +1,5 @@
--- When a deferred message is due again, and when a message is given up (postconf(5): minimal_backoff_time, maximal_backoff_time, maximal_queue_lifetime, bounce_queue_lifetime).
+-- When a deferred message is due again, and when a message is given up (postconf(5):
+-- minimal_backoff_time, maximal_backoff_time, maximal_queue_lifetime, bounce_queue_lifetime).
 use Rattle.std.specs.Prelude.{◌+◌, ◌-◌, Bool, if◌then◌else◌, is_none, max, min, nat_le, ℕ}
 use Rattle.q_model.specs.Message.{Message}
 use Rattle.q_model.specs.Settings.{World}
@@ -13,4 +14,5 @@ due w now m = now + max w.settings.minimal_backoff (min w.settings.maximal_backo
 
 -- the message has reached its lifetime; bounces have one of their own
 abbrev pub is_expired : World → ℕ → Message → Bool
-is_expired w now m = nat_le (if is_none m.sender then w.settings.bounce_lifetime else w.settings.lifetime) (age_of now m)
+is_expired w now m =
+    nat_le (if is_none m.sender then w.settings.bounce_lifetime else w.settings.lifetime) (age_of now m)

@@ -1,4 +1,4 @@
--- Destinations that nothing is sent to any more: which are dropped, and which dead ones are remembered.
+-- Sites that nothing is sent to any more: which are dropped, and which dead ones are remembered.
 use Rattle.std.specs.Prelude.{◌&&◌, ◌++◌, ◌==◌, Bool, filter, if◌then◌else◌, length, List, nat_lt, not}
 use Rattle.q_model.specs.Deliveries.{busy, waits_at}
 use Rattle.q_model.specs.Ledger.{Ledger}
@@ -17,11 +17,14 @@ is_kept_dead l r = is_unused l r && not (is_alive r.health)
 
 -- the dead site that was unused longest is forgotten, where too many are remembered
 abbrev pub forget_oldest : World → Ledger → List SiteRecord → List SiteRecord
-forget_oldest w l rs = if nat_lt w.settings.recipient_limit (length (filter (is_kept_dead l) rs)) then drop_first (is_kept_dead l) rs else rs
+forget_oldest w l rs =
+    if nat_lt w.settings.recipient_limit (length (filter (is_kept_dead l) rs)) then drop_first (is_kept_dead l) rs
+    else rs
 
--- Records that came to be unused go to the end. Alive ones that are unused are dropped, and the dead one that is unused longest where they are too many.
-abbrev pub settled_sites : World → Ledger → Ledger → List SiteRecord
-settled_sites w before l =
+-- Records that came to be unused go to the end. Alive ones that are unused are dropped, and the
+-- dead one that is unused longest where they are too many.
+abbrev pub tidied_sites : World → Ledger → Ledger → List SiteRecord
+tidied_sites w before l =
     let newly : SiteRecord → Bool = λ r. is_unused l r && not (is_unused before r) in
     let ordered = filter (λ r. not (newly r)) l.sites ++ filter newly l.sites in
     forget_oldest w l (filter (λ r. not (is_unused l r && is_alive r.health)) ordered)

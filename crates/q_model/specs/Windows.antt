@@ -1,4 +1,4 @@
--- How a concurrency window grows and narrows, and when a destination dies (SCHEDULER_README, "Concurrency scheduling").
+-- How a concurrency window grows and narrows, and when a site dies (SCHEDULER_README, "Concurrency scheduling").
 use Rattle.std.specs.Prelude.{◌&&◌, ◌*◌, ◌+◌, ◌-◌, ◌/◌, ◌==◌, if◌then◌else◌, List, max, nat_le, nat_lt, not, ℕ}
 use Rattle.q_model.specs.declared.outcome.SiteState.{SiteState}
 use Rattle.q_model.specs.declared.outcome.SiteState.TheVariants.{Down, Up}
@@ -12,7 +12,15 @@ use Rattle.q_model.specs.declared.rows.Health.TheVariants as healths
 
 -- alive again; busy counts a delivery that just replied
 abbrev pub revived : World → ℕ → SiteRecord → SiteRecord
-revived w busy r = record r { window = if busy == 0 then initial_window w else busy; success = 0; failure = 0; cohorts = 0; health = healths.Alive }
+revived w busy r =
+    record r {
+      window = if busy == 0 then initial_window w
+          else busy;
+      success = 0;
+      failure = 0;
+      cohorts = 0;
+      health = healths.Alive;
+    }
 
 -- a success that came to 1 widens the window
 abbrev pub grown : World → SiteRecord → SiteRecord
@@ -22,7 +30,8 @@ grown w r = if nat_le (unit w.settings.positive) r.success
 -- a success at a site that is alive: the window may grow while deliveries fill it
 abbrev pub up_alive : World → ℕ → SiteRecord → SiteRecord
 up_alive w busy r = if nat_lt r.window w.settings.concurrency_limit && nat_lt r.window (busy + initial_window w)
-    then grown w (record r { cohorts = 0; success = r.success + amount w.settings.positive r.window }) else record r { cohorts = 0 }
+    then grown w (record r { cohorts = 0; success = r.success + amount w.settings.positive r.window })
+    else record r { cohorts = 0 }
 
 -- a success; a dead site comes alive and no more
 abbrev pub after_up : World → ℕ → SiteRecord → SiteRecord
@@ -41,7 +50,8 @@ more_cohorts w r = if w.settings.cohort_limit == 0 then 0 else r.cohorts + parts
 
 -- a failure at a site that is alive: too many failed cohorts make it dead
 abbrev pub down_alive : World → ℕ → SiteRecord → SiteRecord
-down_alive w now r = if not (w.settings.cohort_limit == 0) && nat_le (w.settings.cohort_limit * parts) (more_cohorts w r)
+down_alive w now r =
+    if not (w.settings.cohort_limit == 0) && nat_le (w.settings.cohort_limit * parts) (more_cohorts w r)
     then record r { cohorts = more_cohorts w r; health = healths.DeadUntil (now + w.settings.minimal_backoff) }
     else narrowed w (record r { cohorts = more_cohorts w r })
 

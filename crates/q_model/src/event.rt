@@ -9,7 +9,7 @@ pub enum Mode {
 }
 
 /// The triggers of qmgr(8): `D` scans the deferred queue, `A` lets the next scan ignore due
-/// times, `F` forgets which destinations are dead.
+/// times, `F` forgets which sites are dead.
 #[derive(Clone, Copy, Debug, PartialEq, Eq)]
 pub enum Trigger {
     D,
@@ -39,10 +39,10 @@ pub enum Event {
     },
 }
 
-/// A step of a run: a life begins on the book as it stands, an event is heard, or the life ends
-/// as asked.
+/// What a run is made from: a life begins on the book as it stands, an event is heard, or the
+/// life ends as asked.
 #[derive(Debug, Drop)]
-pub enum Item {
+pub enum LifeEvent {
     Begin,
     Heard { event: Event },
     Finish,

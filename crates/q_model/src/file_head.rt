@@ -41,9 +41,25 @@ impl Model for FileHead {
 
     ghost Value = { FileHeadValue };
 
-    ghost view = { λ f. record { version = f.version; head = f.head; recipients = f.recipients; marked = f.marked; first_at = f.first_at; content_at = f.content_at; content_len = f.content_len } };
+    ghost view = { λ f. record {
+      version = f.version;
+      head = f.head;
+      recipients = f.recipients;
+      marked = f.marked;
+      first_at = f.first_at;
+      content_at = f.content_at;
+      content_len = f.content_len;
+    } };
 
-    ghost inverse = { λ v. record { version = v.version; head = v.head; recipients = v.recipients; marked = v.marked; first_at = v.first_at; content_at = v.content_at; content_len = v.content_len } };
+    ghost inverse = { λ v. record {
+      version = v.version;
+      head = v.head;
+      recipients = v.recipients;
+      marked = v.marked;
+      first_at = v.first_at;
+      content_at = v.content_at;
+      content_len = v.content_len;
+    } };
 }
 
 /// A place in the recipients of a queue file: a position, and the offset of its record.

@@ -25,7 +25,7 @@ mod tests;
 
 pub use address::{Address, split_domain};
 pub use entry::Entry;
-pub use event::{Event, Item, Mode, Trigger};
+pub use event::{Event, LifeEvent, Mode, Trigger};
 pub use file_head::{Batch, Cursor, FileHead, Head, Taken};
 pub use hop::Hop;
 pub use id::{Id, Moment};

@@ -1,7 +1,7 @@
-//! What the choice of the next delivery asks of destinations.
+//! What the choice of the next delivery asks of sites.
 ghost use Rattle.std.specs.Prelude.{◌≡◌, ℕ, Bool};
 
-/// Facts of destinations, which go by number here. Any number may be asked for; the facts speak
+/// Facts of sites, which go by number here. Any number may be asked for; the facts speak
 /// of those that are known.
 pub trait Rooms {
     /// Whether the site is alive and has fewer deliveries in flight than its window.

@@ -1,4 +1,4 @@
-//! The rows of a ledger: what a queue manager knows of its messages, deliveries and destinations.
+//! The rows of a ledger: what a queue manager knows of its messages, deliveries and sites.
 use crate::{Id, Moment, Positions, Site, Why};
 use std::marker::Model;
 
@@ -99,14 +99,14 @@ pub struct Unsettled {
     pub need: Need,
 }
 
-/// Whether a destination is dead, and until when.
+/// Whether a site is dead, and until when.
 #[derive(Clone, Copy, Debug, PartialEq, Eq)]
 pub enum Health {
     Alive,
     DeadUntil(Moment),
 }
 
-/// What is known of a destination: its concurrency window, the feedback that hasn't come to a
+/// What is known of a site: its concurrency window, the feedback that hasn't come to a
 /// whole step yet, and its failed cohorts, in parts of a whole (SCHEDULER_README). A contract
 /// sees it as the record of these.
 #[derive(Clone, Copy, Debug, PartialEq, Eq)]
@@ -124,7 +124,21 @@ impl Model for SiteRecord {
 
     ghost Value = { SiteRecordValue };
 
-    ghost view = { λ r. record { site = r.site; window = r.window; success = r.success; failure = r.failure; cohorts = r.cohorts; health = r.health } };
+    ghost view = { λ r. record {
+      site = r.site;
+      window = r.window;
+      success = r.success;
+      failure = r.failure;
+      cohorts = r.cohorts;
+      health = r.health;
+    } };
 
-    ghost inverse = { λ v. record { site = v.site; window = v.window; success = v.success; failure = v.failure; cohorts = v.cohorts; health = v.health } };
+    ghost inverse = { λ v. record {
+      site = v.site;
+      window = v.window;
+      success = v.success;
+      failure = v.failure;
+      cohorts = v.cohorts;
+      health = v.health;
+    } };
 }

@@ -1,9 +1,9 @@
-//! Destinations.
+//! Sites, which qmgr(8) calls destinations.
 use crate::Hop;
 use std::marker::Model;
 
-/// A destination: a transport, by its number in the table, and a next hop. Concurrency windows
-/// are kept per site (SCHEDULER_README). A contract sees it as the record of the two.
+/// A site: a transport, by its number in the table, and a next hop. Concurrency windows are kept
+/// for each site (SCHEDULER_README). A contract sees it as the record of the two.
 #[derive(Clone, Copy, Debug, PartialEq, Eq, PartialOrd, Ord)]
 pub struct Site {
     pub transport: u8,

@@ -1,9 +1,10 @@
 -- The lines of a parameter file, one at a time.
-use Rattle.std.proofs.Common.{◌≡◌, ◌+◌, ℕ, List, [], Ok, Err, Result, refl, sym, ap, ◌∙◌, inl, inr}
-use Rattle.std.specs.List.{enumerate_from, fold, slice_split}
+use Rattle.std.proofs.Common.{◌≡◌, ◌+◌, ℕ, List, [], Ok, Err, Result, refl, ap, ◌∙◌}
+use Rattle.std.specs.List.{enumerate_from}
 use Rattle.std.proofs.lemmas.List.Folds.{fold_stays}
-use Rattle.q_params.specs.Files.{is_line_end, read_from, then_line}
-use Rattle.q_params.specs.Lines.{IsFirstLine}
+use Rattle.q_text.specs.Lines.{IsFirstLine, lines_in}
+use Rattle.q_text.proofs.LineLaws.{line_by_line}
+use Rattle.q_params.specs.ParameterFile.{read_from, then_line}
 use Rattle.q_params.specs.Readings.{read_line, Reading}
 use Rattle.q_params.specs.declared.error.ParamCause.{ParamCause}
 use Rattle.q_params.specs.declared.error.ParamError.{ParamError}
@@ -14,16 +15,15 @@ empty_line (Ok r) n = refl
 empty_line (Err e) n = refl
 
 -- the first line, and then the others
-read_first : (s : Result Reading ParamError) (n : ℕ) (bytes line rest : List ℕ) → IsFirstLine bytes line rest → read_from s n bytes ≡ read_from (then_line s (n, line)) (n + 1) rest
-read_first s n bytes line rest (inl e) = ap (λ lines. fold then_line s (enumerate_from n lines)) e
-read_first s n bytes line rest (inr p) =
-    ap (λ lines. fold then_line s (enumerate_from n lines)) p.0 ∙ sym (empty_line (then_line s (n, line)) (n + 1)) ∙ ap (read_from (then_line s (n, line)) (n + 1)) (sym p.1)
+pub read_first : (s : Result Reading ParamError) (n : ℕ) (bytes line rest : List ℕ) → IsFirstLine bytes line rest
+    → read_from s n bytes ≡ read_from (then_line s (n, line)) (n + 1) rest
+read_first s n bytes line rest first = line_by_line then_line s n bytes line rest empty_line first
 
--- a line that isn't taken is the file's fault
+-- a line that is refused is the file's fault
 pub read_refused : (n : ℕ) (r : Reading) (bytes line rest : List ℕ) (cause : ParamCause) → IsFirstLine bytes line rest → read_line n r line ≡ Err cause
     → read_from (Ok r) n bytes ≡ Err (record { line = n; cause = cause })
 read_refused n r bytes line rest cause first e =
     let fault : ParamError = record { line = n; cause = cause } in
     let refused : then_line (Ok r) (n, line) ≡ Err fault = rw e refl in
     read_first (Ok r) n bytes line rest first ∙ ap (λ s. read_from s (n + 1) rest) refused
-    ∙ fold_stays then_line (Err fault) (λ _. refl) (enumerate_from (n + 1) (slice_split is_line_end rest))
+    ∙ fold_stays then_line (Err fault) (λ _. refl) (enumerate_from (n + 1) (lines_in rest))

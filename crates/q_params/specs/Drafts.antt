@@ -1,4 +1,4 @@
--- The parts of a reading, as the program keeps them: two pairs of numbers stand apart from the other parameters.
+-- The parts of a reading, as the program keeps them: two pairs of numbers stand apart.
 use Rattle.std.specs.Prelude.{◌≤◌}
 use Rattle.q_params.specs.Readings.{Reading}
 use Rattle.q_params.specs.declared.draft.Draft.TheInside.{Inside}

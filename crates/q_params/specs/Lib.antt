@@ -3,8 +3,6 @@ pub mod Fields
 pub mod Parameters
 pub mod Times
 pub mod Values
-pub mod Texts
 pub mod Readings
-pub mod Files
+pub mod ParameterFile
 pub mod Drafts
-pub mod Lines

@@ -28,9 +28,11 @@ name_of p.MarkSyncLimit = codes "mark_sync_limit"
 
 -- all of them
 abbrev pub all : List Parameter
-all = p.ActiveLimit ∷ p.RecipientLimit ∷ p.RecipientMinimum ∷ p.InitialConcurrency ∷ p.ConcurrencyLimit ∷ p.EntryLimit ∷ p.PositiveFeedback
-    ∷ p.NegativeFeedback ∷ p.FailedCohortLimit ∷ p.ProcessLimit ∷ p.SlotCost ∷ p.SlotLoan ∷ p.SlotDiscount ∷ p.MinimumSlots ∷ p.QueueRunDelay
-    ∷ p.MinimalBackoff ∷ p.MaximalBackoff ∷ p.QueueLifetime ∷ p.BounceLifetime ∷ p.MarkSyncLimit ∷ []
+all =
+    p.ActiveLimit ∷ p.RecipientLimit ∷ p.RecipientMinimum ∷ p.InitialConcurrency ∷ p.ConcurrencyLimit
+    ∷ p.EntryLimit ∷ p.PositiveFeedback ∷ p.NegativeFeedback ∷ p.FailedCohortLimit ∷ p.ProcessLimit
+    ∷ p.SlotCost ∷ p.SlotLoan ∷ p.SlotDiscount ∷ p.MinimumSlots ∷ p.QueueRunDelay ∷ p.MinimalBackoff
+    ∷ p.MaximalBackoff ∷ p.QueueLifetime ∷ p.BounceLifetime ∷ p.MarkSyncLimit ∷ []
 
 -- its number in that list
 abbrev pub place_of : Parameter → ℕ

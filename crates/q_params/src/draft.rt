@@ -1,16 +1,16 @@
 //! A parameter file that is being read.
-ghost use Rattle.std.specs.Prelude.{◌≡◌, ◌≢◌, ◌≤◌, IfSome, MatchOption, nat_lt, None, Some};
+ghost use Rattle.std.specs.Prelude.{◌≡◌, ◌≢◌, ◌≤◌, IfSome, nat_lt};
 ghost use Rattle.q_model.specs.Lists.{least};
-ghost use Rattle.q_params.specs.Files.{agreed, disagreements, nothing_read};
-ghost use Rattle.q_params.specs.Readings.{Gives, line_of, read_line, read_setting, set_at, set_named};
-ghost use Rattle.q_params.specs.Values.{cost_of, set_to};
+ghost use Rattle.q_params.specs.ParameterFile.{agreed, disagreements, nothing_read};
+ghost use Rattle.q_params.specs.Readings.{Gives, line_of, read_line, read_setting, set_at, set_named, Sets};
+ghost use Rattle.q_params.specs.Values.{cost_of};
 
 use crate::error::{ParamCause, ParamError};
 use crate::parameter::Parameter;
 use crate::params::Params;
-use crate::text::{around, equals_sign, is_passed_over, is_text, trim};
 use crate::times::seconds;
-use q_feedback::{Feedback, read_number};
+use q_feedback::Feedback;
+use q_text::{cut, is_passed_over, is_text, read_number32, trim};
 use std::marker::Model;
 
 /// The seconds of a day.
@@ -46,7 +46,7 @@ fn cost(text: &[u8]) -> Option<u32>
     ensures exact { result ≡ cost_of text.now }
     ensures within { IfSome result (λ n. (n ≤ 1000) × (n ≢ 1)) }
 {
-    let cost = read_number(text, 0, 1_000)?;
+    let cost = read_number32(text, 0, 1_000)?;
     if cost == 1 { None } else { Some(cost) }
 }
 
@@ -73,10 +73,9 @@ impl Draft {
     /// Sets a parameter to the value that a text is, if it is one.
     #[tactic(auto, unfolding(crate::specs::Values::set_to))]
     fn set(&mut self, parameter: Parameter, text: &[u8]) -> Option<()>
-        ensures { MatchOption result ((set_to parameter text.now self.old.settings ≡ None) × (self.new ≡ self.old))
-            (λ _. (set_to parameter text.now self.old.settings ≡ Some self.new.settings) × (self.new.lines ≡ self.old.lines)) }
+        ensures { Sets parameter text.now self.old self.new result }
     {
-        let number = |low: u32, high: u32| read_number(text, low, high);
+        let number = |low: u32, high: u32| read_number32(text, low, high);
         let params = &mut self.params;
         match parameter {
             Parameter::ActiveLimit => params.qmgr_message_active_limit = number(1, 50_000)?,
@@ -134,18 +133,17 @@ impl Draft {
         }
     }
 
-    /// Takes a line that isn't passed over.
+    /// Reads a line that isn't passed over.
     fn read_setting(&mut self, number: u64, line: &[u8]) -> Result<(), ParamCause>
         ensures { Gives result self.new (read_setting number self.old line.now) }
     {
-        let Some(at) = equals_sign(line) else {
+        let Some((name, value)) = cut(line, b'=') else {
             return Err(ParamCause::NoEquals);
         };
-        let (name, value) = around(line, at);
         self.set_named(number, trim(name), trim(value))
     }
 
-    /// Takes the line of this number.
+    /// Reads the line of this number.
     pub(crate) fn read_line(&mut self, number: u64, line: &[u8]) -> Result<(), ParamCause>
         ensures { Gives result self.new (read_line number self.old line.now) }
     {

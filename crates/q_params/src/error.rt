@@ -1,7 +1,7 @@
 //! What may be wrong with a parameter file.
 use thiserror::Error;
 
-/// Why a line can't be taken, in the order in which causes are looked for.
+/// Why a line is refused, in the order in which causes are looked for.
 #[derive(Clone, Copy, Debug, PartialEq, Eq, Error)]
 pub enum ParamCause {
     /// A byte is neither printable ASCII nor a tab.

@@ -1,31 +1,12 @@
 //! The parameter file.
-ghost use Rattle.std.specs.Prelude.{◌≡◌, ◌<◌, IfOk, IfSome, length, position};
-ghost use Rattle.q_params.specs.Files.{file_of, is_line_end, read_lines};
-ghost use Rattle.q_params.specs.Lines.{IsFirstLine};
+ghost use Rattle.std.specs.Prelude.{◌≡◌, IfOk};
+ghost use Rattle.q_params.specs.ParameterFile.{file_of, read_lines};
 ghost use Rattle.q_params.specs.Ranges.{IsInRange};
 
 use crate::draft::Draft;
 use crate::error::{ParamCause, ParamError};
 use crate::params::Params;
-use crate::text::around;
-
-fn line_end(bytes: &[u8]) -> Option<usize>
-    ensures exact { result ≡ position is_line_end bytes.now }
-    ensures within { IfSome result (λ at. at < length bytes.now) }
-{
-    bytes.iter().position(|b| *b == b'\n')
-}
-
-/// The first line without its end, and what follows it.
-fn first_line(bytes: &[u8]) -> (&[u8], &[u8])
-    ensures line { IsFirstLine bytes.now result.0.now result.1.now }
-    ensures shorter { 0 < length bytes.now → length result.1.now < length bytes.now }
-{
-    match line_end(bytes) {
-        Some(at) => around(bytes, at),
-        None => (bytes, &bytes[bytes.len()..]),
-    }
-}
+use q_text::first_line;
 
 fn read_lines(bytes: &[u8]) -> Result<Draft, ParamError>
     ensures { result ≡ read_lines bytes.now }

@@ -2,7 +2,7 @@
 ghost use Rattle.std.specs.Prelude.{◌≡◌, ◌<◌, ◌≤◌, IfSome, length, OnSome};
 ghost use Rattle.q_params.specs.Times.{counted, last_unit, seconds_within, unit_of};
 
-use q_feedback::read_number;
+use q_text::read_number32;
 
 /// The longest time, in seconds.
 const LONGEST: u32 = 9_999_999;
@@ -38,7 +38,7 @@ fn counted(text: &[u8], low: u32, unit: u32) -> Option<u32>
     ensures exact { result ≡ counted low 9999999 unit text.now }
     ensures within { IfSome result (λ n. (low ≤ n) × (n ≤ 9999999)) }
 {
-    let number = read_number(text, 0, LONGEST)?;
+    let number = read_number32(text, 0, LONGEST)?;
     let seconds = u64::from(number) * u64::from(unit);
     if seconds < u64::from(low) || seconds > u64::from(LONGEST) {
         return None;

@@ -14,10 +14,14 @@ length_from kind bytes =
     else if not (is_length kind (number bytes)) then Err BadLength
     else Ok (number bytes)
 
+-- the record of this kind and length
+abbrev pub rec_at : ℕ → ℕ → ℕ → Rec
+rec_at at kind n = record { kind = kind; from = at + 5; to = at + 5 + n }
+
 -- a record of this kind and length, where so many bytes are left
 abbrev pub whole_from : ℕ → ℕ → ℕ → Result ℕ RecError → Result Rec RecError
 whole_from at kind left (Err e) = Err e
-whole_from at kind left (Ok n) = if nat_lt left n then Err NotWhole else Ok (record { kind = kind; from = at + 5; to = at + 5 + n })
+whole_from at kind left (Ok n) = if nat_lt left n then Err NotWhole else Ok (rec_at at kind n)
 
 -- the record at an offset whose bytes, and all that follow, are these
 abbrev pub record_from : ℕ → List ℕ → Result Rec RecError
@@ -30,3 +34,9 @@ pub record IsRecord (bytes : List ℕ) (at : ℕ) (r : Rec) : Type 0 where
   pub within : r.to ≤ length bytes
   pub lawful : is_length r.kind (length (take (r.to - r.from) (drop r.from bytes))) ≡ true
   pub written : drop at bytes ≡ record_bytes r.kind (take (r.to - r.from) (drop r.from bytes)) ++ drop r.to bytes
+
+-- each record that was written there is read
+abbrev pub ReadsWritten : List ℕ → ℕ → Result Rec RecError → Type 0
+ReadsWritten bytes at result =
+    (kind : ℕ) (body rest : List ℕ) → is_length kind (length body) ≡ true
+    → drop at bytes ≡ record_bytes kind body ++ rest → result ≡ Ok (rec_at at kind (length body))

@@ -1,8 +1,6 @@
 //! Reading a record.
-ghost use Rattle.std.specs.Prelude.{◌≡◌, ◌≤◌, ◌+◌, ◌++◌, ℕ, List, length, drop, Ok, true, IfOk};
-ghost use Rattle.q_model.specs.Records.{record_bytes};
-ghost use Rattle.q_record.specs.Kinds.{is_length};
-ghost use Rattle.q_record.specs.Reading.{record_from, length_from, IsRecord};
+ghost use Rattle.std.specs.Prelude.{◌≡◌, ◌≤◌, length, drop, IfOk};
+ghost use Rattle.q_record.specs.Reading.{IsRecord, length_from, ReadsWritten, record_from};
 
 use crate::RecError;
 use crate::kind::{is_kind, is_length};
@@ -39,7 +37,7 @@ pub fn get(bytes: &[u8], at: usize) -> Result<Rec, RecError>
     // What is read was written so.
     ensures found { IfOk result (λ r. IsRecord bytes.now at r) }
     // What is written is read, whatever follows.
-    ensures again { (kind : ℕ) (body rest : List ℕ) → is_length kind (length body) ≡ true → drop at bytes.now ≡ record_bytes kind body ++ rest → result ≡ Ok (record { kind = kind; from = at + 5; to = at + 5 + length body }) }
+    ensures again { ReadsWritten bytes.now at result }
 {
     let (_, rest) = bytes.split_at(at);
     let [kind, behind @ ..] = rest else {

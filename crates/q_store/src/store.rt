@@ -1,10 +1,9 @@
 //! Storing a file by way of tmp.
-ghost use Rattle.std.specs.Prelude.{◌≡◌, ◌≢◌, ◌≤◌, ◌⊎◌, ℕ, [], length, Some, IsTrue, OnOk, OnErr, IsErrOf};
-ghost use Rattle.q_host.specs.Files.{put};
-ghost use Rattle.q_host.specs.View.{Goes, LeavesOnly, After, now};
+ghost use Rattle.std.specs.Prelude.{◌≡◌, ◌≢◌, ◌≤◌, [], length, Some, IsTrue, OnOk, OnErr};
+ghost use Rattle.q_host.specs.View.{Goes, now, Told};
 ghost use Rattle.q_host.specs.Faults.{DiskCause};
 ghost use Rattle.q_model.specs.declared.spot.Area.TheVariants.{Tmp};
-ghost use Rattle.q_store.specs.Stores.{OneFile, Stores, MayStore};
+ghost use Rattle.q_store.specs.Stores.{Holds, IsPut, LeavesWhole, MayGo, MayHold, OneFile};
 
 use q_host::{Host, HostError};
 use q_model::{Area, Name, Spot};
@@ -20,9 +19,9 @@ fn write_pieces<H: Host>(
     bytes: &[u8],
 ) -> Result<(), HostError>
     requires { IsTrue H.tells → (H.view host.old).files area name ≡ Some [] }
-    ensures files { OnOk result (IsTrue H.tells → (H.view host.new).files ≡ put (H.view host.old).files area name (Some bytes.now)) }
+    ensures files { OnOk result (Told H.tells H.view host.old host.new (IsPut area name bytes.now)) }
     ensures reads { IsTrue H.tells → OneFile area name (now (H.view host.old)) (now (H.view host.new)) }
-    ensures goes { IsTrue H.tells → Goes (OneFile area name) (OneFile area name) (H.view host.old) (H.view host.new) }
+    ensures goes { Told H.tells H.view host.old host.new (Goes (OneFile area name) (OneFile area name)) }
     ensures cause { DiskCause (H.faults host.old) (H.faults host.new) result }
 {
     let mut at = 0;
@@ -45,10 +44,9 @@ fn store_whole<H: Host>(
     bytes: &[u8],
 ) -> Result<(), HostError>
     requires { area ≢ Tmp }
-    ensures stored { OnOk result (IsTrue H.tells → Stores area name bytes.now (now (H.view host.old)) (now (H.view host.new))) }
-    ensures reads { IsTrue H.tells → MayStore area name bytes.now (now (H.view host.old)) (now (H.view host.new)) }
-    ensures ok { OnOk result (IsTrue H.tells → Goes (Stores area name bytes.now) (MayStore area name bytes.now) (H.view host.old) (H.view host.new)) }
-    ensures goes { IsTrue H.tells → Goes (MayStore area name bytes.now) (MayStore area name bytes.now) (H.view host.old) (H.view host.new) }
+    ensures ok { OnOk result (Told H.tells H.view host.old host.new (Holds tmp area name bytes.now)) }
+    ensures err { OnErr result (Told H.tells H.view host.old host.new (MayHold tmp area name bytes.now)) }
+    ensures goes { Told H.tells H.view host.old host.new (MayGo tmp area name bytes.now) }
     ensures cause { DiskCause (H.faults host.old) (H.faults host.new) result }
 {
     host.create(Area::Tmp, tmp)?;
@@ -59,7 +57,8 @@ fn store_whole<H: Host>(
 }
 
 /// Stores bytes as a file at a place outside tmp, by way of a file in tmp that is given a name of
-/// its own. A file at the place, or of that name in tmp, is replaced.
+/// its own. A file at the place, or of that name in tmp, is replaced; nothing else changes, in tmp
+/// neither. It is an error to call it for a place in tmp.
 pub fn store_file<H: Host>(
     host: &mut H,
     tmp: Name,
@@ -67,17 +66,14 @@ pub fn store_file<H: Host>(
     bytes: &[u8],
 ) -> Result<(), HostError>
     requires { spot.area ≢ Tmp }
-    // What reads give afterwards; after a refusal the file is there, whole, or all but tmp is as
-    // before.
-    ensures stored { OnOk result (IsTrue H.tells → Stores spot.area spot.name bytes.now (now (H.view host.old)) (now (H.view host.new))) }
-    ensures reads { IsTrue H.tells → MayStore spot.area spot.name bytes.now (now (H.view host.old)) (now (H.view host.new)) }
+    // After Ok reads and every crash give the file whole, and all but `tmp` in tmp as before.
+    ensures ok { OnOk result (Told H.tells H.view host.old host.new (Holds tmp spot.area spot.name bytes.now)) }
 
-    // After Ok every crash leaves the file whole, and all else but tmp as before.
-    ensures ok { OnOk result (IsTrue H.tells → Goes (Stores spot.area spot.name bytes.now) (MayStore spot.area spot.name bytes.now) (H.view host.old) (H.view host.new)) }
-    ensures goes { IsTrue H.tells → Goes (MayStore spot.area spot.name bytes.now) (MayStore spot.area spot.name bytes.now) (H.view host.old) (H.view host.new) }
+    // After a refusal reads and crashes alike give the file, or neither does.
+    ensures err { OnErr result (Told H.tells H.view host.old host.new (MayHold tmp spot.area spot.name bytes.now)) }
 
-    // A crash at any moment of the call leaves all but tmp as before, or as after it.
-    ensures any_moment { IsTrue H.tells → LeavesOnly (H.view host.old) (H.view host.new) (After (MayStore spot.area spot.name bytes.now) (H.view host.old).may_leave) }
+    // A crash at any moment of the call leaves the file whole, or what a crash might have left before.
+    ensures any_moment { Told H.tells H.view host.old host.new (LeavesWhole tmp spot.area spot.name bytes.now) }
     ensures cause { DiskCause (H.faults host.old) (H.faults host.new) result }
 {
     store_whole(host, tmp, spot.area, spot.name, bytes)

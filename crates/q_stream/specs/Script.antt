@@ -4,13 +4,24 @@ use Rattle.std.specs.List.{list_any}
 use Rattle.q_stream.specs.declared.source.Take.{Take}
 use Rattle.q_stream.specs.declared.source.Take.TheVariants.{Took, End, Failed}
 
--- the bytes that are left, how many come at most at a call, the numbers of the calls that fail, how many calls there were, and how many failed
+-- the bytes that are left, how many come at most at a call, the numbers of the calls that fail, how many
+-- calls there were, and how many failed
 pub record Script : Type 0 where
   pub rest : List ℕ
   pub piece : ℕ
   pub fails : List ℕ
   pub calls : ℕ
   pub faults : ℕ
+
+-- the script of these bytes before the first call
+abbrev pub script_of : List ℕ → ℕ → List ℕ → Script
+script_of bytes piece fails = record {
+  rest = bytes;
+  piece = piece;
+  fails = fails;
+  calls = 0;
+  faults = 0;
+}
 
 -- a count one higher, which stops at its last value
 abbrev pub counted : ℕ → ℕ
@@ -26,7 +37,8 @@ share s room = min s.piece (min room (length s.rest))
 
 -- the answer of a call into a buffer of so many bytes
 abbrev pub answer : Script → ℕ → Take
-answer s room = if fails_next s then Failed else (if nat_lt 0 (length s.rest) then Took (share s room) else End)
+answer s room =
+    if fails_next s then Failed else if nat_lt 0 (length s.rest) then Took (share s room) else End
 
 -- the script after it
 abbrev pub after : Script → ℕ → Script

@@ -2,7 +2,7 @@
 ghost use Rattle.std.specs.Prelude.{◌≡◌, ◌≤◌, ◌==◌, ◌<◌, length, take, min, IfOk};
 ghost use Rattle.std.specs.List.{list_any};
 ghost use Rattle.q_stream.specs.Takes.{TakesFront, HasCause};
-ghost use Rattle.q_stream.specs.Script.{answer, after};
+ghost use Rattle.q_stream.specs.Script.{answer, after, script_of};
 
 use crate::{Source, Take};
 use q_model::NoMemory;
@@ -29,7 +29,13 @@ impl Model for MemSource {
 
     ghost Value = { Script };
 
-    ghost view = { λ s. record { rest = drop s.at s.bytes.items; piece = s.piece; fails = s.fails.items; calls = s.calls; faults = s.faults } };
+    ghost view = { λ s. record {
+      rest = drop s.at s.bytes.items;
+      piece = s.piece;
+      fails = s.fails.items;
+      calls = s.calls;
+      faults = s.faults;
+    } };
 
     ghost invariant = { λ s. (s.at ≤ vec_len s.bytes) × (1 ≤ s.piece) };
 }
@@ -44,7 +50,7 @@ impl MemSource {
         fails: &[u64],
     ) -> Result<MemSource, NoMemory>
         requires { 1 ≤ piece }
-        ensures { IfOk result (λ s. s ≡ record { rest = bytes.now; piece = piece; fails = fails.now; calls = 0; faults = 0 }) }
+        ensures { IfOk result (λ s. s ≡ script_of bytes.now piece fails.now) }
     {
         let bytes = Vec::from_slice(alloc, bytes)?;
         let fails = Vec::from_slice(alloc, fails)?;

@@ -35,7 +35,8 @@ impl<R: Read> Source for StdSource<R> {
         ensures bytes { TakesFront None None result buf.new }
         ensures cause { HasCause self.old.faults self.new.faults result }
         // Where the reader's bytes are known, as those of a slice.
-        ensures known { TakesKnown (R.remaining self.old.reader) (R.remaining self.new.reader) result buf.new }
+        ensures known { TakesKnown (R.remaining self.old.reader) (R.remaining self.new.reader)
+            result buf.new }
     {
         match self.reader.read(buf) {
             Ok(0) => Take::End,

@@ -18,7 +18,8 @@ pub trait Source {
     /// The bytes that are left, where the source tells them; a reader of the system can't.
     ghost left: { Self → Option (List ℕ) };
 
-    /// How often it has failed. The count doesn't fall, and may stop at 2^64 - 1.
+    /// How often it has failed. The count rises at a call that fails, at no other, and may stop at
+    /// 2^64 - 1.
     ghost faults: { Self → ℕ };
 
     /// Takes the next bytes, at least one where any is left, into the front of a buffer that

@@ -9,7 +9,7 @@ use Rattle.q_model.specs.declared.entry.Entry.{Entry}
 use Rattle.q_model.specs.Past.{is_arrive}
 use Rattle.q_model.specs.declared.entry.Entry.TheVariants.{Life, At, Admit, Load, Reply, Mark, Sync, Remove}
 use Rattle.q_model.specs.declared.event.Event.TheVariants as events
-use Rattle.q_model.specs.declared.event.Item.TheVariants.{Heard}
+use Rattle.q_model.specs.declared.event.LifeEvent.TheVariants.{Heard}
 use Rattle.q_model.specs.declared.event.Mode.TheVariants.{Deliver}
 use Rattle.q_model.specs.declared.outcome.Outcome.{Outcome}
 use Rattle.q_model.specs.declared.outcome.Outcome.TheVariants as outcomes
@@ -31,7 +31,7 @@ use Rattle.q_model.proofs.QueueFileLaws.{queue_file_again}
 use Rattle.q_message.specs.NewFile.{new_message}
 use Rattle.q_message.specs.Pending.{taken_at}
 use Rattle.q_host.specs.declared.error.HostError.{HostError}
-use Rattle.q_host.specs.Files.{Files}
+use Rattle.q_model.specs.SpoolFiles.{Files}
 use Rattle.q_host.specs.View.{View}
 use Rattle.q_top.specs.Agrees.{Agrees, StageAgrees, IsAwaiting, IsFlying, HasFiles, Turns, Breaks}
 use Rattle.q_top.specs.Begins.{before_life}
@@ -167,7 +167,7 @@ mail_first old sender (address ∷ to) content h = (address, first_mail old send
 pub address_form : (to : List (List ℕ)) (address : List ℕ) → to ≡ address ∷ [] → list_all is_address to ≡ true → is_address address ≡ true
 address_form to address only h = (and_parts (is_address address) true (subst (λ (xs : List (List ℕ)). list_all is_address xs ≡ true) only h)).0
 
--- its destination is one that the table gives
+-- its site is one that the table gives
 pub routed_by : (conf : Conf) (to : List (List ℕ)) (address got : List ℕ) (site : Site) → to ≡ address ∷ [] → slice_get to 0 ≡ Some got → site ≡ (table_of conf.table).route got → site.transport < length (table_of conf.table).transports
     → ((site_of (world_of conf) address).transport < length (world_of conf).table.transports) × (site ≡ site_of (world_of conf) address)
 unfolding world_of

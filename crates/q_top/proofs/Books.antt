@@ -17,7 +17,8 @@ use Rattle.q_model.specs.IdTexts.{hex, id_text, IsId}
 use Rattle.q_model.specs.Marks.{is_marked}
 use Rattle.q_model.specs.Message.{Message}
 use Rattle.q_model.specs.QueueFileBytes.{IsFileOf, mark_at}
-use Rattle.q_model.specs.SpoolFiles.{area_of, file_at, Files, is_corrupt, IsPlace, name_at, place_eq}
+use Rattle.q_model.specs.SpoolFiles.{area_of, file_at, Files, IsPlace, name_at}
+use Rattle.q_model.specs.Places.{is_corrupt, place_eq}
 use Rattle.q_model.specs.declared.rows.Mark.TheVariants as marks
 use Rattle.q_model.specs.declared.rows.Place.TheVariants as places
 use Rattle.q_model.proofs.IdLaws.{id_text-injective}

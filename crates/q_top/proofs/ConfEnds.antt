@@ -2,7 +2,7 @@
 use Rattle.std.proofs.Common.{◌≡◌, ◌⊎◌, inr, ℕ, Bool, List, Option, IsTrue, refl, sym, ◌∙◌, subst}
 use Rattle.q_model.specs.Settings.{World}
 use Rattle.q_host.specs.Calls.{Stays}
-use Rattle.q_host.specs.Files.{Files}
+use Rattle.q_model.specs.SpoolFiles.{Files}
 use Rattle.q_host.specs.View.{View}
 use Rattle.q_model.specs.Values.{Spot}
 use Rattle.q_host.specs.declared.error.HostError.TheVariants as errors

@@ -5,14 +5,14 @@ use Rattle.std.specs.Prelude.{codes}
 use Rattle.std.proofs.Math.Seq.{drop-append_seam}
 use Rattle.std.proofs.lemmas.List.{take-append-drop}
 use Rattle.q_host.specs.Calls.{Stays}
-use Rattle.q_host.specs.Files.{Files}
+use Rattle.q_model.specs.SpoolFiles.{Files}
 use Rattle.q_host.specs.Reads.{IsRead}
 use Rattle.q_host.specs.View.{View}
 use Rattle.q_model.specs.Settings.{Settings}
-use Rattle.q_params.specs.Files.{file_of as params_of}
+use Rattle.q_params.specs.ParameterFile.{file_of as params_of}
 use Rattle.q_params.specs.Ranges.{IsInRange}
 use Rattle.q_params.specs.declared.error.ParamError.{ParamError}
-use Rattle.q_transport.specs.Files.{file_of as contents_of}
+use Rattle.q_transport.specs.TableFile.{file_of as contents_of}
 use Rattle.q_top.specs.ConfReads.{GivesParams, GivesTable}
 use Rattle.q_top.specs.Confs.{at_fault, conf_bytes, conf_of, goes_by, IsConfFault, line_of, with_params, with_table}
 use Rattle.q_top.specs.Worlds.{world_of}
@@ -31,8 +31,8 @@ read_none (Some file) bytes h = (file, sym (ap (λ (x : List ℕ). x ++ file) h)
 pub read_more : (o : Option (List ℕ)) (bytes more old new : List ℕ) (n : ℕ) → IfSome o (λ file. IsRead file (length bytes) old new n) → more ≡ take n new → ReadSo o bytes → ReadSo o (bytes ++ more)
 read_more None bytes more old new n r is so = tt
 read_more (Some file) bytes more old new n r is (rest, all) =
-    let behind : drop (length bytes) file ≡ rest = ap (drop (length bytes)) all ∙ drop-append_seam bytes rest in
-    let same : more ≡ take n rest = is ∙ r.bytes ∙ ap (take n) behind in
+    let reading_behind : drop (length bytes) file ≡ rest = ap (drop (length bytes)) all ∙ drop-append_seam bytes rest in
+    let same : more ≡ take n rest = is ∙ r.bytes ∙ ap (take n) reading_behind in
     (drop n rest, all ∙ ap (λ (x : List ℕ). bytes ++ x) (sym (take-append-drop n rest)) ∙ sym (append_assoc bytes (take n rest) (drop n rest)) ∙ ap (λ (x : List ℕ). (bytes ++ x) ++ drop n rest) (sym same))
 
 nothing_left : (bytes rest file : List ℕ) (size : ℕ) → file ≡ bytes ++ rest → size ≡ length file → size ≤ length bytes → rest ≡ []

@@ -2,16 +2,18 @@
 use Rattle.std.proofs.Common.{◌≡◌, ◌⊎◌, inl, inr, ◌<◌, ◌≤◌, ◌+◌, ℕ, zero, suc, List, [], ◌∷◌, ◌++◌, length, take, drop, Option, Some, None, refl, sym, ap, ◌∙◌, subst, arith, append-nil, take-append-drop}
 use Rattle.std.specs.Prelude.{option_map}
 use Rattle.std.specs.Option.{IsSomeAnd}
+use Rattle.q_store.proofs.Storing.{stored_beside, kept_beside, held_reads, held_goes}
 use Rattle.q_model.specs.declared.spot.Area.TheVariants.{Boot, Incoming, Active, Bounce}
 use Rattle.q_host.specs.Calls.{Stays, Changes, Writes, Syncs}
-use Rattle.q_host.specs.Files.{Files, put, with_file, without_file, moved, written}
+use Rattle.q_host.specs.Files.{put, with_file, without_file, moved, written}
+use Rattle.q_model.specs.SpoolFiles.{Files}
 use Rattle.q_host.specs.Steps.{SameBut, Tear}
 use Rattle.q_host.specs.View.{Goes, LeavesOnly, Remains, View, now}
 use Rattle.q_host.proofs.Moments.{goes_again, goes_wider, leaves_by, leaves_on}
 use Rattle.q_host.proofs.Puts.{put-here, put-other, other_area}
-use Rattle.q_store.specs.Stores.{IsAsBefore, IsStored, MayStore, Stores}
+use Rattle.q_store.specs.Stores.{Holds, IsAsBefore, IsStored, MayHold, MayStore}
 use Rattle.q_top.specs.Forgets.{Forgets, ForgetsLog, LogGone}
-use Rattle.q_top.specs.Spools.{unopened, empty, holds, marking, marked, HoldsSpool, IsLeft, IsSpool, SameLogs}
+use Rattle.q_top.specs.Spools.{unopened, empty, holds, marking, marked, HoldsSpool, MayBeLeft, IsSpool, SameLogs}
 use Rattle.q_top.proofs.SpoolChanges as changes
 use Rattle.q_top.proofs.SpoolChanges.{name, boot, here, seen, other_name}
 use Rattle.q_top.proofs.Stepping.{IsLawful, Between, Changed, MayChange, changed_by, changed_may, meanwhile, stays_may}
@@ -102,38 +104,38 @@ module _ (v w : View) (lawful : IsLawful v) (f : Forgets v w) where
 
 -- ---- the message is stored
 
-module _ (file : List ℕ) (v w : View) (lawful : IsLawful v) where
-  stored_logs : (f g : Files) → IsStored Incoming name file f g → SameLogs f g
-  stored_logs f g s n other = s.others Bounce n (λ same. cc) (other_area Incoming name Bounce n (λ same. cc))
+module _ (tmp file : List ℕ) (v w : View) (lawful : IsLawful v) where
+  stored_logs : (f g : Files) → IsStored tmp Incoming name file f g → SameLogs f g
+  stored_logs f g s n other = stored_beside tmp Incoming name file f g s Bounce n (λ same. cc) (other_area Incoming name Bounce n (λ same. cc))
 
-  may_left : (d c : Remains) → IsSpool empty d.files → MayStore Incoming name file d c → (c.told ≡ d.told) × (IsSpool empty c.files ⊎ IsSpool (holds Incoming file) c.files)
+  may_left : (d c : Remains) → IsSpool empty d.files → MayStore tmp Incoming name file d c → (c.told ≡ d.told) × (IsSpool empty c.files ⊎ IsSpool (holds Incoming file) c.files)
   may_left d c was m = (m.told, by m.files)
     where
-      by : IsAsBefore d.files c.files ⊎ IsStored Incoming name file d.files c.files → IsSpool empty c.files ⊎ IsSpool (holds Incoming file) c.files
-      by (inl same) = inl (λ a n see. same a n (seen a n see) ∙ was a n see)
-      by (inr there) = inr (changes.stored file d.files c.files there was)
+      by : IsAsBefore tmp d.files c.files ⊎ IsStored tmp Incoming name file d.files c.files → IsSpool empty c.files ⊎ IsSpool (holds Incoming file) c.files
+      by (inl same) = inl (λ a n see. kept_beside tmp d.files c.files same a n (seen a n see) ∙ was a n see)
+      by (inr there) = inr (changes.stored tmp file d.files c.files there was)
 
-  pub stored : Stores Incoming name file (now v) (now w) → Goes (Stores Incoming name file) (MayStore Incoming name file) v w → Changed empty (holds Incoming file) v w
-  stored s goes = record {
+  pub stored : Holds tmp Incoming name file v w → Changed empty (holds Incoming file) v w
+  stored held = let s = held.reads in let goes = held.goes in record {
     told = s.told;
-    files = λ h. changes.stored file v.files w.files s.files h;
+    files = λ h. changes.stored tmp file v.files w.files s.files h;
     logs = stored_logs v.files w.files s.files;
     crash = λ h.
-        let after : (c : Remains) → w.may_leave c → IsSpool (holds Incoming file) c.files = λ c m. let d = goes.crash c m in changes.stored file d.0.files c.files d.2.files (h.crash.left d.0 d.1) in
+        let after : (c : Remains) → w.may_leave c → IsSpool (holds Incoming file) c.files = λ c m. let d = goes.crash c m in changes.stored tmp file d.0.files c.files d.2.files (h.crash.left d.0 d.1) in
         record { left = after; no_log = λ c m none. changes.no_log_holds Incoming file c.files (λ same. cc) (after c m) };
     moments = meanwhile empty (holds Incoming file) v w lawful goes may_left;
   }
 
-  pub may_store : MayStore Incoming name file (now v) (now w) → Goes (MayStore Incoming name file) (MayStore Incoming name file) v w → MayChange empty (holds Incoming file) v w
-  may_store m goes = record {
+  pub may_store : MayHold tmp Incoming name file v w → MayChange empty (holds Incoming file) v w
+  may_store held = let m = held_reads tmp Incoming name file v w held in let goes = held_goes tmp Incoming name file v w held in record {
     told = m.told;
     files = λ h. (may_left (now v) (now w) h m).1;
     logs = by m.files;
     moments = meanwhile empty (holds Incoming file) v w lawful goes may_left;
   }
     where
-      by : IsAsBefore v.files w.files ⊎ IsStored Incoming name file v.files w.files → SameLogs v.files w.files
-      by (inl same) n other = same Bounce n (λ e. cc)
+      by : IsAsBefore tmp v.files w.files ⊎ IsStored tmp Incoming name file v.files w.files → SameLogs v.files w.files
+      by (inl same) n other = kept_beside tmp v.files w.files same Bounce n (λ e. cc)
       by (inr there) n other = stored_logs v.files w.files there n other
 
 -- ---- it is moved and removed
@@ -160,7 +162,7 @@ nothing_written at file = ap (λ m. take at file ++ [] ++ drop m file) (plus_non
 
 module _ (at : ℕ) (file : List ℕ) (v w : View) (lawful : IsLawful v) where
   -- a torn write leaves the mark as any byte
-  torn : at < length file → (d c : Remains) → IsSpool (holds Active file) d.files → Tear Active name at 1 d c → IsLeft (marking at file) c.files
+  torn : at < length file → (d c : Remains) → IsSpool (holds Active file) d.files → Tear Active name at 1 d c → MayBeLeft (marking at file) c.files
   torn within d c was t =
       let same : t.old ≡ file = some_same t.old file (sym t.was ∙ here Active file d.files refl was) in
       let (byte, is) = changes.torn_byte at t.old t.new (subst (λ (x : List ℕ). at < length x) (sym same) within) t.torn in
@@ -193,7 +195,7 @@ module _ (at : ℕ) (file : List ℕ) (v w : View) (lawful : IsLawful v) where
     files = over 1 there wr 1 refl;
     logs = written_logs 1 there wr;
     crash = λ h.
-        let after : (c : Remains) → w.may_leave c → IsLeft (marking at file) c.files = λ c m. let d = wr.goes.crash c m in torn (within_file there h.reads) d.0 c (h.crash.left d.0 d.1) d.2 in
+        let after : (c : Remains) → w.may_leave c → MayBeLeft (marking at file) c.files = λ c m. let d = wr.goes.crash c m in torn (within_file there h.reads) d.0 c (h.crash.left d.0 d.1) d.2 in
         record { left = after; no_log = λ c m none. let l = after c m in changes.no_log_holds Active (written at (l.0 ∷ []) file) c.files (λ same. cc) l.1 };
     moments = writing 1 there wr;
   }
@@ -214,10 +216,10 @@ module _ (at : ℕ) (file : List ℕ) (v w : View) (lawful : IsLawful v) where
     crash = λ h.
         let after : (c : Remains) → w.may_leave c → IsSpool (holds Active (marked at file)) c.files = λ c m. let d = s.goes.crash c m in settled h.reads d.0 c (h.crash.left d.0 d.1) d.2.same d.2.whole in
         record { left = after; no_log = λ c m none. changes.no_log_holds Active (marked at file) c.files (λ same. cc) (after c m) };
-    moments = meanwhile (marking at file) (holds Active (marked at file)) v w lawful s.goes (λ d c was same. (ap (λ (r : Remains). r.told) same, inl (subst (λ (r : Remains). IsLeft (marking at file) r.files) (sym same) was)));
+    moments = meanwhile (marking at file) (holds Active (marked at file)) v w lawful s.goes (λ d c was same. (ap (λ (r : Remains). r.told) same, inl (subst (λ (r : Remains). MayBeLeft (marking at file) r.files) (sym same) was)));
   }
     where
-      settled : IsSpool (holds Active (marked at file)) v.files → (d c : Remains) → IsLeft (marking at file) d.files → c ≡ d → c.files Active name ≡ v.files Active name → IsSpool (holds Active (marked at file)) c.files
+      settled : IsSpool (holds Active (marked at file)) v.files → (d c : Remains) → MayBeLeft (marking at file) d.files → c ≡ d → c.files Active name ≡ v.files Active name → IsSpool (holds Active (marked at file)) c.files
       settled reads d c was same whole =
           changes.replaced (written at (was.0 ∷ []) file) (marked at file) d.files c.files (whole ∙ here Active (marked at file) v.files refl reads) (λ a n e. ap (λ (r : Remains). r.files a n) same) was.1
 

@@ -7,7 +7,7 @@ use Rattle.std.specs.Cmp.Lexicographic.{slice_cmp}
 use Rattle.q_model.specs.declared.spot.Area.{Area}
 use Rattle.q_model.specs.declared.spot.Area.TheVariants.{Boot, Conf, Tmp, Incoming, Active, Deferred, Hold, Corrupt, Bounce, Defer}
 use Rattle.q_model.specs.Values.{Spot}
-use Rattle.q_host.specs.Files.{Files}
+use Rattle.q_model.specs.SpoolFiles.{Files}
 use Rattle.q_host.specs.Reads.{IsListing}
 use Rattle.q_top.specs.FirstFile.{IsFirstName, IsFirstFile, IsSameHost, areas_in_order}
 use Rattle.q_top.specs.Spools.{IsSpool, is_looked_at, unopened}

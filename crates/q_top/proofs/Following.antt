@@ -1,23 +1,23 @@
 -- The steps of each turn of a first life lead to spools that stand for its books.
 use Rattle.std.proofs.Common.{◌≡◌, ℕ, Bool, true, false, List, [], ◌∷◌, ◌++◌, Option, Some, None, refl, sym, ap, subst}
+use Rattle.q_model.specs.declared.rows.DeferredName.{DeferredName}
 use Rattle.q_model.specs.declared.entry.Entry.{Entry}
 use Rattle.q_model.specs.declared.entry.Entry.TheVariants.{Life, At, Admit, Load, Reply, Mark, Sync, Remove, End}
 use Rattle.q_model.specs.declared.event.Mode.TheVariants.{Deliver}
 use Rattle.q_model.specs.declared.outcome.Outcome.TheVariants as outcomes
 use Rattle.q_model.specs.declared.outcome.SiteState.TheVariants.{Up}
 use Rattle.q_model.specs.declared.spot.Area.TheVariants.{Incoming, Active}
-use Rattle.std.specs.Option.{option_map_or}
 use Rattle.q_model.specs.declared.rows.Request.{Request}
 use Rattle.q_model.specs.declared.rows.Scan.{Scan}
 use Rattle.q_model.specs.Book.{Book}
 use Rattle.q_model.specs.FilesStand.{Stands}
 use Rattle.q_model.specs.Ledger.{Ledger}
 use Rattle.q_model.specs.QueueFileBytes.{IsFileMessage, IsFileOf, file_bytes, mark_at}
-use Rattle.q_model.specs.Scans.{live, new_scan, scan_next, settle_scan}
+use Rattle.q_model.specs.Scans.{scan_next, tidy_scan, end_scan, tidy_scan_at, tidy_scan_of}
 use Rattle.q_model.specs.Step.{after, after_all, noted}
 use Rattle.q_model.specs.declared.rows.Mark.TheVariants as marks
 use Rattle.q_model.specs.declared.rows.Place.TheVariants as places
-use Rattle.q_host.specs.Files.{Files}
+use Rattle.q_model.specs.SpoolFiles.{Files}
 use Rattle.q_top.specs.Agrees.{StageAgrees}
 use Rattle.q_top.specs.Begins.{before_life}
 use Rattle.q_top.specs.Books.{Follows, StandsFor}
@@ -64,18 +64,18 @@ pub at_follows : (world : World) (stage : Stage) (clock t : ℕ) (timed : Bool) 
 at_follows world stage clock t timed l s a = (same_book s (after world l (At t)).book l.book (at_book world stage clock t timed l s a) (agrees_stand world stage clock timed l s a), tt)
 
 -- a scan that goes on, ends or begins changes no book
-scan_book : (l : Ledger) → (settle_scan l).book ≡ l.book
+scan_book : (l : Ledger) → (tidy_scan l).book ≡ l.book
 scan_book l = by l.scan
   where
-    asks : (request : Option Request) → (option_map_or (λ r. record l { scan = live l.book (new_scan l.now r); asked = None }) request (record l { scan = None })).book ≡ l.book
+    asks : (request : Option Request) → (end_scan l request).book ≡ l.book
     asks None = refl
     asks (Some request) = refl
 
-    goes_on : {X : Type 0} (n : Option X) → (option_map_or (λ n. l) n (option_map_or (λ r. record l { scan = live l.book (new_scan l.now r); asked = None }) l.asked (record l { scan = None }))).book ≡ l.book
+    goes_on : (n : Option DeferredName) → (tidy_scan_at l n).book ≡ l.book
     goes_on None = asks l.asked
     goes_on (Some x) = refl
 
-    by : (s : Option Scan) → (option_map_or (λ s. option_map_or (λ n. l) (scan_next l.book s) (option_map_or (λ r. record l { scan = live l.book (new_scan l.now r); asked = None }) l.asked (record l { scan = None }))) s l).book ≡ l.book
+    by : (s : Option Scan) → (tidy_scan_of l s).book ≡ l.book
     by None = refl
     by (Some s) = goes_on (scan_next l.book s)
 

@@ -23,12 +23,12 @@ use Rattle.q_model.specs.declared.rows.Need.TheVariants as needs
 use Rattle.q_model.specs.Ledger.{Ledger}
 use Rattle.q_model.specs.Accounts.{rest, starts_of}
 use Rattle.q_model.specs.Admissions.{has_room}
-use Rattle.q_model.specs.Candidates.{behind, best, is_better, pays}
+use Rattle.q_model.specs.Candidates.{ids_behind, best, is_better, pays}
 use Rattle.q_model.specs.Choice.{choice, next_row, start_of}
 use Rattle.q_model.specs.Deliveries.{busy}
 use Rattle.q_model.specs.Feedbacks.{amount, unit}
 use Rattle.q_model.specs.Ids.{id_eq}
-use Rattle.q_model.specs.Destinations.{site_eq}
+use Rattle.q_model.specs.Sites.{site_eq}
 use Rattle.q_model.specs.Startable.{can_start, current, is_startable, line_of}
 use Rattle.q_model.specs.Windows.{after_state, after_up}
 use Rattle.q_model.specs.Lists.{first_of, first_some, least}
@@ -40,9 +40,9 @@ use Rattle.q_model.specs.Next.{next, admission_rule, load_of, load_rule, marks_o
 use Rattle.q_model.specs.Past.{starts}
 use Rattle.q_model.specs.Settings.{World}
 use Rattle.q_model.specs.SiteRecords.{initial_window, is_alive, new_record}
-use Rattle.q_model.specs.Step.{after, settle_line, settled, stays, noted}
+use Rattle.q_model.specs.Step.{after, tidy_line, tidied, stays, noted}
 use Rattle.q_model.specs.Scans.{ask_scan}
-use Rattle.q_model.specs.UnusedSites.{forget_oldest, is_unused, settled_sites}
+use Rattle.q_model.specs.UnusedSites.{forget_oldest, is_unused, tidied_sites}
 use Rattle.q_model.specs.Values.{Site}
 use Rattle.q_top.specs.Begins.{before_life}
 use Rattle.q_top.specs.OneMessage.{flight_to, flying, idle, known, one_message, only_message, quiet, read_once, row_to, site_of}
@@ -117,12 +117,12 @@ or_true false = refl
 module _ (w : World) where
   -- what stays of a ledger in which no line has a job
   still : (messages : List Message) (now : ℕ) (timed : Bool) (next_run : ℕ) (turn : Bool) (admitted : List Admitted) (flights : List Delivery) (unsettled : List Unsettled) (sites : List SiteRecord) (past : List Entry) (l : Ledger) (ss : List SiteRecord) → ss ≡ sites
-      → known messages now timed next_run turn admitted [] flights unsettled (map (settle_line l) (enumerate_from 0 (quiet w))) ss past ≡ known messages now timed next_run turn admitted [] flights unsettled (quiet w) sites past
+      → known messages now timed next_run turn admitted [] flights unsettled (map (tidy_line l) (enumerate_from 0 (quiet w))) ss past ≡ known messages now timed next_run turn admitted [] flights unsettled (quiet w) sites past
   still messages now timed next_run turn admitted flights unsettled sites past l ss h =
-      ap (λ (ls : List (List Id)). known messages now timed next_run turn admitted [] flights unsettled ls ss past) (lines_same (settle_line l) (λ k. refl) 0 (transports_of w))
+      ap (λ (ls : List (List Id)). known messages now timed next_run turn admitted [] flights unsettled ls ss past) (lines_same (tidy_line l) (λ k. refl) 0 (transports_of w))
       ∙ ap (λ (x : List SiteRecord). known messages now timed next_run turn admitted [] flights unsettled (quiet w) x past) h
 
-  idle_at_any : (b : Bool) (now next_run t : ℕ) (timed turn : Bool) (past : List Entry) → settled w (idle w now timed next_run turn past) (noted (At t) (if b then ask_scan (idle w t true (t + w.settings.run_delay) turn past) else idle w t true next_run turn past)) ≡ idle w t true (if b then t + w.settings.run_delay else next_run) turn (At t ∷ past)
+  idle_at_any : (b : Bool) (now next_run t : ℕ) (timed turn : Bool) (past : List Entry) → tidied w (idle w now timed next_run turn past) (noted (At t) (if b then ask_scan (idle w t true (t + w.settings.run_delay) turn past) else idle w t true next_run turn past)) ≡ idle w t true (if b then t + w.settings.run_delay else next_run) turn (At t ∷ past)
   idle_at_any true now next_run t timed turn past = still [] t true (t + w.settings.run_delay) turn [] [] [] [] (At t ∷ past) (noted (At t) (ask_scan (idle w t true (t + w.settings.run_delay) turn past))) _ (if_same _ [])
   idle_at_any false now next_run t timed turn past = still [] t true next_run turn [] [] [] [] (At t ∷ past) (noted (At t) (idle w t true next_run turn past)) _ (if_same _ [])
 
@@ -131,18 +131,18 @@ module _ (w : World) where
   idle_at now next_run t timed turn past = idle_at_any (nat_le next_run t) now next_run t timed turn past
 
   -- the record of the site stays while a delivery is in flight
-  one_site : (before l : Ledger) (site : Site) → l.sites ≡ new_record w site ∷ [] → l.waiting ≡ [] → l.flights ≡ flight_to site ∷ [] → settled_sites w before l ≡ new_record w site ∷ []
+  one_site : (before l : Ledger) (site : Site) → l.sites ≡ new_record w site ∷ [] → l.waiting ≡ [] → l.flights ≡ flight_to site ∷ [] → tidied_sites w before l ≡ new_record w site ∷ []
   one_site before l site s q f = rw (s, q, f) (simp (nat_same, bytes_same, if_same))
 
-  flying_at_any : (b : Bool) (now next_run t : ℕ) (sender : Option (List ℕ)) (address : List ℕ) (arrival : ℕ) (past : List Entry) → settled w (flying w now next_run sender address arrival past) (noted (At t) (if b then ask_scan (flying w t (t + w.settings.run_delay) sender address arrival past) else flying w t next_run sender address arrival past)) ≡ flying w t (if b then t + w.settings.run_delay else next_run) sender address arrival (At t ∷ past)
+  flying_at_any : (b : Bool) (now next_run t : ℕ) (sender : Option (List ℕ)) (address : List ℕ) (arrival : ℕ) (past : List Entry) → tidied w (flying w now next_run sender address arrival past) (noted (At t) (if b then ask_scan (flying w t (t + w.settings.run_delay) sender address arrival past) else flying w t next_run sender address arrival past)) ≡ flying w t (if b then t + w.settings.run_delay else next_run) sender address arrival (At t ∷ past)
   flying_at_any true now next_run t sender address arrival past =
       let before = flying w now next_run sender address arrival past in
       let l = noted (At t) (ask_scan (flying w t (t + w.settings.run_delay) sender address arrival past)) in
-      still (one_message sender address arrival marks.Unmarked places.Active ∷ []) t true (t + w.settings.run_delay) true (read_once ∷ []) (flight_to (w.table.route address) ∷ []) [] (new_record w (w.table.route address) ∷ []) (At t ∷ past) l (settled_sites w before l) (one_site before l (w.table.route address) refl refl refl)
+      still (one_message sender address arrival marks.Unmarked places.Active ∷ []) t true (t + w.settings.run_delay) true (read_once ∷ []) (flight_to (w.table.route address) ∷ []) [] (new_record w (w.table.route address) ∷ []) (At t ∷ past) l (tidied_sites w before l) (one_site before l (w.table.route address) refl refl refl)
   flying_at_any false now next_run t sender address arrival past =
       let before = flying w now next_run sender address arrival past in
       let l = noted (At t) (flying w t next_run sender address arrival past) in
-      still (one_message sender address arrival marks.Unmarked places.Active ∷ []) t true next_run true (read_once ∷ []) (flight_to (w.table.route address) ∷ []) [] (new_record w (w.table.route address) ∷ []) (At t ∷ past) l (settled_sites w before l) (one_site before l (w.table.route address) refl refl refl)
+      still (one_message sender address arrival marks.Unmarked places.Active ∷ []) t true next_run true (read_once ∷ []) (flight_to (w.table.route address) ∷ []) [] (new_record w (w.table.route address) ∷ []) (At t ∷ past) l (tidied_sites w before l) (one_site before l (w.table.route address) refl refl refl)
 
   pub flying_at : (now next_run t : ℕ) (sender : Option (List ℕ)) (address : List ℕ) (arrival : ℕ) (past : List Entry) → after w (flying w now next_run sender address arrival past) (At t) ≡ flying w t (if nat_le next_run t then t + w.settings.run_delay else next_run) sender address arrival (At t ∷ past)
   unfolding after
@@ -164,7 +164,7 @@ module _ (w : World) where
   some_window lawful = omega (arith, lawful.initial_concurrency.0, lawful.concurrency_limit.0)
 
   -- a record of a site at which nothing is left is dropped
-  drops : (before l : Ledger) (r : SiteRecord) → l.sites ≡ r ∷ [] → l.waiting ≡ [] → l.flights ≡ [] → is_alive r.health ≡ true → settled_sites w before l ≡ []
+  drops : (before l : Ledger) (r : SiteRecord) → l.sites ≡ r ∷ [] → l.waiting ≡ [] → l.flights ≡ [] → is_alive r.health ≡ true → tidied_sites w before l ≡ []
   drops before l r s q f alive =
       let newly : SiteRecord → Bool = λ x. is_unused l x && not (is_unused before x) in
       let keep : SiteRecord → Bool = λ x. not (is_unused l x && is_alive x.health) in
@@ -203,14 +203,14 @@ module _ (w : World) where
     abbrev read : Ledger
     read = known (one_message sender address now marks.Unmarked places.Active ∷ []) now true next_run true (read_once ∷ []) (row_to site ∷ []) [] [] (map (joins first_id (row_to site ∷ [])) (enumerate_from 0 (quiet w))) (new_record w site ∷ []) (Load first_id 0 1 ∷ Admit first_id ∷ came ∷ past)
 
-    settled_line : (p : Id → Bool) (b : Bool) → p first_id ≡ b → filter p (if (b || false) && true then first_id ∷ [] else []) ≡ (if b then first_id ∷ [] else [])
-    settled_line p true h = rw h refl
-    settled_line p false h = refl
+    tidied_line : (p : Id → Bool) (b : Bool) → p first_id ≡ b → filter p (if (b || false) && true then first_id ∷ [] else []) ≡ (if b then first_id ∷ [] else [])
+    tidied_line p true h = rw h refl
+    tidied_line p false h = refl
 
-    read_lines : map (settle_line read) (enumerate_from 0 (map (joins first_id (row_to site ∷ [])) (enumerate_from 0 (quiet w)))) ≡ lines_by (waits_in site.transport) 0 (transports_of w)
-    read_lines = lines_made (joins first_id (row_to site ∷ [])) (settle_line read) (waits_in site.transport) (λ k. settled_line (stays read k) (site.transport == k) (or_false (site.transport == k))) 0 (transports_of w)
+    read_lines : map (tidy_line read) (enumerate_from 0 (map (joins first_id (row_to site ∷ [])) (enumerate_from 0 (quiet w)))) ≡ lines_by (waits_in site.transport) 0 (transports_of w)
+    read_lines = lines_made (joins first_id (row_to site ∷ [])) (tidy_line read) (waits_in site.transport) (λ k. tidied_line (stays read k) (site.transport == k) (or_false (site.transport == k))) 0 (transports_of w)
 
-    one_waiting : settled_sites w admitted read ≡ new_record w site ∷ []
+    one_waiting : tidied_sites w admitted read ≡ new_record w site ∷ []
     one_waiting = simp (nat_same, bytes_same, if_same)
 
     abbrev pub in_line : Ledger
@@ -219,7 +219,7 @@ module _ (w : World) where
     pub after_load : after w admitted (Load first_id 0 1) ≡ in_line
     unfolding after
     after_load =
-        ap (λ (ls : List (List Id)). known (one_message sender address now marks.Unmarked places.Active ∷ []) now true next_run true (read_once ∷ []) (row_to site ∷ []) [] [] ls (settled_sites w admitted read) (Load first_id 0 1 ∷ Admit first_id ∷ came ∷ past)) read_lines
+        ap (λ (ls : List (List Id)). known (one_message sender address now marks.Unmarked places.Active ∷ []) now true next_run true (read_once ∷ []) (row_to site ∷ []) [] [] ls (tidied_sites w admitted read) (Load first_id 0 1 ∷ Admit first_id ∷ came ∷ past)) read_lines
         ∙ ap (λ (ss : List SiteRecord). known (one_message sender address now marks.Unmarked places.Active ∷ []) now true next_run true (read_once ∷ []) (row_to site ∷ []) [] [] (lines_by (waits_in site.transport) 0 (transports_of w)) ss (Load first_id 0 1 ∷ Admit first_id ∷ came ∷ past)) one_waiting
 
     -- the delivery begins
@@ -241,14 +241,14 @@ module _ (w : World) where
     emptied_line p true h = rw h refl
     emptied_line p false h = refl
 
-    begun_lines : map (settle_line begun) (enumerate_from 0 (lines_by (waits_in site.transport) 0 (transports_of w))) ≡ quiet w
-    begun_lines = lines_emptied (settle_line begun) (waits_in site.transport) (λ k. emptied_line (stays begun k) (site.transport == k) refl) 0 (transports_of w)
+    begun_lines : map (tidy_line begun) (enumerate_from 0 (lines_by (waits_in site.transport) 0 (transports_of w))) ≡ quiet w
+    begun_lines = lines_emptied (tidy_line begun) (waits_in site.transport) (λ k. emptied_line (stays begun k) (site.transport == k) refl) 0 (transports_of w)
 
     pub after_start_is : after w in_line begins ≡ in_flight
     unfolding after
     after_start_is =
-        ap (settled w in_line) begins_so
-        ∙ ap (λ (ls : List (List Id)). known (one_message sender address now marks.Unmarked places.Active ∷ []) now true next_run true (read_once ∷ []) [] (flight_to site ∷ []) [] ls (settled_sites w in_line begun) (begins ∷ Load first_id 0 1 ∷ Admit first_id ∷ came ∷ past)) begun_lines
+        ap (tidied w in_line) begins_so
+        ∙ ap (λ (ls : List (List Id)). known (one_message sender address now marks.Unmarked places.Active ∷ []) now true next_run true (read_once ∷ []) [] (flight_to site ∷ []) [] ls (tidied_sites w in_line begun) (begins ∷ Load first_id 0 1 ∷ Admit first_id ∷ came ∷ past)) begun_lines
         ∙ ap (λ (ss : List SiteRecord). known (one_message sender address now marks.Unmarked places.Active ∷ []) now true next_run true (read_once ∷ []) [] (flight_to site ∷ []) [] (quiet w) ss (begins ∷ Load first_id 0 1 ∷ Admit first_id ∷ came ∷ past)) (one_site in_line begun site refl refl refl)
 
     -- what comes next
@@ -294,7 +294,7 @@ module _ (w : World) where
 
     no_candidate : site.transport < transports_of w → best w in_line site.transport first_id ≡ None
     no_candidate routed =
-        ap (λ (ids : List Id). least (is_better in_line site.transport) (filter (λ id. ((not (w.settings.slot_cost == 0) && list_any (id_eq id) (behind first_id ids)) && (starts_of in_line id site.transport == 0)) && can_start w in_line site.transport id && pays w in_line site.transport first_id (rest in_line id site.transport)) (first_id ∷ []))) (in_its_line routed)
+        ap (λ (ids : List Id). least (is_better in_line site.transport) (filter (λ id. ((not (w.settings.slot_cost == 0) && list_any (id_eq id) (ids_behind first_id ids)) && (starts_of in_line id site.transport == 0)) && can_start w in_line site.transport id && pays w in_line site.transport first_id (rest in_line id site.transport)) (first_id ∷ []))) (in_its_line routed)
         ∙ ap (λ (b : Bool). least (is_better in_line site.transport) (cond b (first_id ∷ []) [])) (alone (not (w.settings.slot_cost == 0)) (starts_of in_line first_id site.transport == 0) (can_start w in_line site.transport first_id) (pays w in_line site.transport first_id (rest in_line first_id site.transport)))
 
     start_number : starts in_line ≡ 0 → start_of in_line (row_to site) ≡ begins
@@ -339,20 +339,20 @@ module _ (w : World) where
     abbrev reply_ok : Entry
     reply_ok = Reply 1 Up (outcomes.Ok ∷ [])
 
-    abbrev with_mark : MarkOf → List Unsettled → List Entry → Ledger
-    with_mark mark unsettled more = known (one_message sender address arrival mark places.Active ∷ []) now true next_run true (read_once ∷ []) [] [] unsettled (quiet w) [] more
+    abbrev marking_with : MarkOf → List Unsettled → List Entry → Ledger
+    marking_with mark unsettled more = known (one_message sender address arrival mark places.Active ∷ []) now true next_run true (read_once ∷ []) [] [] unsettled (quiet w) [] more
 
     abbrev needs_mark : List Unsettled
     needs_mark = record { id = first_id; position = 0; need = needs.Mark } ∷ []
 
     abbrev pub replied : Ledger
-    replied = with_mark marks.Unmarked needs_mark (reply_ok ∷ past)
+    replied = marking_with marks.Unmarked needs_mark (reply_ok ∷ past)
 
     abbrev pub marked_once : Ledger
-    marked_once = with_mark marks.Written [] (Mark first_id 0 ∷ reply_ok ∷ past)
+    marked_once = marking_with marks.Written [] (Mark first_id 0 ∷ reply_ok ∷ past)
 
     abbrev pub synced : Ledger
-    synced = with_mark marks.Synced [] (Sync first_id ∷ Mark first_id 0 ∷ reply_ok ∷ past)
+    synced = marking_with marks.Synced [] (Sync first_id ∷ Mark first_id 0 ∷ reply_ok ∷ past)
 
     -- the record of the site, wider or not
     abbrev wider : SiteRecord
@@ -378,7 +378,7 @@ module _ (w : World) where
 
     pub after_reply_is : after w sent_so reply_ok ≡ replied
     unfolding after
-    after_reply_is = still (one_message sender address arrival marks.Unmarked places.Active ∷ []) now true next_run true (read_once ∷ []) [] needs_mark [] (reply_ok ∷ past) heard_so (settled_sites w sent_so heard_so) (drops sent_so heard_so wider one_record refl refl wider_lives)
+    after_reply_is = still (one_message sender address arrival marks.Unmarked places.Active ∷ []) now true next_run true (read_once ∷ []) [] needs_mark [] (reply_ok ∷ past) heard_so (tidied_sites w sent_so heard_so) (drops sent_so heard_so wider one_record refl refl wider_lives)
 
     pub after_mark_is : after w replied (Mark first_id 0) ≡ marked_once
     unfolding after

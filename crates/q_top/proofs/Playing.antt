@@ -6,11 +6,11 @@ use Rattle.q_model.specs.declared.spot.Area.TheVariants.{Bounce}
 use Rattle.q_model.specs.Settings.{World, Table}
 use Rattle.q_model.specs.Text.{line, text}
 use Rattle.q_host.specs.declared.error.HostError.{HostError}
-use Rattle.q_host.specs.Files.{Files}
+use Rattle.q_model.specs.SpoolFiles.{Files}
 use Rattle.q_host.specs.Calls.{IsAsItWas, Stays}
 use Rattle.q_host.specs.View.{LeavesOnly, Remains, View}
 use Rattle.q_host.proofs.Moments.{leaves_by, leaves_here, leaves_on}
-use Rattle.q_top.specs.Spools.{Spool, HoldsSpool, IsLeft, IsSpool, LeavesSpool, SameLogs}
+use Rattle.q_top.specs.Spools.{Spool, HoldsSpool, MayBeLeft, IsSpool, LeavesSpool, SameLogs}
 use Rattle.q_top.specs.Steps.{Steps, entries_of, spool_after, Does, Stops, Plays, Halts, WithinStep, WithinSteps}
 use Rattle.q_top.proofs.SpoolChanges.{name}
 use Rattle.q_top.proofs.Stepping.{IsLawful}
@@ -47,7 +47,7 @@ same_logs f g h p q n other = q n other ∙ p n other
 -- ---- moments of some steps
 
 -- before the first of some steps
-within_here : (world : World) (s : Spool) (steps : Steps) (before : List ℕ) (c : Remains) → c.told ≡ before → IsLeft s c.files → WithinSteps world s steps before c
+within_here : (world : World) (s : Spool) (steps : Steps) (before : List ℕ) (c : Remains) → c.told ≡ before → MayBeLeft s c.files → WithinSteps world s steps before c
 within_here world s [] before c told left = (told, left)
 within_here world s (p ∷ ps) before c told left = inl (record { part = 0; short = omega arith; told = told ∙ sym (append-nil before); files = inl left; disk_first = λ some. absurd (omega arith) })
 
@@ -167,15 +167,15 @@ module _ (world : World) (s : Spool) (old mid new : View) (lawful : IsLawful old
   holds_still h = record {
     reads = subst (λ (f : Files). IsSpool s f) (sym st.files) h.reads;
     crash = record {
-      left = λ c m. let d = st.goes.crash c m in subst (λ (r : Remains). IsLeft s r.files) (sym d.2) (h.crash.left d.0 d.1);
+      left = λ c m. let d = st.goes.crash c m in subst (λ (r : Remains). MayBeLeft s r.files) (sym d.2) (h.crash.left d.0 d.1);
       no_log = λ c m none. let d = st.goes.crash c m in ap (λ (r : Remains). r.files Bounce name) d.2 ∙ h.crash.no_log d.0 d.1 (sym (ap (λ (f : Files). f Bounce name) st.files) ∙ none);
     };
   }
 
   still_moments : (steps : Steps) → (HoldsSpool s mid → LeavesOnly mid new (WithinSteps world s steps mid.told)) → HoldsSpool s old → LeavesOnly old new (WithinSteps world s steps old.told)
   still_moments steps then h = leaves_on (WithinSteps world s steps old.told)
-      (leaves_by (λ d. (d.told ≡ old.told) × IsLeft s d.files) (WithinSteps world s steps old.told) lawful.only st.goes (λ d m. (lawful.told d m, h.crash.left d m)) (λ d p. within_here world s steps old.told d p.0 p.1)
-      (λ d c p same. within_here world s steps old.told c (ap (λ (r : Remains). r.told) same ∙ p.0) (subst (λ (r : Remains). IsLeft s r.files) (sym same) p.1)))
+      (leaves_by (λ d. (d.told ≡ old.told) × MayBeLeft s d.files) (WithinSteps world s steps old.told) lawful.only st.goes (λ d m. (lawful.told d m, h.crash.left d m)) (λ d p. within_here world s steps old.told d p.0 p.1)
+      (λ d c p same. within_here world s steps old.told c (ap (λ (r : Remains). r.told) same ∙ p.0) (subst (λ (r : Remains). MayBeLeft s r.files) (sym same) p.1)))
       (then (holds_still h)) (λ c w. w) (λ c w. subst (λ (b : List ℕ). WithinSteps world s steps b c) st.told w)
 
   still_files : IsSpool s old.files → IsSpool s mid.files

@@ -4,8 +4,8 @@ use Rattle.std.specs.Prelude.{IfSome, option_map, Result}
 use Rattle.q_model.specs.declared.entry.Entry.{Entry}
 use Rattle.q_model.specs.declared.entry.Entry.TheVariants as entries
 use Rattle.q_model.specs.declared.event.Event.{Event}
-use Rattle.q_model.specs.declared.event.Item.{Item}
-use Rattle.q_model.specs.declared.event.Item.TheVariants.{Begin, Heard, Finish}
+use Rattle.q_model.specs.declared.event.LifeEvent.{LifeEvent}
+use Rattle.q_model.specs.declared.event.LifeEvent.TheVariants.{Begin, Heard, Finish}
 use Rattle.q_model.specs.declared.event.Mode.TheVariants.{Deliver}
 use Rattle.q_model.specs.Book.{empty_book}
 use Rattle.q_model.specs.Ledger.{Ledger}
@@ -24,7 +24,7 @@ use Rattle.q_events.specs.declared.item.Item.TheVariants.{Step, Restart, End}
 use Rattle.q_host.specs.declared.error.HostError.{HostError}
 use Rattle.q_host.specs.declared.error.HostError.TheVariants as errors
 use Rattle.q_host.specs.Calls.{IsAsItWas, Stays}
-use Rattle.q_host.specs.Files.{Files}
+use Rattle.q_model.specs.SpoolFiles.{Files}
 use Rattle.q_host.specs.View.{View}
 use Rattle.q_top.specs.Agrees.{Agrees, Breaks, Turns}
 use Rattle.q_top.specs.Begins.{before_life, Begins, NeverBegins, Ends}
@@ -58,16 +58,16 @@ run_none : (world : World) → run_of world Deliver empty_book [] ≡ turn world
 unfolding run_of run
 run_none world = append-nil (turn world before_life Begin)
 
-run_more : (world : World) (items : List Item) (item : Item) → run_of world Deliver empty_book (items ++ item ∷ []) ≡ run_of world Deliver empty_book items ++ turn world (after_all world before_life (run_of world Deliver empty_book items)) item
+run_more : (world : World) (items : List LifeEvent) (item : LifeEvent) → run_of world Deliver empty_book (items ++ item ∷ []) ≡ run_of world Deliver empty_book items ++ turn world (after_all world before_life (run_of world Deliver empty_book items)) item
 unfolding run_of
 run_more world items item = run-turn world before_life (Begin ∷ items) item
 
-after_begin_items : (world : World) (items : List Item) → after_all world before_life (run_of world Deliver empty_book items) ≡ ledger_after world (first_ledger world) items
+after_begin_items : (world : World) (items : List LifeEvent) → after_all world before_life (run_of world Deliver empty_book items) ≡ ledger_after world (first_ledger world) items
 unfolding run_of run
 after_begin_items world items = after_all-append world before_life (turn world before_life Begin) (run world (after_all world before_life (turn world before_life Begin)) items)
 
 -- one turn more
-entries_more : (world : World) (items : List Item) (item : Item) (steps more : Steps) → run_of world Deliver empty_book items ≡ entries_of steps → turn world (after_all world before_life (entries_of steps)) item ≡ entries_of more
+entries_more : (world : World) (items : List LifeEvent) (item : LifeEvent) (steps more : Steps) → run_of world Deliver empty_book items ≡ entries_of steps → turn world (after_all world before_life (entries_of steps)) item ≡ entries_of more
     → run_of world Deliver empty_book (items ++ item ∷ []) ≡ entries_of (steps ++ more)
 entries_more world items item steps more e t =
     run_more world items item
@@ -75,12 +75,12 @@ entries_more world items item steps more e t =
     ∙ ap (λ (es : List Entry). entries_of steps ++ es) t
     ∙ sym (entries_of-append steps more)
 
-ledgers_same : (world : World) (items : List Item) (steps : Steps) → run_of world Deliver empty_book items ≡ entries_of steps → after_all world before_life (entries_of steps) ≡ ledger_after world (first_ledger world) items
+ledgers_same : (world : World) (items : List LifeEvent) (steps : Steps) → run_of world Deliver empty_book items ≡ entries_of steps → after_all world before_life (entries_of steps) ≡ ledger_after world (first_ledger world) items
 ledgers_same world items steps e = ap (λ (es : List Entry). after_all world before_life es) (sym e) ∙ after_begin_items world items
 
 -- ---- what was told, with the book that the files stand for
 
-all_told : (world : World) (items : List Item) (steps : Steps) (before after : View) → run_of world Deliver empty_book items ≡ entries_of steps → Follows world before_life steps → Plays world unopened steps before after → IsTold world items before after
+all_told : (world : World) (items : List LifeEvent) (steps : Steps) (before after : View) → run_of world Deliver empty_book items ≡ entries_of steps → Follows world before_life steps → Plays world unopened steps before after → IsTold world items before after
 all_told world items steps before after run follows plays = record {
   steps = steps;
   run = run;
@@ -96,7 +96,7 @@ after_next world done e t more f follows is =
     subst (λ (es : List Entry). StandsAfter world es f) (entries_of-append done ((e, t) ∷ []))
     (follows_last world before_life unopened (done ++ (e, t) ∷ []) f stands_unopened first (subst (λ x. IsSpool x f) (sym (spool_after-append unopened done ((e, t) ∷ []))) is))
 
-part_told : (world : World) (items : List Item) (error : HostError) (steps : Steps) (before after : View) → run_of world Deliver empty_book items ≡ entries_of steps → Follows world before_life steps → Halts world unopened steps error before after → IsToldInPart world items error before after
+part_told : (world : World) (items : List LifeEvent) (error : HostError) (steps : Steps) (before after : View) → run_of world Deliver empty_book items ≡ entries_of steps → Follows world before_life steps → Halts world unopened steps error before after → IsToldInPart world items error before after
 part_told world items error steps before after run follows halts = record {
   steps = steps;
   run = run;
@@ -115,7 +115,7 @@ part_told world items error steps before after run follows halts = record {
 -- ---- how far it went
 
 -- these items were taken and told, and what is left of the text goes on behind them
-pub record WentBy (world : World) (text left : Option (List ℕ)) (events : EventsState) (life : Life) (items : List Item) (steps : Steps) (before after : View) : Type 0 where
+pub record WentBy (world : World) (text left : Option (List ℕ)) (events : EventsState) (life : Life) (items : List LifeEvent) (steps : Steps) (before after : View) : Type 0 where
   pub entries : run_of world Deliver empty_book items ≡ entries_of steps
   pub follows : Follows world before_life steps
   pub agrees : Agrees world life (after_all world before_life (entries_of steps)) (spool_after unopened steps)
@@ -123,7 +123,7 @@ pub record WentBy (world : World) (text left : Option (List ℕ)) (events : Even
   pub reading : IfSome text (λ bytes. (lines : Lines) × (rest : List ℕ) × (left ≡ Some rest) × IsReading world bytes lines items events.budget rest events.lines)
 
 abbrev pub Went : (world : World) → Option (List ℕ) → Option (List ℕ) → EventsState → Life → View → View → Type 0
-Went world text left events life before after = (items : List Item) × (steps : Steps) × WentBy world text left events life items steps before after
+Went world text left events life before after = (items : List LifeEvent) × (steps : Steps) × WentBy world text left events life items steps before after
 
 -- a new reader has taken nothing
 abbrev pub new_events : EventsState
@@ -147,7 +147,7 @@ front_of_none world (Some bytes) = (items_in (read_text world bytes), refl)
 
 -- ---- the end by a refusal of the host
 
-pub gives_up : (world : World) (text left : Option (List ℕ)) (before after : View) (items : List Item) (error : HostError) → IsFront world text items → IsToldInPart world items error before after → ReplayEnds world text left before after (status_of error)
+pub gives_up : (world : World) (text left : Option (List ℕ)) (before after : View) (items : List LifeEvent) (error : HostError) → IsFront world text items → IsToldInPart world items error before after → ReplayEnds world text left before after (status_of error)
 gives_up world text left before after items errors.Disk front told = (items, front, told)
 gives_up world text left before after items errors.Tell front told = (items, front, told)
 gives_up world text left before after items errors.NoMemory front told = (items, front, inr told)
@@ -162,10 +162,10 @@ never_opens world text left before after error lawful then still = gives_up worl
 
 -- ---- a look at the files went before
 
-told_before : (world : World) (items : List Item) (old mid new : View) → IsLawful old → Stays old mid → IsTold world items mid new → IsTold world items old new
+told_before : (world : World) (items : List LifeEvent) (old mid new : View) → IsLawful old → Stays old mid → IsTold world items mid new → IsTold world items old new
 told_before world items old mid new lawful still t = all_told world items t.steps old new t.run t.follows (plays_before world unopened old mid new lawful still t.steps t.plays)
 
-part_before : (world : World) (items : List Item) (error : HostError) (old mid new : View) → IsLawful old → Stays old mid → IsToldInPart world items error mid new → IsToldInPart world items error old new
+part_before : (world : World) (items : List LifeEvent) (error : HostError) (old mid new : View) → IsLawful old → Stays old mid → IsToldInPart world items error mid new → IsToldInPart world items error old new
 part_before world items error old mid new lawful still t = part_told world items error t.steps old new t.run t.follows (halts_before world unopened old mid new lawful still t.steps error t.halts)
 
 pub ends_before : (world : World) (text left : Option (List ℕ)) (old mid new : View) (status : Status) → IsLawful old → Stays old mid → ReplayEnds world text left mid new status → ReplayEnds world text left old new status
@@ -198,19 +198,19 @@ ItemGiven events left events' left' item = IfSome left (λ bytes. (rest : List �
 
 module _ (world : World) (text left : Option (List ℕ)) (events : EventsState) (going : events.ended ≡ false) (life : Life) (before after : View) where
   -- the text as it was read so far
-  abbrev ReadSo : Option (List ℕ) → List Item → Type 0
+  abbrev ReadSo : Option (List ℕ) → List LifeEvent → Type 0
   ReadSo t items = IfSome t (λ bytes. (lines : Lines) × (rest : List ℕ) × (left ≡ Some rest) × IsReading world bytes lines items events.budget rest events.lines)
 
   first : (rest : List ℕ) → reading events rest ≡ first_item (events.lines + 1) (lines_from events.budget rest)
   first rest = reading_first events rest going
 
   -- the event is one that may be heard
-  heard_fits : (event : Event) (items : List Item) (steps : Steps) (b : Bool) → WentBy world text left events life items steps before after → fits life event ≡ b → may_hear world (ledger_after world (first_ledger world) items) event ≡ b
+  heard_fits : (event : Event) (items : List LifeEvent) (steps : Steps) (b : Bool) → WentBy world text left events life items steps before after → fits life event ≡ b → may_hear world (ledger_after world (first_ledger world) items) event ≡ b
   heard_fits event items steps b w h =
       ap (λ (l : Ledger). may_hear world l event) (sym (ledgers_same world items steps w.entries))
       ∙ sym (fits_all world life.clock life.timed life.stage (after_all world before_life (entries_of steps)) (spool_after unopened steps) event w.agrees) ∙ h
 
-  heard_reading : (t left' : Option (List ℕ)) (events' : EventsState) (items : List Item) (event : Event) (line : ℕ) → ItemGiven events left events' left' (Step event line) → may_hear world (ledger_after world (first_ledger world) items) event ≡ true → ReadSo t items
+  heard_reading : (t left' : Option (List ℕ)) (events' : EventsState) (items : List LifeEvent) (event : Event) (line : ℕ) → ItemGiven events left events' left' (Step event line) → may_hear world (ledger_after world (first_ledger world) items) event ≡ true → ReadSo t items
       → IfSome t (λ bytes. (lines : Lines) × (rest : List ℕ) × (left' ≡ Some rest) × IsReading world bytes lines (items ++ Heard event ∷ []) events'.budget rest events'.lines)
   heard_reading None left' events' items event line given h r = tt
   heard_reading (Some bytes) left' events' items event line given h (lines, rest, is, r) =
@@ -236,15 +236,15 @@ module _ (world : World) (text left : Option (List ℕ)) (events : EventsState) 
 
   -- ---- how it ends
 
-  told_so_far : (items : List Item) (steps : Steps) → WentBy world text left events life items steps before after → IsTold world items before after
+  told_so_far : (items : List LifeEvent) (steps : Steps) → WentBy world text left events life items steps before after → IsTold world items before after
   told_so_far items steps w = all_told world items steps before after w.entries w.follows w.plays
 
   -- what is said of each text that was read so far
-  by_text : (P : List ℕ → Type 0) (items : List Item) → ((bytes : List ℕ) (lines : Lines) (rest : List ℕ) → left ≡ Some rest → IsReading world bytes lines items events.budget rest events.lines → P bytes) → (t : Option (List ℕ)) → ReadSo t items → IfSome t P
+  by_text : (P : List ℕ → Type 0) (items : List LifeEvent) → ((bytes : List ℕ) (lines : Lines) (rest : List ℕ) → left ≡ Some rest → IsReading world bytes lines items events.budget rest events.lines → P bytes) → (t : Option (List ℕ)) → ReadSo t items → IfSome t P
   by_text P items f None r = tt
   by_text P items f (Some bytes) (lines, rest, is, r) = f bytes lines rest is r
 
-  front_so_far : (items : List Item) (steps : Steps) → WentBy world text left events life items steps before after → IsFront world text items
+  front_so_far : (items : List LifeEvent) (steps : Steps) → WentBy world text left events life items steps before after → IsFront world text items
   front_so_far items steps w = by_text _ items (λ bytes lines rest is r. reading_front world bytes lines items events.budget rest events.lines r) text w.reading
 
   pub ends_no_memory : (source : Option (List ℕ)) → Went world text left events life before after → ReplayEnds world text source before after NoMemory
@@ -301,13 +301,13 @@ module _ (world : World) (text left : Option (List ℕ)) (events : EventsState) 
       front (Some bytes) (lines, rest, is, r) = reading_front world bytes lines (items ++ Heard event ∷ []) events'.budget rest events'.lines r
 
   -- the list ends as it should
-  whole : (left' : Option (List ℕ)) (events' : EventsState) (items : List Item) (steps : Steps) → ItemGiven events left events' left' End → WentBy world text left events life items steps before after → IsWhole world text (items ++ Finish ∷ [])
+  whole : (left' : Option (List ℕ)) (events' : EventsState) (items : List LifeEvent) (steps : Steps) → ItemGiven events left events' left' End → WentBy world text left events life items steps before after → IsWhole world text (items ++ Finish ∷ [])
   whole left' events' items steps given w = by_text _ items (λ bytes lines rest is r. at bytes lines rest r (rw is at given)) text w.reading
     where
       at : (bytes : List ℕ) (lines : Lines) (rest : List ℕ) → IsReading world bytes lines items events.budget rest events.lines → ItemGiven events (Some rest) events' left' End → IsWhole world (Some bytes) (items ++ Finish ∷ [])
       at bytes lines rest r (others, next, found_it) = reading_ends world bytes lines items events.budget rest events.lines r events'.lines (lines_from events'.budget others) (sym (first rest) ∙ found_it)
 
-  whole_front : (t : Option (List ℕ)) (items : List Item) → IsWhole world t items → IsFront world t items
+  whole_front : (t : Option (List ℕ)) (items : List LifeEvent) → IsWhole world t items → IsFront world t items
   whole_front None items h = tt
   whole_front (Some bytes) items h = ([], ap items_in h ∙ sym (append-nil items))
 

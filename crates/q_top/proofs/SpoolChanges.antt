@@ -3,10 +3,12 @@ use Rattle.std.proofs.Common.{◌≡◌, ◌≢◌, ◌⊎◌, inl, inr, ◌<◌
 use Rattle.std.specs.Prelude.{codes}
 use Rattle.std.specs.Option.{option_map}
 use Rattle.std.proofs.lemmas.Bool.{or_cases, or_left}
+use Rattle.q_store.proofs.Storing.{stored_beside}
 use Rattle.q_model.specs.declared.spot.Area.{Area}
 use Rattle.q_model.specs.declared.spot.Area.TheVariants.{Boot, Tmp, Incoming, Active, Bounce}
 use Rattle.q_model.specs.IdTexts.{id_text}
-use Rattle.q_host.specs.Files.{Files, same_place, put, with_file, without_file, moved, written}
+use Rattle.q_host.specs.Files.{same_place, put, with_file, without_file, moved, written}
+use Rattle.q_model.specs.SpoolFiles.{Files}
 use Rattle.q_host.specs.Steps.{SameBut, TornBytes}
 use Rattle.q_host.proofs.Puts.{put-here, put-other, other_area, same_place-refl, same_place-true}
 use Rattle.q_store.specs.Stores.{IsStored}
@@ -85,10 +87,10 @@ forgotten f g others h a n look = others a n (other_area Bounce name a n (λ sam
 
 -- ---- the message is stored
 
-pub stored : (file : List ℕ) (f g : Files) → IsStored Incoming name file f g → IsSpool empty f → IsSpool (holds Incoming file) g
-stored file f g s h a n see = choose (same_place Incoming name a n) (Some file) (boot_file a n) (g a n)
+pub stored : (t file : List ℕ) (f g : Files) → IsStored t Incoming name file f g → IsSpool empty f → IsSpool (holds Incoming file) g
+stored t file f g s h a n see = choose (same_place Incoming name a n) (Some file) (boot_file a n) (g a n)
     (λ e. let same = same_place-true Incoming name a n e in sym (ap (λ b. g b n) same.0) ∙ sym (ap (g Incoming) same.1) ∙ s.whole)
-    (λ e. s.others a n (seen a n see) e ∙ h a n see)
+    (λ e. stored_beside t Incoming name file f g s a n (seen a n see) e ∙ h a n see)
 
 -- ---- it is moved and removed
 

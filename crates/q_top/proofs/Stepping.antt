@@ -7,10 +7,10 @@ use Rattle.q_model.specs.Text.{line}
 use Rattle.q_host.specs.Calls.{Stays, Changes, Tells, IsAsItWas}
 use Rattle.q_host.specs.declared.error.HostError.{HostError}
 use Rattle.q_host.specs.declared.error.HostError.TheVariants.{Tell, NoMemory, Disk}
-use Rattle.q_host.specs.Files.{Files}
+use Rattle.q_model.specs.SpoolFiles.{Files}
 use Rattle.q_host.specs.View.{Goes, LeavesOnly, Remains, View}
 use Rattle.q_host.proofs.Moments.{leaves_by, leaves_on}
-use Rattle.q_top.specs.Spools.{Spool, HoldsSpool, IsLeft, IsSpool, LeavesSpool, SameLogs}
+use Rattle.q_top.specs.Spools.{Spool, HoldsSpool, MayBeLeft, IsSpool, LeavesSpool, SameLogs}
 use Rattle.q_top.specs.Steps.{Does, Stops, WithinStep}
 use Rattle.q_top.proofs.SpoolChanges.{name}
 use Rattle.q_model.specs.Settings.{World}
@@ -33,7 +33,7 @@ pub record IsLawful (v : View) : Type 0 where
 -- nothing more is told, and the files are those before the change or after it
 pub record Between (s t : Spool) (before : List ℕ) (c : Remains) : Type 0 where
   pub told : c.told ≡ before
-  pub files : IsLeft s c.files ⊎ IsLeft t c.files
+  pub files : MayBeLeft s c.files ⊎ MayBeLeft t c.files
 
 -- the change of the disk of an entry: all of it, or none or all
 pub record Changed (s t : Spool) (old new : View) : Type 0 where
@@ -75,7 +75,7 @@ behind_change world s t e told told' c same w = record {
   disk_first = w.disk_first;
 }
   where
-    both : IsLeft t c.files ⊎ IsLeft t c.files → IsLeft t c.files
+    both : MayBeLeft t c.files ⊎ MayBeLeft t c.files → MayBeLeft t c.files
     both (inl h) = h
     both (inr h) = h
 
@@ -133,8 +133,8 @@ changed_may s t old new c = record { told = c.told; files = λ h. inr (c.files h
 
 module _ (s t : Spool) (v w : View) (lawful : IsLawful v) where
   -- what may be left meanwhile
-  pub meanwhile : {S M : Remains → Remains → Type 0} → Goes S M v w → ((d c : Remains) → IsLeft s d.files → M d c → (c.told ≡ d.told) × (IsLeft s c.files ⊎ IsLeft t c.files)) → HoldsSpool s v → LeavesOnly v w (Between s t v.told)
-  meanwhile goes step h = leaves_by (λ d. (d.told ≡ v.told) × IsLeft s d.files) (Between s t v.told) lawful.only goes (λ d m. (lawful.told d m, h.crash.left d m))
+  pub meanwhile : {S M : Remains → Remains → Type 0} → Goes S M v w → ((d c : Remains) → MayBeLeft s d.files → M d c → (c.told ≡ d.told) × (MayBeLeft s c.files ⊎ MayBeLeft t c.files)) → HoldsSpool s v → LeavesOnly v w (Between s t v.told)
+  meanwhile goes step h = leaves_by (λ d. (d.told ≡ v.told) × MayBeLeft s d.files) (Between s t v.told) lawful.only goes (λ d m. (lawful.told d m, h.crash.left d m))
       (λ d p. record { told = p.0; files = inl p.1 }) (λ d c p m. let q = step d c p.1 m in record { told = q.0 ∙ p.0; files = q.1 })
 
   pub stays_may : Stays v w → MayChange s t v w
@@ -142,19 +142,19 @@ module _ (s t : Spool) (v w : View) (lawful : IsLawful v) where
     told = st.told;
     files = λ h. inl (subst (λ (f : Files). IsSpool s f) (sym st.files) h);
     logs = λ n other. ap (λ (g : Files). g Bounce n) st.files;
-    moments = meanwhile st.goes (λ d c left same. (ap (λ (r : Remains). r.told) same, inl (subst (λ (r : Remains). IsLeft s r.files) (sym same) left)));
+    moments = meanwhile st.goes (λ d c left same. (ap (λ (r : Remains). r.told) same, inl (subst (λ (r : Remains). MayBeLeft s r.files) (sym same) left)));
   }
 
   -- a change that the files of a spool and what a crash leaves of it undergo
-  pub changed_by : (change : Files → Files) → ((f : Files) → IsSpool s f → IsSpool t (change f)) → ((f : Files) → IsLeft s f → IsLeft t (change f)) → ((f : Files) → IsLeft t f → f Bounce name ≡ None) → ((f : Files) → SameLogs f (change f)) → Changes change v w → Changed s t v w
+  pub changed_by : (change : Files → Files) → ((f : Files) → IsSpool s f → IsSpool t (change f)) → ((f : Files) → MayBeLeft s f → MayBeLeft t (change f)) → ((f : Files) → MayBeLeft t f → f Bounce name ≡ None) → ((f : Files) → SameLogs f (change f)) → Changes change v w → Changed s t v w
   changed_by change reads left no_log logs ch = record {
     told = ch.told;
     files = λ h. subst (λ (f : Files). IsSpool t f) (sym ch.files) (reads v.files h);
     logs = λ n other. ap (λ (g : Files). g Bounce n) ch.files ∙ logs v.files n other;
     crash = λ h.
-        let after : (c : Remains) → w.may_leave c → IsLeft t c.files = λ c m. let d = ch.goes.crash c m in subst (λ (f : Files). IsLeft t f) (sym d.2.0) (left d.0.files (h.crash.left d.0 d.1)) in
+        let after : (c : Remains) → w.may_leave c → MayBeLeft t c.files = λ c m. let d = ch.goes.crash c m in subst (λ (f : Files). MayBeLeft t f) (sym d.2.0) (left d.0.files (h.crash.left d.0 d.1)) in
         record { left = after; no_log = λ c m none. no_log c.files (after c m) };
-    moments = meanwhile ch.goes (λ d c was step. (step.1, inr (subst (λ (f : Files). IsLeft t f) (sym step.0) (left d.files was))));
+    moments = meanwhile ch.goes (λ d c was step. (step.1, inr (subst (λ (f : Files). MayBeLeft t f) (sym step.0) (left d.files was))));
   }
 
   pub made_or_not : (change : Files → Files) → (Changes change v w → Changed s t v w) → Changes change v w ⊎ Stays v w → MayChange s t v w
@@ -171,10 +171,10 @@ module _ (world : World) (s : Spool) (e : Entry) (k : ℕ) (short : k ≤ length
   same_log n other = ap (λ (g : Files). g Bounce n) told.files
 
   telling : HoldsSpool s v → LeavesOnly v w (WithinStep world s e s v.told)
-  telling h = leaves_by (λ d. (d.told ≡ v.told) × IsLeft s d.files) (WithinStep world s e s v.told) lawful.only told.goes (λ d m. (lawful.told d m, h.crash.left d m))
+  telling h = leaves_by (λ d. (d.told ≡ v.told) × MayBeLeft s d.files) (WithinStep world s e s v.told) lawful.only told.goes (λ d m. (lawful.told d m, h.crash.left d m))
       (λ d p. record { part = 0; short = omega arith; told = p.0 ∙ sym (append-nil v.told); files = inl p.1; disk_first = λ some. p.1 })
       (λ d c p a.
-      let left : IsLeft s c.files = subst (λ (f : Files). IsLeft s f) (sym a.2.files) p.1 in
+      let left : MayBeLeft s c.files = subst (λ (f : Files). MayBeLeft s f) (sym a.2.files) p.1 in
       record { part = a.0; short = a.1; told = a.2.told ∙ ap (λ (x : List ℕ). x ++ take a.0 (line world.table e)) p.0; files = inl left; disk_first = λ some. left })
 
   pub tells_does : k ≡ length (line world.table e) → Does world s e s v w
@@ -183,7 +183,7 @@ module _ (world : World) (s : Spool) (e : Entry) (k : ℕ) (short : k ≤ length
     files = same_files;
     logs = same_log;
     crash = λ h. record {
-      left = λ c m. let d = told.goes.crash c m in subst (λ (f : Files). IsLeft s f) (sym d.2.files) (h.crash.left d.0 d.1);
+      left = λ c m. let d = told.goes.crash c m in subst (λ (f : Files). MayBeLeft s f) (sym d.2.files) (h.crash.left d.0 d.1);
       no_log = λ c m none. let d = told.goes.crash c m in ap (λ (f : Files). f Bounce name) d.2.files ∙ h.crash.no_log d.0 d.1 (sym (ap (λ (f : Files). f Bounce name) told.files) ∙ none);
     };
     moments = telling;

@@ -4,7 +4,7 @@ use Rattle.std.specs.Prelude.{nat_le, count_by, ◌^◌}
 use Rattle.q_model.specs.declared.entry.Entry.{Entry}
 use Rattle.q_model.specs.declared.entry.Entry.TheVariants.{Life, At, Arrive, Admit, Load, Start, Reply, Mark, Sync, Remove, End}
 use Rattle.q_model.specs.declared.event.Event.TheVariants as events
-use Rattle.q_model.specs.declared.event.Item.TheVariants.{Heard, Begin, Finish}
+use Rattle.q_model.specs.declared.event.LifeEvent.TheVariants.{Heard, Begin, Finish}
 use Rattle.q_model.specs.declared.event.Mode.TheVariants.{Deliver}
 use Rattle.q_model.specs.declared.outcome.Outcome.TheVariants as outcomes
 use Rattle.q_model.specs.declared.outcome.SiteState.TheVariants.{Up}

@@ -1,7 +1,7 @@
 -- With which ledgers and spools a life agrees, and how it goes on from them.
 use Rattle.std.specs.Prelude.{◌≡◌, ◌≤◌, ◌<◌, ℕ, Bool, true, false, List, [], ◌∷◌, Option, count_by, length, ◌==◌}
 use Rattle.q_model.specs.declared.entry.Entry.{Entry}
-use Rattle.q_model.specs.declared.event.Item.{Item}
+use Rattle.q_model.specs.declared.event.LifeEvent.{LifeEvent}
 use Rattle.q_model.specs.declared.spot.Area.TheVariants.{Active}
 use Rattle.q_model.specs.declared.event.Mode.TheVariants.{Deliver}
 use Rattle.q_model.specs.Book.{empty_book}
@@ -11,7 +11,7 @@ use Rattle.q_model.specs.QueueFileBytes.{IsFileMessage, file_bytes, mark_at}
 use Rattle.q_model.specs.Run.{turn}
 use Rattle.q_model.specs.Step.{after_all}
 use Rattle.q_host.specs.declared.error.HostError.{HostError}
-use Rattle.q_host.specs.Files.{Files}
+use Rattle.q_model.specs.SpoolFiles.{Files}
 use Rattle.q_host.specs.View.{View}
 use Rattle.q_top.specs.Books.{Follows}
 use Rattle.q_top.specs.declared.life.Life.{Life}
@@ -27,7 +27,8 @@ abbrev pub is_begun : List Entry → Bool
 is_begun past = is_living (record (opening Deliver empty_book) { past = past })
 
 -- nothing came
-pub record IsAwaiting (world : World) (now : ℕ) (timed : Bool) (l : Ledger) (s : Spool) : Type 0 where
+pub record IsAwaiting (world : World) (now : ℕ) (timed : Bool) (l : Ledger)
+    (s : Spool) : Type 0 where
   pub next_run : ℕ
   pub past : List Entry
   pub ledger : l ≡ idle world now timed next_run false past
@@ -38,7 +39,8 @@ pub record IsAwaiting (world : World) (now : ℕ) (timed : Bool) (l : Ledger) (s
   pub spool : s ≡ empty
 
 -- the message is in flight, and its file stands in active
-pub record IsFlying (world : World) (now at : ℕ) (timed : Bool) (l : Ledger) (s : Spool) : Type 0 where
+pub record IsFlying (world : World) (now at : ℕ) (timed : Bool) (l : Ledger)
+    (s : Spool) : Type 0 where
   pub next_run : ℕ
   pub sender : Option (List ℕ)
   pub address : List ℕ
@@ -73,14 +75,20 @@ Agrees world life l s = StageAgrees world life.stage life.clock life.timed l s
 -- the files that the life needs are there
 abbrev pub HasFiles : Stage → Files → Type 0
 HasFiles Awaited files = IsSpool empty files
-HasFiles (InFlight at) files = (file : List ℕ) × (at < length file) × IsSpool (holds Active file) files
+HasFiles (InFlight at) files = (file : List ℕ) × (at < length file)
+    × IsSpool (holds Active file) files
 HasFiles Gone files = IsSpool empty files
 
--- From each ledger and spool with which the life agreed it carried out and told the turn of the item, and agrees with what they came to.
-abbrev pub Turns : (world : World) → Life → Life → Item → View → View → Type 0
+-- From each ledger and spool with which the life agreed it carried out and told the turn of the
+-- item, and agrees with what they came to.
+abbrev pub Turns : (world : World) → Life → Life → LifeEvent → View → View → Type 0
 Turns world old new item before after = (l : Ledger) (s : Spool) → Agrees world old l s
-    → (steps : Steps) × (turn world l item ≡ entries_of steps) × Follows world l steps × Agrees world new (after_all world l (entries_of steps)) (spool_after s steps) × Plays world s steps before after
+    → (steps : Steps) × (turn world l item ≡ entries_of steps) × Follows world l steps
+    × Agrees world new (after_all world l (entries_of steps)) (spool_after s steps)
+    × Plays world s steps before after
 
 -- from each of them it gave the turn up at some entry
-abbrev pub Breaks : (world : World) → Life → Item → HostError → View → View → Type 0
-Breaks world old item error before after = (l : Ledger) (s : Spool) → Agrees world old l s → (steps : Steps) × (turn world l item ≡ entries_of steps) × Follows world l steps × Halts world s steps error before after
+abbrev pub Breaks : (world : World) → Life → LifeEvent → HostError → View → View → Type 0
+Breaks world old item error before after = (l : Ledger) (s : Spool) → Agrees world old l s
+    → (steps : Steps) × (turn world l item ≡ entries_of steps) × Follows world l steps
+    × Halts world s steps error before after

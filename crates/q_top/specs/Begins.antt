@@ -1,6 +1,6 @@
 -- How a first life begins and ends.
 use Rattle.std.specs.Prelude.{◌≡◌}
-use Rattle.q_model.specs.declared.event.Item.TheVariants.{Begin, Finish}
+use Rattle.q_model.specs.declared.event.LifeEvent.TheVariants.{Begin, Finish}
 use Rattle.q_model.specs.declared.event.Mode.TheVariants.{Deliver}
 use Rattle.q_model.specs.Book.{empty_book}
 use Rattle.q_model.specs.Ledger.{Ledger, opening}
@@ -21,12 +21,19 @@ before_life = opening Deliver empty_book
 
 -- the first turn was carried out and told
 abbrev pub Begins : (world : World) → Life → View → View → Type 0
-Begins world new before after = (steps : Steps) × (turn world before_life Begin ≡ entries_of steps) × Follows world before_life steps × Agrees world new (after_all world before_life (entries_of steps)) (spool_after unopened steps) × Plays world unopened steps before after
+Begins world new before after = (steps : Steps) × (turn world before_life Begin ≡ entries_of steps)
+    × Follows world before_life steps × Agrees world new
+    (after_all world before_life (entries_of steps)) (spool_after unopened steps)
+    × Plays world unopened steps before after
 
 -- it was given up
 abbrev pub NeverBegins : (world : World) → HostError → View → View → Type 0
-NeverBegins world error before after = (steps : Steps) × (turn world before_life Begin ≡ entries_of steps) × Follows world before_life steps × Halts world unopened steps error before after
+NeverBegins world error before after = (steps : Steps)
+    × (turn world before_life Begin ≡ entries_of steps) × Follows world before_life steps
+    × Halts world unopened steps error before after
 
 -- the last turn was told
 abbrev pub Ends : (world : World) → Life → View → View → Type 0
-Ends world old before after = (l : Ledger) (s : Spool) → Agrees world old l s → (steps : Steps) × (turn world l Finish ≡ entries_of steps) × Follows world l steps × Plays world s steps before after
+Ends world old before after = (l : Ledger) (s : Spool) → Agrees world old l s → (steps : Steps)
+    × (turn world l Finish ≡ entries_of steps) × Follows world l steps
+    × Plays world s steps before after

@@ -12,13 +12,15 @@ use Rattle.q_top.specs.declared.status.Status.TheVariants.{Done, Usage, BadInput
 -- what the bytes say, or the status that names their fault
 abbrev pub GivesParams : Result Settings Status → Result Settings ParamError → Type 0
 GivesParams (Ok settings) read = read ≡ Ok settings
-GivesParams (Err status) read = (e : ParamError) × (read ≡ Err e) × (status ≡ BadInput Parameters e.line)
+GivesParams (Err status) read = (e : ParamError) × (read ≡ Err e)
+    × (status ≡ BadInput Parameters e.line)
 
 -- the same of a table, unless memory runs out
 abbrev pub GivesTable : Result Contents Status → Result Contents TableError → Type 0
 GivesTable (Ok contents) read = read ≡ Ok contents
 GivesTable (Err NoMemory) read = Unit {0}
-GivesTable (Err (BadInput file line)) read = (e : TableError) × (read ≡ Err e) × (file ≡ Table) × (line ≡ line_of e)
+GivesTable (Err (BadInput file line)) read = (e : TableError) × (read ≡ Err e) × (file ≡ Table)
+    × (line ≡ line_of e)
 GivesTable (Err Disk) read = ⊥
 GivesTable (Err Done) read = ⊥
 GivesTable (Err Usage) read = ⊥

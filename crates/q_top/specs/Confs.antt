@@ -3,11 +3,11 @@ use Rattle.std.specs.Option.{option_map_or}
 use Rattle.std.specs.Prelude.{◌≡◌, ℕ, Bool, List, [], Result, Ok, Err, codes, IsTrue}
 use Rattle.q_model.specs.declared.spot.Area.TheVariants.{Conf as ConfArea}
 use Rattle.q_model.specs.Settings.{Settings, World}
-use Rattle.q_host.specs.Files.{Files}
-use Rattle.q_params.specs.Files.{file_of as params_of}
+use Rattle.q_model.specs.SpoolFiles.{Files}
+use Rattle.q_params.specs.ParameterFile.{file_of as params_of}
 use Rattle.q_params.specs.declared.error.ParamError.{ParamError}
 use Rattle.q_transport.specs.Contents.{Contents}
-use Rattle.q_transport.specs.Files.{file_of as contents_of}
+use Rattle.q_transport.specs.TableFile.{file_of as contents_of}
 use Rattle.q_transport.specs.Routing.{table_of}
 use Rattle.q_transport.specs.declared.error.TableError.{TableError}
 use Rattle.q_transport.specs.declared.error.TableError.TheVariants as table_errors
@@ -34,7 +34,8 @@ line_of (table_errors.TooMany n) = n
 
 -- what the table says, beside these parameters
 abbrev pub with_table : Settings → Result Contents TableError → Sayings
-with_table settings (Ok contents) = goes_by (record { settings = settings; table = table_of contents })
+with_table settings (Ok contents) = goes_by
+    (record { settings = settings; table = table_of contents })
 with_table settings (Err e) = at_fault files.Table (line_of e)
 
 -- the parameters come first, then the table
@@ -44,7 +45,8 @@ with_params (Err e) table = at_fault files.Parameters e.line
 
 -- what the two files say
 unfoldable pub conf_of : Files → Sayings
-conf_of f = with_params (params_of (conf_bytes f (codes "params"))) (conf_bytes f (codes "transport"))
+conf_of f = with_params (params_of (conf_bytes f (codes "params")))
+    (conf_bytes f (codes "transport"))
 
 -- how a command ends that can't read them, or finds one at fault
 abbrev pub IsConfFault : Bool → Sayings → Status → Type 0

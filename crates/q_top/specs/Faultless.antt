@@ -1,7 +1,7 @@
 -- Calls in which nothing outside failed.
 use Rattle.std.specs.Prelude.{ℕ}
-use Rattle.q_host.specs.Faults.{Faults, Rose}
-use Rattle.q_stream.specs.Takes.{Rose as SourceRose}
+use Rattle.q_host.specs.Faults.{Faults}
+use Rattle.q_model.specs.FaultCounts.{Rose}
 
 -- neither count of the host rose, nor stands at its last value
 pub record NoFault (before after : Faults) : Type 0 where
@@ -10,4 +10,4 @@ pub record NoFault (before after : Faults) : Type 0 where
 
 -- nor did that of the source
 abbrev pub NoSourceFault : ℕ → ℕ → Type 0
-NoSourceFault before after = SourceRose before after → ⊥
+NoSourceFault before after = Rose before after → ⊥

@@ -3,11 +3,12 @@ use Rattle.std.specs.Prelude.{◌≡◌, ◌⊎◌, ℕ, List, [], ◌∷◌, Op
 use Rattle.q_model.specs.declared.spot.Area.{Area}
 use Rattle.q_model.specs.declared.spot.Area.TheVariants.{Boot, Incoming, Active, Deferred, Hold, Corrupt}
 use Rattle.q_model.specs.Values.{Spot}
-use Rattle.q_host.specs.Files.{Files}
+use Rattle.q_model.specs.SpoolFiles.{Files}
 use Rattle.q_host.specs.Reads.{IsListing}
 use Rattle.q_host.specs.View.{Remains}
 
--- the areas that are looked at, in this order; not the logs, the files that aren't whole and those that an operator writes
+-- the areas that are looked at, in this order; not the logs, the files that aren't whole and those
+-- that an operator writes
 abbrev pub areas_in_order : List Area
 areas_in_order = Boot ∷ Incoming ∷ Active ∷ Deferred ∷ Hold ∷ Corrupt ∷ []
 
@@ -21,7 +22,8 @@ abbrev pub IsFirstFile : List Area → Files → Option Spot → Type 0
 IsFirstFile [] f None = Unit {0}
 IsFirstFile [] f (Some spot) = ⊥
 IsFirstFile (a ∷ others) f None = IsFirstName (f a) None × IsFirstFile others f None
-IsFirstFile (a ∷ others) f (Some spot) = ((spot.area ≡ a) × IsFirstName (f a) (Some spot.name)) ⊎ (IsFirstName (f a) None × IsFirstFile others f (Some spot))
+IsFirstFile (a ∷ others) f (Some spot) = ((spot.area ≡ a) × IsFirstName (f a) (Some spot.name))
+    ⊎ (IsFirstName (f a) None × IsFirstFile others f (Some spot))
 
 -- reads give the same, and nothing was told
 pub record IsSameHost (old new : Remains) : Type 0 where

@@ -21,10 +21,13 @@ is_in_flight Awaited = false
 is_in_flight (InFlight mark_at) = true
 is_in_flight Gone = false
 
--- a clock always; one message to one recipient, without content and after the clock; and then its success
+-- a clock always; one message to one recipient, without content and after the clock; and then its
+-- success
 abbrev pub fits : Life → Event → Bool
 fits life (events.At t) = true
-fits life (events.Mail sender to content) = life.timed && is_awaited life.stage && (length to == 1) && has_none content
-fits life (events.Reply number Up outcomes) = is_in_flight life.stage && (number == 1) && is_one_ok outcomes
+fits life (events.Mail sender to content) = life.timed && is_awaited life.stage && (length to == 1)
+    && has_none content
+fits life (events.Reply number Up outcomes) = is_in_flight life.stage && (number == 1)
+    && is_one_ok outcomes
 fits life (events.Reply number Down outcomes) = false
 fits life (events.Trigger kind) = false

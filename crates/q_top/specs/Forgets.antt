@@ -17,7 +17,10 @@ pub record Forgets (old new : View) : Type 0 where
   pub told : new.told ≡ old.told
   pub goes : Goes ForgetsLog ForgetsLog old new
 
--- the log isn't there, nor is it after a crash, unless a crash might have left it before where reads gave none
+-- the log isn't there, nor is it after a crash, unless a crash might have left it before where
+-- reads gave none
 pub record LogGone (old new : View) : Type 0 where
   pub reads : new.files Bounce (id_text first_id) ≡ None
-  pub crash : ((c : Remains) → old.may_leave c → old.files Bounce (id_text first_id) ≡ None → c.files Bounce (id_text first_id) ≡ None) → (c : Remains) → new.may_leave c → c.files Bounce (id_text first_id) ≡ None
+  pub crash : ((c : Remains) → old.may_leave c → old.files Bounce (id_text first_id) ≡ None
+      → c.files Bounce (id_text first_id) ≡ None) → (c : Remains) → new.may_leave c
+      → c.files Bounce (id_text first_id) ≡ None

@@ -1,14 +1,16 @@
 -- What an event list says, item after item.
 use Rattle.std.specs.Option.{option_map_or}
 use Rattle.std.specs.Prelude.{ℕ, ◌+◌, if◌then◌else◌, List, [], ◌∷◌, ◌++◌, Option, Some, None, option_and_then, option_map}
-use Rattle.q_model.specs.declared.event.Item.TheVariants.{Begin, Heard, Finish}
-use Rattle.q_model.specs.declared.event.Item.{Item}
+use Rattle.q_model.specs.declared.event.LifeEvent.TheVariants.{Begin, Heard, Finish}
+use Rattle.q_model.specs.declared.event.LifeEvent.{LifeEvent}
 use Rattle.q_events.specs.EventList.{command_in, content_of, item_of, leads, meaning, passes_limit}
 use Rattle.q_events.specs.TextLines.{lines_from, TextLine}
 use Rattle.q_events.specs.declared.item.Item.{Item as ListItem}
 use Rattle.q_events.specs.declared.item.Item.TheVariants.{Step, Restart, End}
 
--- An item with the number of its line, and what the lines behind it say; a line that can't stand there, or the one behind the last where `end` is missing; or the end of the bytes that a list may have.
+-- An item with the number of its line, and what the lines behind it say; a line that can't stand
+-- there, or the one behind the last where `end` is missing; or the end of the bytes that a list may
+-- have.
 pub data Listing : Type 0 where
   gives : ListItem → ℕ → Listing → Listing
   bad : ℕ → Listing
@@ -17,9 +19,11 @@ pub data Listing : Type 0 where
 -- what these lines say, of which the first has number n and stands behind this content
 unfoldable pub listing : List ℕ → ℕ → List TextLine → Listing
 listing content n [] = bad n
-listing content n (line ∷ lines) = if leads line then listing (content ++ content_of line) (n + 1) lines
+listing content n (line ∷ lines) = if leads line
+    then listing (content ++ content_of line) (n + 1) lines
     else (if passes_limit line then past_limit
-    else option_map_or (λ item. gives item n (listing [] (n + 1) lines)) (option_and_then (item_of content n) (command_in (meaning line))) (bad n))
+    else option_map_or (λ item. gives item n (listing [] (n + 1) lines))
+    (option_and_then (item_of content n) (command_in (meaning line))) (bad n))
 
 -- the lines of an event list, which has at most 2^40 bytes
 unfoldable pub lines_of : List ℕ → List TextLine
@@ -30,13 +34,14 @@ abbrev pub listing_of : List ℕ → Listing
 listing_of bytes = listing [] 1 (lines_of bytes)
 
 -- the items through `end`; what stands behind it is not looked at
-abbrev pub items_of : Listing → Option (List Item)
-items_of (gives (Step event line) n more) = option_map (λ items. Heard event ∷ items) (items_of more)
+abbrev pub items_of : Listing → Option (List LifeEvent)
+items_of (gives (Step event line) n more) =
+    option_map (λ items. Heard event ∷ items) (items_of more)
 items_of (gives Restart n more) = option_map (λ items. Begin ∷ items) (items_of more)
 items_of (gives End n more) = Some (Finish ∷ [])
 items_of (bad n) = None
 items_of past_limit = None
 
 -- the items of a text, if it is an event list
-unfoldable pub event_list : List ℕ → Option (List Item)
+unfoldable pub event_list : List ℕ → Option (List LifeEvent)
 event_list bytes = items_of (listing_of bytes)

@@ -15,13 +15,18 @@ use Rattle.q_model.specs.Settings.{World}
 abbrev pub life_steps : Steps
 life_steps = (Life 1 Deliver, empty) ∷ []
 
--- the message is read and its delivery begins, to this destination
+-- the message is read and its delivery begins, to this site
 abbrev pub sent : Spool → Site → Steps
 sent s site = (Load first_id 0 1, s) ∷ (Start 1 first_id site (0 ∷ []), s) ∷ []
 
 -- it comes, is admitted, read and sent
 abbrev pub mail_steps : World → Option (List ℕ) → List ℕ → List ℕ → Steps
-mail_steps world sender address file = (Arrive first_id sender (address ∷ []) [], holds Incoming file) ∷ (Admit first_id, holds Active file) ∷ sent (holds Active file) (site_of world address)
+mail_steps world sender address file = (
+  Arrive first_id sender
+      (address ∷ []) [],
+  holds Incoming file,
+) ∷ (Admit first_id, holds Active file)
+    ∷ sent (holds Active file) (site_of world address)
 
 -- its delivery succeeds: it is marked, synced and removed; the mark byte stands at this offset
 abbrev pub reply_steps : ℕ → List ℕ → Steps

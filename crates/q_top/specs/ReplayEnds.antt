@@ -1,7 +1,7 @@
 -- How a replay ends.
 use Rattle.std.specs.Prelude.{◌≡◌, ◌⊎◌, ℕ, List, Option}
-use Rattle.q_model.specs.declared.event.Item.{Item}
-use Rattle.q_model.specs.declared.event.Item.TheVariants.{Finish}
+use Rattle.q_model.specs.declared.event.LifeEvent.{LifeEvent}
+use Rattle.q_model.specs.declared.event.LifeEvent.TheVariants.{Finish}
 use Rattle.q_events.specs.declared.error.Bound.TheVariants.{Input}
 use Rattle.q_host.specs.declared.error.HostError.TheVariants as errors
 use Rattle.q_host.specs.View.{View}
@@ -15,14 +15,23 @@ use Rattle.q_top.specs.Replays.{IsTold, IsToldInPart, IsWhole, IsFaulty, IsLimit
 use Rattle.q_model.specs.Settings.{World}
 
 -- what the status says of the text and of what was told
-abbrev pub ReplayEnds : (world : World) → Option (List ℕ) → Option (List ℕ) → View → View → Status → Type 0
-ReplayEnds world text left before after Done = (items : List Item) × IsWhole world text items × IsTold world items before after
-ReplayEnds world text left before after (BadInput Events line) = (items : List Item) × IsFaulty world text items line × IsTold world items before after
-ReplayEnds world text left before after Source = (items : List Item) × IsCutOff world text left items × IsTold world items before after
-ReplayEnds world text left before after (Limit bound) = (items : List Item) × (bound ≡ Input) × IsLimited world text items × IsTold world items before after
-ReplayEnds world text left before after Disk = (items : List Item) × IsFront world text items × IsToldInPart world items errors.Disk before after
-ReplayEnds world text left before after Tell = (items : List Item) × IsFront world text items × IsToldInPart world items errors.Tell before after
-ReplayEnds world text left before after NoMemory = (items : List Item) × IsFront world text items × (IsTold world items before after ⊎ IsToldInPart world items errors.NoMemory before after)
+abbrev pub ReplayEnds : (world : World) → Option (List ℕ) → Option (List ℕ) → View → View → Status
+    → Type 0
+ReplayEnds world text left before after Done = (items : List LifeEvent) × IsWhole world text items
+    × IsTold world items before after
+ReplayEnds world text left before after (BadInput Events line) = (items : List LifeEvent)
+    × IsFaulty world text items line × IsTold world items before after
+ReplayEnds world text left before after Source = (items : List LifeEvent)
+    × IsCutOff world text left items × IsTold world items before after
+ReplayEnds world text left before after (Limit bound) = (items : List LifeEvent) × (bound ≡ Input)
+    × IsLimited world text items × IsTold world items before after
+ReplayEnds world text left before after Disk = (items : List LifeEvent) × IsFront world text items
+    × IsToldInPart world items errors.Disk before after
+ReplayEnds world text left before after Tell = (items : List LifeEvent) × IsFront world text items
+    × IsToldInPart world items errors.Tell before after
+ReplayEnds world text left before after NoMemory = (items : List LifeEvent)
+    × IsFront world text items × (IsTold world items before after
+    ⊎ IsToldInPart world items errors.NoMemory before after)
 ReplayEnds world text left before after (BadInput Parameters line) = ⊥
 ReplayEnds world text left before after (BadInput Table line) = ⊥
 ReplayEnds world text left before after Usage = ⊥

@@ -4,7 +4,8 @@ use Rattle.q_model.specs.declared.id.Id.{Id}
 use Rattle.q_model.specs.declared.spot.Area.{Area}
 use Rattle.q_model.specs.declared.spot.Area.TheVariants.{Boot, Conf, Tmp, Incoming, Active, Deferred, Hold, Corrupt, Bounce, Defer}
 use Rattle.q_model.specs.IdTexts.{id_text}
-use Rattle.q_host.specs.Files.{Files, same_place, written}
+use Rattle.q_host.specs.Files.{same_place, written}
+use Rattle.q_model.specs.SpoolFiles.{Files}
 use Rattle.q_host.specs.View.{Remains, View}
 
 -- the id of the one message
@@ -15,14 +16,16 @@ first_id = record { generation = 1; serial = 1; bounce = false }
 abbrev pub marked : ℕ → List ℕ → List ℕ
 marked at file = written at (68 ∷ []) file
 
--- Not opened by any life; opened and empty; with the file of the one message in an area; or with it in active and a mark written at an offset that isn't synced.
+-- Not opened by any life; opened and empty; with the file of the one message in an area; or with it
+-- in active and a mark written at an offset that isn't synced.
 pub data Spool : Type 0 where
   unopened : Spool
   empty : Spool
   holds : Area → List ℕ → Spool
   marking : ℕ → List ℕ → Spool
 
--- the areas that say which messages there are: not the logs, the files that aren't whole and those that an operator writes
+-- the areas that say which messages there are: not the logs, the files that aren't whole and those
+-- that an operator writes
 abbrev pub is_looked_at : Area → Bool
 is_looked_at Boot = true
 is_looked_at Conf = false
@@ -43,8 +46,10 @@ boot_file a n = if same_place Boot (codes "00000001") a n then Some [] else None
 abbrev pub file_at : Spool → Area → List ℕ → Option (List ℕ)
 file_at unopened a n = None
 file_at empty a n = boot_file a n
-file_at (holds area bytes) a n = if same_place area (id_text first_id) a n then Some bytes else boot_file a n
-file_at (marking at bytes) a n = if same_place Active (id_text first_id) a n then Some (marked at bytes) else boot_file a n
+file_at (holds area bytes) a n = if same_place area (id_text first_id) a n then Some bytes
+    else boot_file a n
+file_at (marking at bytes) a n = if same_place Active (id_text first_id) a n
+    then Some (marked at bytes) else boot_file a n
 
 -- the place of a failure log of the one message
 abbrev pub is_log : Area → List ℕ → Bool
@@ -61,17 +66,20 @@ is_seen (marking at bytes) a n = is_looked_at a || is_log a n
 abbrev pub IsSpool : Spool → Files → Type 0
 IsSpool s files = (a : Area) (n : List ℕ) → is_seen s a n ≡ true → files a n ≡ file_at s a n
 
--- What a crash leaves of the spool: the same files, with any byte in place of a mark that isn't synced.
-abbrev pub IsLeft : Spool → Files → Type 0
-IsLeft unopened files = IsSpool unopened files
-IsLeft empty files = IsSpool empty files
-IsLeft (holds area bytes) files = IsSpool (holds area bytes) files
-IsLeft (marking at bytes) files = (byte : ℕ) × IsSpool (holds Active (written at (byte ∷ []) bytes)) files
+-- What a crash leaves of the spool: the same files, with any byte in place of a mark that isn't
+-- synced.
+abbrev pub MayBeLeft : Spool → Files → Type 0
+MayBeLeft unopened files = IsSpool unopened files
+MayBeLeft empty files = IsSpool empty files
+MayBeLeft (holds area bytes) files = IsSpool (holds area bytes) files
+MayBeLeft (marking at bytes) files = (byte : ℕ)
+    × IsSpool (holds Active (written at (byte ∷ []) bytes)) files
 
 -- a crash now leaves nothing else of it, nor that log where reads give none
 pub record LeavesSpool (s : Spool) (v : View) : Type 0 where
-  pub left : (c : Remains) → v.may_leave c → IsLeft s c.files
-  pub no_log : (c : Remains) → v.may_leave c → v.files Bounce (id_text first_id) ≡ None → c.files Bounce (id_text first_id) ≡ None
+  pub left : (c : Remains) → v.may_leave c → MayBeLeft s c.files
+  pub no_log : (c : Remains) → v.may_leave c → v.files Bounce (id_text first_id) ≡ None
+      → c.files Bounce (id_text first_id) ≡ None
 
 -- reads give the spool, and a crash leaves nothing else of it
 pub record HoldsSpool (s : Spool) (v : View) : Type 0 where

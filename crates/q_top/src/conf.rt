@@ -2,10 +2,11 @@
 ghost use Rattle.std.specs.Prelude.{◌≡◌, ◌≤◌, [], codes, length, IfErr, IfOk, IfSome, IsSome, IsTrue, OnOk, Err};
 ghost use Rattle.q_model.specs.declared.spot.Area.TheVariants as areas;
 ghost use Rattle.q_host.specs.Calls.{Stays};
-ghost use Rattle.q_host.specs.Faults.{DiskCause, Rose};
-ghost use Rattle.q_params.specs.Files.{file_of as params_of};
+ghost use Rattle.q_host.specs.Faults.{DiskCause};
+ghost use Rattle.q_model.specs.FaultCounts.{Rose};
+ghost use Rattle.q_params.specs.ParameterFile.{file_of as params_of};
 ghost use Rattle.q_params.specs.Ranges.{IsInRange};
-ghost use Rattle.q_transport.specs.Files.{file_of as contents_of};
+ghost use Rattle.q_transport.specs.TableFile.{file_of as contents_of};
 ghost use Rattle.q_top.specs.Confs.{conf_bytes, conf_of, goes_by, IsConfFault};
 ghost use Rattle.q_top.specs.Worlds.{world_of};
 ghost use Rattle.q_top.specs.ConfReads.{GivesParams, GivesTable};
@@ -35,9 +36,11 @@ fn read_on<H: Host>(
     bytes: &mut Vec<u8>,
 ) -> Result<(), HostError>
     requires there { IsTrue H.tells → IsSome ((H.view host.old).files areas.Conf name) }
-    requires size { IsTrue H.tells → IfSome ((H.view host.old).files areas.Conf name) (λ file. size ≡ length file) }
+    requires size { IsTrue H.tells → IfSome ((H.view host.old).files areas.Conf name) (λ file. size
+        ≡ length file) }
     requires none { bytes.old.items ≡ [] }
-    ensures bytes { OnOk result (IsTrue H.tells → bytes.new.items ≡ conf_bytes (H.view host.old).files name) }
+    ensures bytes { OnOk result (IsTrue H.tells
+        → bytes.new.items ≡ conf_bytes (H.view host.old).files name) }
     ensures stays { IsTrue H.tells → Stays (H.view host.old) (H.view host.new) }
     ensures cause { DiskCause (H.faults host.old) (H.faults host.new) result }
 {
@@ -56,7 +59,8 @@ fn read_on<H: Host>(
 
 /// All bytes of a file of conf, none where it is missing.
 fn whole<H: Host>(alloc: Global, host: &mut H, name: Name) -> Result<Vec<u8>, HostError>
-    ensures bytes { IfOk result (λ bytes. IsTrue H.tells → bytes.items ≡ conf_bytes (H.view host.old).files name) }
+    ensures bytes { IfOk result (λ bytes. IsTrue H.tells
+        → bytes.items ≡ conf_bytes (H.view host.old).files name) }
     ensures stays { IsTrue H.tells → Stays (H.view host.old) (H.view host.new) }
     ensures cause { DiskCause (H.faults host.old) (H.faults host.new) result }
 {
@@ -122,13 +126,16 @@ fn table(alloc: Global, bytes: &[u8]) -> Result<Table, Status>
 /// The parameters and the table of a host; where a file is missing, the defaults and a table
 /// without lines. The parameters are read first.
 pub(crate) fn read_conf<H: Host>(alloc: Global, host: &mut H) -> Result<Conf, Status>
-    ensures exact { IfOk result (λ conf. IsTrue H.tells → conf_of (H.view host.old).files ≡ goes_by (world_of conf)) }
+    ensures exact { IfOk result (λ conf. IsTrue H.tells
+        → conf_of (H.view host.old).files ≡ goes_by (world_of conf)) }
     ensures range { IfOk result (λ conf. IsInRange (world_of conf).settings) }
-    ensures fault { IfErr result (λ status. IsConfFault H.tells (conf_of (H.view host.old).files) status) }
+    ensures fault { IfErr result (λ status. IsConfFault H.tells (conf_of
+        (H.view host.old).files) status) }
     ensures stays { IsTrue H.tells → Stays (H.view host.old) (H.view host.new) }
     ensures disk_later { (H.faults host.old).disk ≤ (H.faults host.new).disk }
     ensures tell_later { (H.faults host.old).tell ≤ (H.faults host.new).tell }
-    ensures disk { result ≡ Err Status.Disk → Rose (H.faults host.old).disk (H.faults host.new).disk }
+    ensures disk { result ≡ Err Status.Disk → Rose (H.faults host.old).disk
+        (H.faults host.new).disk }
 {
     let bytes = match whole(alloc, host, params_name()) {
         Ok(bytes) => bytes,

@@ -2,7 +2,7 @@
 ghost use Rattle.std.specs.Prelude.{◌≡◌, ◌<◌, ◌≤◌, ◌∷◌, ◌==◌, [], IfOk, IsErrOf, IsTrue, OnOk, codes, length, true};
 ghost use Rattle.q_model.specs.declared.entry.Entry.TheVariants as entries;
 ghost use Rattle.q_model.specs.declared.event.Event.TheVariants as events;
-ghost use Rattle.q_model.specs.declared.event.Item.TheVariants as items;
+ghost use Rattle.q_model.specs.declared.event.LifeEvent.TheVariants as life_events;
 ghost use Rattle.q_model.specs.declared.outcome.Outcome.TheVariants as outcomes;
 ghost use Rattle.q_model.specs.declared.outcome.SiteState.TheVariants as states;
 ghost use Rattle.q_model.specs.Lists.{has_none};
@@ -107,10 +107,14 @@ impl Life {
         generation: Name,
     ) -> Result<Life, HostError>
         requires { generation ≡ codes "00000001" }
-        ensures ok { IfOk result (λ life. IsTrue H.tells → Begins (world_of conf.now) life (H.view host.old) (H.view host.new)) }
+        ensures ok { IfOk result (λ life. IsTrue H.tells
+            → Begins (world_of conf.now) life (H.view host.old) (H.view host.new)) }
         ensures clock { IfOk result (λ life. life.clock ≤ 999990000000) }
-        ensures files { IfOk result (λ life. IsTrue H.tells → IsSpool unopened (H.view host.old).files → HasFiles life.stage (H.view host.new).files) }
-        ensures err { (error : HostError) → IsErrOf result error → IsTrue H.tells → NeverBegins (world_of conf.now) error (H.view host.old) (H.view host.new) }
+        ensures files { IfOk result (λ life. IsTrue H.tells
+            → IsSpool unopened (H.view host.old).files
+            → HasFiles life.stage (H.view host.new).files) }
+        ensures err { (error : HostError) → IsErrOf result error → IsTrue H.tells
+            → NeverBegins (world_of conf.now) error (H.view host.old) (H.view host.new) }
         ensures cause { HasCause (H.faults host.old) (H.faults host.new) result }
     {
         step::begin(alloc, host, conf, generation)?;
@@ -133,10 +137,15 @@ impl Life {
         requires range { IsInRange (world_of conf.now).settings }
         requires clock { self.old.clock ≤ 999990000000 }
         requires there { IsTrue H.tells → HasFiles self.old.stage (H.view host.old).files }
-        ensures ok { OnOk result (IsTrue H.tells → Turns (world_of conf.now) self.old self.new (items.Heard (events.At moment)) (H.view host.old) (H.view host.new)) }
-        ensures files { OnOk result (IsTrue H.tells → HasFiles self.new.stage (H.view host.new).files) }
+        ensures ok { OnOk result (IsTrue H.tells
+            → Turns (world_of conf.now) self.old self.new (life_events.Heard (events.At moment))
+            (H.view host.old) (H.view host.new)) }
+        ensures files { OnOk result (IsTrue H.tells
+            → HasFiles self.new.stage (H.view host.new).files) }
         ensures clock { self.new.clock ≤ 999990000000 }
-        ensures err { (error : HostError) → IsErrOf result error → IsTrue H.tells → Breaks (world_of conf.now) self.old (items.Heard (events.At moment)) error (H.view host.old) (H.view host.new) }
+        ensures err { (error : HostError) → IsErrOf result error → IsTrue H.tells
+            → Breaks (world_of conf.now) self.old (life_events.Heard (events.At moment)) error
+            (H.view host.old) (H.view host.new) }
         ensures cause { HasCause (H.faults host.old) (H.faults host.new) result }
     {
         let clock = self.clock.max(moment);
@@ -161,10 +170,15 @@ impl Life {
         requires form { IsInForm (events.Mail sender to content) }
         requires clock { self.old.clock ≤ 999990000000 }
         requires there { IsTrue H.tells → HasFiles self.old.stage (H.view host.old).files }
-        ensures ok { IfOk result (λ stepped. IsTrue H.tells → (stepped ≡ Stepped.Done) × Turns (world_of conf.now) self.old self.new (items.Heard (events.Mail sender to content)) (H.view host.old) (H.view host.new)) }
-        ensures files { OnOk result (IsTrue H.tells → HasFiles self.new.stage (H.view host.new).files) }
+        ensures ok { IfOk result (λ stepped. IsTrue H.tells → (stepped ≡ Stepped.Done)
+            × Turns (world_of conf.now) self.old self.new (life_events.Heard
+            (events.Mail sender to content)) (H.view host.old) (H.view host.new)) }
+        ensures files { OnOk result (IsTrue H.tells
+            → HasFiles self.new.stage (H.view host.new).files) }
         ensures clock { self.new.clock ≡ self.old.clock }
-        ensures err { (error : HostError) → IsErrOf result error → IsTrue H.tells → Breaks (world_of conf.now) self.old (items.Heard (events.Mail sender to content)) error (H.view host.old) (H.view host.new) }
+        ensures err { (error : HostError) → IsErrOf result error → IsTrue H.tells
+            → Breaks (world_of conf.now) self.old (life_events.Heard
+            (events.Mail sender to content)) error (H.view host.old) (H.view host.new) }
         ensures cause { HasCause (H.faults host.old) (H.faults host.new) result }
     {
         let site = conf.table.route(&to.get(0));
@@ -195,10 +209,15 @@ impl Life {
         requires fits { fits self.old (events.Reply number site outcomes) ≡ true }
         requires range { IsInRange (world_of conf.now).settings }
         requires there { IsTrue H.tells → HasFiles self.old.stage (H.view host.old).files }
-        ensures ok { OnOk result (IsTrue H.tells → Turns (world_of conf.now) self.old self.new (items.Heard (events.Reply number site outcomes)) (H.view host.old) (H.view host.new)) }
-        ensures files { OnOk result (IsTrue H.tells → HasFiles self.new.stage (H.view host.new).files) }
+        ensures ok { OnOk result (IsTrue H.tells
+            → Turns (world_of conf.now) self.old self.new (life_events.Heard
+            (events.Reply number site outcomes)) (H.view host.old) (H.view host.new)) }
+        ensures files { OnOk result (IsTrue H.tells
+            → HasFiles self.new.stage (H.view host.new).files) }
         ensures clock { self.new.clock ≡ self.old.clock }
-        ensures err { (error : HostError) → IsErrOf result error → IsTrue H.tells → Breaks (world_of conf.now) self.old (items.Heard (events.Reply number site outcomes)) error (H.view host.old) (H.view host.new) }
+        ensures err { (error : HostError) → IsErrOf result error → IsTrue H.tells
+            → Breaks (world_of conf.now) self.old (life_events.Heard
+            (events.Reply number site outcomes)) error (H.view host.old) (H.view host.new) }
         ensures cause { HasCause (H.faults host.old) (H.faults host.new) result }
     {
         let Stage::InFlight { mark_at } = self.stage else {
@@ -230,10 +249,15 @@ impl Life {
         requires form { IsInForm event }
         requires clock { self.old.clock ≤ 999990000000 }
         requires there { IsTrue H.tells → HasFiles self.old.stage (H.view host.old).files }
-        ensures ok { IfOk result (λ stepped. IsTrue H.tells → (stepped ≡ Stepped.Done) × Turns (world_of conf.now) self.old self.new (items.Heard event) (H.view host.old) (H.view host.new)) }
-        ensures files { OnOk result (IsTrue H.tells → HasFiles self.new.stage (H.view host.new).files) }
+        ensures ok { IfOk result (λ stepped. IsTrue H.tells → (stepped ≡ Stepped.Done)
+            × Turns (world_of conf.now) self.old self.new (life_events.Heard event)
+            (H.view host.old) (H.view host.new)) }
+        ensures files { OnOk result (IsTrue H.tells
+            → HasFiles self.new.stage (H.view host.new).files) }
         ensures clock { self.new.clock ≤ 999990000000 }
-        ensures err { (error : HostError) → IsErrOf result error → IsTrue H.tells → Breaks (world_of conf.now) self.old (items.Heard event) error (H.view host.old) (H.view host.new) }
+        ensures err { (error : HostError) → IsErrOf result error → IsTrue H.tells
+            → Breaks (world_of conf.now) self.old (life_events.Heard event) error
+            (H.view host.old) (H.view host.new) }
         ensures cause { HasCause (H.faults host.old) (H.faults host.new) result }
     {
         match event {
@@ -265,8 +289,11 @@ impl Life {
         host: &mut H,
         conf: &Conf,
     ) -> Result<(), HostError>
-        ensures ok { OnOk result (IsTrue H.tells → Ends (world_of conf.now) self (H.view host.old) (H.view host.new)) }
-        ensures err { (error : HostError) → IsErrOf result error → IsTrue H.tells → Breaks (world_of conf.now) self items.Finish error (H.view host.old) (H.view host.new) }
+        ensures ok { OnOk result (IsTrue H.tells
+            → Ends (world_of conf.now) self (H.view host.old) (H.view host.new)) }
+        ensures err { (error : HostError) → IsErrOf result error → IsTrue H.tells
+            → Breaks (world_of conf.now) self life_events.Finish error
+            (H.view host.old) (H.view host.new) }
         ensures cause { HasCause (H.faults host.old) (H.faults host.new) result }
     {
         tell(alloc, host, conf, &Entry::End)
@@ -282,8 +309,10 @@ fn send<H: Host>(
     positions: Positions,
 ) -> Result<(), HostError>
     requires { positions ≡ 0 ∷ [] }
-    ensures ok { OnOk result (IsTrue H.tells → (s : Spool) → Plays (world_of conf.now) s (sent s site) (H.view host.old) (H.view host.new)) }
-    ensures err { (error : HostError) → IsErrOf result error → IsTrue H.tells → (s : Spool) → Halts (world_of conf.now) s (sent s site) error (H.view host.old) (H.view host.new) }
+    ensures ok { OnOk result (IsTrue H.tells → (s : Spool)
+        → Plays (world_of conf.now) s (sent s site) (H.view host.old) (H.view host.new)) }
+    ensures err { (error : HostError) → IsErrOf result error → IsTrue H.tells → (s : Spool)
+        → Halts (world_of conf.now) s (sent s site) error (H.view host.old) (H.view host.new) }
     ensures cause { HasCause (H.faults host.old) (H.faults host.new) result }
 {
     let load = Entry::Load {

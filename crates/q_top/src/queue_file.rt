@@ -19,7 +19,9 @@ pub(crate) fn queue_file(
     requires some { 1 ≤ length to.now }
     requires few { length to.now ≤ 50000 }
     requires short { length content.now ≤ 20000000 }
-    ensures { IfOk result (λ bytes. bytes ≡ file_bytes (new_message (record { sender = sender.now; arrival = arrival }) to.now content.now) (replicate (length to.now) 80)) }
+    ensures { IfOk result (λ bytes. bytes ≡ file_bytes (new_message
+        (record { sender = sender.now; arrival = arrival }) to.now content.now) (replicate
+        (length to.now) 80)) }
 {
     let head = Head {
         sender: *sender,

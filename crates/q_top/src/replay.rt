@@ -3,8 +3,7 @@ ghost use Rattle.std.specs.Prelude.{◌≡◌, ◌≢◌, ◌≤◌, IfErr, IfOk
 ghost use Rattle.q_events.specs.Forms.{IsItemInForm};
 ghost use Rattle.q_model.specs.declared.spot.Area.TheVariants as areas;
 ghost use Rattle.q_model.specs.IdTexts.{id_text};
-ghost use Rattle.q_host.specs.Faults.{Rose};
-ghost use Rattle.q_stream.specs.Takes.{Rose as SourceRose};
+ghost use Rattle.q_model.specs.FaultCounts.{Rose};
 ghost use Rattle.q_params.specs.Ranges.{IsInRange};
 ghost use Rattle.q_top.specs.Agrees.{HasFiles};
 ghost use Rattle.q_top.specs.ReplayEnds.{Finishes, ReplayEnds};
@@ -55,13 +54,18 @@ fn take<H: Host>(
     requires range { IsInRange (world_of conf.now).settings }
     requires form { IsItemInForm item }
     ensures clock { life.new.clock ≤ 999990000000 }
-    ensures ok { IfOk result (λ taken. Takes (world_of conf.now) H.tells life.old life.new item (H.view host.old) (H.view host.new) taken) }
-    ensures files { IfOk result (λ taken. IsTrue H.tells → HasFiles life.new.stage (H.view host.new).files) }
-    ensures err { IfErr result (λ refusal. GivesUp (world_of conf.now) H.tells life.old item (H.view host.old) (H.view host.new) refusal) }
+    ensures ok { IfOk result (λ taken. Takes (world_of conf.now) H.tells life.old life.new item
+        (H.view host.old) (H.view host.new) taken) }
+    ensures files { IfOk result (λ taken. IsTrue H.tells
+        → HasFiles life.new.stage (H.view host.new).files) }
+    ensures err { IfErr result (λ refusal. GivesUp (world_of conf.now) H.tells life.old item
+        (H.view host.old) (H.view host.new) refusal) }
     ensures disk_later { (H.faults host.old).disk ≤ (H.faults host.new).disk }
     ensures tell_later { (H.faults host.old).tell ≤ (H.faults host.new).tell }
-    ensures disk { IfErr result (λ refusal. refusal ≡ Refusal.Host HostError.Disk → Rose (H.faults host.old).disk (H.faults host.new).disk) }
-    ensures tell { IfErr result (λ refusal. refusal ≡ Refusal.Host HostError.Tell → Rose (H.faults host.old).tell (H.faults host.new).tell) }
+    ensures disk { IfErr result (λ refusal. refusal ≡ Refusal.Host HostError.Disk
+        → Rose (H.faults host.old).disk (H.faults host.new).disk) }
+    ensures tell { IfErr result (λ refusal. refusal ≡ Refusal.Host HostError.Tell
+        → Rose (H.faults host.old).tell (H.faults host.new).tell) }
 {
     match item {
         Item::Restart => Err(Refusal::NotTaken),
@@ -100,7 +104,8 @@ fn unreadable() -> Status
 
 /// Ends the life.
 fn finish<H: Host>(alloc: Global, host: &mut H, conf: &Conf, life: Life) -> Status
-    ensures ends { IsTrue H.tells → Finishes (world_of conf.now) life (H.view host.old) (H.view host.new) result }
+    ensures ends { IsTrue H.tells → Finishes (world_of conf.now) life
+        (H.view host.old) (H.view host.new) result }
     ensures disk { result ≡ Status.Disk → Rose (H.faults host.old).disk (H.faults host.new).disk }
     ensures tell { result ≡ Status.Tell → Rose (H.faults host.old).tell (H.faults host.new).tell }
     ensures no_source { result ≢ Status.Source }
@@ -131,10 +136,11 @@ pub(crate) fn replay<H: Host, S: Source>(
 ) -> Status
     requires range { IsInRange (world_of conf.now).settings }
     requires unopened { IsTrue H.tells → IsSpool unopened (H.view host.old).files }
-    ensures ends { IsTrue H.tells → ReplayEnds (world_of conf.now) (S.left source.old) (S.left source.new) (H.view host.old) (H.view host.new) result }
+    ensures ends { IsTrue H.tells → ReplayEnds (world_of conf.now) (S.left source.old)
+        (S.left source.new) (H.view host.old) (H.view host.new) result }
     ensures disk { result ≡ Status.Disk → Rose (H.faults host.old).disk (H.faults host.new).disk }
     ensures tell { result ≡ Status.Tell → Rose (H.faults host.old).tell (H.faults host.new).tell }
-    ensures source { result ≡ Status.Source → SourceRose (S.faults source.old) (S.faults source.new) }
+    ensures source { result ≡ Status.Source → Rose (S.faults source.old) (S.faults source.new) }
     ensures no_usage { result ≢ Status.Usage }
 {
     let mut life = match Life::begin(alloc, host, conf, first_generation()) {

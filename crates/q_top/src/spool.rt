@@ -24,7 +24,8 @@ fn first_name<H: Host>(
     area: Area,
     names: &mut Names,
 ) -> Result<Option<Name>, HostError>
-    ensures first { IfOk result (λ first. IsTrue H.tells → IsFirstName ((H.view host.old).files area) first) }
+    ensures first { IfOk result (λ first. IsTrue H.tells
+        → IsFirstName ((H.view host.old).files area) first) }
     ensures stays { IsTrue H.tells → Stays (H.view host.old) (H.view host.new) }
     ensures cause { DiskCause (H.faults host.old) (H.faults host.new) result }
 {
@@ -41,7 +42,8 @@ fn first_in<H: Host>(
     areas: &[Area],
     names: &mut Names,
 ) -> Result<Option<Spot>, HostError>
-    ensures first { IfOk result (λ first. IsTrue H.tells → IsFirstFile areas.now (H.view host.old).files first) }
+    ensures first { IfOk result (λ first. IsTrue H.tells
+        → IsFirstFile areas.now (H.view host.old).files first) }
     ensures stays { IsTrue H.tells → Stays (H.view host.old) (H.view host.new) }
     ensures cause { DiskCause (H.faults host.old) (H.faults host.new) result }
 {
@@ -56,7 +58,8 @@ fn first_in<H: Host>(
 
 /// The first file that says that the spool isn't empty.
 pub(crate) fn first_file<H: Host>(alloc: Global, host: &mut H) -> Result<Option<Spot>, HostError>
-    ensures first { IfOk result (λ first. IsTrue H.tells → IsFirstFile areas_in_order (H.view host.old).files first) }
+    ensures first { IfOk result (λ first. IsTrue H.tells
+        → IsFirstFile areas_in_order (H.view host.old).files first) }
     ensures stays { IsTrue H.tells → Stays (H.view host.old) (H.view host.new) }
     ensures cause { DiskCause (H.faults host.old) (H.faults host.new) result }
 {

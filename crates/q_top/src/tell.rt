@@ -18,8 +18,10 @@ pub(crate) fn tell<H: Host>(
     conf: &Conf,
     entry: &Entry,
 ) -> Result<(), HostError>
-    ensures ok { OnOk result (IsTrue H.tells → (s : Spool) → Does (world_of conf.now) s entry.now s (H.view host.old) (H.view host.new)) }
-    ensures err { (error : HostError) → IsErrOf result error → IsTrue H.tells → (s : Spool) → Stops (world_of conf.now) s entry.now s error (H.view host.old) (H.view host.new) }
+    ensures ok { OnOk result (IsTrue H.tells → (s : Spool)
+        → Does (world_of conf.now) s entry.now s (H.view host.old) (H.view host.new)) }
+    ensures err { (error : HostError) → IsErrOf result error → IsTrue H.tells → (s : Spool)
+        → Stops (world_of conf.now) s entry.now s error (H.view host.old) (H.view host.new) }
     ensures cause { TellCause (H.faults host.old) (H.faults host.new) result }
 {
     let Ok(text) = entry_text(alloc, entry, &conf.table) else {

@@ -1,21 +1,26 @@
 -- What stands behind the first word of a line, in both directions.
 use Rattle.std.proofs.Common.{◌≡◌, ◌≤◌, ◌<◌, ◌^◌, ◌∙◌, ℕ, true, Option, Some, List, [], ◌∷◌, ◌++◌, map, ap, subst, arith}
 use Rattle.std.specs.Prelude.{decimal, option_map}
-use Rattle.q_feedback.specs.Numbers.{number_within}
+use Rattle.q_text.specs.Numbers.{number32_of, number64_of, number_within}
+use Rattle.q_text.specs.ValueForms.{FitsBits, IsListOf, IsOutcomeAt, IsSender}
+use Rattle.q_text.specs.ValueTexts.{sender_of, state_of}
+use Rattle.q_text.proofs.Exactness.{Exact, exact_last}
+use Rattle.q_text.proofs.NumberReads.{exact_number, exact_number32, exact_number64}
+use Rattle.q_text.proofs.WordReads.{exact_sender, exact_state}
 use Rattle.q_model.proofs.RecordLaws.{map_some}
 use Rattle.q_model.specs.declared.entry.Entry.{Entry}
 use Rattle.q_model.specs.IdTexts.{id_text, IsId}
-use Rattle.q_model.specs.Notices.{why_text}
+use Rattle.q_model.specs.TextParts.{why_text}
 use Rattle.q_model.specs.Settings.{Table}
 use Rattle.q_model.specs.Text.{joined, outcome_text, sender_text, state_text, transport_text, words}
 use Rattle.q_model.specs.Texts.{is_hop}
-use Rattle.q_trace.specs.Bounds.{IsEntry, IsListOf, IsOutcomeAt, IsSender, IsTransport, FitsBits}
+use Rattle.q_trace.specs.Bounds.{IsEntry, IsTransport}
 use Rattle.q_trace.specs.Parts.{then_read}
-use Rattle.q_trace.specs.PartTexts.{addresses_of, hop_of, id_of, number32_of, number64_of, outcomes_of, positions_of, sender_of, size_of, state_of, transport_of, why_of}
-use Rattle.q_trace.proofs.Exactness.{Exact, exact_last, exact_then}
+use Rattle.q_trace.specs.PartTexts.{addresses_of, hop_of, id_of, outcomes_of, positions_of, size_of, transport_of, why_of}
+use Rattle.q_trace.proofs.Exactness.{exact_then}
 use Rattle.q_trace.proofs.ListReads.{exact_outcomes, exact_positions, exact_to, IsTo}
-use Rattle.q_trace.proofs.ValueReads.{exact_hop, exact_id, exact_number, exact_number32, exact_number64, exact_size}
-use Rattle.q_trace.proofs.WordReads.{exact_sender, exact_state, exact_transport, exact_why}
+use Rattle.q_trace.proofs.ValueReads.{exact_hop, exact_id, exact_size}
+use Rattle.q_trace.proofs.WordReads.{exact_transport, exact_why}
 
 pub exact_load : Exact (then_read id_of (λ _. then_read number32_of (λ _. number32_of))) (λ v. IsId v.0 × (FitsBits 32 v.1.0 × FitsBits 32 v.1.1))
     (λ v. id_text v.0 ++ 32 ∷ (decimal v.1.0 ++ 32 ∷ (decimal v.1.1 ++ [])))

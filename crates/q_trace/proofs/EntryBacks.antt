@@ -4,7 +4,13 @@ use Rattle.std.specs.Prelude.{bytes_eq, codes, decimal, flat_map, if◌then◌el
 use Rattle.std.specs.Option.{option_map_or}
 use Rattle.std.proofs.lemmas.List.{append-nil, length-map, length-replicate}
 use Rattle.std.proofs.lemmas.Slice.Eq.{bytes_eq-Decides}
-use Rattle.q_feedback.specs.Numbers.{number_within}
+use Rattle.q_text.specs.Numbers.{number_within}
+use Rattle.q_text.specs.ValueForms.{FitsBits}
+use Rattle.q_text.specs.Pieces.{cut}
+use Rattle.q_text.proofs.Exactness.{Exact, exact_last}
+use Rattle.q_text.proofs.PieceLaws.{cut_back}
+use Rattle.q_text.proofs.NumberReads.{exact_number}
+use Rattle.q_text.proofs.WordReads.{exact_trigger, guarded, word_or}
 use Rattle.q_model.proofs.EachLaws.{find-passes}
 use Rattle.q_model.proofs.RecordLaws.{bind_some, map_some}
 use Rattle.q_model.specs.declared.entry.Entry.{Entry}
@@ -16,16 +22,12 @@ use Rattle.q_model.specs.Settings.{Table}
 use Rattle.q_model.specs.Text.{joined, outcome_text, sender_text, spaced, state_text, transport_text, words}
 use Rattle.q_trace.specs.declared.kind.Kind.{Kind}
 use Rattle.q_trace.specs.Bodies.{arrive_of, at_of, body_of, defer_of, entry_of, kind_of, life_in, life_of, load_of, log_of, mark_of, plain_of, preempt_of, reply_of, skip_of, start_of}
-use Rattle.q_trace.specs.Bounds.{IsEntry, FitsBits}
+use Rattle.q_trace.specs.Bounds.{IsEntry}
 use Rattle.q_trace.specs.Kinds.{all, word_of}
-use Rattle.q_trace.specs.Parts.{cut}
 use Rattle.q_trace.specs.PartTexts.{id_of}
 use Rattle.q_trace.proofs.BodyReads.{body_from, exact_arrive, exact_defer, exact_load, exact_log, exact_mark, exact_moment, exact_preempt, exact_reply, exact_skip, exact_start, IsBody}
-use Rattle.q_trace.proofs.Exactness.{Exact, exact_last}
 use Rattle.q_trace.proofs.Joining.{spaced_joined}
-use Rattle.q_trace.proofs.PartLaws.{cut_back}
-use Rattle.q_trace.proofs.ValueReads.{exact_id, exact_number}
-use Rattle.q_trace.proofs.WordReads.{exact_trigger, guarded, word_or}
+use Rattle.q_trace.proofs.ValueReads.{exact_id}
 use Rattle.q_model.specs.declared.entry.Entry.TheVariants as entries
 use Rattle.q_trace.specs.declared.kind.Kind.TheVariants as kinds
 
@@ -42,7 +44,7 @@ life_in_back table mode text e h =
     let (is, written) = exact_generation.back text g found in
     (g, same, is, sym (append-nil (decimal g)) ∙ written)
 
-life_cut : (table : Table) (text : List ℕ) (e : Entry) (o : Option (List ℕ × List ℕ)) → cut text ≡ o
+life_cut : (table : Table) (text : List ℕ) (e : Entry) (o : Option (List ℕ × List ℕ)) → cut 32 text ≡ o
     → option_map_or (λ (c : List ℕ × List ℕ). if bytes_eq c.1 (codes "intake") then life_in Intake c.0 else None) o (life_in Deliver text) ≡ Some e
     → IsEntry table e × (joined (words table e) ≡ codes "life" ++ 32 ∷ text)
 life_cut table text e None k h =
@@ -53,11 +55,11 @@ life_cut table text e (Some c) k h =
     let (word, later) = guarded (bytes_eq c.1 (codes "intake")) (life_in Intake c.0) e h in
     let (g, same, is, written) = life_in_back table Intake c.0 e later in
     let whole : decimal g ++ 32 ∷ codes "intake" ≡ text =
-    ap (λ (x : List ℕ). x ++ 32 ∷ codes "intake") written ∙ ap (λ (x : List ℕ). c.0 ++ 32 ∷ x) (sym ((bytes_eq-Decides c.1 (codes "intake")).0 word)) ∙ cut_back text c.0 c.1 k in
+    ap (λ (x : List ℕ). x ++ 32 ∷ codes "intake") written ∙ ap (λ (x : List ℕ). c.0 ++ 32 ∷ x) (sym ((bytes_eq-Decides c.1 (codes "intake")).0 word)) ∙ cut_back 32 text c.0 c.1 k in
     subst (λ (e : Entry). IsEntry table e × (joined (words table e) ≡ codes "life" ++ 32 ∷ text)) same (is, ap (λ (x : List ℕ). codes "life" ++ 32 ∷ x) whole)
 
 life_body : (table : Table) → IsBody table (codes "life") life_of
-life_body table = record { back = λ text e h. life_cut table text e (cut text) refl h }
+life_body table = record { back = λ text e h. life_cut table text e (cut 32 text) refl h }
 
 arrive_line : (table : Table) (v : Id × (Option (List ℕ) × (ℕ × List (List ℕ)))) → 1 ≤ length v.1.1.1
     → joined (words table (entries.Arrive v.0 v.1.0 v.1.1.1 (replicate v.1.1.0 0))) ≡ codes "arrive" ++ 32 ∷ (id_text v.0 ++ 32 ∷ (sender_text v.1.0 ++ 32 ∷ (decimal v.1.1.0 ++ 32 ∷ joined v.1.1.1)))
@@ -138,12 +140,12 @@ word_back word kind h = (bytes_eq-Decides (word_of kind) word).0 (find-passes (�
 
 -- a line of more than one word
 cut_line : (table : Table) (text : List ℕ) (e : Entry)
-    → option_and_then (λ (c : List ℕ × List ℕ). option_and_then (λ kind. body_of table kind c.1) (kind_of c.0)) (cut text) ≡ Some e → IsEntry table e × (joined (words table e) ≡ text)
+    → option_and_then (λ (c : List ℕ × List ℕ). option_and_then (λ kind. body_of table kind c.1) (kind_of c.0)) (cut 32 text) ≡ Some e → IsEntry table e × (joined (words table e) ≡ text)
 cut_line table text e h =
-    let (c, halves, later) = bind_some (cut text) (λ (c : List ℕ × List ℕ). option_and_then (λ kind. body_of table kind c.1) (kind_of c.0)) e h in
+    let (c, halves, later) = bind_some (cut 32 text) (λ (c : List ℕ × List ℕ). option_and_then (λ kind. body_of table kind c.1) (kind_of c.0)) e h in
     let (kind, named, read) = bind_some (kind_of c.0) (λ (kind : Kind). body_of table kind c.1) e later in
     let (is, line) = (body_back table kind).back c.1 e read in
-    (is, line ∙ ap (λ (x : List ℕ). x ++ 32 ∷ c.1) (word_back c.0 kind named) ∙ cut_back text c.0 c.1 halves)
+    (is, line ∙ ap (λ (x : List ℕ). x ++ 32 ∷ c.1) (word_back c.0 kind named) ∙ cut_back 32 text c.0 c.1 halves)
 
 pub entry_back : (table : Table) (text : List ℕ) (e : Entry) → entry_of table text ≡ Some e → IsEntry table e × (joined (words table e) ≡ text)
 unfolding entry_of

@@ -8,7 +8,7 @@ use Rattle.q_model.specs.declared.event.Mode.{Mode}
 use Rattle.q_model.specs.declared.event.Mode.TheVariants.{Deliver, Intake}
 use Rattle.q_model.specs.declared.id.Id.{Id}
 use Rattle.q_model.specs.IdTexts.{id_text, IsId}
-use Rattle.q_model.specs.Notices.{why_text}
+use Rattle.q_model.specs.TextParts.{why_text}
 use Rattle.q_model.specs.Settings.{Table}
 use Rattle.q_model.specs.Values.{Site}
 use Rattle.q_model.specs.declared.event.Trigger.{Trigger}
@@ -18,19 +18,20 @@ use Rattle.q_model.specs.declared.outcome.SiteState.{SiteState}
 use Rattle.q_model.specs.declared.outcome.Why.{Why}
 use Rattle.q_model.specs.Text.{joined, outcome_text, sender_text, state_text, transport_text, trigger_text, words}
 use Rattle.q_trace.specs.declared.kind.Kind.{Kind}
+use Rattle.q_text.specs.ValueForms.{FitsBits}
+use Rattle.q_text.specs.Pieces.{cut}
+use Rattle.q_text.proofs.SolidTexts.{decimal_solid, is_solid}
+use Rattle.q_text.proofs.Exactness.{exact_last}
+use Rattle.q_text.proofs.WordReads.{exact_trigger}
 use Rattle.q_trace.specs.Bodies.{body_of, entry_of, kind_of, life_in, plain_of}
-use Rattle.q_trace.specs.Bounds.{IsEntry, FitsBits, with_zeros}
+use Rattle.q_trace.specs.Bounds.{IsEntry, with_zeros}
 use Rattle.q_trace.specs.Kinds.{word_of}
-use Rattle.q_trace.specs.Parts.{cut}
 use Rattle.q_trace.specs.PartTexts.{id_of}
 use Rattle.q_trace.proofs.BodyReads.{exact_arrive, exact_defer, exact_load, exact_log, exact_mark, exact_moment, exact_preempt, exact_reply, exact_skip, exact_start}
-use Rattle.q_trace.proofs.Bytes.{decimal_solid}
 use Rattle.q_trace.proofs.EntryBacks.{exact_generation, list_line}
-use Rattle.q_trace.proofs.Exactness.{exact_last}
 use Rattle.q_trace.proofs.Joining.{spaced_joined}
-use Rattle.q_trace.proofs.PartLaws.{cut_at, cut_none, is_solid}
+use Rattle.q_trace.proofs.PartLaws.{cut_at, cut_none}
 use Rattle.q_trace.proofs.ValueReads.{exact_id}
-use Rattle.q_trace.proofs.WordReads.{exact_trigger}
 use Rattle.q_model.specs.declared.entry.Entry.TheVariants as entries
 use Rattle.q_trace.specs.declared.kind.Kind.TheVariants as kinds
 
@@ -80,7 +81,7 @@ life_in_gives g mode h = ap (life_in mode) (sym (append-nil (decimal g))) ∙ ap
 life_gives : (table : Table) (g : ℕ) (mode : Mode) → (1 ≤ g) × FitsBits 32 g → entry_of table (joined (words table (entries.Life g mode))) ≡ Some (entries.Life g mode)
 unfolding body_of plain_of
 life_gives table g Deliver h =
-    let alone : cut (decimal g ++ []) ≡ None = ap cut (append-nil (decimal g)) ∙ cut_none (decimal g) (generation_solid g h) in
+    let alone : cut 32 (decimal g ++ []) ≡ None = ap (cut 32) (append-nil (decimal g)) ∙ cut_none (decimal g) (generation_solid g h) in
     line_gives table kinds.Life (decimal g ++ []) (entries.Life g Deliver) (rw (alone, append-nil (decimal g)) (life_in_gives g Deliver h))
 life_gives table g Intake h =
     line_gives table kinds.Life (decimal g ++ 32 ∷ codes "intake") (entries.Life g Intake) (rw (cut_at (decimal g) (codes "intake") (generation_solid g h)) (life_in_gives g Intake h))

@@ -1,15 +1,12 @@
 pub mod BodyReads
-pub mod Bytes
 pub mod EntryBacks
 pub mod EntryGives
 pub mod Exactness
 pub mod IdReads
 pub mod Joining
 pub mod LineReads
-pub mod ListLoops
+pub mod ListLengths
 pub mod ListReads
-pub mod NumberReads
-pub mod OutcomeReads
 pub mod PartLaws
 pub mod SiteLaws
 pub mod TransportReads

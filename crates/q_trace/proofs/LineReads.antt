@@ -4,7 +4,7 @@ use Rattle.std.specs.Prelude.{IfOk, IsErrOf}
 use Rattle.std.proofs.lemmas.List.{append_cancel_right}
 use Rattle.std.proofs.lemmas.Option.{same_Some}
 use Rattle.q_model.specs.declared.entry.Entry.{Entry}
-use Rattle.q_model.specs.Notices.{text_line}
+use Rattle.q_model.specs.TextParts.{text_line}
 use Rattle.q_model.specs.Settings.{Table}
 use Rattle.q_model.specs.Text.{joined, line, words}
 use Rattle.q_trace.specs.Answers.{IsAnswer}

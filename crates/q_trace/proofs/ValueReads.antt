@@ -1,62 +1,20 @@
--- What a part says, in both directions: numbers, ids, addresses, next hops, transports and words.
-use Rattle.std.proofs.Common.{◌≡◌, ◌≤◌, ◌<◌, ◌^◌, ◌∙◌, ℕ, Bool, true, Some, None, List, refl, sym, ap, arith}
-use Rattle.std.specs.Prelude.{◌&&◌, decimal, if◌then◌else◌, nat_le}
-use Rattle.std.specs.Str.Parse.{digits_value}
-use Rattle.std.proofs.lemmas.Bool.{and_parts, cond-true, leb-true}
-use Rattle.std.proofs.lemmas.Option.{cond_some}
-use Rattle.q_feedback.specs.Numbers.{is_number, number_within}
-use Rattle.q_feedback.proofs.NumberLaws.{decimal_is_read, read_decimal}
+-- What a part says, in both directions: the size of a content, ids and next hops.
+use Rattle.std.proofs.Common.{◌≡◌, ◌≤◌, true, Some, None, arith}
+use Rattle.std.specs.Prelude.{decimal}
+use Rattle.std.proofs.lemmas.Bool.{cond-true}
 use Rattle.q_model.specs.IdTexts.{id_text, IsId}
-use Rattle.q_model.specs.Texts.{is_address, is_hop}
-use Rattle.q_trace.specs.Bounds.{IsAddress, FitsBits}
-use Rattle.q_trace.specs.PartTexts.{address_of, hop_of, id_of, number32_of, number64_of, size_of}
-use Rattle.q_trace.proofs.Bytes.{address_is_solid, decimal_solid, hop_is_solid, id_solid}
-use Rattle.q_trace.proofs.Exactness.{ExactPart}
+use Rattle.q_model.specs.Texts.{is_hop}
+use Rattle.q_text.proofs.Exactness.{ExactPart}
+use Rattle.q_text.proofs.NumberReads.{as_it_is, exact_number}
+use Rattle.q_text.proofs.SolidTexts.{hop_is_solid, id_solid}
+use Rattle.q_trace.specs.PartTexts.{hop_of, id_of, size_of}
 use Rattle.q_trace.proofs.IdReads.{id_back, id_gives}
-
--- a number from low to high
-pub number_written : (low high n : ℕ) (text : List ℕ) → high < 2 ^ 64 → number_within low high text ≡ Some n → text ≡ decimal n
-number_written low high n text small h = read_decimal low high text (Some n) small (sym h)
-
-pub number_fits : (low high n : ℕ) (text : List ℕ) → number_within low high text ≡ Some n → (low ≤ n) × (n ≤ high)
-number_fits low high n text h =
-    let v = digits_value 10 text in
-    let (passes, same) = cond_some (is_number text && nat_le low v && nat_le v high) v n h in
-    let (front, below) = and_parts (is_number text && nat_le low v) (nat_le v high) passes in
-    let (_, above) = and_parts (is_number text) (nat_le low v) front in
-    (omega (arith, leb-true low v above, same), omega (arith, leb-true v high below, same))
-
-pub exact_number : (low high : ℕ) (is : ℕ → Type 0) → high < 2 ^ 64 → ((n : ℕ) → low ≤ n → n ≤ high → is n) → ((n : ℕ) → is n → (low ≤ n) × (n ≤ high))
-    → ExactPart (number_within low high) is decimal
-exact_number low high is small from to = record {
-  exact = record {
-    back = λ text n h. let f = number_fits low high n text h in (from n f.0 f.1, sym (number_written low high n text small h));
-    gives = λ n h. let f = to n h in decimal_is_read low high (decimal n) n small f.0 f.1 refl;
-  };
-  solid = λ n h. let f = to n h in decimal_solid n (omega (arith, f.1, small));
-}
-
-pub exact_number32 : ExactPart number32_of (FitsBits 32) decimal
-exact_number32 = exact_number 0 4294967295 (FitsBits 32) (omega arith) (λ n a b. omega (arith, b)) (λ n h. (omega arith, omega (arith, h)))
-
-pub exact_number64 : ExactPart number64_of (FitsBits 64) decimal
-exact_number64 = exact_number 0 18446744073709551615 (FitsBits 64) (omega arith) (λ n a b. omega (arith, b)) (λ n h. (omega arith, omega (arith, h)))
 
 pub exact_size : ExactPart size_of (λ n. n ≤ 10240000) decimal
 exact_size = exact_number 0 10240000 (λ n. n ≤ 10240000) (omega arith) (λ n a b. b) (λ n h. (omega arith, h))
 
 pub exact_id : ExactPart id_of IsId id_text
 exact_id = record { exact = record { back = id_back; gives = id_gives }; solid = λ id h. id_solid id }
-
--- a text that is taken as it is
-as_it_is : (test : List ℕ → Bool) (text a : List ℕ) → (if test text then Some text else None) ≡ Some a → (test a ≡ true) × (a ≡ text)
-as_it_is test text a h = let (passes, same) = cond_some (test text) text a h in (ap test (sym same) ∙ passes, sym same)
-
-pub exact_address : ExactPart address_of IsAddress (λ a. a)
-exact_address = record {
-  exact = record { back = as_it_is is_address; gives = λ a h. cond-true (is_address a) (Some a) None h };
-  solid = address_is_solid;
-}
 
 pub exact_hop : ExactPart hop_of (λ hop. is_hop hop ≡ true) (λ hop. hop)
 exact_hop = record {

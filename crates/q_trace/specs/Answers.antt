@@ -1,5 +1,5 @@
 -- What the calls that read answer.
-use Rattle.std.specs.Prelude.{◌≡◌, ◌∷◌, ◌++◌, [], Err, List, None, Ok, Option, Result, Some}
+use Rattle.std.specs.Prelude.{◌≡◌, Err, None, Ok, Option, Result, Some}
 use Rattle.q_trace.specs.declared.error.EntryError.{EntryError}
 use Rattle.q_trace.specs.declared.error.EntryError.TheVariants.{BadEntry, NoMemory}
 
@@ -8,9 +8,3 @@ abbrev pub IsAnswer : {A : Type 0} → Result A EntryError → Option A → Type
 IsAnswer (Ok a) read = read ≡ Some a
 IsAnswer (Err NoMemory) read = Unit {0}
 IsAnswer (Err BadEntry) read = read ≡ None
-
--- a call adds what is read to a list
-abbrev pub Adds : {A : Type 0} → Result (Unit {0}) EntryError → List A → List A → Option A → Type 0
-Adds {A} (Ok _) old new read = (a : A) × (read ≡ Some a) × (new ≡ old ++ a ∷ [])
-Adds (Err NoMemory) old new read = Unit {0}
-Adds (Err BadEntry) old new read = read ≡ None

@@ -26,5 +26,7 @@ word_of kinds.Trigger = codes "trigger"
 
 -- all of them
 abbrev pub all : List Kind
-all = kinds.Life ∷ kinds.At ∷ kinds.Arrive ∷ kinds.Back ∷ kinds.Admit ∷ kinds.Load ∷ kinds.Start ∷ kinds.Preempt ∷ kinds.Reply
-    ∷ kinds.Skip ∷ kinds.Log ∷ kinds.Mark ∷ kinds.Sync ∷ kinds.Defer ∷ kinds.Bounce ∷ kinds.Remove ∷ kinds.Corrupt ∷ kinds.Trigger ∷ []
+all =
+    kinds.Life ∷ kinds.At ∷ kinds.Arrive ∷ kinds.Back ∷ kinds.Admit ∷ kinds.Load ∷ kinds.Start
+    ∷ kinds.Preempt ∷ kinds.Reply ∷ kinds.Skip ∷ kinds.Log ∷ kinds.Mark ∷ kinds.Sync ∷ kinds.Defer
+    ∷ kinds.Bounce ∷ kinds.Remove ∷ kinds.Corrupt ∷ kinds.Trigger ∷ []

@@ -6,10 +6,9 @@ ghost use Rattle.q_transport.specs.Routing.{table_of};
 
 use crate::fields::{id_field, number32_field, transport_field, why_field};
 use crate::kind::Kind;
-use crate::part_texts::{id, number32, number64, trigger};
-use crate::parts::cut;
-use q_feedback::read_number;
+use crate::part_texts::id;
 use q_model::{Entry, Failure, Mode};
+use q_text::{cut, read_number, read_number32, read_trigger};
 use q_transport::Table;
 
 /// The greatest moment that is given.
@@ -21,14 +20,14 @@ const LAST_DUE: u64 = 999_999_999_999;
 fn life_in(text: &[u8], mode: Mode) -> Option<Entry>
     ensures { result ≡ life_in mode text.now }
 {
-    let generation = read_number(text, 1, u32::MAX)?;
+    let generation = read_number32(text, 1, u32::MAX)?;
     Some(Entry::Life { generation, mode })
 }
 
 fn life(text: &[u8]) -> Option<Entry>
     ensures { result ≡ life_of text.now }
 {
-    match cut(text) {
+    match cut(text, b' ') {
         None => life_in(text, Mode::Deliver),
         Some((number, b"intake")) => life_in(number, Mode::Intake),
         Some(_) => None,
@@ -38,7 +37,7 @@ fn life(text: &[u8]) -> Option<Entry>
 fn at(text: &[u8]) -> Option<Entry>
     ensures { result ≡ at_of text.now }
 {
-    let moment = number64(text, LAST_MOMENT)?;
+    let moment = read_number(text, 0, LAST_MOMENT)?;
     Some(Entry::At { moment })
 }
 
@@ -47,7 +46,7 @@ fn load(text: &[u8]) -> Option<Entry>
 {
     let (id, rest) = id_field(text)?;
     let (from, rest) = number32_field(rest)?;
-    let to = number32(rest)?;
+    let to = read_number32(rest, 0, u32::MAX)?;
     Some(Entry::Load { id, from, to })
 }
 
@@ -57,7 +56,7 @@ fn preempt(text: &[u8], table: &Table) -> Option<Entry>
     let (child, rest) = id_field(text)?;
     let (parent, rest) = id_field(rest)?;
     let (transport, rest) = transport_field(rest, table)?;
-    let need = number32(rest)?;
+    let need = read_number32(rest, 0, u32::MAX)?;
     Some(Entry::Preempt {
         child,
         parent,
@@ -85,7 +84,7 @@ fn mark(text: &[u8]) -> Option<Entry>
     ensures { result ≡ mark_of text.now }
 {
     let (id, rest) = id_field(text)?;
-    let position = number32(rest)?;
+    let position = read_number32(rest, 0, u32::MAX)?;
     Some(Entry::Mark { id, position })
 }
 
@@ -93,7 +92,7 @@ fn defer(text: &[u8]) -> Option<Entry>
     ensures { result ≡ defer_of text.now }
 {
     let (id, rest) = id_field(text)?;
-    let due = number64(rest, LAST_DUE)?;
+    let due = read_number(rest, 0, LAST_DUE)?;
     Some(Entry::Defer { id, due })
 }
 
@@ -117,7 +116,7 @@ pub(crate) fn plain(kind: Kind, text: &[u8], table: &Table) -> Option<Entry>
         Kind::Remove => Some(Entry::Remove { id: id(text)? }),
         Kind::Corrupt => Some(Entry::Corrupt { id: id(text)? }),
         Kind::Trigger => {
-            let kind = trigger(text)?;
+            let kind = read_trigger(text)?;
             Some(Entry::Trigger { kind })
         }
         Kind::Arrive | Kind::Start | Kind::Reply | Kind::Skip => None,

@@ -1,7 +1,7 @@
 //! A line that is being written.
 ghost use Rattle.std.specs.Prelude.{◌≡◌, ◌++◌, decimal, flat_map, IfOk, map, OnOk};
 ghost use Rattle.q_model.specs.IdTexts.{id_text};
-ghost use Rattle.q_model.specs.Notices.{text_line};
+ghost use Rattle.q_model.specs.TextParts.{text_line};
 ghost use Rattle.q_model.specs.Text.{coded, outcome_text, sender_text, spaced, transport_text};
 ghost use Rattle.q_transport.specs.Routing.{table_of};
 
@@ -76,7 +76,8 @@ impl Line {
 
     /// The name of a transport; empty where the table has no transport of this number.
     pub(crate) fn transport(&mut self, table: &Table, number: u8) -> Result<(), NoMemory>
-        ensures { OnOk result (self.new ≡ self.old ++ spaced (transport_text (table_of table.now) number)) }
+        ensures { OnOk result (self.new
+            ≡ self.old ++ spaced (transport_text (table_of table.now) number)) }
     {
         if number < table.transports() {
             self.word(table.transport_name(number).bytes())
@@ -126,7 +127,8 @@ impl Line {
     }
 
     pub(crate) fn outcomes(&mut self, alloc: Global, outcomes: &Outcomes) -> Result<(), NoMemory>
-        ensures { OnOk result (self.new ≡ self.old ++ flat_map spaced (map outcome_text outcomes.now)) }
+        ensures { OnOk result (self.new
+            ≡ self.old ++ flat_map spaced (map outcome_text outcomes.now)) }
     {
         for outcome in outcomes.as_slice() {
             self.outcome(alloc, *outcome)?;

@@ -14,8 +14,9 @@ use crate::fields::{
 };
 use crate::kind::Kind;
 use crate::lists::{addresses, outcomes, positions};
-use crate::parts::{cut, without_end};
+use crate::parts::without_end;
 use q_model::{Bytes, Entry, NoMemory, Site};
+use q_text::cut;
 use q_transport::Table;
 use std::alloc::Global;
 
@@ -132,7 +133,7 @@ fn entry(alloc: Global, text: &[u8], table: &Table) -> Result<Entry, EntryError>
     if text == b"end".as_slice() {
         return Ok(Entry::End);
     }
-    let Some((word, rest)) = cut(text) else {
+    let Some((word, rest)) = cut(text, b' ') else {
         return Err(EntryError::BadEntry);
     };
     let Some(kind) = Kind::named(word) else {

@@ -1,7 +1,7 @@
 //! The line of an entry.
 ghost use Rattle.std.specs.Prelude.{◌≡◌, ◌∷◌, [], codes, decimal, IfOk, length, map};
 ghost use Rattle.q_model.specs.IdTexts.{id_text};
-ghost use Rattle.q_model.specs.Notices.{why_text};
+ghost use Rattle.q_model.specs.TextParts.{why_text};
 ghost use Rattle.q_model.specs.Text.{joined, line, mode_words, outcome_text, sender_text, state_text, trigger_text, words};
 ghost use Rattle.q_model.specs.declared.entry.Entry.{Entry as EntryValue};
 ghost use Rattle.q_trace.specs.Bounds.{IsEntry, IsLineOf, with_zeros};
@@ -68,7 +68,8 @@ fn arrive_line(
 }
 
 fn load_line(alloc: Global, id: &Id, from: u32, to: u32) -> Result<Line, NoMemory>
-    ensures { IfOk result (λ l. l ≡ joined (codes "load" ∷ id_text id.now ∷ decimal from ∷ decimal to ∷ [])) }
+    ensures { IfOk result (λ l. l
+        ≡ joined (codes "load" ∷ id_text id.now ∷ decimal from ∷ decimal to ∷ [])) }
 {
     let mut line = id_number_line(alloc, b"load", id, u64::from(from))?;
     line.number(alloc, u64::from(to))?;
@@ -83,7 +84,8 @@ fn start_line(
     positions: &Positions,
     table: &Table,
 ) -> Result<Line, NoMemory>
-    ensures { IfOk result (λ l. l ≡ joined (words (table_of table.now) (Entry.Start number id.now site.now positions.now))) }
+    ensures { IfOk result (λ l. l ≡ joined (words (table_of table.now)
+        (Entry.Start number id.now site.now positions.now))) }
 {
     let mut line = Line::new(alloc, b"start")?;
     line.number(alloc, number)?;
@@ -101,7 +103,8 @@ fn preempt_line(
     need: u32,
     table: &Table,
 ) -> Result<Line, NoMemory>
-    ensures { IfOk result (λ l. l ≡ joined (words (table_of table.now) (Entry.Preempt child.now parent.now transport need))) }
+    ensures { IfOk result (λ l. l ≡ joined (words (table_of table.now)
+        (Entry.Preempt child.now parent.now transport need))) }
 {
     let mut line = id_line(alloc, b"preempt", child)?;
     line.id(parent)?;
@@ -136,7 +139,8 @@ fn skip_line(
     positions: &Positions,
     table: &Table,
 ) -> Result<Line, NoMemory>
-    ensures { IfOk result (λ l. l ≡ joined (words (table_of table.now) (Entry.Skip id.now site.now positions.now))) }
+    ensures { IfOk result (λ l. l ≡ joined (words (table_of table.now)
+        (Entry.Skip id.now site.now positions.now))) }
 {
     let mut line = id_line(alloc, b"skip", id)?;
     line.site(table, site)?;
@@ -145,7 +149,8 @@ fn skip_line(
 }
 
 fn log_line(alloc: Global, id: &Id, failure: &Failure) -> Result<Line, NoMemory>
-    ensures { IfOk result (λ l. l ≡ joined (codes "log" ∷ id_text id.now ∷ decimal failure.now.position
+    ensures { IfOk result (λ l. l
+        ≡ joined (codes "log" ∷ id_text id.now ∷ decimal failure.now.position
         ∷ why_text failure.now.why ∷ decimal failure.now.code ∷ [])) }
 {
     let mut line = id_number_line(alloc, b"log", id, u64::from(failure.position))?;

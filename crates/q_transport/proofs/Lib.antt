@@ -1,7 +1,6 @@
 mod ContentLaws
 mod EntryLaws
 mod LawfulLaws
-mod LineLaws
 mod NameLaws
 mod NumberLaws
 mod ReadLaws

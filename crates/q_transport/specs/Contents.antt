@@ -5,11 +5,16 @@ use Rattle.std.specs.Prelude.{◌&&◌, ◌≡◌, ◌≤◌, [], Bool, bytes_eq
 use Rattle.q_model.specs.Texts.{is_hop}
 use Rattle.q_transport.specs.Names.{AreNames}
 
--- an entry: a pattern in lower case, the number of its transport, and its next hop; none is the domain of the recipient
+-- an entry: a pattern in lower case, the number of its transport, and its next hop; none is the domain
+-- of the recipient
 pub record Rule : Type 0 where
   pub pattern : List ℕ
   pub transport : ℕ
   pub hop : Option (List ℕ)
+
+-- the entry of these
+abbrev pub rule_from : List ℕ → ℕ → Option (List ℕ) → Rule
+rule_from pattern transport hop = record { pattern = pattern; transport = transport; hop = hop }
 
 -- the names of its transports, in order of first appearance, and its entries in order
 pub record Contents : Type 0 where

@@ -7,5 +7,4 @@ pub mod Lawful
 pub mod TableLines
 pub mod Parts
 pub mod Readings
-pub mod Files
-pub mod Lines
+pub mod TableFile

@@ -2,10 +2,10 @@
 use Rattle.std.specs.Option.{option_map_or}
 use Rattle.std.specs.Prelude.{◌&&◌, ◌++◌, ◌==◌, ◌≡◌, [], Bool, Err, if◌then◌else◌, is_some, length, List, map, nat_le, Ok, Result, ◌||◌, ℕ, ◌∷◌}
 use Rattle.q_model.specs.Texts.{lower}
-use Rattle.q_transport.specs.Contents.{Contents, entry_of}
+use Rattle.q_transport.specs.Contents.{Contents, entry_of, rule_from}
 use Rattle.q_transport.specs.Names.{number_of, with_name}
 use Rattle.q_transport.specs.TableLines.{line_of, Parts}
-use Rattle.q_transport.specs.Texts.{is_passed_over}
+use Rattle.q_text.specs.Blanks.{is_passed_over}
 use Rattle.q_transport.specs.declared.error.TableError.{TableError}
 use Rattle.q_transport.specs.declared.error.TableError.TheVariants.{BadLine, NoMemory, TooMany, Twice}
 
@@ -13,21 +13,25 @@ use Rattle.q_transport.specs.declared.error.TableError.TheVariants.{BadLine, NoM
 abbrev pub with_parts : Contents → Parts → Contents
 with_parts c p = record {
   names = with_name c.names p.transport;
-  entries = c.entries ++ (record { pattern = map lower p.pattern; transport = number_of c.names p.transport; hop = p.hop }) ∷ [];
+  entries = c.entries ++ rule_from (map lower p.pattern) (number_of c.names p.transport) p.hop ∷ [];
 }
 
--- there are 10,000 entries, or the name would be a 21st
-abbrev pub is_full : Contents → Parts → Bool
-is_full c p = nat_le 10000 (length c.entries) || ((number_of c.names p.transport == length c.names) && nat_le 20 (length c.names))
+-- there are 10,000 entries, or a transport of this number would be a 21st
+abbrev pub is_full : Contents → ℕ → Bool
+is_full c transport =
+    nat_le 10000 (length c.entries) || ((transport == length c.names) && nat_le 20 (length c.names))
 
 -- line n has these parts
 abbrev pub add_parts : ℕ → Contents → Parts → Result Contents TableError
 add_parts n c p =
-    if is_some (entry_of c.entries (map lower p.pattern)) then Err (Twice n) else if is_full c p then Err (TooMany n) else Ok (with_parts c p)
+    if is_some (entry_of c.entries (map lower p.pattern)) then Err (Twice n)
+    else if is_full c (number_of c.names p.transport) then Err (TooMany n)
+    else Ok (with_parts c p)
 
 -- line n
 abbrev pub read_line : ℕ → Contents → List ℕ → Result Contents TableError
-read_line n c line = if is_passed_over line then Ok c else option_map_or (add_parts n c) (line_of line) (Err (BadLine n))
+read_line n c line =
+    if is_passed_over line then Ok c else option_map_or (add_parts n c) (line_of line) (Err (BadLine n))
 
 -- a call answers what is read, unless memory runs out
 abbrev pub IsAnswer : Result Contents TableError → Result Contents TableError → Type 0

@@ -15,7 +15,8 @@ parents (b ∷ bs) = if b == 46 then (b ∷ bs) ∷ parents bs else parents bs
 
 -- what is looked up for an address, in this order: itself, its domain, the parents of that, `*`
 abbrev pub patterns_of : List ℕ → List (List ℕ)
-patterns_of address = map lower address ∷ domain_of address ∷ parents (domain_of address) ++ codes "*" ∷ []
+patterns_of address =
+    map lower address ∷ domain_of address ∷ parents (domain_of address) ++ codes "*" ∷ []
 
 -- the entry that decides
 abbrev pub deciding : List Rule → List ℕ → Option Rule
@@ -23,12 +24,22 @@ deciding entries address = first_some (entry_of entries) (patterns_of address)
 
 -- the site that an entry gives; without a next hop it is at the domain
 abbrev pub site_by : List ℕ → Rule → Site
-site_by address entry = record { transport = entry.transport; hop = unwrap_or entry.hop (domain_of address) }
+site_by address entry = record {
+  transport = entry.transport;
+  hop = unwrap_or entry.hop (domain_of address);
+}
 
--- the site of an address; where no entry decides it is `smtp` at the domain
+-- `smtp` at the domain
+abbrev pub site_without_entry : Contents → List ℕ → Site
+site_without_entry c address = record {
+  transport = number_of c.names smtp;
+  hop = domain_of address;
+}
+
+-- the site of an address
 abbrev pub route_of : Contents → List ℕ → Site
 route_of c address =
-    option_map_or (site_by address) (deciding c.entries address) (record { transport = number_of c.names smtp; hop = domain_of address })
+    option_map_or (site_by address) (deciding c.entries address) (site_without_entry c address)
 
 -- the table; `smtp` is its last transport where no entry names it
 abbrev pub table_of : Contents → Table

@@ -1,10 +1,12 @@
 -- The parts of a line of a transport table: `pattern transport:nexthop` (transport(5)).
 use Rattle.std.specs.List.{list_all}
 use Rattle.std.specs.Option.{option_map_or}
-use Rattle.std.specs.Prelude.{◌+◌, ◌==◌, ◌≡◌, Bool, drop, if◌then◌else◌, List, None, Option, option_and_then, option_map, position, Some, take, true, ℕ}
+use Rattle.std.specs.Prelude.{◌==◌, ◌≡◌, drop, if◌then◌else◌, List, None, Option, option_and_then, option_map, position, Some, take, true, ℕ}
 use Rattle.q_model.specs.Lists.{has_none}
 use Rattle.q_model.specs.Texts.{is_hop}
-use Rattle.q_transport.specs.Texts.{is_blank, is_text_byte, is_transport, trimmed_start}
+use Rattle.q_text.specs.Blanks.{is_blank, is_text_byte, trimmed_start}
+use Rattle.q_text.specs.Pieces.{cut}
+use Rattle.q_transport.specs.Texts.{is_transport}
 
 -- a pattern, the name of a transport, and a next hop; none is the domain of the recipient
 pub record Parts : Type 0 where
@@ -18,25 +20,31 @@ pub record AreParts (p : Parts) : Type 0 where
   pub hop : option_map_or is_hop p.hop true ≡ true
 
 -- a next hop, which may be empty
-abbrev pub hop_of : List ℕ → Option (Option (List ℕ))
-hop_of text = if has_none text then Some None else if is_hop text then Some (Some text) else None
+abbrev pub next_hop_of : List ℕ → Option (Option (List ℕ))
+next_hop_of text = if has_none text then Some None else if is_hop text then Some (Some text) else None
+
+-- the parts with this next hop
+abbrev pub with_hop : List ℕ → List ℕ → Option (List ℕ) → Parts
+with_hop pattern name hop = record { pattern = pattern; transport = name; hop = hop }
 
 -- the parts, where the name and the next hop have their forms
 abbrev pub parts_of : List ℕ → List ℕ → List ℕ → Option Parts
 parts_of pattern name text =
-    if is_transport name then option_map (λ hop. record { pattern = pattern; transport = name; hop = hop }) (hop_of text) else None
-
--- a colon
-abbrev pub is_colon : ℕ → Bool
-is_colon b = b == 58
+    if is_transport name then option_map (with_hop pattern name) (next_hop_of text) else None
 
 -- the first colon stands between the name and the next hop
-abbrev pub target_of : List ℕ → List ℕ → Option Parts
-target_of pattern text = option_and_then (λ at. parts_of pattern (take at text) (drop (at + 1) text)) (position is_colon text)
+abbrev pub behind_pattern : List ℕ → List ℕ → Option Parts
+behind_pattern pattern text =
+    option_and_then (λ (c : List ℕ × List ℕ). parts_of pattern c.0 c.1) (cut 58 text)
 
--- the first blank stands behind the pattern, which isn't empty
+-- the pattern stands before this place, and isn't empty
+abbrev pub divided_at : List ℕ → ℕ → Option Parts
+divided_at line at =
+    if at == 0 then None else behind_pattern (take at line) (trimmed_start (drop at line))
+
+-- the first blank stands behind the pattern
 abbrev pub divided : List ℕ → Option Parts
-divided line = option_and_then (λ at. if at == 0 then None else target_of (take at line) (trimmed_start (drop at line))) (position is_blank line)
+divided line = option_and_then (divided_at line) (position is_blank line)
 
 -- the parts of a line
 abbrev pub line_of : List ℕ → Option Parts

@@ -1,11 +1,12 @@
 //! The parts of a line of a transport table.
 ghost use Rattle.std.specs.Prelude.{◌≡◌, if◌then◌else◌, None, option_map, Some};
 ghost use Rattle.q_transport.specs.Parts.{seen};
-ghost use Rattle.q_transport.specs.TableLines.{divided, hop_of, line_of, parts_of, target_of};
+ghost use Rattle.q_transport.specs.TableLines.{behind_pattern, divided, next_hop_of, line_of, parts_of};
 ghost use Rattle.q_transport.specs.Texts.{is_transport};
 
-use crate::text::{around, blank, colon, is_text, is_transport, trim_start};
+use crate::text::{blank, is_transport};
 use q_model::Hop;
+use q_text::{cut, is_text, trim_start};
 
 /// A pattern, the name of a transport, and a next hop; none is the domain of the recipient.
 #[derive(Debug, Drop)]
@@ -27,7 +28,7 @@ fn transport(name: &[u8]) -> Option<Hop>
 
 /// A next hop, which may be empty.
 fn next_hop(text: &[u8]) -> Option<Option<Hop>>
-    ensures { result ≡ hop_of text.now }
+    ensures { result ≡ next_hop_of text.now }
 {
     if text.is_empty() {
         return Some(None);
@@ -48,11 +49,10 @@ fn parts<'a>(pattern: &'a [u8], name: &[u8], text: &[u8]) -> Option<Line<'a>>
 }
 
 /// The first colon stands between the name and the next hop.
-fn target<'a>(pattern: &'a [u8], text: &[u8]) -> Option<Line<'a>>
-    ensures { option_map seen result ≡ target_of pattern.now text.now }
+fn behind_pattern<'a>(pattern: &'a [u8], text: &[u8]) -> Option<Line<'a>>
+    ensures { option_map seen result ≡ behind_pattern pattern.now text.now }
 {
-    let at = colon(text)?;
-    let (name, hop) = around(text, at);
+    let (name, hop) = cut(text, b':')?;
     parts(pattern, name, hop)
 }
 
@@ -65,7 +65,7 @@ fn divided(line: &[u8]) -> Option<Line<'_>>
         return None;
     }
     let (pattern, rest) = line.split_at(at);
-    target(pattern, trim_start(rest))
+    behind_pattern(pattern, trim_start(rest))
 }
 
 /// The parts of a line that isn't passed over.

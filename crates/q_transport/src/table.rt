@@ -3,11 +3,11 @@ ghost use Rattle.std.specs.Prelude.{◌≡◌, ◌<◌, ◌≤◌, ◌++◌, ◌
 ghost use Rattle.std.specs.Option.{option_map_or};
 ghost use Rattle.q_model.specs.Routes.{no_table};
 ghost use Rattle.q_model.specs.Texts.{is_hop};
-ghost use Rattle.q_transport.specs.Contents.{entry_of, nothing};
+ghost use Rattle.q_transport.specs.Contents.{entry_of, nothing, rule_from};
 ghost use Rattle.q_transport.specs.Lawful.{IsLawful};
 ghost use Rattle.q_transport.specs.Names.{number_of, smtp};
 ghost use Rattle.q_transport.specs.Parts.{seen};
-ghost use Rattle.q_transport.specs.Readings.{add_parts, Gives, read_line};
+ghost use Rattle.q_transport.specs.Readings.{add_parts, Gives, is_full, read_line};
 ghost use Rattle.q_transport.specs.Routing.{table_of};
 ghost use Rattle.q_transport.specs.TableLines.{AreParts};
 ghost use Rattle.q_transport.specs.Texts.{is_transport};
@@ -16,8 +16,9 @@ use crate::entries::{Entries, Target};
 use crate::error::TableError;
 use crate::line::{Line, parse};
 use crate::lookup::deciding;
-use crate::text::{is_passed_over, lowered};
+use crate::text::lowered;
 use q_model::{Address, Hop, Site, split_domain};
+use q_text::is_passed_over;
 use std::alloc::Global;
 use std::marker::Model;
 
@@ -82,7 +83,7 @@ impl Table {
 
     /// Whether a transport's number would be a 21st, or there are 10,000 entries.
     fn is_full(&self, transport: usize) -> bool
-        ensures { result ≡ (nat_le 10000 (length self.now.entries) || ((transport == length self.now.names) && nat_le 20 (length self.now.names))) }
+        ensures { result ≡ is_full self.now transport }
     {
         let is_new = transport == self.names.len();
         self.entries.len() >= MOST_ENTRIES || (is_new && self.names.len() >= MOST_NAMES)
@@ -106,8 +107,7 @@ impl Table {
         requires hop { option_map_or is_hop target.hop true ≡ true }
         requires new { entry_of self.old.entries pattern.items ≡ None }
         ensures ok { OnOk result (self.new ≡ record self.old {
-          entries = self.old.entries
-              ++ record { pattern = pattern.items; transport = target.transport; hop = target.hop } ∷ [];
+          entries = self.old.entries ++ rule_from pattern.items target.transport target.hop ∷ [];
         }) }
         ensures err { IfErr result (λ e. e ≡ TableError.NoMemory) }
     {
@@ -137,7 +137,7 @@ impl Table {
         self.push_entry(pattern, target)
     }
 
-    /// Takes the line of this number.
+    /// Reads the line of this number.
     pub(crate) fn read_line(
         &mut self,
         alloc: Global,

@@ -8,6 +8,6 @@ loop-i-preserved c =
     let i = c.loop-i.i in
     let site = c.site_of-site.result in
     c.in_ok-add_site.ensures
-    ∙ ap (with_site c.args.params.now c.args.known.now site) c.loop-i.invariant
-    ∙ sym (sites_more c.args.params.now c.args.known.now i [] c.args.rows.now site c.loop-i-test.true c.site_of-site.ensures)
-    ∙ ap (λ n. new_sites c.args.params.now c.args.known.now [] (take n c.args.rows.now)) (sym (add-one i))
+    ∙ ap (with_site c.args.params.now c.args.records.now site) c.loop-i.invariant
+    ∙ sym (sites_more c.args.params.now c.args.records.now i [] c.args.rows.now site c.loop-i-test.true c.site_of-site.ensures)
+    ∙ ap (λ n. new_sites c.args.params.now c.args.records.now [] (take n c.args.rows.now)) (sym (add-one i))

@@ -1,5 +1,5 @@
 use Rattle.std.proofs.Common.{sym, subst}
-use Rattle.q_core.proofs.TakeLaws.{admission_law}
+use Rattle.q_core.proofs.PickLaws.{admission_law}
 use Rattle.q_core.specs.Decisions.{IsRuleOrLooks}
 use Rattle.q_model.specs.Next.{admission_rule}
 use Rattle.q_core.proofs.laws.n6.Goals as goal

@@ -5,4 +5,4 @@ use Rattle.q_model.specs.Next.{start_rule}
 use Rattle.q_core.proofs.laws.n8.Goals as goal
 
 pub returns : goal.returns
-returns c = λ w l a. subst (λ d. IsRule c.args.core.now d (start_rule w l)) (sym c.next_start.ensures) (start_law a.matches.parts a.consistent.memory.present)
+returns c = λ w l a. subst (λ d. IsRule c.args.core.now d (start_rule w l)) (sym c.next_start.ensures) (start_law a.matches.parts a.consistent.memory)

@@ -8,7 +8,7 @@ use Rattle.q_core.proofs.loading.note_read.Goals as goal
 
 -- what stands past a list's end
 abbrev no_slot : Slot
-no_slot = record { id = record { generation = 0; serial = 0; bounce = false }; arrival = 0; null_sender = false; recipients = 0; unread = 0; marks = 0; pending = 0; logged = false; failed = false; bounced = false }
+no_slot = record { id = record { generation = 0; serial = 0; bounce = false }; arrival = 0; null_sender = false; recipients = 0; unread = 0; marks = 0; pending = 0; logged = false; failed = false; bounced = false; damaged = false }
 
 pub loop-slot-preserved : goal.loop-slot-preserved
 loop-slot-preserved c =

@@ -2,12 +2,12 @@ use Rattle.std.proofs.Common.{ap, ◌∙◌, ◌<◌, length, arith, slice_set, 
 use Rattle.std.proofs.lemmas.List.{get_or_default}
 use Rattle.std.proofs.lemmas.List.Edits.{map_over_more}
 use Rattle.q_core.specs.declared.slot.Slot.{Slot}
-use Rattle.q_core.specs.Slots.{changed_at, with_mark}
+use Rattle.q_core.specs.Slots.{changed_at, with_slot_mark}
 use Rattle.q_core.proofs.marking.note_mark.Goals as goal
 
 -- what stands past a list's end
 abbrev no_slot : Slot
-no_slot = record { id = record { generation = 0; serial = 0; bounce = false }; arrival = 0; null_sender = false; recipients = 0; unread = 0; marks = 0; pending = 0; logged = false; failed = false; bounced = false }
+no_slot = record { id = record { generation = 0; serial = 0; bounce = false }; arrival = 0; null_sender = false; recipients = 0; unread = 0; marks = 0; pending = 0; logged = false; failed = false; bounced = false; damaged = false }
 
 pub loop-slot-preserved : goal.loop-slot-preserved
 loop-slot-preserved c =
@@ -16,4 +16,4 @@ loop-slot-preserved c =
     let slot = get_or slots i no_slot in
     let within : i < length slots = omega (arith, c.loop-slot.auto.slots, c.loop-slot-test.true) in
     ap (slice_set slots i) c.note_mark.ensures
-    ∙ map_over_more (changed_at c.args.id with_mark) c.args.slots.now slots i slot c.loop-slot-test.true c.loop-slot.invariant (get_or_default slots i no_slot slot within)
+    ∙ map_over_more (changed_at c.args.id with_slot_mark) c.args.slots.now slots i slot c.loop-slot-test.true c.loop-slot.invariant (get_or_default slots i no_slot slot within)

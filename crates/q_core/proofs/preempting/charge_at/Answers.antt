@@ -1,7 +1,7 @@
 use Rattle.std.proofs.Common.{ap, ◌∙◌, ◌<◌, length, arith, slice_set, get_or, false}
 use Rattle.std.proofs.lemmas.List.{get_or_default}
 use Rattle.std.proofs.lemmas.List.Edits.{map_over_more}
-use Rattle.q_core.specs.Beginning.{charged_job}
+use Rattle.q_core.specs.Sending.{charged_job}
 use Rattle.q_core.specs.declared.line.Job.{Job}
 use Rattle.q_core.proofs.preempting.charge_at.Goals as goal
 

@@ -1,5 +1,5 @@
 use Rattle.std.proofs.Common.{◌≡◌, ◌++◌, map, take, drop}
-use Rattle.q_core.specs.Beginning.{charged_job}
+use Rattle.q_core.specs.Sending.{charged_job}
 use Rattle.q_core.proofs.preempting.charge_at.Given as goal
 
 abbrev pub invariant-loop-job : goal.invariant-loop-job

@@ -1,5 +1,5 @@
 use Rattle.std.proofs.Common.{ap, ◌∙◌, sym, slice_set, slice_index_or, arith, add-one, ◌≡◌, ◌+◌}
-use Rattle.q_core.specs.Beginning.{preempted_line}
+use Rattle.q_core.specs.Sending.{preempted_line}
 use Rattle.q_core.proofs.ListLaws.{numbered_front, numbered_more, numbered_all}
 use Rattle.q_core.proofs.preempting.preempt_at.Goals as goal
 

@@ -1,5 +1,5 @@
 use Rattle.std.proofs.Common.{◌≡◌}
-use Rattle.q_core.specs.Beginning.{preempted_line}
+use Rattle.q_core.specs.Sending.{preempted_line}
 use Rattle.q_core.proofs.ListLaws.{numbered_front}
 use Rattle.q_core.proofs.preempting.preempt_at.Given as goal
 

@@ -1,6 +1,6 @@
 use Rattle.std.proofs.Common.{rules, not, ◌&&◌}
 use Rattle.std.proofs.lemmas.Fn.{filter_same}
-use Rattle.q_model.specs.Destinations.{site_eq}
+use Rattle.q_model.specs.Sites.{site_eq}
 use Rattle.q_model.specs.Ids.{id_eq}
 use Rattle.q_core.proofs.starting.forget_served.Goals as goal
 

@@ -1,6 +1,6 @@
 use Rattle.std.proofs.Common.{Bool, ℕ, Err, ◌≡◌, ◌+◌, ◌∙◌, ap, arith, subst, sym}
 use Rattle.q_model.specs.QueueFile.{FileRecipient}
-use Rattle.q_host.specs.Files.{Files}
+use Rattle.q_model.specs.SpoolFiles.{Files}
 use Rattle.q_message.specs.Readings.{front_recipient, recipient_size}
 use Rattle.q_message.specs.Windows.{Shows}
 use Rattle.q_message.proofs.WindowLaws.{moved_shows, one_if, stays_on, step_reads, stop_reads}

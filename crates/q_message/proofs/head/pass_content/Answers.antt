@@ -1,5 +1,5 @@
 use Rattle.std.proofs.Common.{ℕ, ◌+◌, length, Ok, ap, arith, subst, sym, ◌∙◌, ◌≡◌, ◌≤◌, true}
-use Rattle.q_host.specs.Files.{Files}
+use Rattle.q_model.specs.SpoolFiles.{Files}
 use Rattle.q_message.specs.Fronts.{begins_record}
 use Rattle.q_message.specs.Windows.{Shows}
 use Rattle.q_message.proofs.WindowLaws.{content_found, moved_shows, same_spot, size_of_file}

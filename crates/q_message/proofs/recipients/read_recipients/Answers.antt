@@ -2,7 +2,7 @@ use Rattle.std.proofs.Common.{◌≡◌, ◌+◌, ◌<◌, ◌≤◌, ◌∷◌,
 use Rattle.q_model.specs.QueueFile.{FileRecipient}
 use Rattle.q_model.specs.QueueFileBytes.{recipient_at}
 use Rattle.q_model.specs.Values.{Batch, FileHead, Taken}
-use Rattle.q_host.specs.Files.{Files}
+use Rattle.q_model.specs.SpoolFiles.{Files}
 use Rattle.q_message.specs.Pending.{cursor_at, position_behind, taken_at, taken_from}
 use Rattle.q_message.specs.Readings.{front_recipient}
 use Rattle.q_message.specs.Windows.{Shows}

@@ -1,5 +1,5 @@
 use Rattle.std.proofs.Common.{◌≡◌, ◌+◌, ◌≤◌, length, Ok}
-use Rattle.q_params.specs.Files.{read_from, read_lines}
+use Rattle.q_params.specs.ParameterFile.{read_from, read_lines}
 use Rattle.q_params.proofs.reader.read_lines.Given as goal
 
 -- what is read so far and what is left say what the file says

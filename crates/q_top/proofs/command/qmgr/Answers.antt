@@ -13,23 +13,34 @@ use Rattle.q_top.proofs.Stepping.{IsLawful}
 use Rattle.q_top.proofs.command.qmgr.Goals as goal
 
 pub returns-in-Err-clause-conf : goal.returns-in-Err-clause-conf
-returns-in-Err-clause-conf g c file line t words is =
+returns-in-Err-clause-conf g c file line p =
+    let t = p.told in
+    let is = p.fault in
     (names_fault g.H.Host.tells t (conf_of (g.H.Host.view c.args.host.now).files) file line c.in-Err.status is c.in-Err.ensures.fault, refl, c.in-Err.ensures.stays t)
 
 pub returns-in-Ok-None-clause-conf : goal.returns-in-Ok-None-clause-conf
-returns-in-Ok-None-clause-conf g c file line t words is =
+returns-in-Ok-None-clause-conf g c file line p =
+    let t = p.told in
+    let is = p.fault in
     absurd (not_both (conf_of (g.H.Host.view c.args.host.now).files) (world_of c.in-Ok.conf) file line (c.in-Ok.ensures.exact t) is)
 
 pub returns-in-Ok-Some-clause-conf : goal.returns-in-Ok-Some-clause-conf
-returns-in-Ok-Some-clause-conf g c file line t words is =
+returns-in-Ok-Some-clause-conf g c file line p =
+    let t = p.told in
+    let is = p.fault in
     absurd (not_both (conf_of (g.H.Host.view c.args.host.now).files) (world_of c.in-Ok.conf) file line (c.in-Ok.ensures.exact t) is)
 
 pub returns-clause-conf : goal.returns-clause-conf
-returns-clause-conf g c file line t words is =
+returns-clause-conf g c file line p =
+    let t = p.told in
+    let is = p.fault in
     absurd (not_both (conf_of (g.H.Host.view c.args.host.now).files) (world_of c.in-Ok.conf) file line (c.in-Ok.ensures.exact t) is)
 
 pub returns-in-Err-clause-ends : goal.returns-in-Err-clause-ends
-returns-in-Err-clause-ends g c w t is empty_one words =
+returns-in-Err-clause-ends g c w p =
+    let t = p.replay.told in
+    let is = p.replay.conf in
+    let empty_one = p.spool in
     let view = g.H.Host.view in
     let text = g.S.Source.left c.args.source.now in
     let before = view c.args.host.now in
@@ -40,7 +51,10 @@ returns-in-Err-clause-ends g c w t is empty_one words =
     ends
 
 pub returns-in-Ok-None-clause-ends : goal.returns-in-Ok-None-clause-ends
-returns-in-Ok-None-clause-ends g c w t is empty_one words =
+returns-in-Ok-None-clause-ends g c w p =
+    let t = p.replay.told in
+    let is = p.replay.conf in
+    let empty_one = p.spool in
     let view = g.H.Host.view in
     let text = g.S.Source.left c.args.source.now in
     let before = view c.args.host.now in
@@ -53,7 +67,10 @@ returns-in-Ok-None-clause-ends g c w t is empty_one words =
     ends
 
 pub returns-in-Ok-Some-clause-ends : goal.returns-in-Ok-Some-clause-ends
-returns-in-Ok-Some-clause-ends g c w t is empty_one words =
+returns-in-Ok-Some-clause-ends g c w p =
+    let t = p.replay.told in
+    let is = p.replay.conf in
+    let empty_one = p.spool in
     let view = g.H.Host.view in
     let text = g.S.Source.left c.args.source.now in
     let before = view c.args.host.now in
@@ -63,7 +80,10 @@ returns-in-Ok-Some-clause-ends g c w t is empty_one words =
     not_unopened before.files c.in-Ok-Some.spot first empty_one
 
 pub returns-clause-ends : goal.returns-clause-ends
-returns-clause-ends g c w t is empty_one words =
+returns-clause-ends g c w p =
+    let t = p.replay.told in
+    let is = p.replay.conf in
+    let empty_one = p.spool in
     let view = g.H.Host.view in
     let text = g.S.Source.left c.args.source.now in
     let before = view c.args.host.now in
@@ -75,7 +95,10 @@ returns-clause-ends g c w t is empty_one words =
     rw c.status_of.ensures ends
 
 pub returns-in-Ok-None-clause-done : goal.returns-in-Ok-None-clause-done
-returns-in-Ok-None-clause-done g c w t is empty_one done =
+returns-in-Ok-None-clause-done g c w p done =
+    let t = p.replay.told in
+    let is = p.replay.conf in
+    let empty_one = p.spool in
     let view = g.H.Host.view in
     let text = g.S.Source.left c.args.source.now in
     let before = view c.args.host.now in
@@ -88,7 +111,10 @@ returns-in-Ok-None-clause-done g c w t is empty_one done =
     done_told w text left before after c.replay.result done ends
 
 pub returns-in-Err-clause-book : goal.returns-in-Err-clause-book
-returns-in-Err-clause-book g c w t is empty_one words =
+returns-in-Err-clause-book g c w p =
+    let t = p.replay.told in
+    let is = p.replay.conf in
+    let empty_one = p.spool in
     let view = g.H.Host.view in
     let text = g.S.Source.left c.args.source.now in
     let before = view c.args.host.now in
@@ -99,7 +125,10 @@ returns-in-Err-clause-book g c w t is empty_one words =
     exit_reached w text text before mid c.in-Err.status empty_one ends
 
 pub returns-in-Ok-None-clause-book : goal.returns-in-Ok-None-clause-book
-returns-in-Ok-None-clause-book g c w t is empty_one words =
+returns-in-Ok-None-clause-book g c w p =
+    let t = p.replay.told in
+    let is = p.replay.conf in
+    let empty_one = p.spool in
     let view = g.H.Host.view in
     let text = g.S.Source.left c.args.source.now in
     let before = view c.args.host.now in
@@ -112,7 +141,10 @@ returns-in-Ok-None-clause-book g c w t is empty_one words =
     exit_reached w text left before after c.replay.result empty_one ends
 
 pub returns-in-Ok-Some-clause-book : goal.returns-in-Ok-Some-clause-book
-returns-in-Ok-Some-clause-book g c w t is empty_one words =
+returns-in-Ok-Some-clause-book g c w p =
+    let t = p.replay.told in
+    let is = p.replay.conf in
+    let empty_one = p.spool in
     let view = g.H.Host.view in
     let text = g.S.Source.left c.args.source.now in
     let before = view c.args.host.now in
@@ -122,7 +154,10 @@ returns-in-Ok-Some-clause-book g c w t is empty_one words =
     absurd (not_unopened before.files c.in-Ok-Some.spot first empty_one)
 
 pub returns-clause-book : goal.returns-clause-book
-returns-clause-book g c w t is empty_one words =
+returns-clause-book g c w p =
+    let t = p.replay.told in
+    let is = p.replay.conf in
+    let empty_one = p.spool in
     let view = g.H.Host.view in
     let text = g.S.Source.left c.args.source.now in
     let before = view c.args.host.now in
@@ -134,7 +169,9 @@ returns-clause-book g c w t is empty_one words =
     exit_reached w text text before looked (status_of c.in-Err-first_file.error) empty_one ends
 
 pub returns-in-Err-clause-any_moment : goal.returns-in-Err-clause-any_moment
-returns-in-Err-clause-any_moment g c w t is held words =
+returns-in-Err-clause-any_moment g c w p held =
+    let t = p.told in
+    let is = p.conf in
     let view = g.H.Host.view in
     let text = g.S.Source.left c.args.source.now in
     let before = view c.args.host.now in
@@ -145,7 +182,9 @@ returns-in-Err-clause-any_moment g c w t is held words =
     moments_reached w text text before mid held c.in-Err.status ends
 
 pub returns-in-Ok-None-clause-any_moment : goal.returns-in-Ok-None-clause-any_moment
-returns-in-Ok-None-clause-any_moment g c w t is held words =
+returns-in-Ok-None-clause-any_moment g c w p held =
+    let t = p.told in
+    let is = p.conf in
     let view = g.H.Host.view in
     let text = g.S.Source.left c.args.source.now in
     let before = view c.args.host.now in
@@ -158,7 +197,9 @@ returns-in-Ok-None-clause-any_moment g c w t is held words =
     moments_reached w text left before after held c.replay.result ends
 
 pub returns-in-Ok-Some-clause-any_moment : goal.returns-in-Ok-Some-clause-any_moment
-returns-in-Ok-Some-clause-any_moment g c w t is held words =
+returns-in-Ok-Some-clause-any_moment g c w p held =
+    let t = p.told in
+    let is = p.conf in
     let view = g.H.Host.view in
     let text = g.S.Source.left c.args.source.now in
     let before = view c.args.host.now in
@@ -168,7 +209,9 @@ returns-in-Ok-Some-clause-any_moment g c w t is held words =
     absurd (not_unopened before.files c.in-Ok-Some.spot first held.reads)
 
 pub returns-clause-any_moment : goal.returns-clause-any_moment
-returns-clause-any_moment g c w t is held words =
+returns-clause-any_moment g c w p held =
+    let t = p.told in
+    let is = p.conf in
     let view = g.H.Host.view in
     let text = g.S.Source.left c.args.source.now in
     let before = view c.args.host.now in
@@ -180,11 +223,17 @@ returns-clause-any_moment g c w t is held words =
     moments_reached w text text before looked held (status_of c.in-Err-first_file.error) ends
 
 pub returns-in-Err-clause-answers : goal.returns-in-Err-clause-answers
-returns-in-Err-clause-answers g c w bytes t is empty_one words there quiet calm =
+returns-in-Err-clause-answers g c w bytes p there quiet calm =
+    let t = p.replay.told in
+    let is = p.replay.conf in
+    let empty_one = p.spool in
     refused_answers g.H.Host.tells t (conf_of (g.H.Host.view c.args.host.now).files) w is bytes c.in-Err.status c.in-Err.ensures.fault (λ d. quiet.disk (c.in-Err.ensures.disk (ap Err d)))
 
 pub returns-in-Ok-None-clause-answers : goal.returns-in-Ok-None-clause-answers
-returns-in-Ok-None-clause-answers g c w bytes t is empty_one words there quiet calm =
+returns-in-Ok-None-clause-answers g c w bytes p there quiet calm =
+    let t = p.replay.told in
+    let is = p.replay.conf in
+    let empty_one = p.spool in
     let view = g.H.Host.view in
     let text = g.S.Source.left c.args.source.now in
     let before = view c.args.host.now in
@@ -202,7 +251,10 @@ returns-in-Ok-None-clause-answers g c w bytes t is empty_one words there quiet c
     (λ d. calm (c.replay.ensures.source d))
 
 pub returns-in-Ok-Some-clause-answers : goal.returns-in-Ok-Some-clause-answers
-returns-in-Ok-Some-clause-answers g c w bytes t is empty_one words there quiet calm =
+returns-in-Ok-Some-clause-answers g c w bytes p there quiet calm =
+    let t = p.replay.told in
+    let is = p.replay.conf in
+    let empty_one = p.spool in
     let view = g.H.Host.view in
     let text = g.S.Source.left c.args.source.now in
     let before = view c.args.host.now in
@@ -212,5 +264,7 @@ returns-in-Ok-Some-clause-answers g c w bytes t is empty_one words there quiet c
     absurd (not_unopened before.files c.in-Ok-Some.spot first empty_one)
 
 pub returns-in-Err-clause-in_the_way : goal.returns-in-Err-clause-in_the_way
-returns-in-Err-clause-in_the_way g c w a n t is words looked there =
+returns-in-Err-clause-in_the_way g c w a n p looked there =
+    let t = p.told in
+    let is = p.conf in
     (turned_away g.H.Host.tells t (conf_of (g.H.Host.view c.args.host.now).files) w is c.in-Err.status c.in-Err.ensures.fault, refl, same_host (g.H.Host.view c.args.host.now) (g.H.Host.view c.read_conf.new.host) (c.in-Err.ensures.stays t))

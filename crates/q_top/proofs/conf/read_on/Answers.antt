@@ -1,6 +1,6 @@
 use Rattle.std.proofs.Common.{arith, length, refl, subst, ℕ, ◌≡◌}
 use Rattle.std.specs.Option.{IfSome}
-use Rattle.q_host.specs.Files.{Files}
+use Rattle.q_model.specs.SpoolFiles.{Files}
 use Rattle.q_host.specs.Reads.{IsRead}
 use Rattle.q_model.specs.declared.spot.Area.TheVariants as areas
 use Rattle.q_top.proofs.ConfFiles.{read_more, read_none}

@@ -1,6 +1,6 @@
 use Rattle.std.proofs.Common.{◌≡◌, refl, sym, ap, ◌∙◌, subst, arith}
 use Rattle.q_events.specs.Readings.{is_end}
-use Rattle.q_events.specs.States.{behind, EventsState}
+use Rattle.q_events.specs.States.{text_left, EventsState}
 use Rattle.q_top.specs.ReplayEnds.{ReplayEnds}
 use Rattle.q_top.specs.Statuses.{status_of}
 use Rattle.q_top.proofs.Replaying.{new_events, never_begins, same_new, went_begins, went_still, went_hears, ends_unread, ends_misfit, ends_by_host, ends_finished}
@@ -31,10 +31,10 @@ returns-in-Err-read_event-clause-ends g c t = let world = world_of c.args.conf.n
     let left = g.S.Source.left in
     let view = g.H.Host.view in
     let old = c.loop-item in
-    let at = behind old.events.buffered (left old.source) in
+    let at = text_left old.events.buffered (left old.source) in
     let after = view old.host in
     let went = old.invariant.went t in
-    let next = behind c.read_event.new.self.buffered (left c.read_event.new.source) in
+    let next = text_left c.read_event.new.self.buffered (left c.read_event.new.source) in
     rw c.unread.ensures (ends_unread world text at old.events old.invariant.going old.life before after c.read_event.new.self next (left c.read_event.new.source) c.in-Err-read_event.error c.in-Err-read_event.ensures.exact went)
 
 pub returns-in-Ok-Ended-clause-ends : goal.returns-in-Ok-Ended-clause-ends
@@ -44,10 +44,10 @@ returns-in-Ok-Ended-clause-ends g c t = let world = world_of c.args.conf.now in
     let left = g.S.Source.left in
     let view = g.H.Host.view in
     let old = c.loop-item in
-    let at = behind old.events.buffered (left old.source) in
+    let at = text_left old.events.buffered (left old.source) in
     let after = view old.host in
     let went = old.invariant.went t in
-    let next = behind c.read_event.new.self.buffered (left c.read_event.new.source) in
+    let next = text_left c.read_event.new.self.buffered (left c.read_event.new.source) in
     let read = rw c.in-Ok-Ended.field-0-is at c.in-Ok-Ended.ensures.ok in
     let still = went_still world text at old.events old.life before after (view c.take.new.host) (read.2 t) went in
     ends_finished world text at old.events old.invariant.going old.life before (view c.take.new.host) next (left c.read_event.new.source) c.read_event.new.self c.take.new.life (view c.finish.new.host) c.in-Ok-read_event.item c.finish.result c.in-Ok-read_event.ensures.exact read.0 read.1 (c.finish.ensures.ends t) still
@@ -59,10 +59,10 @@ returns-in-Err-NotTaken-clause-ends g c t = let world = world_of c.args.conf.now
     let left = g.S.Source.left in
     let view = g.H.Host.view in
     let old = c.loop-item in
-    let at = behind old.events.buffered (left old.source) in
+    let at = text_left old.events.buffered (left old.source) in
     let after = view old.host in
     let went = old.invariant.went t in
-    let next = behind c.read_event.new.self.buffered (left c.read_event.new.source) in
+    let next = text_left c.read_event.new.self.buffered (left c.read_event.new.source) in
     let why = rw c.in-Err-NotTaken.field-0-is at c.in-Err-NotTaken.ensures.err in
     let still = went_still world text at old.events old.life before after (view c.take.new.host) (why.1 t) went in
     rw (c.bad_line.ensures, c.lines.ensures) (ends_misfit world text at old.events old.invariant.going old.life before (view c.take.new.host) next (left c.read_event.new.source) c.read_event.new.self c.in-Ok-read_event.item c.in-Ok-read_event.ensures.exact why.0 still)
@@ -74,10 +74,10 @@ returns-in-Err-Host-clause-ends g c t = let world = world_of c.args.conf.now in
     let left = g.S.Source.left in
     let view = g.H.Host.view in
     let old = c.loop-item in
-    let at = behind old.events.buffered (left old.source) in
+    let at = text_left old.events.buffered (left old.source) in
     let after = view old.host in
     let went = old.invariant.went t in
-    let next = behind c.read_event.new.self.buffered (left c.read_event.new.source) in
+    let next = text_left c.read_event.new.self.buffered (left c.read_event.new.source) in
     let why = rw c.in-Err-Host.field-0-is at c.in-Err-Host.ensures.err in
     subst (λ st. ReplayEnds world text (left c.read_event.new.source) before (view c.take.new.host) st) (sym (c.status_of-in-Err-Host.ensures ∙ ap status_of c.in-Err-Host.error-is))
     (ends_by_host world text at old.events old.invariant.going old.life before after next (left c.read_event.new.source) c.read_event.new.self (view c.take.new.host) c.in-Ok-read_event.item why.0 why.1 c.in-Err-Host.error c.in-Ok-read_event.ensures.exact why.2 why.3 (why.4 t) went)
@@ -92,10 +92,10 @@ loop-item-preserved g c = let world = world_of c.args.conf.now in
           let before = g.H.Host.view c.args.host.now in
           let left = g.S.Source.left in
           let view = g.H.Host.view in
-          let at = behind old.events.buffered (left old.source) in
+          let at = text_left old.events.buffered (left old.source) in
           let after = view old.host in
           let went = old.invariant.went t in
-          let next = behind c.read_event.new.self.buffered (left c.read_event.new.source) in
+          let next = text_left c.read_event.new.self.buffered (left c.read_event.new.source) in
           went_hears world text at old.events old.invariant.going old.life before after next c.read_event.new.self c.take.new.life (view c.take.new.host) c.in-Ok-read_event.item read.0 read.1 c.in-Ok-read_event.ensures.exact read.2 read.3 (read.4 t) went;
       going = c.in-Ok-read_event.ensures.ended ∙ ap is_end read.2;
       clock = c.in-Ok-Heard.ensures.clock;

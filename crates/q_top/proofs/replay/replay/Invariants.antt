@@ -1,5 +1,5 @@
 use Rattle.std.proofs.Common.{◌≤◌, ◌≡◌, false, IsTrue}
-use Rattle.q_events.specs.States.{behind}
+use Rattle.q_events.specs.States.{text_left}
 use Rattle.q_top.specs.Agrees.{HasFiles}
 use Rattle.q_top.proofs.Replaying.{Went}
 use Rattle.q_top.specs.Worlds.{world_of}
@@ -12,7 +12,7 @@ invariant-loop-item g l =
     let left = g.S.Source.left in
     let failed = g.S.Source.faults in
     record {
-      went : IsTrue g.H.Host.tells → Went (world_of l.conf) (left l.fn.source) (behind l.events.buffered (left l.source)) l.events l.life (view l.fn.host) (view l.host);
+      went : IsTrue g.H.Host.tells → Went (world_of l.conf) (left l.fn.source) (text_left l.events.buffered (left l.source)) l.events l.life (view l.fn.host) (view l.host);
       going : l.events.ended ≡ false;
       clock : l.life.clock ≤ 999990000000;
       files : IsTrue g.H.Host.tells → HasFiles l.life.stage (view l.host).files;

@@ -1,5 +1,5 @@
 use Rattle.std.proofs.Common.{◌≡◌, ◌+◌, ◌≤◌, length, Ok}
-use Rattle.q_transport.specs.Files.{file_of, read_from}
+use Rattle.q_transport.specs.TableFile.{file_of, read_from}
 use Rattle.q_transport.proofs.reader.read_table.Given as goal
 
 -- what is read so far and what is left say what the file says

@@ -1,23 +1,23 @@
 use Rattle.std.proofs.Common.{◌≡◌, sym, ap, subst, ◌∙◌}
-use Rattle.q_core.specs.Taking.{IsEntered, found_name, from_deferred_in, passed_in, picked_in}
+use Rattle.q_core.specs.Picking.{IsEntered, found_name, from_deferred_in, passed_in, picked_in}
 use Rattle.q_model.specs.Admissions.{after_admit}
 use Rattle.q_model.specs.declared.entry.Entry.TheVariants as entries
 use Rattle.q_model.specs.Step.{after, noted}
 use Rattle.q_core.proofs.EnterLaws.{admit_law, admit_rows}
-use Rattle.q_core.proofs.SettleLaws.{settle_law}
+use Rattle.q_core.proofs.TidyLaws.{tidy_law}
 use Rattle.q_core.proofs.StepLaws.{HoldsRaw, raw_law}
 use Rattle.q_core.proofs.state.Core.admit.Goals as goal
 
 pub returns-clause-ok : goal.returns-clause-ok
 unfolding after
-returns-clause-ok c = λ w l id a known may.
+returns-clause-ok c = λ id known w l a may.
     let rows = admit_rows l id in
     let me = c.args.self.now in
     let passed : c.pass_turn.new.self ≡ passed_in (from_deferred_in me) (found_name (picked_in me)) c.enter.new.self =
     c.pass_turn.ensures
-    ∙ ap (λ n. passed_in c.takes_deferred-from_deferred.result n c.enter.new.self) (c.name.ensures ∙ ap found_name c.picked-found.ensures)
-    ∙ ap (λ b. passed_in b (found_name (picked_in me)) c.enter.new.self) c.takes_deferred-from_deferred.ensures in
-    settle_law l rows.waiting rows.flights
+    ∙ ap (λ n. passed_in c.picks_deferred-from_deferred.result n c.enter.new.self) (c.name.ensures ∙ ap found_name c.picked-found.ensures)
+    ∙ ap (λ b. passed_in b (found_name (picked_in me)) c.enter.new.self) c.picks_deferred-from_deferred.ensures in
+    tidy_law l rows.waiting rows.flights
     (subst (λ k. HoldsRaw w k (noted (entries.Admit id) (after_admit l id))) (sym passed)
     (admit_law id (raw_law a.matches c.requires) a.consistent c.requires known may (subst (λ f. IsEntered me c.enter.new.self f) c.picked-found.ensures c.in_ok-enter.ensures.ok)))
-    c.settle.ensures
+    c.tidy.ensures

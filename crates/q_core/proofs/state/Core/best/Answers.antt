@@ -1,13 +1,8 @@
-use Rattle.std.proofs.Common.{arith, ◌≤◌, length, ◌-◌}
-use Rattle.q_core.specs.Choosing.{is_better_in, is_candidate_in}
-use Rattle.q_core.proofs.ChoiceLaws.{least_down}
+use Rattle.std.proofs.Common.{rules, ◌≡◌, ◌∙◌, false, sym}
+use Rattle.q_core.proofs.NeedLaws.{none_best}
 use Rattle.q_core.proofs.state.Core.best.Goals as goal
 
-pub loop-i-preserved : goal.loop-i-preserved
-loop-i-preserved c =
-    let me = c.args.self.now in
-    let within : c.loop-i.i - 1 ≤ length me.admitted.items = omega (arith, c.loop-i.invariant.1) in (
-      least_down (is_better_in me c.args.transport) (λ s. is_candidate_in me c.args.transport c.args.behind.now c.args.parent.now s.id) me.admitted.items
-          c.loop-i.i c.index.result.now c.loop-i.best c.better-best.result c.loop-i-test.true c.loop-i.invariant.1 c.index.ensures c.loop-i.invariant.0 c.better-best.ensures,
-      within,
-    )
+pub returns-then-not-can_be_preempted : goal.returns-then-not-can_be_preempted
+returns-then-not-can_be_preempted c =
+    let none : c.can_be_preempted.result ≡ false = search rules in
+    sym (none_best c.args.self.now c.args.transport c.args.behind.now c.args.parent.now (sym c.can_be_preempted.ensures ∙ none))

@@ -19,4 +19,4 @@ returns-clause-ok c = λ w l a may.
     let f = reply_in_flight a c.args.number c.args.state c.args.outcomes.now may in
     let added : AreAdded c.args.self.now c.add_outcomes.new.self c.args.number c.args.outcomes.now (Some c.in-Some.site) =
     subst (λ (o : Option Site). AreAdded c.args.self.now c.add_outcomes.new.self c.args.number c.args.outcomes.now o) c.in-Some.is c.in_ok-site.ensures.ok in
-    reply_law a c.requires.seen c.args.number c.args.state c.args.outcomes.now c.in-Some.site f.0 f.1 (added f.0 f.1) c.hear_site.ensures c.land.ensures c.leave.ensures c.settle.ensures
+    reply_law a c.requires.seen c.args.number c.args.state c.args.outcomes.now c.in-Some.site f.0 f.1 (added f.0 f.1) c.hear_site.ensures c.land.ensures c.leave.ensures c.tidy.ensures

@@ -1,12 +1,16 @@
-use Rattle.std.proofs.Common.{inr}
+use Rattle.std.proofs.Common.{inr, refl, subst, sym}
 use Rattle.q_model.specs.declared.entry.Entry.TheVariants as entries
 use Rattle.q_core.specs.declared.state.Question.TheVariants.{Nothing}
 use Rattle.q_core.proofs.AskLaws.{question_law}
-use Rattle.q_core.proofs.TakenLaws.{may_next}
-use Rattle.q_core.proofs.WholeLaws.{before_law, whole_law}
+use Rattle.q_core.proofs.AppliedLaws.{may_next}
+use Rattle.q_core.proofs.WholeLaws.{inner_moment, whole_law}
+use Rattle.q_core.specs.State.{State}
+use Rattle.q_core.specs.Agrees.{Matches}
+use Rattle.q_model.specs.Step.{after}
 use Rattle.q_core.proofs.state.Core.loaded.Goals as goal
 
 pub returns-clause-ok : goal.returns-clause-ok
-returns-clause-ok c = λ w l m id from max a asks e next read named.
+returns-clause-ok c = λ w l a id from max asks next reads.
     let load = entries.Load id from c.args.cursor.position in
-    whole_law load a (inr next) (question_law Nothing (c.in_ok-take_read.ensures.ok w l m id from max a asks e (may_next a load next).0 read named))
+    let k : Matches w _ (after w l load) = subst (λ (s : State). Matches w s (after w l load)) (sym c.self.view_is) (c.in_ok-apply_read.ensures.ok w l a id from max asks (may_next a load next).0 reads) in
+    whole_law load a (inr next) refl (inner_moment w l load refl a.moment) (question_law Nothing k)

@@ -1,13 +1,14 @@
 use Rattle.q_params.specs.Ranges.{IsInRange}
 use Rattle.q_laws.proofs.Beginnings.{begins_consistent}
-use Rattle.q_laws.proofs.Destinations.{life_destinations}
+use Rattle.q_laws.proofs.SiteEntries.{sites_at_life}
 use Rattle.q_model.specs.Ledger.{opening}
 use Rattle.q_core.proofs.BeginLaws.{open_windows, usable}
 use Rattle.std.proofs.Common.{◌+◌, subst, false, None, refl}
-use Rattle.q_core.proofs.BeginLaws.{begin_law}
+use Rattle.q_core.proofs.BeginLaws.{begin_law, begin_living, begin_moment}
 use Rattle.q_core.specs.declared.state.Core.{Core}
 use Rattle.q_core.specs.declared.state.Seen.TheVariants.{Unknown}
 use Rattle.q_core.specs.declared.state.Question.TheVariants.{Nothing}
+use Rattle.q_core.proofs.CountedLaws.{counted_none}
 use Rattle.q_core.proofs.state.Core.new.Goals as goal
 
 pub returns-clause-consistent : goal.returns-clause-consistent
@@ -16,28 +17,30 @@ returns-clause-consistent c = λ w book settings count k s.
       params = c.args.params;
       transports = c.args.transports;
       mode = c.args.mode;
-      clock = c.new.result;
+      clock = record { seconds = c.new.result.seconds };
       timed = false;
       next_run = 0;
       scan = None;
       asked = None;
       ignores = false;
       deferred_turn = false;
-      admitted = c.new-2.result;
-      waiting = c.new-3.result;
-      flights = c.new-4.result;
+      admitted = c.new-2.result.items;
+      waiting = c.new-3.result.items;
+      flights = c.new-4.result.items;
       in_memory = 0;
-      served = c.new-5.result;
-      unsettled = c.new-6.result;
-      lines = c.in_ok-lines.lines;
-      sites = c.new-7.result;
-      synced = c.new-8.result;
+      served = c.new-5.result.items;
+      unsettled = c.new-6.result.items;
+      lines = c.in_ok-lines.lines.items;
+      sites = c.new-7.result.items;
+      synced = c.new-8.result.items;
       starts = 0;
       active = Unknown;
       incoming = Unknown;
       deferred = Unknown;
       question = Nothing;
-      named = c.new-9.result;
+      named = c.new-9.result.items;
+      skips = 0;
+      skipped = c.new-10.result;
     } in
     let matches = begin_law w c.args.mode book core c.args.transports settings refl count
     (record {
@@ -52,9 +55,12 @@ returns-clause-consistent c = λ w book settings count k s.
       sites = c.new-7.ensures.items;
       synced = c.new-8.ensures.items;
     }) in
-    record { matches = matches; consistent = k; destinations = s }
+    record { matches = matches; consistent = k; sites = s; living = begin_living w c.args.mode book; moment = begin_moment w c.args.mode book }
 
 pub returns-clause-orderly : goal.returns-clause-orderly
 returns-clause-orderly c = λ w book settings count distinct orderly.
     let held : IsInRange w.settings = subst IsInRange settings c.requires in
-    returns-clause-consistent c w book settings count (begins_consistent w c.args.mode book (usable w held) distinct orderly) (life_destinations w (opening c.args.mode book) (book.generation + 1) c.args.mode (open_windows w held))
+    returns-clause-consistent c w book settings count (begins_consistent w c.args.mode book (usable w held) distinct orderly) (sites_at_life w (opening c.args.mode book) (book.generation + 1) c.args.mode (open_windows w held))
+
+pub invariant_of-result : goal.invariant_of-result
+invariant_of-result c = rw c.new-4.ensures.items counted_none

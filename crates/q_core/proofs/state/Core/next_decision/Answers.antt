@@ -1,8 +1,11 @@
-use Rattle.std.proofs.Common.{◌∙◌, refl, sym, ap, Some}
-use Rattle.q_core.specs.Deciding.{question_of}
+use Rattle.std.proofs.Common.{◌∙◌, sym, ap, subst}
+use Rattle.q_core.specs.Deciding.{IsPlaced, question_of}
 use Rattle.q_core.specs.Looking.{is_unseen, looks_left}
 use Rattle.q_core.specs.declared.state.Core.{Core}
-use Rattle.q_core.proofs.AskLaws.{asking_taken, decided_law, look_unseen, quiet_law, same_unseen}
+use Rattle.q_core.proofs.AskLaws.{asking_applied, decided_law, quiet_law, same_unseen}
+use Rattle.q_core.proofs.PlacedDecisions.{placed_law}
+use Rattle.q_core.proofs.StartedLaws.{started_law}
+use Rattle.q_core.proofs.AskedLaws.{look_unseen}
 use Rattle.q_core.proofs.state.Core.next_decision.Goals as goal
 
 pub returns-in_default-clause-ok : goal.returns-in_default-clause-ok
@@ -11,15 +14,30 @@ returns-in_default-clause-ok c = λ w l a. quiet_law a (sym c.decide.ensures ∙
 pub returns-then-is_asking-clause-ok : goal.returns-then-is_asking-clause-ok
 returns-then-is_asking-clause-ok c = λ w l a.
     let d = c.in-Some.decision in
-    decided_law d a (asking_taken a d (sym c.is_asking.ensures ∙ c.if-is_asking.true) (sym c.decide.ensures ∙ c.in-Some.is)) c.ask.ensures
+    decided_law d a (asking_applied a d (sym c.is_asking.ensures ∙ c.if-is_asking.true) (sym c.decide.ensures ∙ c.in-Some.is)) c.ask.ensures.rest
+
+pub returns-then-is_asking-clause-unseen : goal.returns-then-is_asking-clause-unseen
+returns-then-is_asking-clause-unseen c = λ looks.
+    let d = c.in-Some.decision in
+    let core = c.args.self.now in
+    ap (λ (x : Core). is_unseen x.question x) c.ask.ensures.rest ∙ same_unseen (question_of d) core (question_of d) c.ask.new.self.named ∙ look_unseen core d (sym c.decide.ensures ∙ c.in-Some.is) looks
 
 pub returns-then-is_asking-clause-looks : goal.returns-then-is_asking-clause-looks
-returns-then-is_asking-clause-looks c = λ w l a looks.
-    let d = c.in-Some.decision in
-    let core = c.args.self.now in (
-      ap (λ (x : Core). is_unseen x.question x) c.ask.ensures ∙ same_unseen (question_of d) core (question_of d) ∙ look_unseen a d (sym c.decide.ensures ∙ c.in-Some.is) looks,
-      ap looks_left c.ask.ensures,
-    )
+returns-then-is_asking-clause-looks c = λ looks. ap looks_left c.ask.ensures.rest
 
 pub returns-clause-ok : goal.returns-clause-ok
-returns-clause-ok c = λ w l a. decided_law c.in-Some.decision a (c.in_ok-carry_out.ensures.ok w l a) c.ask-2.ensures
+returns-clause-ok c = λ w l a. decided_law c.in-Some.decision a (c.in_ok-apply.ensures.ok w l a) c.ask-2.ensures.rest
+
+pub returns-then-is_asking-clause-started : goal.returns-then-is_asking-clause-started
+returns-then-is_asking-clause-started c = λ w l a.
+    let d = c.in-Some.decision in
+    started_law d a (asking_applied a d (sym c.is_asking.ensures ∙ c.if-is_asking.true) (sym c.decide.ensures ∙ c.in-Some.is)) c.ask.ensures.rest
+
+pub returns-clause-started : goal.returns-clause-started
+returns-clause-started c = λ w l a. started_law c.in-Some.decision a (c.in_ok-apply.ensures.ok w l a) c.ask-2.ensures.rest
+
+pub returns-then-is_asking-clause-placed : goal.returns-then-is_asking-clause-placed
+returns-then-is_asking-clause-placed c = λ w l a. subst (IsPlaced l) (sym c.decide.ensures ∙ c.in-Some.is) (placed_law a)
+
+pub returns-clause-placed : goal.returns-clause-placed
+returns-clause-placed c = λ w l a. subst (IsPlaced l) (sym c.decide.ensures ∙ c.in-Some.is) (placed_law a)

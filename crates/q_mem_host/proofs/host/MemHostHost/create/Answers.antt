@@ -7,4 +7,4 @@ use Rattle.q_mem_host.proofs.Effects.{made}
 use Rattle.q_mem_host.proofs.host.MemHostHost.create.Goals as goal
 
 pub returns-clause-ok : goal.returns-clause-ok
-returns-clause-ok c = on_ok c.make.result (λ e t. at_history (Changes (λ f. with_file f c.args.area c.args.name [])) c.args.self.now.history _ _ e (made c.args.self.now.history c.args.area c.args.name)) c.make.ensures.ok
+returns-clause-ok c = on_ok c.make.result (λ e. at_history (Changes (λ f. with_file f c.args.area c.args.name [])) c.args.self.now.history _ _ e (made c.args.self.now.history c.args.area c.args.name)) c.make.ensures.done

@@ -6,4 +6,4 @@ use Rattle.q_mem_host.proofs.Effects.{renamed}
 use Rattle.q_mem_host.proofs.host.MemHostHost.rename.Goals as goal
 
 pub returns-clause-ok : goal.returns-clause-ok
-returns-clause-ok c = on_ok c.relocate.result (λ e t. at_history (Changes (λ f. moved f c.args.area c.args.name c.args.to c.args.new)) c.args.self.now.history _ _ e (renamed c.args.self.now.history c.args.area c.args.name c.args.to c.args.new (c.requires.differ t))) c.relocate.ensures.ok
+returns-clause-ok c = on_ok c.relocate.result (λ e. at_history (Changes (λ f. moved f c.args.area c.args.name c.args.to c.args.new)) c.args.self.now.history _ _ e (renamed c.args.self.now.history c.args.area c.args.name c.args.to c.args.new c.requires.differ)) c.relocate.ensures.done

@@ -1,11 +1,11 @@
 use Rattle.std.proofs.Common.{◌≡◌, ◌∙◌, ◌∷◌, [], false, Some, ap, refl, subst, sym}
 use Rattle.q_model.specs.declared.entry.Entry.TheVariants.{Arrive}
 use Rattle.q_model.specs.declared.event.Event.TheVariants as events
-use Rattle.q_model.specs.declared.event.Item.TheVariants as items
+use Rattle.q_model.specs.declared.event.LifeEvent.TheVariants as life_events
 use Rattle.q_model.specs.declared.spot.Area.TheVariants.{Incoming, Active}
 use Rattle.q_model.specs.QueueFileBytes.{file_bytes}
 use Rattle.q_model.specs.Values.{Site, Taken}
-use Rattle.q_host.specs.Files.{Files}
+use Rattle.q_model.specs.SpoolFiles.{Files}
 use Rattle.q_message.specs.Pending.{taken_at}
 use Rattle.q_top.specs.Agrees.{Breaks}
 use Rattle.q_top.specs.MailSteps.{sent}
@@ -63,7 +63,7 @@ returns-in_err-arrive-clause-err g c error is-error t = let world = world_of c.a
     let mid = g.H.Host.view c.arrive.new.host in
     let stop : Stops world empty (Arrive first_id sender (address ∷ []) []) (holds Incoming file) c.in_err-arrive.field-0.0 before mid = first_stops world sender c.args.to c.args.content address file before mid first.only first.no_content c.in_err-arrive.field-0.0 (c.in_err-arrive.ensures.err c.in_err-arrive.field-0.0 refl t) in
     let inner = c.in_err-arrive.field-0.0 in
-    subst (λ x. Breaks world old (items.Heard (events.Mail sender c.args.to c.args.content)) x before mid) (same_error c.from_residual-in_err-arrive.result inner error c.from_residual-in_err-arrive.ensures.1 is-error)
+    subst (λ x. Breaks world old (life_events.Heard (events.Mail sender c.args.to c.args.content)) x before mid) (same_error c.from_residual-in_err-arrive.result inner error c.from_residual-in_err-arrive.ensures.1 is-error)
     (mail_breaks world range old sender c.args.to c.args.content address before mid first c.requires.form.0 form routed file inner is
     (arrive_halts world sender address file inner before mid stop))
 
@@ -86,7 +86,7 @@ returns-in_err-admit-clause-err g c error is-error t = let world = world_of c.ar
     let later = g.H.Host.view c.admit.new.host in
     let does : Does world empty (Arrive first_id sender (address ∷ []) []) (holds Incoming file) before mid = first_does world sender c.args.to c.args.content address file before mid first.only first.no_content (c.in_ok-arrive.ensures.ok t) in
     let inner = c.in_err-admit.field-0.0 in
-    subst (λ x. Breaks world old (items.Heard (events.Mail sender c.args.to c.args.content)) x before later) (same_error c.from_residual-in_err-admit.result inner error c.from_residual-in_err-admit.ensures.1 is-error)
+    subst (λ x. Breaks world old (life_events.Heard (events.Mail sender c.args.to c.args.content)) x before later) (same_error c.from_residual-in_err-admit.result inner error c.from_residual-in_err-admit.ensures.1 is-error)
     (mail_breaks world range old sender c.args.to c.args.content address before later first c.requires.form.0 form routed file inner is
     (admit_halts world sender address file inner before mid later does (c.in_err-admit.ensures.err inner refl t file)))
 
@@ -115,7 +115,7 @@ returns-in_err-taken-clause-err g c error is-error t = let world = world_of c.ar
     let read = g.H.Host.view c.recipient.new.host in
     let then : IsLawful read = record { only = g.met.H.Host.only_now c.recipient.new.host; told = g.met.H.Host.told_stays c.recipient.new.host } in
     let inner = c.in_err-taken.field-0.0 in
-    subst (λ x. Breaks world old (items.Heard (events.Mail sender c.args.to c.args.content)) x before read) (same_error c.from_residual-in_err-taken.result inner error c.from_residual-in_err-taken.ensures.1 is-error)
+    subst (λ x. Breaks world old (life_events.Heard (events.Mail sender c.args.to c.args.content)) x before read) (same_error c.from_residual-in_err-taken.result inner error c.from_residual-in_err-taken.ensures.1 is-error)
     (mail_breaks world range old sender c.args.to c.args.content address before read first c.requires.form.0 form routed file inner is
     (read_halts world sender address file before mid later read read does admits lawful (c.recipient.ensures.stays t) inner then))
 
@@ -178,7 +178,7 @@ returns-in_err-send-clause-err g c error is-error t = let world = world_of c.arg
     let fact : Some c.in-Some.taken ≡ Some (taken_at (file_message sender old.clock address false) 0) = sym c.in-Some.is ∙ c.in_ok-taken.ensures.taken sender address file old.clock t (here Active file later.files refl spool) (file_read sender old.clock address file c.requires.form.0 form c.requires.clock is) in
     let taken = one_taken sender old.clock address c.in-Some.taken fact in
     let inner = c.in_err-send.field-0.0 in
-    subst (λ x. Breaks world old (items.Heard (events.Mail sender c.args.to c.args.content)) x before after) (same_error c.from_residual-in_err-send.result inner error c.from_residual-in_err-send.ensures.1 is-error)
+    subst (λ x. Breaks world old (life_events.Heard (events.Mail sender c.args.to c.args.content)) x before after) (same_error c.from_residual-in_err-send.result inner error c.from_residual-in_err-send.ensures.1 is-error)
     (mail_breaks world range old sender c.args.to c.args.content address before after first c.requires.form.0 form routed file inner is
     (send_halts world sender address file before mid later read after does admits lawful (c.recipient.ensures.stays t) inner (subst (λ (x : Site). Halts world (holds Active file) (sent (holds Active file) x) inner read after) there (c.in_err-send.ensures.err inner refl t (holds Active file)))))
 

@@ -1,6 +1,6 @@
 use Rattle.std.proofs.Common.{refl, subst}
 use Rattle.q_model.specs.declared.event.Event.TheVariants as events
-use Rattle.q_model.specs.declared.event.Item.TheVariants as items
+use Rattle.q_model.specs.declared.event.LifeEvent.TheVariants as life_events
 use Rattle.q_model.specs.declared.spot.Area.TheVariants.{Active}
 use Rattle.q_top.specs.Agrees.{Breaks}
 use Rattle.q_top.specs.Spools.{holds, marked}
@@ -17,7 +17,7 @@ returns-in_err-tell-clause-err g c error is t = let world = world_of c.args.conf
     let at = c.in-InFlight.mark_at in
     let success = first_success c.args.self.now c.args.number c.args.site c.args.outcomes c.requires.fits in
     let inner = c.in_err-tell.field-0.0 in
-    subst (λ x. Breaks world c.args.self.now (items.Heard (events.Reply c.args.number c.args.site c.args.outcomes)) x before after) (same_error c.from_residual.result inner error c.from_residual.ensures.1 is)
+    subst (λ x. Breaks world c.args.self.now (life_events.Heard (events.Reply c.args.number c.args.site c.args.outcomes)) x before after) (same_error c.from_residual.result inner error c.from_residual.ensures.1 is)
     (reply_breaks world lawful c.args.self.now c.args.number at c.args.site c.args.outcomes inner before after success c.in-InFlight.is
     (λ file. reply_halts world at file inner before after (rw (success.first, success.up, success.one) at c.in_err-tell.ensures.err inner refl t (holds Active file))))
 
@@ -34,7 +34,7 @@ returns-in_err-mark-clause-err g c error is t = let world = world_of c.args.conf
     let at = c.in-InFlight.mark_at in
     let success = first_success c.args.self.now c.args.number c.args.site c.args.outcomes c.requires.fits in
     let inner = c.in_err-mark.field-0.0 in
-    subst (λ x. Breaks world c.args.self.now (items.Heard (events.Reply c.args.number c.args.site c.args.outcomes)) x before after) (same_error c.from_residual-in_err-mark.result inner error c.from_residual-in_err-mark.ensures.1 is)
+    subst (λ x. Breaks world c.args.self.now (life_events.Heard (events.Reply c.args.number c.args.site c.args.outcomes)) x before after) (same_error c.from_residual-in_err-mark.result inner error c.from_residual-in_err-mark.ensures.1 is)
     (reply_breaks world lawful c.args.self.now c.args.number at c.args.site c.args.outcomes inner before after success c.in-InFlight.is
     (λ file. mark_halts world at file inner before mid after (rw (success.first, success.up, success.one) at c.in_ok-tell.ensures.ok t (holds Active file)) (c.in_err-mark.ensures.err inner refl t file)))
 
@@ -53,7 +53,7 @@ returns-in_err-sync-clause-err g c error is t = let world = world_of c.args.conf
     let at = c.in-InFlight.mark_at in
     let success = first_success c.args.self.now c.args.number c.args.site c.args.outcomes c.requires.fits in
     let inner = c.in_err-sync.field-0.0 in
-    subst (λ x. Breaks world c.args.self.now (items.Heard (events.Reply c.args.number c.args.site c.args.outcomes)) x before after) (same_error c.from_residual-in_err-sync.result inner error c.from_residual-in_err-sync.ensures.1 is)
+    subst (λ x. Breaks world c.args.self.now (life_events.Heard (events.Reply c.args.number c.args.site c.args.outcomes)) x before after) (same_error c.from_residual-in_err-sync.result inner error c.from_residual-in_err-sync.ensures.1 is)
     (reply_breaks world lawful c.args.self.now c.args.number at c.args.site c.args.outcomes inner before after success c.in-InFlight.is
     (λ file. sync_halts world at file inner before mid later after (rw (success.first, success.up, success.one) at c.in_ok-tell.ensures.ok t (holds Active file)) (c.in_ok-mark.ensures.ok t file) (c.in_err-sync.ensures.err inner refl t at file)))
 
@@ -74,7 +74,7 @@ returns-in_err-remove-clause-err g c error is t = let world = world_of c.args.co
     let at = c.in-InFlight.mark_at in
     let success = first_success c.args.self.now c.args.number c.args.site c.args.outcomes c.requires.fits in
     let inner = c.in_err-remove.field-0.0 in
-    subst (λ x. Breaks world c.args.self.now (items.Heard (events.Reply c.args.number c.args.site c.args.outcomes)) x before after) (same_error c.from_residual-in_err-remove.result inner error c.from_residual-in_err-remove.ensures.1 is)
+    subst (λ x. Breaks world c.args.self.now (life_events.Heard (events.Reply c.args.number c.args.site c.args.outcomes)) x before after) (same_error c.from_residual-in_err-remove.result inner error c.from_residual-in_err-remove.ensures.1 is)
     (reply_breaks world lawful c.args.self.now c.args.number at c.args.site c.args.outcomes inner before after success c.in-InFlight.is
     (λ file. remove_halts world at file inner before mid later last after (rw (success.first, success.up, success.one) at c.in_ok-tell.ensures.ok t (holds Active file)) (c.in_ok-mark.ensures.ok t file) (c.in_ok-sync.ensures.ok t at file) (c.in_err-remove.ensures.err inner refl t (marked at file))))
 

@@ -1,7 +1,0 @@
-use Rattle.std.proofs.Common.{◌≡◌}
-use Rattle.q_core.specs.Settled.{settled_line}
-use Rattle.q_core.proofs.ListLaws.{numbered_front}
-use Rattle.q_core.proofs.settle.settle_lines.Given as goal
-
-abbrev pub invariant-loop-transport : goal.invariant-loop-transport
-invariant-loop-transport l = l.lines ≡ numbered_front (settled_line l.admitted l.waiting) 0 l.transport l.initial.lines

@@ -1,7 +1,0 @@
-use Rattle.std.proofs.Common.{◌≡◌}
-use Rattle.q_core.specs.Beginning.{begun_line}
-use Rattle.q_core.proofs.ListLaws.{numbered_front}
-use Rattle.q_core.proofs.starting.begin_at.Given as goal
-
-abbrev pub invariant-loop-at : goal.invariant-loop-at
-invariant-loop-at l = l.lines ≡ numbered_front (begun_line l.id l.transport) 0 l.at l.initial.lines

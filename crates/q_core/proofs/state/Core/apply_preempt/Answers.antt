@@ -1,0 +1,20 @@
+use Rattle.std.proofs.Common.{ap, ◌∙◌, inl, refl, Some}
+use Rattle.q_model.specs.declared.entry.Entry.TheVariants as entries
+use Rattle.q_core.specs.declared.decision.Decision.TheVariants as decisions
+use Rattle.q_core.proofs.BeginningLaws.{next_is_start}
+use Rattle.q_core.proofs.state.Core.apply_preempt.Goals as goal
+
+pub returns : goal.returns
+returns c = λ w l a.
+    let child = c.args.child in
+    let parent = c.args.parent in
+    let transport = c.args.transport in
+    let need = c.args.need in
+    let k = next_is_start a (decisions.Preempt child parent transport need) refl c.requires.decided in
+    let preempts = k.1.2 ∙ ap (λ e. Some e) k.1.1 in
+    inl (
+      entries.Preempt child parent transport need,
+      refl,
+      k.0 ∙ preempts,
+      c.preempt.ensures w l a preempts,
+    )

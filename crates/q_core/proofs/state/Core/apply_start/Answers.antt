@@ -1,0 +1,20 @@
+use Rattle.std.proofs.Common.{ap, ◌∙◌, inl, refl, Some}
+use Rattle.q_model.specs.declared.entry.Entry.TheVariants as entries
+use Rattle.q_core.specs.declared.decision.Decision.TheVariants as decisions
+use Rattle.q_core.proofs.BeginningLaws.{next_is_start}
+use Rattle.q_core.proofs.state.Core.apply_start.Goals as goal
+
+pub returns-clause-ok : goal.returns-clause-ok
+returns-clause-ok c = λ w l a.
+    let number = c.args.number in
+    let id = c.args.id in
+    let site = c.args.site in
+    let k = next_is_start a (decisions.Start number id site) refl c.requires.decided in
+    let positions = k.1.1.0 in
+    let starts = k.1.2 ∙ ap (λ e. Some e) k.1.1.1 in
+    inl (
+      entries.Start number id site positions,
+      (positions, refl),
+      k.0 ∙ starts,
+      c.in_ok-start_delivery.ensures.ok positions w l a starts,
+    )

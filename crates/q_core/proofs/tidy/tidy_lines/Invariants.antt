@@ -1,0 +1,7 @@
+use Rattle.std.proofs.Common.{◌≡◌}
+use Rattle.q_core.specs.Tidied.{tidied_line}
+use Rattle.q_core.proofs.ListLaws.{numbered_front}
+use Rattle.q_core.proofs.tidy.tidy_lines.Given as goal
+
+abbrev pub invariant-loop-transport : goal.invariant-loop-transport
+invariant-loop-transport l = l.lines ≡ numbered_front (tidied_line l.admitted l.waiting) 0 l.transport l.initial.lines

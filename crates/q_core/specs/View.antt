@@ -1,0 +1,34 @@
+-- The state that a contract sees, by the core's fields.
+use Rattle.q_core.specs.State.{State}
+use Rattle.q_core.specs.declared.state.Core.TheInside.{Inside}
+
+abbrev pub state_of : Inside → State
+state_of a = record {
+  params = a.params;
+  transports = a.transports;
+  mode = a.mode;
+  clock = record { seconds = a.clock.seconds };
+  timed = a.timed;
+  next_run = a.next_run;
+  scan = a.scan;
+  asked = a.asked;
+  ignores = a.ignores;
+  deferred_turn = a.deferred_turn;
+  admitted = a.admitted.items;
+  waiting = a.waiting.items;
+  flights = a.flights.items;
+  in_memory = a.in_memory;
+  served = a.served.items;
+  unsettled = a.unsettled.items;
+  lines = a.lines.items;
+  sites = a.sites.items;
+  synced = a.synced.items;
+  starts = a.starts;
+  active = a.active;
+  incoming = a.incoming;
+  deferred = a.deferred;
+  question = a.question;
+  named = a.named.items;
+  skips = a.skips;
+  skipped = a.skipped;
+}

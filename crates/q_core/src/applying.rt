@@ -1,0 +1,175 @@
+//! The core takes a decision over: it becomes what the ledger is after the decision's entry. What
+//! concerns a message in memory and one that an earlier life left is told apart here.
+ghost use Rattle.std.specs.Prelude.{◌≡◌, IsTrue, OnErr, OnOk, Some};
+ghost use Rattle.q_core.specs.Agrees.{ForLedgers};
+ghost use Rattle.q_core.specs.Changes.{IsAsBefore, is_looked_at};
+ghost use Rattle.q_core.specs.Deciding.{IsApplied, decide_in};
+ghost use Rattle.q_core.specs.Leaving.{IsSkipNoted};
+ghost use Rattle.q_model.specs.Lists.{has_none};
+
+use crate::decision::Decision;
+use crate::state::{Core, Seen};
+use q_model::{Failure, Id, Moment, NoMemory, Place, Site};
+use std::alloc::Global;
+
+impl Core {
+    fn has_no_outcomes(&self) -> bool
+        ensures { result ≡ has_none self.now.unsettled }
+    {
+        match self.unsettled.as_slice() {
+            [] => true,
+            [_, ..] => false,
+        }
+    }
+
+    pub(crate) fn apply_log(&mut self, id: Id, failure: Failure)
+        requires seen { IsTrue (is_looked_at self.old) }
+        requires decided { decide_in self.old ≡ Some (Decision.Log id failure) }
+        ensures { ForLedgers self.old (λ w l. IsApplied w l self.old
+            (Decision.Log id failure) self.new) }
+    {
+        self.log(id);
+    }
+
+    /// What is unsettled comes first; else an earlier life left it.
+    pub(crate) fn apply_mark(&mut self, id: Id, position: u32)
+        requires seen { IsTrue (is_looked_at self.old) }
+        requires decided { decide_in self.old ≡ Some (Decision.Mark id position) }
+        ensures { ForLedgers self.old (λ w l. IsApplied w l self.old
+            (Decision.Mark id position) self.new) }
+    {
+        if self.has_no_outcomes() {
+            self.mark_left();
+        } else {
+            self.mark_first(id);
+        }
+    }
+
+    pub(crate) fn apply_sync(&mut self, id: Id) -> Result<(), NoMemory>
+        requires seen { IsTrue (is_looked_at self.old) }
+        requires decided { decide_in self.old ≡ Some (Decision.Sync id) }
+        ensures ok { OnOk result (ForLedgers self.old
+            (λ w l. IsApplied w l self.old (Decision.Sync id) self.new)) }
+        ensures err { OnErr result (IsAsBefore self.old self.new) }
+    {
+        if self.has_slot(id) {
+            self.sync(id);
+            return Ok(());
+        }
+        self.sync_left(id)?;
+        Ok(())
+    }
+
+    pub(crate) fn apply_skip(
+        &mut self,
+        alloc: Global,
+        id: Id,
+        site: Site,
+        entry: u32,
+    ) -> Result<(), NoMemory>
+        requires seen { IsTrue (is_looked_at self.old) }
+        requires decided { decide_in self.old ≡ Some (Decision.Skip id site entry) }
+        ensures ok { OnOk result (ForLedgers self.old
+            (λ w l. IsApplied w l self.old (Decision.Skip id site entry) self.new)) }
+        ensures noted { OnOk result (IsSkipNoted self.old id site entry self.new) }
+        ensures err { OnErr result (IsAsBefore self.old self.new) }
+    {
+        let Some(place) = self.first_dead() else {
+            return Ok(());
+        };
+        self.skip(alloc, place)?;
+        Ok(())
+    }
+
+    pub(crate) fn apply_defer(&mut self, id: Id, due: Moment)
+        requires seen { IsTrue (is_looked_at self.old) }
+        requires decided { decide_in self.old ≡ Some (Decision.Defer id due) }
+        ensures { ForLedgers self.old (λ w l. IsApplied w l self.old
+            (Decision.Defer id due) self.new) }
+    {
+        self.defer(id);
+    }
+
+    pub(crate) fn apply_remove(&mut self, id: Id)
+        requires seen { IsTrue (is_looked_at self.old) }
+        requires decided { decide_in self.old ≡ Some (Decision.Remove id) }
+        ensures { ForLedgers self.old (λ w l. IsApplied w l self.old
+            (Decision.Remove id) self.new) }
+    {
+        if self.has_slot(id) {
+            self.remove(id);
+        } else {
+            self.remove_left();
+        }
+    }
+
+    pub(crate) fn apply_bounce(&mut self, id: Id)
+        requires seen { IsTrue (is_looked_at self.old) }
+        requires decided { decide_in self.old ≡ Some (Decision.Bounce id) }
+        ensures { ForLedgers self.old (λ w l. IsApplied w l self.old
+            (Decision.Bounce id) self.new) }
+    {
+        if self.has_slot(id) {
+            self.bounce(id);
+        } else {
+            self.bounce_left();
+        }
+    }
+
+    pub(crate) fn apply_back(&mut self, id: Id)
+        requires seen { IsTrue (is_looked_at self.old) }
+        requires decided { decide_in self.old ≡ Some (Decision.Back id) }
+        ensures { ForLedgers self.old (λ w l. IsApplied w l self.old (Decision.Back id) self.new) }
+    {
+        self.back();
+    }
+
+    /// A message in memory with a record that can't be read goes, else a damaged file that active
+    /// has shown, else the one that is picked next.
+    pub(crate) fn apply_corrupt(&mut self, id: Id, place: Place)
+        requires seen { IsTrue (is_looked_at self.old) }
+        requires decided { decide_in self.old ≡ Some (Decision.Corrupt id place) }
+        ensures { ForLedgers self.old (λ w l. IsApplied w l self.old
+            (Decision.Corrupt id place) self.new) }
+    {
+        if self.has_damage(id) {
+            self.corrupt_read(id);
+        } else if self.shows_damaged(id) {
+            self.corrupt_left();
+        } else {
+            self.corrupt_picked();
+        }
+    }
+
+    pub(crate) fn apply_admit(&mut self, id: Id, place: Place) -> Result<(), NoMemory>
+        requires seen { IsTrue (is_looked_at self.old) }
+        requires decided { decide_in self.old ≡ Some (Decision.Admit id place) }
+        ensures ok { OnOk result (ForLedgers self.old
+            (λ w l. IsApplied w l self.old (Decision.Admit id place) self.new)) }
+        ensures err { OnErr result (IsAsBefore self.old self.new) }
+    {
+        self.admit()?;
+        Ok(())
+    }
+
+    pub(crate) fn apply_start(&mut self, number: u64, id: Id, site: Site) -> Result<(), NoMemory>
+        requires seen { IsTrue (is_looked_at self.old) }
+        requires decided { decide_in self.old ≡ Some (Decision.Start number id site) }
+        ensures ok { OnOk result (ForLedgers self.old
+            (λ w l. IsApplied w l self.old (Decision.Start number id site) self.new)) }
+        ensures err { OnErr result (IsAsBefore self.old self.new) }
+    {
+        self.start_delivery(number, id, site)?;
+        Ok(())
+    }
+
+    pub(crate) fn apply_preempt(&mut self, child: Id, parent: Id, transport: u8, need: u32)
+        requires seen { IsTrue (is_looked_at self.old) }
+        requires decided { decide_in self.old ≡ Some
+            (Decision.Preempt child parent transport need) }
+        ensures { ForLedgers self.old (λ w l. IsApplied w l self.old
+            (Decision.Preempt child parent transport need) self.new) }
+    {
+        self.preempt(child, parent, transport, need);
+    }
+}

@@ -1,0 +1,172 @@
+//! The next file is taken from incoming or deferred, by turns.
+ghost use Rattle.std.specs.Prelude.{◌≡◌, IsTrue, OnErr, OnOk, false, true};
+ghost use Rattle.q_core.specs.Agrees.{ForLedgers, Agrees, Matches, Follows};
+ghost use Rattle.q_core.specs.Changes.{IsAsBefore, is_known, is_looked_at};
+ghost use Rattle.q_core.specs.Facts.{shows_damaged};
+ghost use Rattle.q_core.specs.Picking.{IsEntered, found_name, found_slot, from_deferred_in, moved_on, passed_in, picked_in, scanned_in, shown, IsHidden};
+ghost use Rattle.q_model.specs.Admissions.{may_admit};
+ghost use Rattle.q_model.specs.Leaving.{may_corrupt};
+ghost use Rattle.q_model.specs.Ledger.{Ledger};
+ghost use Rattle.q_model.specs.Settings.{World};
+ghost use Rattle.q_model.specs.Step.{after};
+
+use crate::decision::Found;
+use crate::slot::Slot;
+use crate::state::{Core, Seen};
+use q_model::{DeferredName, Entry, Id, NoMemory, Scan};
+
+impl Seen {
+    /// What the look has shown.
+    fn shown(&self) -> Found
+        ensures { result ≡ shown self.now }
+    {
+        match self {
+            Seen::Unknown => Found::Nothing,
+            Seen::Known { found } => *found,
+        }
+    }
+}
+
+const NO_ID: Id = Id {
+    generation: 0,
+    serial: 0,
+    bounce: false,
+};
+
+impl Found {
+    fn name(&self) -> DeferredName
+        ensures { result ≡ found_name self.now }
+    {
+        match self {
+            Found::Nothing => DeferredName { due: 0, id: NO_ID },
+            Found::Damaged { id, due, .. } => DeferredName { due: *due, id: *id },
+            Found::Whole { id, due, .. } => DeferredName { due: *due, id: *id },
+        }
+    }
+
+    /// What is kept of the message, all of it unread.
+    fn slot(&self) -> Slot
+        ensures { result ≡ found_slot self.now }
+    {
+        let mut slot = Slot {
+            id: self.name().id,
+            arrival: 0,
+            null_sender: false,
+            recipients: 0,
+            unread: 0,
+            marks: 0,
+            pending: 0,
+            logged: false,
+            failed: false,
+            bounced: false,
+            damaged: false,
+        };
+        if let Found::Whole { file, .. } = self {
+            slot.arrival = file.arrival;
+            slot.null_sender = file.null_sender;
+            slot.recipients = file.recipients;
+            slot.pending = file.pending();
+            slot.failed = file.failures > 0;
+        }
+        slot
+    }
+}
+
+/// The scan goes on behind the name.
+fn moved_on(scan: Option<Scan>, name: DeferredName) -> Option<Scan>
+    ensures { result ≡ moved_on name scan }
+{
+    match scan {
+        None => None,
+        Some(scan) => Some(Scan {
+            place: Some(name),
+            until: scan.until,
+        }),
+    }
+}
+
+impl Core {
+    /// What the scan gives.
+    fn scanned(&self) -> Found
+        ensures { result ≡ scanned_in self.now.scan self.now.deferred }
+    {
+        match &self.scan {
+            None => Found::Nothing,
+            Some(_) => self.deferred.shown(),
+        }
+    }
+
+    /// The file that is taken next.
+    fn picked(&self) -> Found
+        ensures { result ≡ picked_in self.now }
+    {
+        let incoming = self.incoming.shown();
+        let deferred = self.scanned();
+        if incoming.is_nothing() {
+            deferred
+        } else if deferred.is_nothing() {
+            incoming
+        } else if self.deferred_turn {
+            deferred
+        } else {
+            incoming
+        }
+    }
+
+    /// Whether it is deferred that gives it.
+    fn picks_deferred(&self) -> bool
+        ensures { result ≡ from_deferred_in self.now }
+    {
+        self.incoming.shown().is_nothing() || !self.scanned().is_nothing() && self.deferred_turn
+    }
+
+    /// The turn is with the queue that doesn't give, and the other is to be looked at anew.
+    fn pass_turn(&mut self, from_deferred: bool, name: DeferredName)
+        ensures { self.new ≡ passed_in from_deferred name self.old }
+    {
+        if from_deferred {
+            self.deferred_turn = false;
+            self.scan = moved_on(self.scan, name);
+            self.deferred = Seen::Unknown;
+        } else {
+            self.deferred_turn = true;
+            self.incoming = Seen::Unknown;
+        }
+    }
+
+    /// The damaged file that is next goes to corrupt.
+    pub(crate) fn corrupt_picked(&mut self)
+        requires { IsTrue (is_looked_at self.old) }
+        ensures { (id : Id) → IsHidden self.old id → Follows self.old self.new (Entry.Corrupt id) }
+    {
+        let found = self.picked();
+        let from_deferred = self.picks_deferred();
+        self.forget_looks();
+        self.pass_turn(from_deferred, found.name());
+        self.tidy();
+    }
+
+    /// The message comes last of those in memory.
+    fn enter(&mut self, found: Found) -> Result<(), NoMemory>
+        ensures ok { OnOk result (IsEntered self.old self.new found) }
+        ensures err { OnErr result (IsAsBefore self.old self.new) }
+    {
+        self.admitted.push(found.slot())?;
+        Ok(())
+    }
+
+    /// The message that is next comes into memory.
+    pub(crate) fn admit(&mut self) -> Result<(), NoMemory>
+        requires { IsTrue (is_looked_at self.old) }
+        ensures ok { OnOk result ((id : Id) → is_known self.old.incoming ≡ true
+            → Follows self.old self.new (Entry.Admit id)) }
+        ensures err { OnErr result (IsAsBefore self.old self.new) }
+    {
+        let found = self.picked();
+        let from_deferred = self.picks_deferred();
+        self.enter(found)?;
+        self.pass_turn(from_deferred, found.name());
+        self.tidy();
+        Ok(())
+    }
+}

@@ -1,0 +1,109 @@
+//! What holds after each entry: lines, served rows and sites of what is left.
+ghost use Rattle.std.specs.Prelude.{◌≡◌, find, map};
+ghost use Rattle.std.specs.List.{enumerate_from};
+ghost use Rattle.std.specs.Option.{option_copied};
+ghost use Rattle.q_core.specs.Changes.{HasLeftSite, IsTidied};
+ghost use Rattle.q_core.specs.Tidied.{tidied_jobs, tidied_line, tidied_served, slot_among, stays_among, unread_among, waits_at_site, waits_for};
+
+use crate::line::{Job, Line};
+use crate::names::{same_id, same_site};
+use crate::site_record::{drop_unused, forget_oldest, put_last};
+use crate::slot::Slot;
+use crate::state::Core;
+use q_model::{Id, Row, Served, Site};
+
+fn slot(admitted: &[Slot], id: Id) -> Option<&Slot>
+    ensures { option_copied result ≡ slot_among admitted.now id }
+{
+    admitted.iter().find(|slot| same_id(slot.id, id))
+}
+
+/// How many positions of the message weren't read.
+fn unread(admitted: &[Slot], id: Id) -> u32
+    ensures { result ≡ unread_among admitted.now id }
+{
+    match slot(admitted, id) {
+        Some(slot) => slot.recipients.saturating_sub(slot.unread),
+        None => 0,
+    }
+}
+
+/// Whether a row of the message waits for the transport.
+fn waits_for(waiting: &[Row], id: Id, transport: usize) -> bool
+    ensures { result ≡ waits_for waiting.now id transport }
+{
+    waiting.iter().any(|row| same_id(row.id, id) && usize::from(row.site.transport) == transport)
+}
+
+/// Whether a row of the message waits at the site.
+fn waits_at(waiting: &[Row], id: Id, site: &Site) -> bool
+    ensures { result ≡ waits_at_site waiting.now id site.now }
+{
+    waiting
+        .iter()
+        .any(|row| same_id(row.id, id) && same_site(&row.site, site))
+}
+
+/// Whether the message has something left at the transport.
+fn stays(admitted: &[Slot], waiting: &[Row], id: Id, transport: usize) -> bool
+    ensures { result ≡ stays_among admitted.now waiting.now transport id }
+{
+    unread(admitted, id) != 0 || waits_for(waiting, id, transport)
+}
+
+/// Takes the jobs that have nothing left out of the line.
+fn tidy_jobs(jobs: &mut Vec<Job>, admitted: &[Slot], waiting: &[Row], transport: usize)
+    ensures { jobs.new.items ≡ tidied_jobs admitted.now waiting.now transport jobs.old.items }
+{
+    jobs.retain(|job| stays(admitted, waiting, job.id, transport));
+}
+
+impl Line {
+    fn tidy(&mut self, admitted: &[Slot], waiting: &[Row], transport: usize)
+        ensures { self.new ≡ tidied_jobs admitted.now waiting.now transport self.old }
+    {
+        tidy_jobs(&mut self.jobs, admitted, waiting, transport);
+    }
+}
+
+/// Takes the jobs that have nothing left out of the lines.
+fn tidy_lines(lines: &mut [Line], admitted: &[Slot], waiting: &[Row])
+    ensures { lines.new ≡ map (tidied_line admitted.now waiting.now) (enumerate_from 0 lines.old) }
+{
+    for (transport, line) in lines.iter_mut().enumerate() {
+        line.tidy(admitted, waiting, transport);
+    }
+}
+
+fn has_row(served: &Served, waiting: &[Row]) -> bool
+    ensures { result ≡ waits_at_site waiting.now served.now.id served.now.site }
+{
+    waits_at(waiting, served.id, &served.site)
+}
+
+/// Forgets when a message was served at a site where it has no row any more.
+fn tidy_served(served: &mut Vec<Served>, waiting: &[Row])
+    ensures { served.new.items ≡ tidied_served waiting.now served.old.items }
+{
+    served.retain(|last| has_row(last, waiting));
+}
+
+impl Core {
+    /// Notes that a row left the site, before that entry is tidied up.
+    pub(crate) fn leave(&mut self, site: &Site)
+        ensures { HasLeftSite self.old self.new site.now }
+    {
+        put_last(&mut self.sites, &self.waiting, &self.flights, site);
+    }
+
+    /// Tidies after an entry that takes no row from a site.
+    pub(crate) fn tidy(&mut self)
+        ensures { IsTidied self.old self.new }
+    {
+        tidy_lines(&mut self.lines, &self.admitted, &self.waiting);
+        tidy_served(&mut self.served, &self.waiting);
+        drop_unused(&mut self.sites, &self.waiting, &self.flights);
+        let limit = self.params.qmgr_message_recipient_limit as usize;
+        forget_oldest(&mut self.sites, &self.waiting, &self.flights, limit);
+    }
+}

@@ -1,0 +1,6 @@
+pub mod Numbers
+pub mod Pieces
+pub mod Lines
+pub mod Blanks
+pub mod ValueForms
+pub mod ValueTexts
