@@ -1,0 +1,6 @@
+pub mod Rests
+pub mod Loading
+pub mod Falling
+pub mod Entered
+pub mod Inflation
+mod WorkedBound
