@@ -11,8 +11,9 @@
 //!   and then `loaded`, or by `found` with `Damaged` where a record can't be read.
 //!
 //! It is an error to hear an event or to ask for a decision while a look or a read waits for its
-//! answer. `decision` tells beforehand what `next_decision` would answer, and `row_positions` then
-//! which recipients a `Skip` puts off; `entry_positions` tells whom a delivery in flight goes to.
+//! answer. `decision` tells beforehand what `next_decision` would answer. Once it has answered a
+//! `Skip`, `row_positions` tells by its number which recipients were put off; `entry_positions` tells
+//! whom a delivery in flight goes to.
 //!
 //! What a call says of ledgers holds of each ledger with which the core agrees: one of a life that
 //! goes on, whose parts the core holds as it should. All other clauses hold whatever was answered.

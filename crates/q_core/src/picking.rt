@@ -1,4 +1,4 @@
-//! The next file is taken from incoming or deferred, by turns.
+//! The next file is picked from incoming or deferred, by turns.
 ghost use Rattle.std.specs.Prelude.{◌≡◌, IsTrue, OnErr, OnOk, false, true};
 ghost use Rattle.q_core.specs.Agrees.{ForLedgers, Agrees, Matches, Follows};
 ghost use Rattle.q_core.specs.Changes.{IsAsBefore, is_known, is_looked_at};
