@@ -6,8 +6,8 @@ use Rattle.q_model.specs.declared.spot.Area.{Area}
 use Rattle.q_model.specs.declared.spot.Area.TheVariants.{Boot, Conf, Tmp, Incoming, Active, Deferred, Hold, Corrupt, Bounce, Defer}
 
 -- something for each area and name, or nothing
-abbrev pub Table : Type 0 → Type 0
-Table X = Area → List ℕ → Option X
+abbrev pub Placed : Type 0 → Type 0
+Placed X = Area → List ℕ → Option X
 
 -- the areas, numbered
 abbrev pub area_number : Area → ℕ
@@ -27,7 +27,7 @@ unfoldable pub same_place : Area → List ℕ → Area → List ℕ → Bool
 same_place a n b m = nat_eq (area_number a) (area_number b) && pointwise nat_eq n m
 
 -- the same with something else at one place
-unfoldable pub put : {X : Type 0} → Table X → Area → List ℕ → Option X → Table X
+unfoldable pub put : {X : Type 0} → Placed X → Area → List ℕ → Option X → Placed X
 put f a n x = λ b m. if same_place a n b m then x else f b m
 
 -- files stand at the same places in both

@@ -4,7 +4,7 @@ use Rattle.std.proofs.Math.Path.{fun_ext}
 use Rattle.std.proofs.lemmas.List.{take_more, take_more_set, drop-set-lt, get_or-drop, ext_get_or}
 use Rattle.std.specs.Option.{option_map}
 use Rattle.q_model.specs.declared.spot.Area.{Area}
-use Rattle.q_host.specs.Files.{Table, same_place}
+use Rattle.q_host.specs.Files.{Placed, same_place}
 use Rattle.q_mem_host.specs.declared.rot.Rot.{Rot}
 use Rattle.q_mem_host.specs.Kept.{Kept, is_soft, rotten, fallen}
 use Rattle.q_mem_host.specs.Data.{kept, table}
@@ -28,7 +28,7 @@ is_rotten b soft xs ys long each = ext_get_or 0 ys (rotten b soft 0 xs) (long �
 
 -- ---- one entry after another
 
-abbrev pub fall_of : Rot → Table Kept → Table Kept
+abbrev pub fall_of : Rot → Placed Kept → Placed Kept
 fall_of rot t = λ a n. option_map (fallen rot) (t a n)
 
 last_drop : (i : ℕ) (xs : List Entry) → drop (i + 1) xs ≡ drop 1 (drop i xs)
@@ -37,7 +37,7 @@ last_drop i xs = sym (drop-drop 1 i xs)
 fall_push : (rot : Rot) (xs ys : List Entry) (e new : Entry) → table xs ≡ fall_of rot (table ys) → new.area ≡ e.area → new.name ≡ e.name → kept new.file ≡ fallen rot (kept e.file)
     → table (xs ++ new ∷ []) ≡ fall_of rot (table (ys ++ e ∷ []))
 fall_push rot xs ys e new so_far area name file = fun_ext (λ a. fun_ext (λ n.
-    table-push xs new a n ∙ ap (λ (t : Table Kept). or_else (t a n) (table (new ∷ []) a n)) so_far
+    table-push xs new a n ∙ ap (λ (t : Placed Kept). or_else (t a n) (table (new ∷ []) a n)) so_far
     ∙ ap (λ (o : Option Kept). or_else (option_map (fallen rot) (table ys a n)) o) (single a n)
     ∙ both (table ys a n) (table (e ∷ []) a n) ∙ ap (option_map (fallen rot)) (sym (table-push ys e a n))))
   where

@@ -2,7 +2,7 @@
 use Rattle.std.proofs.Common.{◌≡◌, ℕ, ◌≤◌, Bool, true, false, List, [], ◌∷◌, ◌++◌, length, take, Option, Some, None, refl, sym, ◌∙◌, ap, subst, arith, take_all, true≢false}
 use Rattle.std.specs.Option.{option_map}
 use Rattle.q_model.specs.declared.spot.Area.{Area}
-use Rattle.q_host.specs.Files.{Table, put, same_place, with_file, without_file, moved, written}
+use Rattle.q_host.specs.Files.{Placed, put, same_place, with_file, without_file, moved, written}
 use Rattle.q_model.specs.SpoolFiles.{Files}
 use Rattle.q_host.specs.View.{Remains, After}
 use Rattle.q_host.specs.Steps.{Stay, Become, Tear, Sync, Add, AddSome}
@@ -30,7 +30,7 @@ reads_left (Some k) = whole k
 
 -- ---- the disk with something else at one place
 
-left_but : (disk : Table Kept) (f : Files) (a : Area) (n : List ℕ) (x : Option Kept) (y : Option (List ℕ))
+left_but : (disk : Placed Kept) (f : Files) (a : Area) (n : List ℕ) (x : Option Kept) (y : Option (List ℕ))
     → ((b : Area) (m : List ℕ) → IsLeft (put disk a n x b m) (f b m)) → IsLeft (disk a n) y → (b : Area) (m : List ℕ) → IsLeft (disk b m) (put f a n y b m)
 left_but disk f a n x y each here b m = by (same_place a n b m) refl
   where
@@ -43,7 +43,7 @@ left_but disk f a n x y each here b m = by (same_place a n b m) refl
     by false e =
         subst (λ (o : Option (List ℕ)). IsLeft (disk b m) o) (sym (put-other f a n y b m e)) (subst (λ (o : Option Kept). IsLeft o (f b m)) (put-other disk a n x b m e) (each b m))
 
-at_place : (disk : Table Kept) (f : Files) (a : Area) (n : List ℕ) (x : Option Kept) → ((b : Area) (m : List ℕ) → IsLeft (put disk a n x b m) (f b m)) → IsLeft x (f a n)
+at_place : (disk : Placed Kept) (f : Files) (a : Area) (n : List ℕ) (x : Option Kept) → ((b : Area) (m : List ℕ) → IsLeft (put disk a n x b m) (f b m)) → IsLeft x (f a n)
 at_place disk f a n x each = subst (λ (o : Option Kept). IsLeft o (f a n)) (put-here disk a n x) (each a n)
 
 -- ---- files made and taken away
@@ -68,7 +68,7 @@ read_held : (x : Option (List ℕ)) → read_of (Held x) ≡ x
 read_held None = refl
 read_held (Some bytes) = refl
 
-files_put : (disk : Table Kept) (a : Area) (n : List ℕ) (x : Option Kept) → files_of (put disk a n x) ≡ put (files_of disk) a n (read_of x)
+files_put : (disk : Placed Kept) (a : Area) (n : List ℕ) (x : Option Kept) → files_of (put disk a n x) ≡ put (files_of disk) a n (read_of x)
 files_put disk a n x = put-is (files_of disk) (files_of (put disk a n x)) a n (read_of x) (ap read_of (put-here disk a n x)) (λ b m e. ap read_of (put-other disk a n x b m e))
 
 put_changes : (h : List Event) (e : Event) (a : Area) (n : List ℕ) (x : Option (List ℕ)) → after e (state_of h) ≡ record { disk = put (state_of h).disk a n (Held x); told = (state_of h).told }
@@ -217,7 +217,7 @@ rename_step s a n b m differ c left = (record { files = d; told = c.told }, reco
     d : Files
     d = put x a n (c.files b m)
 
-    without : Table Kept
+    without : Placed Kept
     without = put s.disk a n None
 
     there : IsLeft (without b m) (read_of (s.disk b m))

@@ -1,7 +1,7 @@
 -- The data keep up with the record.
 use Rattle.std.proofs.Common.{◌≡◌, ℕ, List, [], ◌∷◌, ◌++◌, Option, Some, sym, ◌∙◌, ap}
 use Rattle.q_model.specs.declared.spot.Area.{Area}
-use Rattle.q_host.specs.Files.{Table, put}
+use Rattle.q_host.specs.Files.{Placed, put}
 use Rattle.q_mem_host.specs.declared.rot.Rot.{Rot}
 use Rattle.q_mem_host.specs.Kept.{Kept, fallen}
 use Rattle.q_mem_host.specs.Event.{Event, State, after, state_of, tell, crash}
@@ -30,7 +30,7 @@ keeps_more es told h h' e is disk bytes = record {
 }
 
 -- one call noted, by which the files change so
-pub keeps_by : (es es2 : List Entry) (told : List ℕ) (calls calls1 : List Call) (crashed : Option Rot) (g : List Event) (e : Event) (change : Table Kept → Table Kept)
+pub keeps_by : (es es2 : List Entry) (told : List ℕ) (calls calls1 : List Call) (crashed : Option Rot) (g : List Event) (e : Event) (change : Placed Kept → Placed Kept)
     → KeepsUp es told (history calls crashed) → calls1 ≡ calls → table es2 ≡ change (table es) → g ≡ history calls1 crashed ++ e ∷ []
     → ((s : State) → after e s ≡ record { disk = change s.disk; told = s.told }) → KeepsUp es2 told g
 keeps_by es es2 told calls calls1 crashed g e change up same now noted effect =
@@ -50,7 +50,7 @@ keeps_told es told told2 bytes calls calls1 crashed g up same now noted =
 
 -- after a crash that isn't noted yet
 pub keeps_fallen : (es es2 : List Entry) (told : List ℕ) (h h' : List Event) (rot : Rot) → KeepsUp es told h → table es2 ≡ (λ a n. option_map (fallen rot) (table es a n)) → h' ≡ h ++ crash rot ∷ [] → KeepsUp es2 told h'
-keeps_fallen es es2 told h h' rot up now more = keeps_more es2 told h h' (crash rot) more (now ∙ ap {B = Table Kept} (λ (t : Table Kept). λ a n. option_map (fallen rot) (t a n)) up.disk) up.told
+keeps_fallen es es2 told h h' rot up now more = keeps_more es2 told h h' (crash rot) more (now ∙ ap {B = Placed Kept} (λ (t : Placed Kept). λ a n. option_map (fallen rot) (t a n)) up.disk) up.told
 
 -- the state after a crash, and that after another one
 pub state_fallen : (g h h' : List Event) (rot : Rot) → g ≡ h → h' ≡ h ++ crash rot ∷ [] → state_of h' ≡ after (crash rot) (state_of g)

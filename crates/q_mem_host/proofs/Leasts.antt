@@ -10,7 +10,7 @@ use Rattle.std.specs.Cmp.Lexicographic.{slice_cmp, nat_list_cmp_total, texts_tie
 use Rattle.std.proofs.lemmas.List.Elements.{Contains-append_left, Contains-push, Contains-push_cases}
 use Rattle.std.proofs.lemmas.List.{take_more}
 use Rattle.q_model.specs.declared.spot.Area.{Area}
-use Rattle.q_host.specs.Files.{Table, same_place, area_number}
+use Rattle.q_host.specs.Files.{Placed, same_place, area_number}
 use Rattle.q_host.specs.Reads.{IsAfter, Rise, IsListing}
 use Rattle.q_host.proofs.Puts.{same_place-true, same_place-refl, same_area}
 use Rattle.q_mem_host.specs.Kept.{Kept}
@@ -191,7 +191,7 @@ module _ {X : Type 0} (f : List ℕ → Option X) where
   many_listed after last names s long = record { rise = s.rise; there = s.there; none_left_out = λ n some late. ⊎_elim (λ c. inl c) (λ later. inr (long, λ m c. s.behind m n c later)) (s.others n some late) }
 
 -- reads see the same names
-pub listing_read : (disk : Table Kept) (a : Area) (after : Option (List ℕ)) (names : List (List ℕ)) → IsListing (disk a) after names → IsListing (files_of disk a) after names
+pub listing_read : (disk : Placed Kept) (a : Area) (after : Option (List ℕ)) (names : List (List ℕ)) → IsListing (disk a) after names → IsListing (files_of disk a) after names
 listing_read disk a after names l = record { rise = l.rise; there = λ n c. some_read (disk a n) (l.there n c); none_left_out = λ n some late. l.none_left_out n (read_some (disk a n) some) late }
   where
     some_read : (o : Option Kept) → IsSome o → IsSome (read_of o)

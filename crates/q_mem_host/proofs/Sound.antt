@@ -5,7 +5,7 @@ use Rattle.std.proofs.lemmas.Bool.{cases_lt}
 use Rattle.std.proofs.lemmas.List.{get_or_append_left, get_or-take}
 use Rattle.std.specs.Option.{option_map}
 use Rattle.q_model.specs.declared.spot.Area.{Area}
-use Rattle.q_host.specs.Files.{Table, same_place, put, written}
+use Rattle.q_host.specs.Files.{Placed, same_place, put, written}
 use Rattle.q_host.specs.View.{Remains, now}
 use Rattle.q_mem_host.specs.declared.rot.Rot.{Rot}
 use Rattle.q_mem_host.specs.declared.rot.Rot.TheVariants.{Keep, Old, Byte}
@@ -61,10 +61,10 @@ map_sound : (f : Kept → Kept) → ((k : Kept) → IsSound k → IsSound (f k))
 map_sound f h None s = tt
 map_sound f h (Some k) s = h k s
 
-abbrev Sound : Table Kept → Type 0
+abbrev Sound : Placed Kept → Type 0
 Sound disk = (a : Area) (n : List ℕ) → AreSound (disk a n)
 
-put_sound : (disk : Table Kept) (a : Area) (n : List ℕ) (x : Option Kept) → Sound disk → AreSound x → Sound (put disk a n x)
+put_sound : (disk : Placed Kept) (a : Area) (n : List ℕ) (x : Option Kept) → Sound disk → AreSound x → Sound (put disk a n x)
 unfolding put
 put_sound disk a n x s h = λ b m. by (same_place a n b m) (disk b m) (s b m)
   where

@@ -1,7 +1,7 @@
 -- Lists of entries as tables.
 use Rattle.std.proofs.Common.{◌≡◌, ℕ, Bool, true, false, not, List, [], ◌∷◌, ◌++◌, if◌then◌else◌, Option, Some, None, filter, refl, sym, ◌∙◌, ap, subst}
 use Rattle.q_model.specs.declared.spot.Area.{Area}
-use Rattle.q_host.specs.Files.{Table, put, same_place}
+use Rattle.q_host.specs.Files.{Placed, put, same_place}
 use Rattle.q_host.proofs.Puts.{put-here, put-other, put-is, same_place-true, same_place-refl}
 use Rattle.q_mem_host.specs.Kept.{Kept}
 use Rattle.q_mem_host.specs.Data.{kept, table}
@@ -52,11 +52,11 @@ table-filter es a n = put-is (table es) (table (filter (λ e. not (same_place e.
         by true s rest away = rest ∙ sym (ap (λ t. if t then Some (kept e.file) else table es b m) (away s))
         by false s rest away = ap (λ (o : Option Kept). if same_place e.area e.name b m then Some (kept e.file) else o) rest
 
-pub table-put : (es : List Entry) (e : Entry) (f : Table Kept) → table es ≡ put f e.area e.name None → table (es ++ e ∷ []) ≡ put f e.area e.name (Some (kept e.file))
+pub table-put : (es : List Entry) (e : Entry) (f : Placed Kept) → table es ≡ put f e.area e.name None → table (es ++ e ∷ []) ≡ put f e.area e.name (Some (kept e.file))
 table-put es e f h = put-is f (table (es ++ e ∷ [])) e.area e.name (Some (kept e.file)) here others
   where
     here : table (es ++ e ∷ []) e.area e.name ≡ Some (kept e.file)
-    here = table-push es e e.area e.name ∙ ap (λ (o : Option Kept). or_else o (table (e ∷ []) e.area e.name)) (ap (λ (t : Table Kept). t e.area e.name) h ∙ put-here f e.area e.name None)
+    here = table-push es e e.area e.name ∙ ap (λ (o : Option Kept). or_else o (table (e ∷ []) e.area e.name)) (ap (λ (t : Placed Kept). t e.area e.name) h ∙ put-here f e.area e.name None)
         ∙ ap (λ t. if t then Some (kept e.file) else None) (same_place-refl e.area e.name)
 
     id_left : (o : Option Kept) → or_else o None ≡ o
@@ -65,4 +65,4 @@ table-put es e f h = put-is f (table (es ++ e ∷ [])) e.area e.name (Some (kept
 
     others : (b : Area) (m : List ℕ) → same_place e.area e.name b m ≡ false → table (es ++ e ∷ []) b m ≡ f b m
     others b m s = table-push es e b m ∙ ap (λ t. or_else (table es b m) (if t then Some (kept e.file) else None)) s ∙ id_left (table es b m)
-        ∙ ap (λ (t : Table Kept). t b m) h ∙ put-other f e.area e.name None b m s
+        ∙ ap (λ (t : Placed Kept). t b m) h ∙ put-other f e.area e.name None b m s

@@ -3,7 +3,7 @@ use Rattle.std.specs.Prelude.{◌≡◌, ◌<◌, ℕ, true, List, [], ◌∷◌
 use Rattle.q_model.specs.declared.spot.Area.{Area}
 use Rattle.std.specs.Option.{option_map}
 use Rattle.std.specs.declared.alloc.Global.{Global}
-use Rattle.q_host.specs.Files.{put, same_place, Table}
+use Rattle.q_host.specs.Files.{put, same_place, Placed}
 use Rattle.q_mem_host.specs.Kept.{Kept}
 use Rattle.q_mem_host.specs.Event.{Event, state_of}
 use Rattle.q_mem_host.specs.declared.file.File.{File}
@@ -22,7 +22,7 @@ kept f = record {
 }
 
 -- the first entry of each place counts
-abbrev pub table : List Entry → Table Kept
+abbrev pub table : List Entry → Placed Kept
 table [] a n = None
 table (e ∷ es) a n = if same_place e.area e.name a n then Some (kept e.file) else table es a n
 

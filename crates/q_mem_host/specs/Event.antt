@@ -2,7 +2,7 @@
 use Rattle.std.specs.Prelude.{ℕ, List, [], ◌∷◌, ◌++◌, Some, None}
 use Rattle.std.specs.Option.{option_map}
 use Rattle.q_model.specs.declared.spot.Area.{Area}
-use Rattle.q_host.specs.Files.{Table, put}
+use Rattle.q_host.specs.Files.{Placed, put}
 use Rattle.q_mem_host.specs.declared.rot.Rot.{Rot}
 use Rattle.q_mem_host.specs.Kept.{fallen, firm, Kept, overwritten, synced}
 
@@ -19,7 +19,7 @@ pub data Event : Type 0 where
 
 -- the files and the told bytes
 pub record State : Type 0 where
-  pub disk : Table Kept
+  pub disk : Placed Kept
   pub told : List ℕ
 
 -- no files, and nothing told

@@ -3,7 +3,7 @@ use Rattle.std.specs.Prelude.{◌≡◌, ◌≤◌, ◌<◌, min, ℕ, false, Li
 use Rattle.std.specs.Option.{option_map}
 use Rattle.std.specs.List.{slice_index}
 use Rattle.q_model.specs.declared.spot.Area.{Area}
-use Rattle.q_host.specs.Files.{Table}
+use Rattle.q_host.specs.Files.{Placed}
 use Rattle.q_model.specs.SpoolFiles.{Files}
 use Rattle.q_host.specs.View.{Remains, View}
 use Rattle.q_mem_host.specs.Kept.{Kept, is_soft}
@@ -32,7 +32,7 @@ abbrev pub read_of : Option Kept → Option (List ℕ)
 read_of = option_map (λ k. k.bytes)
 
 -- what reads give, at each place
-abbrev pub files_of : Table Kept → Files
+abbrev pub files_of : Placed Kept → Files
 files_of disk = λ a n. read_of (disk a n)
 
 -- what a crash may have left after one of the events from that number on

@@ -23,7 +23,8 @@ deferred_name place id = option_map (λ due. record { due = due; id = id }) (due
 
 -- all names in deferred
 abbrev pub deferred_names : Book → List DeferredName
-deferred_names b = filter_map (λ m. deferred_name m.place m.id) b.messages ++ filter_map (λ d. deferred_name d.place d.id) b.damaged
+deferred_names b = filter_map (λ m. deferred_name m.place m.id) b.messages
+    ++ filter_map (λ d. deferred_name d.place d.id) b.damaged
 
 -- the scan hasn't come to the name, and takes it
 abbrev pub is_ahead : Scan → DeferredName → Bool

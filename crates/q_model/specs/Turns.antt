@@ -50,7 +50,8 @@ is_pick l id = option_map_or (λ p. id_eq (pick_id p) id) (pick l) false
 -- the turn passes, and the walk of deferred goes on behind the name
 abbrev pub passed : Pick → Ledger → Ledger
 passed (from_incoming id) l = record l { deferred_turn = true }
-passed (from_deferred name) l = record l { deferred_turn = false; scan = option_map (λ (s : Scan). record s { place = Some name }) l.scan }
+passed (from_deferred name) l =
+    record l { deferred_turn = false; scan = option_map (λ (s : Scan). record s { place = Some name }) l.scan }
 
 -- the turn and the scan, after a file was picked
 abbrev pub after_pick : Ledger → Ledger
