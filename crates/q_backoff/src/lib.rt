@@ -2,8 +2,6 @@
 //! minimal_backoff_time, maximal_backoff_time, maximal_queue_lifetime, bounce_queue_lifetime).
 #![tactic(auto)]
 
-#[cfg(test)]
-mod tests;
 mod times;
 
 pub use times::{due, expired};

@@ -11,8 +11,6 @@ mod events;
 mod item;
 mod line;
 mod line_reader;
-#[cfg(test)]
-mod tests;
 
 pub use error::{Bound, EventError};
 pub use events::Events;

@@ -8,8 +8,6 @@
 
 mod feedback;
 mod sum;
-#[cfg(test)]
-mod tests;
 
 pub use feedback::Feedback;
 pub use sum::Sum;

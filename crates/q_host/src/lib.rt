@@ -5,8 +5,6 @@
 
 mod error;
 mod host;
-#[cfg(test)]
-mod tests;
 
 pub use error::HostError;
 pub use host::Host;

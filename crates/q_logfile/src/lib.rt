@@ -8,8 +8,6 @@
 
 mod reading;
 mod record;
-#[cfg(test)]
-mod tests;
 mod writing;
 
 pub use reading::{notes, records};

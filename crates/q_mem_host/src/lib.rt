@@ -15,8 +15,6 @@ mod mem_host;
 mod plan;
 mod record;
 mod rot;
-#[cfg(test)]
-mod tests;
 
 pub use mem_host::MemHost;
 pub use rot::Rot;

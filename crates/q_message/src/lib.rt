@@ -12,11 +12,7 @@ mod error;
 mod front;
 mod head;
 mod names;
-#[cfg(test)]
-mod recipient_tests;
 mod recipients;
-#[cfg(test)]
-mod tests;
 mod window;
 mod writing;
 

@@ -20,8 +20,6 @@ mod rows;
 mod sequence;
 mod site;
 mod spot;
-#[cfg(test)]
-mod tests;
 
 pub use address::{Address, split_domain};
 pub use entry::Entry;

@@ -11,8 +11,6 @@ mod error;
 mod parameter;
 mod params;
 mod reader;
-#[cfg(test)]
-mod tests;
 mod times;
 
 pub use error::{ParamCause, ParamError};

@@ -5,8 +5,6 @@
 mod error;
 mod kind;
 mod reading;
-#[cfg(test)]
-mod tests;
 mod writing;
 
 pub use error::RecError;

@@ -5,8 +5,6 @@
 mod memory;
 mod reader;
 mod source;
-#[cfg(test)]
-mod tests;
 
 pub use memory::MemSource;
 pub use reader::StdSource;

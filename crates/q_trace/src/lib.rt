@@ -16,8 +16,6 @@ mod lists;
 mod part_texts;
 mod parts;
 mod reading;
-#[cfg(test)]
-mod tests;
 mod writing;
 
 pub use error::EntryError;

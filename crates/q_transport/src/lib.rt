@@ -12,8 +12,6 @@ mod line;
 mod lookup;
 mod reader;
 mod table;
-#[cfg(test)]
-mod tests;
 mod text;
 
 pub use error::TableError;

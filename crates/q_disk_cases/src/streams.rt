@@ -1,5 +1,5 @@
 //! Streams over memory and over a reader, call by call.
-use crate::{MemSource, Source, StdSource, Take};
+use q_stream::{MemSource, Source, StdSource, Take};
 use std::alloc::Global;
 use std::io;
 use std::io::Read;

@@ -1,7 +1,7 @@
 use Rattle.std.proofs.Common.{rules}
 use Rattle.q_mem_host.specs.Left.{view_of}
 use Rattle.q_message.proofs.NameLaws.{head_after, there_after}
-use Rattle.q_message.proofs.recipient_tests.two_names.Goals as goal
+use Rattle.q_disk_cases.proofs.recipients.two_names.Goals as goal
 
 pub read_names-requires-clause-there : goal.read_names-requires-clause-there
 read_names-requires-clause-there g c t = there_after (view_of c.args.host.now.history) (view_of c.read_head.new.host.history) c.args.spot (c.read_head.ensures.stays t) (search rules)

@@ -1,6 +1,6 @@
 //! Event lists just inside their grammar and just outside it, cut into pieces of several lengths.
-use crate::EventError::{BadEvent, Source};
-use crate::{Bound, EventError, Events, Item};
+use q_events::EventError::{BadEvent, Source};
+use q_events::{Bound, EventError, Events, Item};
 use q_model::Outcome::{Later, Never, Ok as Done};
 use q_model::SiteState::{Down, Up};
 use q_model::{Address, Event, Outcome, SiteState, Trigger};

@@ -1,6 +1,6 @@
 //! A host in memory, call by call and through crashes.
-use crate::{MemHost, Rot};
 use q_host::{Host, HostError};
+use q_mem_host::{MemHost, Rot};
 use q_model::{Area, Name, Names};
 use std::alloc::Global;
 use std::process::Abort;

@@ -1,5 +1,6 @@
-use super::*;
-use std::test::*;
+//! Records of queue files, with bytes written out by hand.
+use q_record::{Rec, RecError, get, put};
+use std::test::Fail;
 
 /// The record of a recipient: `R`, 12, the mark byte `P` and an address.
 const RECIPIENT: [u8; 17] = *b"R\x00\x00\x00\x0cPb@y.example";

@@ -1,5 +1,5 @@
 //! Times at the bounds of the defaults.
-use crate::{due, expired};
+use q_backoff::{due, expired};
 use q_params::Params;
 
 #[test]

@@ -1,7 +1,7 @@
 //! Transport tables just inside their grammar, and just outside it, and the routes of addresses.
-use crate::TableError::{BadLine, TooMany, Twice};
-use crate::{Table, TableError, read_table};
 use q_model::Address;
+use q_transport::TableError::{BadLine, TooMany, Twice};
+use q_transport::{Table, TableError, read_table};
 use std::alloc::Global;
 use std::process::Abort;
 use std::test::Fail;

@@ -1,5 +1,5 @@
 //! Feedbacks as SCHEDULER_README and postconf(5) write them, with amounts worked out by hand.
-use crate::{Feedback, Sum};
+use q_feedback::{Feedback, Sum};
 
 const WHOLE: u64 = 5_342_931_457_063_200;
 

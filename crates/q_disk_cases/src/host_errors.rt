@@ -1,5 +1,5 @@
 //! The texts of errors.
-use crate::HostError;
+use q_host::HostError;
 use q_model::NoMemory;
 use std::alloc::AllocError;
 use std::test::Fail;

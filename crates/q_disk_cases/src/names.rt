@@ -1,5 +1,5 @@
 //! Worked names, texts just inside and just outside their forms, and each list with ample memory.
-use crate::{
+use q_model::{
     Address, Batch, Bytes, Hop, Id, Moment, Name, Names, Taken, due_name, due_of, id_name, id_of,
     split_domain,
 };

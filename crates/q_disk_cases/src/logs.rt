@@ -1,7 +1,7 @@
 //! Logs just inside and just outside the form.
-use super::*;
+use q_logfile::{notes, records};
 use q_model::{Failure, Note, Why};
-use std::test::*;
+use std::test::Fail;
 
 const REFUSED: Failure = Failure {
     position: 0,

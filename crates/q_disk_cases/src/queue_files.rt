@@ -1,10 +1,10 @@
-use super::*;
-use q_host::Area;
+//! Queue files inside their form and outside it, written and read.
 use q_mem_host::MemHost;
-use q_model::{Address, Addresses, FileHead, Head, Name, Spot};
+use q_message::{MessageError, read_head, write_message};
+use q_model::{Address, Addresses, Area, FileHead, Head, Name, Spot};
 use std::alloc::Global;
 use std::process::Abort;
-use std::test::*;
+use std::test::Fail;
 
 /// A message from a@x.example to b@y.example that arrived at 1000, without content.
 const FILE: &[u8] = b"C\x00\x00\x00\x0c\x00\x00\x00\x01\x00\x00\x00\x01\x00\x00\x00\x00\

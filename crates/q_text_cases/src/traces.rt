@@ -1,8 +1,8 @@
 //! Lines of entries just inside their forms, which are read and written back, and lines just
 //! outside. What line an entry has, and which entry a line, the contracts say: these rows come
 //! from outside.
-use crate::{EntryError, entry_text, read_entry};
 use q_model::{Address, Addresses, Bytes, Entry, Hop, Id, Positions, Site};
+use q_trace::{EntryError, entry_text, read_entry};
 use q_transport::{Table, read_table};
 use std::alloc::Global;
 use std::test::Fail;

@@ -1,7 +1,7 @@
 //! Parameter files just inside their grammar, and just outside it.
-use crate::ParamCause::{BadValue, NoEquals, NotText, Twice, UnknownName};
-use crate::{ParamCause, ParamError, read_params};
 use q_feedback::Feedback;
+use q_params::ParamCause::{BadValue, NoEquals, NotText, Twice, UnknownName};
+use q_params::{ParamCause, ParamError, read_params};
 use std::test::Fail;
 
 const ALL: &str = "\

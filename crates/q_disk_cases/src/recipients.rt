@@ -1,10 +1,11 @@
-use crate::tests::{host_with, spot};
-use crate::{read_head, read_names, read_recipients};
+//! Recipients of queue files: those that are pending, and addresses at positions.
+use crate::queue_files::{host_with, spot};
 use q_mem_host::MemHost;
+use q_message::{read_head, read_names, read_recipients};
 use q_model::{Addresses, Batch, Cursor, Positions, Spot};
 use std::alloc::Global;
 use std::process::Abort;
-use std::test::*;
+use std::test::Fail;
 
 /// Recipients a@b, b@b, c@b, d@b and e@b, of which the second and the fourth are done.
 const FIVE: &[u8] = b"C\x00\x00\x00\x0c\x00\x00\x00\x01\x00\x00\x00\x05\x00\x00\x00\x00\
