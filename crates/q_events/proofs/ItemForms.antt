@@ -13,10 +13,10 @@ use Rattle.q_model.specs.Texts.{is_address}
 use Rattle.q_model.specs.declared.event.Event.TheVariants as events
 use Rattle.q_text.specs.Numbers.{is_number, number_within}
 use Rattle.q_text.specs.Pieces.{each_some, one_or_more, words_in}
-use Rattle.q_text.specs.ValueForms.{IsAddress, IsListOf, IsOutcomeAt}
-use Rattle.q_text.specs.ValueTexts.{address_of, outcome_of, sender_of, state_of, trigger_of}
+use Rattle.q_text.specs.ValueForms.{HasAddressForm, IsListOf, IsOutcomeAt}
+use Rattle.q_text.specs.ValueTexts.{address_of, outcome_of, sender_of_text, state_of_text, trigger_of}
 use Rattle.q_text.proofs.OutcomeReads.{exact_outcome}
-use Rattle.q_events.specs.EventLines.{command_of, has_front, is_body, is_passed, line_of, mail_of, moment_of, reply_of, reply_to, single_of, trigger_command}
+use Rattle.q_events.specs.EventLines.{command_of, has_front, is_body, is_passed, meaning_of_line, mail_in, moment_of, reply_in, reply_to, single_of, trigger_command}
 use Rattle.q_events.specs.EventList.{item_of}
 use Rattle.q_events.specs.Forms.{IsInForm, IsItemInForm, IsMailInForm}
 use Rattle.q_events.specs.declared.error.EventError.{EventError}
@@ -60,17 +60,17 @@ any (Some a) = tt
 abbrev AreAddresses : List (List ℕ) → Type 0
 AreAddresses to = list_all is_address to ≡ true
 
-address_form : (text : List ℕ) → IfSome (address_of text) IsAddress
+address_form : (text : List ℕ) → IfSome (address_of text) HasAddressForm
 address_form text = by (is_address text) refl
   where
-    by : (b : Bool) → is_address text ≡ b → IfSome (if b then Some text else None) IsAddress
+    by : (b : Bool) → is_address text ≡ b → IfSome (if b then Some text else None) HasAddressForm
     by true e = e
     by false e = tt
 
 addresses_form : (texts : List (List ℕ)) → IfSome (each_some address_of texts) AreAddresses
 addresses_form [] = refl
 addresses_form (text ∷ texts) =
-    by_first IsAddress AreAddresses _ (address_of text) (address_form text)
+    by_first HasAddressForm AreAddresses _ (address_of text) (address_form text)
     (λ a is. by_map AreAddresses AreAddresses _ (each_some address_of texts) (addresses_form texts)
     (λ others are. and_from (is_address a) (list_all is_address others) is are))
 
@@ -80,22 +80,22 @@ AreRecipients to = AreAddresses to × (1 ≤ length to)
 recipients_form : (texts : List (List ℕ)) → IfSome (one_or_more address_of texts) AreRecipients
 recipients_form [] = tt
 recipients_form (text ∷ texts) =
-    by_first IsAddress AreRecipients _ (address_of text) (address_form text)
+    by_first HasAddressForm AreRecipients _ (address_of text) (address_form text)
     (λ a is. by_map AreAddresses AreRecipients _ (each_some address_of texts) (addresses_form texts)
     (λ others are. (and_from (is_address a) (list_all is_address others) is are, omega arith)))
 
 abbrev HasForm : Option (List ℕ) → Type 0
 HasForm sender = option_map_or is_address sender true ≡ true
 
-sender_form : (text : List ℕ) → IfSome (sender_of text) HasForm
+sender_form : (text : List ℕ) → IfSome (sender_of_text text) HasForm
 sender_form text =
     by_test HasForm (bytes_eq text (codes "<>")) (Some None) (option_map (λ address. Some address) (address_of text)) refl
-    (by_map IsAddress HasForm (λ address. Some address) (address_of text) (address_form text) (λ a is. is))
+    (by_map HasAddressForm HasForm (λ address. Some address) (address_of text) (address_form text) (λ a is. is))
 
-mail_form : (texts : List (List ℕ)) → IfSome (mail_of texts) CommandInForm
+mail_form : (texts : List (List ℕ)) → IfSome (mail_in texts) CommandInForm
 mail_form [] = tt
 mail_form (text ∷ texts) =
-    by_first HasForm CommandInForm _ (sender_of text) (sender_form text)
+    by_first HasForm CommandInForm _ (sender_of_text text) (sender_form text)
     (λ sender is. by_map AreRecipients CommandInForm _ (one_or_more address_of texts) (recipients_form texts) (λ to are. (is, are.0, are.1)))
 
 outcome_form : (state : SiteState) (text : List ℕ) → IfSome (outcome_of state text) (IsOutcomeAt state)
@@ -125,11 +125,11 @@ outcomes_form state (text ∷ texts) =
 reply_to_form : (number : ℕ) (texts : List (List ℕ)) → IfSome (reply_to number texts) CommandInForm
 reply_to_form number [] = tt
 reply_to_form number (text ∷ texts) =
-    by_first (λ s. Unit {0}) CommandInForm _ (state_of text) (any (state_of text))
+    by_first (λ s. Unit {0}) CommandInForm _ (state_of_text text) (any (state_of_text text))
     (λ state _. by_map (IsListOf (IsOutcomeAt state)) CommandInForm _ (one_or_more (outcome_of state) texts) (outcomes_form state texts)
     (λ outcomes are. are))
 
-reply_form : (texts : List (List ℕ)) → IfSome (reply_of texts) CommandInForm
+reply_form : (texts : List (List ℕ)) → IfSome (reply_in texts) CommandInForm
 reply_form [] = tt
 reply_form (text ∷ texts) = by_first (λ n. Unit {0}) CommandInForm _ (number_within 0 (2 ^ 64 - 1) text) (any (number_within 0 (2 ^ 64 - 1) text)) (λ number is. reply_to_form number texts)
 
@@ -166,8 +166,8 @@ unfolding command_of
 command_form line =
     by_test CommandInForm (has_front (codes "mail ") line) _ _ (mail_form (words_in (drop 5 line))) (by_test CommandInForm (has_front (codes "reply ") line) _ _ (reply_form (words_in (drop 6 line))) (single_form line))
 
-line_form : (line : List ℕ) → IfSome (line_of line) LineInForm
-unfolding line_of
+line_form : (line : List ℕ) → IfSome (meaning_of_line line) LineInForm
+unfolding meaning_of_line
 line_form line =
     by_test LineInForm (is_passed line) _ _ tt (by_test LineInForm (is_body line) _ _ tt (by_map CommandInForm LineInForm (λ command. Told command) (command_of line) (command_form line) (λ command is. is)))
 
@@ -190,7 +190,7 @@ told : (said : Line) (command : Command) → LineInForm said → said ≡ Told c
 told said command h e = subst LineInForm e h
 
 -- the item of a line
-pub item_in_form : (line content : List ℕ) (n : ℕ) (said : Line) (command : Command) (o : Option Item) (e : EventError) → line_of line ≡ Some said → said ≡ Told command → o ≡ item_of content n command → IfOk (ok_or o e) IsItemInForm
+pub item_in_form : (line content : List ℕ) (n : ℕ) (said : Line) (command : Command) (o : Option Item) (e : EventError) → meaning_of_line line ≡ Some said → said ≡ Told command → o ≡ item_of content n command → IfOk (ok_or o e) IsItemInForm
 item_in_form line content n said command o e is_said is_told is =
     let line : LineInForm said = subst (λ (x : Option Line). IfSome x LineInForm) is_said (line_form line) in
     answered o e (subst OptionInForm (sym is) (item_form content n command (told said command line is_told)))

@@ -5,10 +5,10 @@ use Rattle.std.specs.List.{flat_map, list_all, prefix_len, take_while}
 use Rattle.std.specs.Option.{ok_or, option_map_or}
 use Rattle.std.proofs.lemmas.Bool.{le-ltb, and_parts, and_from}
 use Rattle.std.proofs.lemmas.List.{append-nil, length_push}
-use Rattle.q_events.specs.EventLines.{line_of}
-use Rattle.q_events.specs.EventList.{Reading, found, bad, past_limit, meaning, is_leading, leads, content_by, content_of, item_of, command_in, item_at, first_item}
+use Rattle.q_events.specs.EventLines.{meaning_of_line}
+use Rattle.q_events.specs.EventList.{FirstItem, found, bad, past_limit, meaning, is_leading, leads, content_by, content_of, item_of, command_in, item_at, first_item}
 use Rattle.q_events.specs.LineReadings.{AnswersAt, GivesLine, LineAt, StopsInLine}
-use Rattle.q_events.specs.Readings.{Gives, reading, StopsBefore}
+use Rattle.q_events.specs.Readings.{GivesItem, reading, StopsBefore}
 use Rattle.q_events.specs.States.{EventsState}
 use Rattle.q_events.specs.TextLines.{TextLine, whole, cut, is_long, lines_from}
 use Rattle.q_events.specs.declared.error.EventError.{EventError}
@@ -72,8 +72,8 @@ led_reading e now bytes content rest more is at stops =
 
 -- ---- one line more
 
-meaning_of : (text : List ℕ) → length text ≤ 16777216 → meaning (whole text) ≡ line_of text
-meaning_of text short = ap (λ b. if b then None else line_of text) (le-ltb 16777216 (length text) short)
+meaning_of : (text : List ℕ) → length text ≤ 16777216 → meaning (whole text) ≡ meaning_of_line text
+meaning_of text short = ap (λ b. if b then None else meaning_of_line text) (le-ltb 16777216 (length text) short)
 
 flat_push : (ls : List TextLine) (x : TextLine) → flat_map content_of (ls ++ x ∷ []) ≡ flat_map content_of ls ++ content_of x
 flat_push [] x = append-nil (content_of x)
@@ -100,7 +100,7 @@ no_command Body h = refl
 no_command (Told command) h = cc
 
 pub line_led : (e now later : EventsState) (old mid new : Option (List ℕ)) (content more text : List ℕ) (said : Line) → Led e old content now mid → LineAt now mid later new text → length text ≤ 16777216
-    → line_of text ≡ Some said → command_in (Some said) ≡ None → more ≡ content ++ content_by text (Some said) → later.lines ≡ now.lines + 1 → Led e old more later new
+    → meaning_of_line text ≡ Some said → command_in (Some said) ≡ None → more ≡ content ++ content_by text (Some said) → later.lines ≡ now.lines + 1 → Led e old more later new
 line_led e now later None mid new content more text said led at short is_said none added count = tt
 line_led e now later (Some bytes) None new content more text said (rest, m, is) at short is_said none added count = absurd (cc)
 line_led e now later (Some bytes) (Some mid) new content more text said (rest, m, is) (others, n, at) short is_said none added count =
@@ -117,15 +117,15 @@ line_led e now later (Some bytes) (Some mid) new content more text said (rest, m
 no_front : (x : TextLine) (xs : List TextLine) → leads x ≡ false → take_while leads (x ∷ xs) ≡ []
 no_front x xs h = ap (λ b. take (cond b (1 + prefix_len leads xs) 0) (x ∷ xs)) h
 
-at_line : (content text : List ℕ) (n : ℕ) (more : List TextLine) (o : Option Line) → length text ≤ 16777216 → line_of text ≡ o
+at_line : (content text : List ℕ) (n : ℕ) (more : List TextLine) (o : Option Line) → length text ≤ 16777216 → meaning_of_line text ≡ o
     → item_at content n (whole text ∷ more) ≡ option_map_or (λ item. found item n more) (option_and_then (item_of content n) (command_in o)) (bad n)
 at_line content text n more o short said = ap (λ (x : Option Line). option_map_or (λ item. found item n more) (option_and_then (item_of content n) (command_in x)) (bad n)) (meaning_of text short ∙ said)
 
-stops_at : (text : List ℕ) (more : List TextLine) (o : Option Line) → length text ≤ 16777216 → line_of text ≡ o → is_leading o ≡ false → take_while leads (whole text ∷ more) ≡ []
+stops_at : (text : List ℕ) (more : List TextLine) (o : Option Line) → length text ≤ 16777216 → meaning_of_line text ≡ o → is_leading o ≡ false → take_while leads (whole text ∷ more) ≡ []
 stops_at text more o short said h = no_front (whole text) more (ap is_leading (meaning_of text short ∙ said) ∙ h)
 
 line_reading : (e now later : EventsState) (bytes content text mid rest others : List ℕ) (o : Option Line) → IsLed e bytes content now rest → mid ≡ rest → lines_from now.budget mid ≡ whole text ∷ lines_from later.budget others
-    → length text ≤ 16777216 → line_of text ≡ o → is_leading o ≡ false → later.lines ≡ now.lines + 1
+    → length text ≤ 16777216 → meaning_of_line text ≡ o → is_leading o ≡ false → later.lines ≡ now.lines + 1
     → reading e bytes ≡ option_map_or (λ item. found item later.lines (lines_from later.budget others)) (option_and_then (item_of content later.lines) (command_in o)) (bad later.lines)
 line_reading e now later bytes content text mid rest others o is same at short said h count =
     let more = lines_from later.budget others in
@@ -134,7 +134,7 @@ line_reading e now later bytes content text mid rest others o is same at short s
 
 -- the item of a command
 pub item_found : (e now later : EventsState) (old mid new : Option (List ℕ)) (content text : List ℕ) (command : Command) (item : Item) → Led e old content now mid → LineAt now mid later new text → length text ≤ 16777216
-    → line_of text ≡ Some (Told command) → item_of content later.lines command ≡ Some item → later.lines ≡ now.lines + 1
+    → meaning_of_line text ≡ Some (Told command) → item_of content later.lines command ≡ Some item → later.lines ≡ now.lines + 1
     → IfSome old (λ bytes. (rest : List ℕ) × (new ≡ Some rest) × (reading e bytes ≡ found item later.lines (lines_from later.budget rest)))
 item_found e now later None mid new content text command item led at short said h count = tt
 item_found e now later (Some bytes) None new content text command item (rest, m, is) at short said h count = absurd (cc)
@@ -148,7 +148,7 @@ item_found e now later (Some bytes) (Some mid) new content text command item (re
 
 -- a command that can't have this content
 pub no_item : (e now later : EventsState) (old mid new : Option (List ℕ)) (content text : List ℕ) (command : Command) → Led e old content now mid → LineAt now mid later new text → length text ≤ 16777216
-    → line_of text ≡ Some (Told command) → item_of content later.lines command ≡ None → later.lines ≡ now.lines + 1
+    → meaning_of_line text ≡ Some (Told command) → item_of content later.lines command ≡ None → later.lines ≡ now.lines + 1
     → IfSome old (λ bytes. reading e bytes ≡ bad later.lines)
 no_item e now later None mid new content text command led at short said h count = tt
 no_item e now later (Some bytes) None new content text command (rest, m, is) at short said h count = absurd (cc)
@@ -159,7 +159,7 @@ no_item e now later (Some bytes) (Some mid) new content text command (rest, m, i
 
 -- a line that is none of an event list
 pub bad_line : (e now later : EventsState) (old mid new : Option (List ℕ)) (content text : List ℕ) → Led e old content now mid → LineAt now mid later new text → length text ≤ 16777216
-    → line_of text ≡ None → later.lines ≡ now.lines + 1 → IfSome old (λ bytes. reading e bytes ≡ bad later.lines)
+    → meaning_of_line text ≡ None → later.lines ≡ now.lines + 1 → IfSome old (λ bytes. reading e bytes ≡ bad later.lines)
 bad_line e now later None mid new content text led at short said count = tt
 bad_line e now later (Some bytes) None new content text (rest, m, is) at short said count = absurd (cc)
 bad_line e now later (Some bytes) (Some mid) new content text (rest, m, is) (others, n, at) short said count =
@@ -167,7 +167,7 @@ bad_line e now later (Some bytes) (Some mid) new content text (rest, m, is) (oth
 
 -- ---- where there is no next line
 
-pub answered : (e now : EventsState) (old mid : Option (List ℕ)) (content : List ℕ) (answer : Reading) → Led e old content now mid → AnswersAt now mid answer → IfSome old (λ bytes. reading e bytes ≡ answer)
+pub answered : (e now : EventsState) (old mid : Option (List ℕ)) (content : List ℕ) (answer : FirstItem) → Led e old content now mid → AnswersAt now mid answer → IfSome old (λ bytes. reading e bytes ≡ answer)
 answered e now None mid content answer led at = tt
 answered e now (Some bytes) None content answer (rest, m, is) at = absurd (cc)
 answered e now (Some bytes) (Some mid) content answer (rest, m, is) at =
@@ -189,8 +189,8 @@ is_cut line more short content n = (refl, rw short refl)
 
 too_long : (line : TextLine) (more : List TextLine) → is_long line ≡ true → (content : List ℕ) (n : ℕ) → (take_while leads (line ∷ more) ≡ []) × (item_at content n (line ∷ more) ≡ bad n)
 too_long (whole line) more long content n = (
-  no_front (whole line) more (ap (λ b. is_leading (if b then None else line_of line)) long),
-  ap (λ b. option_map_or (λ item. found item n more) (option_and_then (item_of content n) (command_in (if b then None else line_of line))) (bad n)) long,
+  no_front (whole line) more (ap (λ b. is_leading (if b then None else meaning_of_line line)) long),
+  ap (λ b. option_map_or (λ item. found item n more) (option_and_then (item_of content n) (command_in (if b then None else meaning_of_line line))) (bad n)) long,
 )
 too_long (cut line) more long content n = (refl, rw long refl)
 
@@ -208,14 +208,14 @@ end_answers now (Some bytes) e = λ content. rw e (refl, refl)
 
 -- ---- what a call gives
 
-pub line_fails : (e now later : EventsState) (old mid new source : Option (List ℕ)) (content : List ℕ) (error : EventError) → Led e old content now mid → GivesLine now mid later new source (Err error) → Gives e old later new source (Err error)
+pub line_fails : (e now later : EventsState) (old mid new source : Option (List ℕ)) (content : List ℕ) (error : EventError) → Led e old content now mid → GivesLine now mid later new source (Err error) → GivesItem e old later new source (Err error)
 line_fails e now later old mid new source content errors.NoMemory led at = tt
 line_fails e now later old mid new source content errors.Source led at = stopped e now old mid source content led at
 line_fails e now later old mid new source content (errors.BadEvent line) led at = answered e now old mid content (bad line) led at
 line_fails e now later old mid new source content (errors.Limit bound) led at = (at.0, answered e now old mid content past_limit led at.1)
 
 command_gives : (e now later : EventsState) (old mid new source : Option (List ℕ)) (content text : List ℕ) (command : Command) (r : Option Item) → Led e old content now mid → LineAt now mid later new text → length text ≤ 16777216
-    → line_of text ≡ Some (Told command) → r ≡ item_of content later.lines command → later.lines ≡ now.lines + 1 → Gives e old later new source (ok_or r (errors.BadEvent later.lines))
+    → meaning_of_line text ≡ Some (Told command) → r ≡ item_of content later.lines command → later.lines ≡ now.lines + 1 → GivesItem e old later new source (ok_or r (errors.BadEvent later.lines))
 command_gives e now later old mid new source content text command None led at short said h count = no_item e now later old mid new content text command led at short said (sym h) count
 command_gives e now later old mid new source content text command (Some item) led at short said h count = item_found e now later old mid new content text command item led at short said (sym h) count
 
@@ -225,8 +225,8 @@ is_told Body command h = cc
 is_told (Told other) command h = let same : other ≡ command = cc in ap Told same
 
 pub told_gives : (e now later : EventsState) (old mid new source : Option (List ℕ)) (content more text : List ℕ) (said : Line) (command : Command) (r : Option Item) → Led e old content now mid → LineAt now mid later new text → length text ≤ 16777216
-    → line_of text ≡ Some said → command_in (Some said) ≡ Some command → more ≡ content ++ content_by text (Some said) → r ≡ item_of more later.lines command → later.lines ≡ now.lines + 1
-    → Gives e old later new source (ok_or r (errors.BadEvent later.lines))
+    → meaning_of_line text ≡ Some said → command_in (Some said) ≡ Some command → more ≡ content ++ content_by text (Some said) → r ≡ item_of more later.lines command → later.lines ≡ now.lines + 1
+    → GivesItem e old later new source (ok_or r (errors.BadEvent later.lines))
 told_gives e now later old mid new source content more text said command r led at short is_said told added h count =
     let is = is_told said command told in
     let bare : more ≡ content = added ∙ ap (λ (x : Line). content ++ content_by text (Some x)) is ∙ append-nil content in
@@ -234,6 +234,6 @@ told_gives e now later old mid new source content more text said command r led a
 
 -- ---- behind the end
 
-pub stays_ended : (e : EventsState) (old source : Option (List ℕ)) → e.ended ≡ true → Gives e old e old source (Ok items.End)
+pub stays_ended : (e : EventsState) (old source : Option (List ℕ)) → e.ended ≡ true → GivesItem e old e old source (Ok items.End)
 stays_ended e None source ended = tt
 stays_ended e (Some bytes) source ended = (bytes, refl, ap (λ b. if b then found items.End e.lines (lines_from e.budget bytes) else first_item (e.lines + 1) (lines_from e.budget bytes)) ended)

@@ -6,7 +6,7 @@ use Rattle.q_model.specs.declared.outcome.Outcome.{Outcome}
 use Rattle.q_model.specs.declared.outcome.SiteState.{SiteState}
 use Rattle.q_text.specs.Numbers.{number_within}
 use Rattle.q_text.specs.Pieces.{one_or_more, words_in}
-use Rattle.q_text.specs.ValueTexts.{address_of, outcome_of, sender_of, state_of, trigger_of}
+use Rattle.q_text.specs.ValueTexts.{address_of, outcome_of, sender_of_text, state_of_text, trigger_of}
 use Rattle.q_events.specs.declared.line.Line.{Line}
 use Rattle.q_events.specs.declared.line.Line.TheVariants.{Body, Passed, Told}
 use Rattle.q_events.specs.declared.line.Command.{Command}
@@ -17,11 +17,11 @@ abbrev pub has_front : List ℕ → List ℕ → Bool
 has_front front text = starts_with nat_eq text front
 
 -- `SENDER RECIPIENT ..`, at least one recipient
-abbrev pub mail_of : List (List ℕ) → Option Command
-mail_of [] = None
-mail_of (sender ∷ to) =
+abbrev pub mail_in : List (List ℕ) → Option Command
+mail_in [] = None
+mail_in (sender ∷ to) =
     option_and_then (λ sender. option_map (commands.Mail sender) (one_or_more address_of to))
-    (sender_of sender)
+    (sender_of_text sender)
 
 -- the reply to a delivery of a site in this state
 abbrev pub reply_command : ℕ → SiteState → List Outcome → Command
@@ -32,12 +32,12 @@ abbrev pub reply_to : ℕ → List (List ℕ) → Option Command
 reply_to number [] = None
 reply_to number (word ∷ words) =
     option_and_then (λ state. option_map (reply_command number state) (one_or_more (outcome_of state) words))
-    (state_of word)
+    (state_of_text word)
 
 -- `NUMBER up OUTCOME ..` or `NUMBER down OUTCOME ..`
-abbrev pub reply_of : List (List ℕ) → Option Command
-reply_of [] = None
-reply_of (number ∷ answer) =
+abbrev pub reply_in : List (List ℕ) → Option Command
+reply_in [] = None
+reply_in (number ∷ answer) =
     option_and_then (λ number. reply_to number answer) (number_within 0 (2 ^ 64 - 1) number)
 
 -- a moment in input
@@ -61,8 +61,8 @@ single_of line =
 -- the command of a line that is neither passed over nor one of content
 unfoldable pub command_of : List ℕ → Option Command
 command_of line =
-    if has_front (codes "mail ") line then mail_of (words_in (drop 5 line))
-    else if has_front (codes "reply ") line then reply_of (words_in (drop 6 line))
+    if has_front (codes "mail ") line then mail_in (words_in (drop 5 line))
+    else if has_front (codes "reply ") line then reply_in (words_in (drop 6 line))
     else single_of line
 
 -- empty lines and those that begin with `#` are passed over
@@ -74,8 +74,8 @@ abbrev pub is_body : List ℕ → Bool
 is_body line = bytes_eq line (codes "body") || has_front (codes "body ") line
 
 -- what a line says, if it is one of an event list
-unfoldable pub line_of : List ℕ → Option Line
-line_of line =
+unfoldable pub meaning_of_line : List ℕ → Option Line
+meaning_of_line line =
     if is_passed line then Some Passed
     else if is_body line then Some Body
     else option_map (λ command. Told command) (command_of line)

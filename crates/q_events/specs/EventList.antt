@@ -5,7 +5,7 @@ use Rattle.std.specs.Prelude.{◌+◌, [], Bool, drop, false, if◌then◌else�
 use Rattle.q_model.specs.Lists.{has_none}
 use Rattle.q_model.specs.TextParts.{text_line}
 use Rattle.q_model.specs.declared.event.Event.TheVariants as events
-use Rattle.q_events.specs.EventLines.{line_of}
+use Rattle.q_events.specs.EventLines.{meaning_of_line}
 use Rattle.q_events.specs.TextLines.{cut, is_long, TextLine, whole, bytes_of}
 use Rattle.q_events.specs.declared.item.Item.{Item}
 use Rattle.q_events.specs.declared.item.Item.TheVariants as items
@@ -16,7 +16,7 @@ use Rattle.q_events.specs.declared.line.Command.TheVariants as commands
 
 -- what a line says, if it is whole and not too long
 abbrev pub meaning : TextLine → Option Line
-meaning (whole line) = if is_long (whole line) then None else line_of line
+meaning (whole line) = if is_long (whole line) then None else meaning_of_line line
 meaning (cut line) = None
 
 -- the lines that may stand before a mail: those that are passed over, and those of its content
@@ -49,10 +49,10 @@ item_of content n commands.End = if has_none content then Some items.End else No
 
 -- what stands first in an event list: an item, with the number of its line and the lines behind it; a line
 -- that can't stand there; or the end of the bytes that a list may have
-pub data Reading : Type 0 where
-  found : Item → ℕ → List TextLine → Reading
-  bad : ℕ → Reading
-  past_limit : Reading
+pub data FirstItem : Type 0 where
+  found : Item → ℕ → List TextLine → FirstItem
+  bad : ℕ → FirstItem
+  past_limit : FirstItem
 
 -- the command of a line
 abbrev pub command_in : Option Line → Option Command
@@ -71,17 +71,17 @@ abbrev pub item_in : List ℕ → ℕ → TextLine → Option Item
 item_in content n line = option_and_then (item_of content n) (command_in (meaning line))
 
 -- what the first of these lines gives; where there is none, `end` is missing
-abbrev pub item_at : List ℕ → ℕ → List TextLine → Reading
+abbrev pub item_at : List ℕ → ℕ → List TextLine → FirstItem
 item_at content n [] = bad n
 item_at content n (line ∷ more) =
     if passes_limit line then past_limit
     else option_map_or (λ item. found item n more) (item_in content n line) (bad n)
 
 -- the first item behind the leading ones of these lines
-abbrev pub behind_leading : ℕ → List TextLine → List TextLine → Reading
+abbrev pub behind_leading : ℕ → List TextLine → List TextLine → FirstItem
 behind_leading n leading lines =
     item_at (flat_map content_of leading) (n + length leading) (drop (length leading) lines)
 
 -- the first item of these lines, of which the first has number n
-abbrev pub first_item : ℕ → List TextLine → Reading
+abbrev pub first_item : ℕ → List TextLine → FirstItem
 first_item n lines = behind_leading n (take_while leads lines) lines

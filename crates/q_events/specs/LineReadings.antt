@@ -5,7 +5,7 @@ use Rattle.std.specs.Prelude.{◌+◌, ◌++◌, ◌<◌, ◌≡◌, ◌≤◌, 
 use Rattle.q_model.specs.FaultCounts.{Rose}
 use Rattle.q_stream.specs.declared.source.Take.{Take}
 use Rattle.q_stream.specs.declared.source.Take.TheVariants as takes
-use Rattle.q_events.specs.EventList.{bad, item_at, leads, past_limit, Reading}
+use Rattle.q_events.specs.EventList.{bad, item_at, leads, past_limit, FirstItem}
 use Rattle.q_events.specs.Readings.{is_in_line}
 use Rattle.q_events.specs.States.{text_left, EventsState, ReaderState}
 use Rattle.q_events.specs.TextLines.{cut, is_long, lines_from, TextLine, whole}
@@ -34,10 +34,10 @@ abbrev pub GivesNext : ReaderState → Option (List ℕ) → ReaderState → Opt
 GivesNext r old r' new next = NextIs (text_left r.buffered old) (text_left r'.buffered new) new next
 
 -- a source's count rises where the source failed, and only there
-abbrev pub Counts : ℕ → ℕ → Next → Type 0
-Counts before now (nexts.Byte b) = now ≡ before
-Counts before now nexts.End = now ≡ before
-Counts before now nexts.Failed = (before ≤ now) × Rose before now
+abbrev pub CountsFaults : ℕ → ℕ → Next → Type 0
+CountsFaults before now (nexts.Byte b) = now ≡ before
+CountsFaults before now nexts.End = now ≡ before
+CountsFaults before now nexts.Failed = (before ≤ now) × Rose before now
 
 -- the first line of a text that may have so many bytes is whole, too long, or past the limit, or there is
 -- none
@@ -79,7 +79,7 @@ LineAt e old e' new line =
     × (lines_from e.budget bytes ≡ whole line ∷ lines_from e'.budget rest))
 
 -- the next line stops the reading with this answer, whatever content stands before it
-abbrev pub AnswersAt : EventsState → Option (List ℕ) → Reading → Type 0
+abbrev pub AnswersAt : EventsState → Option (List ℕ) → FirstItem → Type 0
 AnswersAt e old answer =
     IfSome old (λ bytes. (content : List ℕ) → (take_while leads (lines_from e.budget bytes) ≡ [])
     × (item_at content (e.lines + 1) (lines_from e.budget bytes) ≡ answer))

@@ -1,7 +1,7 @@
 -- What a call gives of the bytes that are left of an event list.
 use Rattle.std.specs.List.{list_all}
 use Rattle.std.specs.Prelude.{◌+◌, ◌++◌, ◌==◌, ◌≡◌, Bool, Err, false, if◌then◌else◌, IfSome, List, not, Ok, Option, Result, Some, true, ℕ}
-use Rattle.q_events.specs.EventList.{bad, first_item, found, leads, past_limit, Reading}
+use Rattle.q_events.specs.EventList.{bad, first_item, found, leads, past_limit, FirstItem}
 use Rattle.q_events.specs.States.{EventsState, text_left}
 use Rattle.q_events.specs.TextLines.{lines_from, TextLine}
 use Rattle.q_events.specs.declared.error.Bound.TheVariants.{Input}
@@ -11,16 +11,16 @@ use Rattle.q_events.specs.declared.item.Item.{Item}
 use Rattle.q_events.specs.declared.item.Item.TheVariants as items
 
 -- What stands first in these bytes. Behind `end` nothing is looked at, and the answer stays.
-abbrev pub reading : EventsState → List ℕ → Reading
+abbrev pub reading : EventsState → List ℕ → FirstItem
 reading e bytes =
     if e.ended then found items.End e.lines (lines_from e.budget bytes)
     else first_item (e.lines + 1) (lines_from e.budget bytes)
 
 -- the item is the end of the list
-abbrev pub is_end : Item → Bool
-is_end (items.Step event line) = false
-is_end items.Restart = false
-is_end items.End = true
+abbrev pub is_list_end : Item → Bool
+is_list_end (items.Step event line) = false
+is_list_end items.Restart = false
+is_list_end items.End = true
 
 -- no line ends in these bytes
 abbrev pub is_in_line : List ℕ → Bool
@@ -36,22 +36,22 @@ StopsBefore e old source =
 
 -- A call gives what stands first in the bytes that are left, `old`; behind an item `new` is left, and its
 -- lines are those behind the item.
-abbrev pub Gives : EventsState → Option (List ℕ) → EventsState → Option (List ℕ) → Option (List ℕ)
+abbrev pub GivesItem : EventsState → Option (List ℕ) → EventsState → Option (List ℕ) → Option (List ℕ)
     → Result Item EventError → Type 0
-Gives e old e' new source (Ok item) =
+GivesItem e old e' new source (Ok item) =
     IfSome old (λ bytes. (rest : List ℕ) × (new ≡ Some rest)
     × (reading e bytes ≡ found item e'.lines (lines_from e'.budget rest)))
-Gives e old e' new source (Err (errors.BadEvent line)) = IfSome old (λ bytes. reading e bytes ≡ bad line)
-Gives e old e' new source (Err (errors.Limit bound)) =
+GivesItem e old e' new source (Err (errors.BadEvent line)) = IfSome old (λ bytes. reading e bytes ≡ bad line)
+GivesItem e old e' new source (Err (errors.Limit bound)) =
     (bound ≡ Input) × IfSome old (λ bytes. reading e bytes ≡ past_limit)
-Gives e old e' new source (Err errors.Source) = StopsBefore e old source
-Gives e old e' new source (Err errors.NoMemory) = Unit {0}
+GivesItem e old e' new source (Err errors.Source) = StopsBefore e old source
+GivesItem e old e' new source (Err errors.NoMemory) = Unit {0}
 
 -- the same, by what is buffered and what the source has
 abbrev pub Reads : EventsState → Option (List ℕ) → EventsState → Option (List ℕ) → Result Item EventError
     → Type 0
 Reads e old e' new result =
-    Gives e (text_left e.buffered old) e' (text_left e'.buffered new) new result
+    GivesItem e (text_left e.buffered old) e' (text_left e'.buffered new) new result
 
 -- the reader gives no item any more: its list may have no byte more, and `end` wasn't among its lines
 abbrev pub GivesNoMore : EventsState → Type 0

@@ -5,7 +5,7 @@ ghost use Rattle.q_model.specs.TextParts.{text_line};
 ghost use Rattle.q_events.specs.EventList.{command_in, content_by, item_of};
 ghost use Rattle.q_events.specs.Forms.{IsItemInForm};
 ghost use Rattle.q_events.specs.LineReadings.{ReadsLine};
-ghost use Rattle.q_events.specs.Readings.{GivesNoMore, is_end, Reads};
+ghost use Rattle.q_events.specs.Readings.{GivesNoMore, is_list_end, Reads};
 ghost use Rattle.q_events.specs.States.{unread_list};
 
 use crate::error::{Bound, EventError};
@@ -183,9 +183,9 @@ impl Events {
         ensures exact { Reads self.old (S.left source.old) self.new (S.left source.new) result }
         // From here on also where the source doesn't tell what is left of it.
         ensures form { IfOk result IsItemInForm }
-        ensures ended { IfOk result (λ item. self.new.ended ≡ is_end item) }
-        ensures stays { self.old.ended ≡ true → IfOk result (λ item. is_end item ≡ true) }
-        ensures progress { IfOk result (λ item. is_end item ≡ false
+        ensures ended { IfOk result (λ item. self.new.ended ≡ is_list_end item) }
+        ensures stays { self.old.ended ≡ true → IfOk result (λ item. is_list_end item ≡ true) }
+        ensures progress { IfOk result (λ item. is_list_end item ≡ false
             → self.new.budget < self.old.budget) }
         ensures moves { IfOk result (λ _. self.old.ended ≡ false
             → self.new.budget < self.old.budget) }

@@ -1,7 +1,7 @@
 //! What the lines of an event list say.
 ghost use Rattle.std.specs.Prelude.{◌≡◌, IfOk};
 ghost use Rattle.q_text.specs.Pieces.{words_in};
-ghost use Rattle.q_events.specs.EventLines.{command_of, is_body, is_passed, line_of, mail_of, moment_of, reply_of, reply_to, single_of, trigger_command};
+ghost use Rattle.q_events.specs.EventLines.{command_of, is_body, is_passed, meaning_of_line, mail_in, moment_of, reply_in, reply_to, single_of, trigger_command};
 
 use q_model::{Address, Addresses, Event, NoMemory};
 use q_text::{
@@ -37,7 +37,7 @@ pub(crate) enum Command {
 }
 
 fn mail(alloc: Global, text: &[u8]) -> Result<Option<Command>, NoMemory>
-    ensures { IfOk result (λ command. command ≡ mail_of (words_in text.now)) }
+    ensures { IfOk result (λ command. command ≡ mail_in (words_in text.now)) }
 {
     let (word, more) = first_word(text);
     let Some(sender) = read_sender(word) else {
@@ -73,7 +73,7 @@ fn reply_to(alloc: Global, number: u64, text: &[u8]) -> Result<Option<Command>, 
 }
 
 fn reply(alloc: Global, text: &[u8]) -> Result<Option<Command>, NoMemory>
-    ensures { IfOk result (λ command. command ≡ reply_of (words_in text.now)) }
+    ensures { IfOk result (λ command. command ≡ reply_in (words_in text.now)) }
 {
     let (word, more) = first_word(text);
     let Some(number) = read_number(word, 0, u64::MAX) else {
@@ -145,9 +145,9 @@ fn is_body(line: &[u8]) -> bool
 }
 
 /// What a line says; `None` where it is none of an event list.
-#[tactic(auto, unfolding(crate::specs::EventLines::line_of))]
+#[tactic(auto, unfolding(crate::specs::EventLines::meaning_of_line))]
 pub(crate) fn parse(alloc: Global, line: &[u8]) -> Result<Option<Line>, NoMemory>
-    ensures { IfOk result (λ said. said ≡ line_of line.now) }
+    ensures { IfOk result (λ said. said ≡ meaning_of_line line.now) }
 {
     if is_passed(line) {
         return Ok(Some(Line::Passed));

@@ -1,7 +1,7 @@
 //! Lines of a source, which gives its bytes in pieces.
 ghost use Rattle.std.specs.Prelude.{◌≡◌, ◌≤◌, ◌<◌, length, IfOk, [], ◌∷◌};
 ghost use Rattle.q_stream.specs.Takes.{HasCause};
-ghost use Rattle.q_events.specs.LineReadings.{Counts, FailsInLine, Fills, GivesNext, GivesNextLine, Spends};
+ghost use Rattle.q_events.specs.LineReadings.{CountsFaults, FailsInLine, Fills, GivesNext, GivesNextLine, Spends};
 
 use q_stream::{Source, Take};
 use std::alloc::Global;
@@ -113,7 +113,7 @@ impl LineReader {
     fn next_byte<S: Source>(&mut self, source: &mut S) -> Next
         ensures next { GivesNext self.old (S.left source.old) self.new (S.left source.new) result }
         ensures budget { self.new.budget ≡ self.old.budget }
-        ensures counts { Counts (S.faults source.old) (S.faults source.new) result }
+        ensures counts { CountsFaults (S.faults source.old) (S.faults source.new) result }
     {
         if self.at < self.end {
             return Next::Byte(self.give());

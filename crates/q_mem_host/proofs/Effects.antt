@@ -9,7 +9,7 @@ use Rattle.q_host.specs.Steps.{Stay, Become, Tear, Sync, Add, AddSome}
 use Rattle.q_host.specs.Calls.{Stays, Changes, Writes, Syncs, Tells, IsAsItWas}
 use Rattle.q_host.proofs.Puts.{put-here, put-other, put-is, same_place-true, same_place-refl}
 use Rattle.q_mem_host.specs.Kept.{Kept, firm, overwritten}
-use Rattle.q_mem_host.specs.Event.{Event, State, after, state_of, create, write, sync, rename, remove, tell}
+use Rattle.q_mem_host.specs.Event.{Event, HostState, host_state_after, host_state_of, create, write, sync, rename, remove, tell}
 use Rattle.q_mem_host.specs.Left.{IsRemnant, IsLeft, MayLeave, read_of, files_of, view_of}
 use Rattle.q_mem_host.proofs.History.{state_more, goes_by, goes_idle}
 use Rattle.q_mem_host.proofs.Steps.{whole, firm-only, before, was_left, is_torn}
@@ -56,7 +56,7 @@ held_left : (x o : Option (List ℕ)) → IsLeft (Held x) o → o ≡ x
 held_left None o h = none_left o h
 held_left (Some bytes) o h = firm_left bytes o h
 
-put_step : (s : State) (a : Area) (n : List ℕ) (x : Option (List ℕ)) (c : Remains)
+put_step : (s : HostState) (a : Area) (n : List ℕ) (x : Option (List ℕ)) (c : Remains)
     → MayLeave (record { disk = put s.disk a n (Held x); told = s.told }) c → After (Become (λ f. put f a n x)) (MayLeave s) c
 put_step s a n x c left = (
   record { files = put c.files a n (read_of (s.disk a n)); told = c.told },
@@ -71,12 +71,12 @@ read_held (Some bytes) = refl
 files_put : (disk : Placed Kept) (a : Area) (n : List ℕ) (x : Option Kept) → files_of (put disk a n x) ≡ put (files_of disk) a n (read_of x)
 files_put disk a n x = put-is (files_of disk) (files_of (put disk a n x)) a n (read_of x) (ap read_of (put-here disk a n x)) (λ b m e. ap read_of (put-other disk a n x b m e))
 
-put_changes : (h : List Event) (e : Event) (a : Area) (n : List ℕ) (x : Option (List ℕ)) → after e (state_of h) ≡ record { disk = put (state_of h).disk a n (Held x); told = (state_of h).told }
+put_changes : (h : List Event) (e : Event) (a : Area) (n : List ℕ) (x : Option (List ℕ)) → host_state_after e (host_state_of h) ≡ record { disk = put (host_state_of h).disk a n (Held x); told = (host_state_of h).told }
     → Changes (λ f. put f a n x) (view_of h) (view_of (h ++ e ∷ []))
 put_changes h e a n x is = record {
-  files = ap (λ (s : State). files_of s.disk) (state_more h e ∙ is) ∙ files_put (state_of h).disk a n (Held x) ∙ ap (λ (o : Option (List ℕ)). put (files_of (state_of h).disk) a n o) (read_held x);
-  told = ap (λ (s : State). s.told) (state_more h e ∙ is);
-  goes = goes_by (Become (λ f. put f a n x)) (Become (λ f. put f a n x)) h e (λ c left. put_step (state_of h) a n x c (subst (λ (s : State). MayLeave s c) is left)) (λ d c st. st);
+  files = ap (λ (s : HostState). files_of s.disk) (state_more h e ∙ is) ∙ files_put (host_state_of h).disk a n (Held x) ∙ ap (λ (o : Option (List ℕ)). put (files_of (host_state_of h).disk) a n o) (read_held x);
+  told = ap (λ (s : HostState). s.told) (state_more h e ∙ is);
+  goes = goes_by (Become (λ f. put f a n x)) (Become (λ f. put f a n x)) h e (λ c left. put_step (host_state_of h) a n x c (subst (λ (s : HostState). MayLeave s c) is left)) (λ d c st. st);
 }
 
 pub made : (h : List Event) (a : Area) (n : List ℕ) → Changes (λ f. with_file f a n []) (view_of h) (view_of (h ++ create a n ∷ []))
@@ -97,21 +97,21 @@ as_it_was h = record { files = refl; told = refl; moment = refl; may_leave = λ 
 
 pub told_all : (h : List Event) (bytes : List ℕ) → Tells bytes (length bytes) (view_of h) (view_of (h ++ tell bytes ∷ []))
 told_all h bytes = record {
-  files = ap (λ (s : State). files_of s.disk) (state_more h (tell bytes));
-  told = ap (λ (s : State). s.told) (state_more h (tell bytes)) ∙ ap (λ (l : List ℕ). (state_of h).told ++ l) (sym all);
+  files = ap (λ (s : HostState). files_of s.disk) (state_more h (tell bytes));
+  told = ap (λ (s : HostState). s.told) (state_more h (tell bytes)) ∙ ap (λ (l : List ℕ). (host_state_of h).told ++ l) (sym all);
   goes = goes_by (Add (take (length bytes) bytes)) (AddSome bytes) h (tell bytes) step (λ d c st. (length bytes, omega arith, st));
 }
   where
     all : take (length bytes) bytes ≡ bytes
     all = take_all (length bytes) bytes (omega arith)
 
-    step : (c : Remains) → MayLeave (after (tell bytes) (state_of h)) c → After (Add (take (length bytes) bytes)) (MayLeave (state_of h)) c
-    step c left = (record { files = c.files; told = (state_of h).told }, record { told = refl; each = left.each }, record { files = refl; told = left.told ∙ ap (λ (l : List ℕ). (state_of h).told ++ l) (sym all) })
+    step : (c : Remains) → MayLeave (host_state_after (tell bytes) (host_state_of h)) c → After (Add (take (length bytes) bytes)) (MayLeave (host_state_of h)) c
+    step c left = (record { files = c.files; told = (host_state_of h).told }, record { told = refl; each = left.each }, record { files = refl; told = left.told ∙ ap (λ (l : List ℕ). (host_state_of h).told ++ l) (sym all) })
 
 -- ---- synced files
 
-sync_step : (s : State) (a : Area) (n : List ℕ) (k : Kept) → s.disk a n ≡ Some k → (c : Remains)
-    → MayLeave (after (sync a n) s) c → After (Sync a n (read_of (s.disk a n))) (MayLeave s) c
+sync_step : (s : HostState) (a : Area) (n : List ℕ) (k : Kept) → s.disk a n ≡ Some k → (c : Remains)
+    → MayLeave (host_state_after (sync a n) s) c → After (Sync a n (read_of (s.disk a n))) (MayLeave s) c
 sync_step s a n k is c left = (c, record { told = left.told; each = each }, record { same = refl; whole = here })
   where
     to : option_map (λ (q : Kept). firm q.bytes) (s.disk a n) ≡ Some (firm k.bytes)
@@ -134,13 +134,13 @@ firm_reads : (o : Option Kept) → read_of (option_map (λ (q : Kept). firm q.by
 firm_reads None = refl
 firm_reads (Some k) = refl
 
-pub synced : (h : List Event) (a : Area) (n : List ℕ) (k : Kept) → (state_of h).disk a n ≡ Some k → Syncs a n (view_of h) (view_of (h ++ sync a n ∷ []))
+pub synced : (h : List Event) (a : Area) (n : List ℕ) (k : Kept) → (host_state_of h).disk a n ≡ Some k → Syncs a n (view_of h) (view_of (h ++ sync a n ∷ []))
 synced h a n k is = record {
-  files = ap (λ (s : State). files_of s.disk) (state_more h (sync a n)) ∙ files_put (state_of h).disk a n _
-      ∙ ap (λ (o : Option (List ℕ)). put (files_of (state_of h).disk) a n o) (firm_reads ((state_of h).disk a n))
-      ∙ sym (put-is (files_of (state_of h).disk) (files_of (state_of h).disk) a n (read_of ((state_of h).disk a n)) refl (λ b m e. refl));
-  told = ap (λ (s : State). s.told) (state_more h (sync a n));
-  goes = goes_by (Sync a n (read_of ((state_of h).disk a n))) Stay h (sync a n) (sync_step (state_of h) a n k is) (λ d c st. st.same);
+  files = ap (λ (s : HostState). files_of s.disk) (state_more h (sync a n)) ∙ files_put (host_state_of h).disk a n _
+      ∙ ap (λ (o : Option (List ℕ)). put (files_of (host_state_of h).disk) a n o) (firm_reads ((host_state_of h).disk a n))
+      ∙ sym (put-is (files_of (host_state_of h).disk) (files_of (host_state_of h).disk) a n (read_of ((host_state_of h).disk a n)) refl (λ b m e. refl));
+  told = ap (λ (s : HostState). s.told) (state_more h (sync a n));
+  goes = goes_by (Sync a n (read_of ((host_state_of h).disk a n))) Stay h (sync a n) (sync_step (host_state_of h) a n k is) (λ d c st. st.same);
 }
 
 -- ---- written bytes
@@ -149,8 +149,8 @@ some_left : (k : Kept) (o : Option (List ℕ)) → IsLeft (Some k) o → (c : Li
 some_left k None h = absurd h
 some_left k (Some c) h = (c, refl, h)
 
-write_step : (s : State) (a : Area) (n : List ℕ) (at : ℕ) (over : List ℕ) (k : Kept) → s.disk a n ≡ Some k → at ≤ length k.bytes → (c : Remains)
-    → MayLeave (after (write a n at over) s) c → After (Tear a n at (length over)) (MayLeave s) c
+write_step : (s : HostState) (a : Area) (n : List ℕ) (at : ℕ) (over : List ℕ) (k : Kept) → s.disk a n ≡ Some k → at ≤ length k.bytes → (c : Remains)
+    → MayLeave (host_state_after (write a n at over) s) c → After (Tear a n at (length over)) (MayLeave s) c
 write_step s a n at over k is within c left = (
   record { files = put c.files a n (Some was); told = c.told },
   record { told = left.told; each = each },
@@ -184,12 +184,12 @@ written_reads : (at : ℕ) (over : List ℕ) (o : Option Kept) → read_of (opti
 written_reads at over None = refl
 written_reads at over (Some k) = refl
 
-pub wrote : (h : List Event) (a : Area) (n : List ℕ) (at : ℕ) (over : List ℕ) (k : Kept) → (state_of h).disk a n ≡ Some k → at ≤ length k.bytes → Writes a n at over (length over) (view_of h) (view_of (h ++ write a n at over ∷ []))
+pub wrote : (h : List Event) (a : Area) (n : List ℕ) (at : ℕ) (over : List ℕ) (k : Kept) → (host_state_of h).disk a n ≡ Some k → at ≤ length k.bytes → Writes a n at over (length over) (view_of h) (view_of (h ++ write a n at over ∷ []))
 wrote h a n at over k is within = record {
-  files = ap (λ (s : State). files_of s.disk) (state_more h (write a n at over)) ∙ files_put (state_of h).disk a n _
-      ∙ ap (λ (o : Option (List ℕ)). put (files_of (state_of h).disk) a n o) (written_reads at over ((state_of h).disk a n) ∙ ap (λ (l : List ℕ). option_map (written at l) (read_of ((state_of h).disk a n))) (sym all));
-  told = ap (λ (s : State). s.told) (state_more h (write a n at over));
-  goes = goes_by (Tear a n at (length over)) (Tear a n at (length over)) h (write a n at over) (write_step (state_of h) a n at over k is within) (λ d c st. st);
+  files = ap (λ (s : HostState). files_of s.disk) (state_more h (write a n at over)) ∙ files_put (host_state_of h).disk a n _
+      ∙ ap (λ (o : Option (List ℕ)). put (files_of (host_state_of h).disk) a n o) (written_reads at over ((host_state_of h).disk a n) ∙ ap (λ (l : List ℕ). option_map (written at l) (read_of ((host_state_of h).disk a n))) (sym all));
+  told = ap (λ (s : HostState). s.told) (state_more h (write a n at over));
+  goes = goes_by (Tear a n at (length over)) (Tear a n at (length over)) h (write a n at over) (write_step (host_state_of h) a n at over k is within) (λ d c st. st);
 }
   where
     all : take (length over) over ≡ over
@@ -207,8 +207,8 @@ other_way a n b m differ = by (same_place b m a n) refl
         absurd (true≢false (sym turned ∙ differ))
     by false e = refl
 
-rename_step : (s : State) (a : Area) (n : List ℕ) (b : Area) (m : List ℕ) → same_place a n b m ≡ false → (c : Remains)
-    → MayLeave (after (rename a n b m) s) c → After (Become (λ f. moved f a n b m)) (MayLeave s) c
+rename_step : (s : HostState) (a : Area) (n : List ℕ) (b : Area) (m : List ℕ) → same_place a n b m ≡ false → (c : Remains)
+    → MayLeave (host_state_after (rename a n b m) s) c → After (Become (λ f. moved f a n b m)) (MayLeave s) c
 rename_step s a n b m differ c left = (record { files = d; told = c.told }, record { told = left.told; each = each }, (put-is (without_file d a n) c.files b m (d a n) (sym (put-here x a n (c.files b m))) others, refl))
   where
     x : Files
@@ -245,8 +245,8 @@ rename_step s a n b m differ c left = (record { files = d; told = c.told }, reco
 
 pub renamed : (h : List Event) (a : Area) (n : List ℕ) (b : Area) (m : List ℕ) → same_place a n b m ≡ false → Changes (λ f. moved f a n b m) (view_of h) (view_of (h ++ rename a n b m ∷ []))
 renamed h a n b m differ = record {
-  files = ap (λ (s : State). files_of s.disk) (state_more h (rename a n b m)) ∙ files_put (put (state_of h).disk a n None) b m ((state_of h).disk a n)
-      ∙ ap (λ (f : Files). put f b m (read_of ((state_of h).disk a n))) (files_put (state_of h).disk a n None);
-  told = ap (λ (s : State). s.told) (state_more h (rename a n b m));
-  goes = goes_by (Become (λ f. moved f a n b m)) (Become (λ f. moved f a n b m)) h (rename a n b m) (rename_step (state_of h) a n b m differ) (λ d c st. st);
+  files = ap (λ (s : HostState). files_of s.disk) (state_more h (rename a n b m)) ∙ files_put (put (host_state_of h).disk a n None) b m ((host_state_of h).disk a n)
+      ∙ ap (λ (f : Files). put f b m (read_of ((host_state_of h).disk a n))) (files_put (host_state_of h).disk a n None);
+  told = ap (λ (s : HostState). s.told) (state_more h (rename a n b m));
+  goes = goes_by (Become (λ f. moved f a n b m)) (Become (λ f. moved f a n b m)) h (rename a n b m) (rename_step (host_state_of h) a n b m differ) (λ d c st. st);
 }

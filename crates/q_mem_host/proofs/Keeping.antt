@@ -4,7 +4,7 @@ use Rattle.q_model.specs.declared.spot.Area.{Area}
 use Rattle.q_host.specs.Files.{Placed, put}
 use Rattle.q_mem_host.specs.declared.rot.Rot.{Rot}
 use Rattle.q_mem_host.specs.Kept.{Kept, fallen}
-use Rattle.q_mem_host.specs.Event.{Event, State, after, state_of, tell, crash}
+use Rattle.q_mem_host.specs.Event.{Event, HostState, host_state_after, host_state_of, tell, crash}
 use Rattle.q_mem_host.specs.Record.{history}
 use Rattle.q_mem_host.specs.declared.record.Call.{Call}
 use Rattle.std.specs.Option.{option_map}
@@ -16,27 +16,27 @@ use Rattle.q_mem_host.proofs.History.{state_more}
 
 -- nothing was done
 pub keeps_start : (es : List Entry) (told : List ℕ) (h : List Event) → es ≡ [] → told ≡ [] → h ≡ [] → KeepsUp es told h
-unfolding state_of
+unfolding host_state_of
 keeps_start es told h no_entries none_told nothing = record {
-  disk = ap (λ (l : List Entry). table l) no_entries ∙ sym (ap (λ (l : List Event). (state_of l).disk) nothing);
-  told = none_told ∙ sym (ap (λ (l : List Event). (state_of l).told) nothing);
+  disk = ap (λ (l : List Entry). table l) no_entries ∙ sym (ap (λ (l : List Event). (host_state_of l).disk) nothing);
+  told = none_told ∙ sym (ap (λ (l : List Event). (host_state_of l).told) nothing);
 }
 
 -- one event more
-pub keeps_more : (es : List Entry) (told : List ℕ) (h h' : List Event) (e : Event) → h' ≡ h ++ e ∷ [] → table es ≡ (after e (state_of h)).disk → told ≡ (after e (state_of h)).told → KeepsUp es told h'
+pub keeps_more : (es : List Entry) (told : List ℕ) (h h' : List Event) (e : Event) → h' ≡ h ++ e ∷ [] → table es ≡ (host_state_after e (host_state_of h)).disk → told ≡ (host_state_after e (host_state_of h)).told → KeepsUp es told h'
 keeps_more es told h h' e is disk bytes = record {
-  disk = disk ∙ sym (ap (λ (l : List Event). (state_of l).disk) is ∙ ap (λ (s : State). s.disk) (state_more h e));
-  told = bytes ∙ sym (ap (λ (l : List Event). (state_of l).told) is ∙ ap (λ (s : State). s.told) (state_more h e));
+  disk = disk ∙ sym (ap (λ (l : List Event). (host_state_of l).disk) is ∙ ap (λ (s : HostState). s.disk) (state_more h e));
+  told = bytes ∙ sym (ap (λ (l : List Event). (host_state_of l).told) is ∙ ap (λ (s : HostState). s.told) (state_more h e));
 }
 
 -- one call noted, by which the files change so
 pub keeps_by : (es es2 : List Entry) (told : List ℕ) (calls calls1 : List Call) (crashed : Option Rot) (g : List Event) (e : Event) (change : Placed Kept → Placed Kept)
     → KeepsUp es told (history calls crashed) → calls1 ≡ calls → table es2 ≡ change (table es) → g ≡ history calls1 crashed ++ e ∷ []
-    → ((s : State) → after e s ≡ record { disk = change s.disk; told = s.told }) → KeepsUp es2 told g
+    → ((s : HostState) → host_state_after e s ≡ record { disk = change s.disk; told = s.told }) → KeepsUp es2 told g
 keeps_by es es2 told calls calls1 crashed g e change up same now noted effect =
     let h : List Event = history calls crashed in
-    keeps_more es2 told h g e (noted ∙ ap (λ (l : List Call). history l crashed ++ e ∷ []) same) (now ∙ ap change up.disk ∙ sym (ap (λ (s : State). s.disk) (effect (state_of h))))
-    (up.told ∙ sym (ap (λ (s : State). s.told) (effect (state_of h))))
+    keeps_more es2 told h g e (noted ∙ ap (λ (l : List Call). history l crashed ++ e ∷ []) same) (now ∙ ap change up.disk ∙ sym (ap (λ (s : HostState). s.disk) (effect (host_state_of h))))
+    (up.told ∙ sym (ap (λ (s : HostState). s.told) (effect (host_state_of h))))
 
 -- a file put there, which is this one
 pub put_kept : (es es1 es2 : List Entry) (a : Area) (n : List ℕ) (k k' : Kept) → table es2 ≡ put (table es1) a n (Some k) → es1 ≡ es → k ≡ k' → table es2 ≡ put (table es) a n (Some k')
@@ -53,10 +53,10 @@ pub keeps_fallen : (es es2 : List Entry) (told : List ℕ) (h h' : List Event) (
 keeps_fallen es es2 told h h' rot up now more = keeps_more es2 told h h' (crash rot) more (now ∙ ap {B = Placed Kept} (λ (t : Placed Kept). λ a n. option_map (fallen rot) (t a n)) up.disk) up.told
 
 -- the state after a crash, and that after another one
-pub state_fallen : (g h h' : List Event) (rot : Rot) → g ≡ h → h' ≡ h ++ crash rot ∷ [] → state_of h' ≡ after (crash rot) (state_of g)
-state_fallen g h h' rot same more = ap (λ (l : List Event). state_of l) (more ∙ ap (λ (l : List Event). l ++ crash rot ∷ []) (sym same)) ∙ state_more g (crash rot)
+pub state_fallen : (g h h' : List Event) (rot : Rot) → g ≡ h → h' ≡ h ++ crash rot ∷ [] → host_state_of h' ≡ host_state_after (crash rot) (host_state_of g)
+state_fallen g h h' rot same more = ap (λ (l : List Event). host_state_of l) (more ∙ ap (λ (l : List Event). l ++ crash rot ∷ []) (sym same)) ∙ state_more g (crash rot)
 
-pub state_fallen_twice : (g h h0 : List Event) (first rot : Rot) → g ≡ h → h ≡ h0 ++ crash first ∷ [] → state_of h ≡ after (crash rot) (state_of g)
+pub state_fallen_twice : (g h h0 : List Event) (first rot : Rot) → g ≡ h → h ≡ h0 ++ crash first ∷ [] → host_state_of h ≡ host_state_after (crash rot) (host_state_of g)
 state_fallen_twice g h h0 first rot same was =
-    ap (λ (l : List Event). state_of l) was ∙ state_more h0 (crash first) ∙ sym (crash_again (state_of h0) first rot)
-    ∙ ap (λ (s : State). after (crash rot) s) (sym (ap (λ (l : List Event). state_of l) (same ∙ was) ∙ state_more h0 (crash first)))
+    ap (λ (l : List Event). host_state_of l) was ∙ state_more h0 (crash first) ∙ sym (crash_again (host_state_of h0) first rot)
+    ∙ ap (λ (s : HostState). host_state_after (crash rot) s) (sym (ap (λ (l : List Event). host_state_of l) (same ∙ was) ∙ state_more h0 (crash first)))

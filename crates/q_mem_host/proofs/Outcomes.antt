@@ -8,7 +8,7 @@ use Rattle.q_host.specs.Steps.{Tear, TornBytes}
 use Rattle.q_host.specs.Calls.{Writes, Syncs}
 use Rattle.q_host.proofs.Puts.{put-same}
 use Rattle.q_mem_host.specs.Kept.{Kept}
-use Rattle.q_mem_host.specs.Event.{Event, state_of, write, sync}
+use Rattle.q_mem_host.specs.Event.{Event, host_state_of, write, sync}
 use Rattle.q_mem_host.specs.Left.{IsLeft, MayLeave, read_of, files_of, view_of}
 use Rattle.q_mem_host.proofs.Effects.{synced, wrote}
 
@@ -24,12 +24,12 @@ reaches : (o : Option Kept) (at : ℕ) → IsSomeAnd (read_of o) (λ file. at �
 reaches (Some k) at h = (k, refl, h)
 reaches None at h = absurd h
 
-pub synced_now : (h : List Event) (a : Area) (n : List ℕ) → IsSome (files_of (state_of h).disk a n) → Syncs a n (view_of h) (view_of (h ++ sync a n ∷ []))
-synced_now h a n some = let k = found ((state_of h).disk a n) some in synced h a n k.0 k.1
+pub synced_now : (h : List Event) (a : Area) (n : List ℕ) → IsSome (files_of (host_state_of h).disk a n) → Syncs a n (view_of h) (view_of (h ++ sync a n ∷ []))
+synced_now h a n some = let k = found ((host_state_of h).disk a n) some in synced h a n k.0 k.1
 
-pub wrote_now : (h : List Event) (a : Area) (n : List ℕ) (at : ℕ) (over : List ℕ) → IsSomeAnd (files_of (state_of h).disk a n) (λ file. at ≤ length file)
+pub wrote_now : (h : List Event) (a : Area) (n : List ℕ) (at : ℕ) (over : List ℕ) → IsSomeAnd (files_of (host_state_of h).disk a n) (λ file. at ≤ length file)
     → Writes a n at over (length over) (view_of h) (view_of (h ++ write a n at over ∷ []))
-wrote_now h a n at over some = let k = reaches ((state_of h).disk a n) at some in wrote h a n at over k.0 k.1 k.2
+wrote_now h a n at over some = let k = reaches ((host_state_of h).disk a n) at some in wrote h a n at over k.0 k.1 k.2
 
 -- ---- nothing was written
 
@@ -43,13 +43,13 @@ some_left k (Some c) h = (c, refl)
 torn_nothing : (at len : ℕ) (c : List ℕ) → TornBytes at len c c
 torn_nothing at len c = record { before = refl; after = refl; no_shorter = omega arith; no_longer = omega arith }
 
-pub wrote_nothing : (h : List Event) (a : Area) (n : List ℕ) (at : ℕ) (over : List ℕ) → IsSomeAnd (files_of (state_of h).disk a n) (λ file. at ≤ length file)
+pub wrote_nothing : (h : List Event) (a : Area) (n : List ℕ) (at : ℕ) (over : List ℕ) → IsSomeAnd (files_of (host_state_of h).disk a n) (λ file. at ≤ length file)
     → (k : ℕ) × (k ≤ length over) × Writes a n at over k (view_of h) (view_of h)
 wrote_nothing h a n at over some = (
   0,
   omega arith,
   record {
-    files = sym (put-same (files_of (state_of h).disk) a n (option_map (written at []) (files_of (state_of h).disk a n)) same);
+    files = sym (put-same (files_of (host_state_of h).disk) a n (option_map (written at []) (files_of (host_state_of h).disk a n)) same);
     told = refl;
     goes = record {
       later = omega arith;
@@ -60,13 +60,13 @@ wrote_nothing h a n at over some = (
   },
 )
   where
-    k : (k : Kept) × ((state_of h).disk a n ≡ Some k) × (at ≤ length k.bytes)
-    k = reaches ((state_of h).disk a n) at some
+    k : (k : Kept) × ((host_state_of h).disk a n ≡ Some k) × (at ≤ length k.bytes)
+    k = reaches ((host_state_of h).disk a n) at some
 
-    same : files_of (state_of h).disk a n ≡ option_map (written at []) (files_of (state_of h).disk a n)
+    same : files_of (host_state_of h).disk a n ≡ option_map (written at []) (files_of (host_state_of h).disk a n)
     same = ap read_of k.1 ∙ ap (λ (l : List ℕ). Some l) (sym (over_nothing at k.0.bytes)) ∙ sym (ap (λ (o : Option Kept). option_map (written at []) (read_of o)) k.1)
 
-    torn : (len : ℕ) (c : Remains) → MayLeave (state_of h) c → Tear a n at len c c
+    torn : (len : ℕ) (c : Remains) → MayLeave (host_state_of h) c → Tear a n at len c c
     torn len c left =
         let x = some_left k.0 (c.files a n) (subst (λ (o : Option Kept). IsLeft o (c.files a n)) k.1 (left.each a n)) in
         record { old = x.0; new = x.0; was = x.1; is = x.1; torn = torn_nothing at len x.0; others = λ b m e. refl; told = refl }

@@ -10,7 +10,7 @@ use Rattle.q_host.specs.View.{Remains, now}
 use Rattle.q_mem_host.specs.declared.rot.Rot.{Rot}
 use Rattle.q_mem_host.specs.declared.rot.Rot.TheVariants.{Keep, Old, Byte}
 use Rattle.q_mem_host.specs.Kept.{Kept, in_range, is_soft, rotten, fallen, firm, overwritten}
-use Rattle.q_mem_host.specs.Event.{Event, create, write, sync, rename, remove, tell, place, crash, State, start, after, state_from, state_of}
+use Rattle.q_mem_host.specs.Event.{Event, create, write, sync, rename, remove, tell, place, crash, HostState, start, host_state_after, state_from, host_state_of}
 use Rattle.q_mem_host.specs.Left.{IsLeft, IsRemnant, MayLeave, read_of, files_of, view_of}
 use Rattle.q_mem_host.proofs.Crashes.{length-rotten, get_or-rotten}
 use Rattle.q_mem_host.proofs.Steps.{outside}
@@ -72,7 +72,7 @@ put_sound disk a n x s h = λ b m. by (same_place a n b m) (disk b m) (s b m)
     by true o g = h
     by false o g = g
 
-after_sound : (e : Event) (s : State) → Sound s.disk → Sound (after e s).disk
+after_sound : (e : Event) (s : HostState) → Sound s.disk → Sound (host_state_after e s).disk
 after_sound (create a n) s h = put_sound s.disk a n (Some (firm [])) h (firm_sound [])
 after_sound (write a n at bytes) s h = put_sound s.disk a n (option_map (overwritten at bytes) (s.disk a n)) h (map_sound (overwritten at bytes) (overwritten_sound at bytes) (s.disk a n) (h a n))
 after_sound (sync a n) s h = put_sound s.disk a n (option_map (λ k. firm k.bytes) (s.disk a n)) h (map_sound (λ k. firm k.bytes) (λ k g. firm_sound k.bytes) (s.disk a n) (h a n))
@@ -82,12 +82,12 @@ after_sound (tell bytes) s h = h
 after_sound (place a n bytes) s h = put_sound s.disk a n (Some (firm bytes)) h (firm_sound bytes)
 after_sound (crash rot) s h = λ a n. map_sound (fallen rot) (λ k g. fallen_sound rot k) (s.disk a n) (h a n)
 
-from_sound : (s : State) (h : List Event) → Sound s.disk → Sound (state_from s h).disk
+from_sound : (s : HostState) (h : List Event) → Sound s.disk → Sound (state_from s h).disk
 from_sound s [] g = g
-from_sound s (e ∷ h) g = from_sound (after e s) h (after_sound e s g)
+from_sound s (e ∷ h) g = from_sound (host_state_after e s) h (after_sound e s g)
 
-pub state_sound : (h : List Event) → Sound (state_of h).disk
-unfolding state_of
+pub state_sound : (h : List Event) → Sound (host_state_of h).disk
+unfolding host_state_of
 state_sound h = from_sound start h (λ a n. tt)
 
 -- ---- what a crash makes is allowed, and durable
@@ -106,9 +106,9 @@ place_left : (rot : Rot) (o : Option Kept) → AreSound o → IsLeft o (read_of 
 place_left rot None s = tt
 place_left rot (Some k) s = fallen_left rot k s
 
-pub crash_allowed : (h g : List Event) (rot : Rot) → state_of g ≡ after (crash rot) (state_of h) → MayLeave (state_of h) (now (view_of g))
-crash_allowed h g rot e = subst (λ (s : State). MayLeave (state_of h) (record { files = files_of s.disk; told = s.told })) (sym e)
-    (record { told = refl; each = λ a n. place_left rot ((state_of h).disk a n) (state_sound h a n) })
+pub crash_allowed : (h g : List Event) (rot : Rot) → host_state_of g ≡ host_state_after (crash rot) (host_state_of h) → MayLeave (host_state_of h) (now (view_of g))
+crash_allowed h g rot e = subst (λ (s : HostState). MayLeave (host_state_of h) (record { files = files_of s.disk; told = s.told })) (sym e)
+    (record { told = refl; each = λ a n. place_left rot ((host_state_of h).disk a n) (state_sound h a n) })
 
 fallen_reads : (rot : Rot) (o : Option Kept) (c : Option (List ℕ)) → IsLeft (option_map (fallen rot) o) c → c ≡ read_of (option_map (fallen rot) o)
 fallen_reads rot None c h = none_left c h
@@ -116,16 +116,16 @@ fallen_reads Keep (Some k) c h = firm_left k.bytes c h
 fallen_reads Old (Some k) c h = firm_left k.synced c h
 fallen_reads (Byte b) (Some k) c h = firm_left (rotten b k.soft 0 k.bytes) c h
 
-pub crash_durable : (h g : List Event) (rot : Rot) → state_of g ≡ after (crash rot) (state_of h) → (c : Remains) → MayLeave (state_of g) c → c ≡ now (view_of g)
-crash_durable h g rot e c left = subst (λ (s : State). c ≡ record { files = files_of s.disk; told = s.told }) (sym e) is
+pub crash_durable : (h g : List Event) (rot : Rot) → host_state_of g ≡ host_state_after (crash rot) (host_state_of h) → (c : Remains) → MayLeave (host_state_of g) c → c ≡ now (view_of g)
+crash_durable h g rot e c left = subst (λ (s : HostState). c ≡ record { files = files_of s.disk; told = s.told }) (sym e) is
   where
-    at_crash : MayLeave (after (crash rot) (state_of h)) c
-    at_crash = subst (λ (s : State). MayLeave s c) e left
+    at_crash : MayLeave (host_state_after (crash rot) (host_state_of h)) c
+    at_crash = subst (λ (s : HostState). MayLeave s c) e left
 
-    files : c.files ≡ files_of (after (crash rot) (state_of h)).disk
-    files = fun_ext (λ a. fun_ext (λ n. fallen_reads rot ((state_of h).disk a n) (c.files a n) (at_crash.each a n)))
+    files : c.files ≡ files_of (host_state_after (crash rot) (host_state_of h)).disk
+    files = fun_ext (λ a. fun_ext (λ n. fallen_reads rot ((host_state_of h).disk a n) (c.files a n) (at_crash.each a n)))
 
-    is : c ≡ record { files = files_of (after (crash rot) (state_of h)).disk; told = (after (crash rot) (state_of h)).told }
+    is : c ≡ record { files = files_of (host_state_after (crash rot) (host_state_of h)).disk; told = (host_state_after (crash rot) (host_state_of h)).told }
     is = λ i. record { files = files i; told = at_crash.told i }
 
 -- ---- a crash after a crash
@@ -145,5 +145,5 @@ falls_again Keep v (Some k) = ap (λ (q : Kept). Some q) (firm_falls v k.bytes)
 falls_again Old v (Some k) = ap (λ (q : Kept). Some q) (firm_falls v k.synced)
 falls_again (Byte b) v (Some k) = ap (λ (q : Kept). Some q) (firm_falls v (rotten b k.soft 0 k.bytes))
 
-pub crash_again : (s : State) (w v : Rot) → after (crash v) (after (crash w) s) ≡ after (crash w) s
+pub crash_again : (s : HostState) (w v : Rot) → host_state_after (crash v) (host_state_after (crash w) s) ≡ host_state_after (crash w) s
 crash_again s w v = λ i. record { disk = fun_ext (λ a. fun_ext (λ n. falls_again w v (s.disk a n))) i; told = s.told }

@@ -5,7 +5,7 @@ use Rattle.std.specs.Option.{option_map}
 use Rattle.std.specs.declared.alloc.Global.{Global}
 use Rattle.q_host.specs.Files.{put, same_place, Placed}
 use Rattle.q_mem_host.specs.Kept.{Kept}
-use Rattle.q_mem_host.specs.Event.{Event, state_of}
+use Rattle.q_mem_host.specs.Event.{Event, host_state_of}
 use Rattle.q_mem_host.specs.declared.file.File.{File}
 use Rattle.q_mem_host.specs.declared.entries.Entry.{Entry}
 
@@ -42,5 +42,5 @@ IsMoved a n b m old new = table new ≡ put (put (table old) a n None) b m (tabl
 
 -- the files and the told bytes are those that the history leads to
 pub record KeepsUp (entries : List Entry) (bytes : List ℕ) (h : List Event) : Type 0 where
-  pub disk : table entries ≡ (state_of h).disk
-  pub told : bytes ≡ (state_of h).told
+  pub disk : table entries ≡ (host_state_of h).disk
+  pub told : bytes ≡ (host_state_of h).told

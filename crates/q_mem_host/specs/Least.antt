@@ -19,8 +19,8 @@ before_test n None = true
 before_test n (Some m) = is_lt (slice_cmp nat_cmp n m)
 
 -- the entry is of the area, after one name and before the best so far
-abbrev pub is_better : Entry → Area → Option (List ℕ) → Option (List ℕ) → Bool
-is_better e a after best =
+abbrev pub is_lesser_name : Entry → Area → Option (List ℕ) → Option (List ℕ) → Bool
+is_lesser_name e a after best =
     nat_eq (area_number e.area) (area_number a) && after_test after e.name && before_test e.name best
 
 -- No name of the area stands after one, or the least that does is this.

@@ -7,7 +7,7 @@ use Rattle.q_host.specs.Files.{Placed}
 use Rattle.q_model.specs.SpoolFiles.{Files}
 use Rattle.q_host.specs.View.{Remains, View}
 use Rattle.q_mem_host.specs.Kept.{Kept, is_soft}
-use Rattle.q_mem_host.specs.Event.{Event, State, state_of}
+use Rattle.q_mem_host.specs.Event.{Event, HostState, host_state_of}
 
 -- The length is between that at the last sync and that now, and each byte that isn't written since then stays.
 pub record IsRemnant (k : Kept) (c : List ℕ) : Type 0 where
@@ -23,7 +23,7 @@ IsLeft (Some k) None = ⊥
 IsLeft (Some k) (Some c) = IsRemnant k c
 
 -- what a crash may leave of a state
-pub record MayLeave (s : State) (c : Remains) : Type 0 where
+pub record MayLeave (s : HostState) (c : Remains) : Type 0 where
   pub told : c.told ≡ s.told
   pub each : (a : Area) (n : List ℕ) → IsLeft (s.disk a n) (c.files a n)
 
@@ -37,14 +37,14 @@ files_of disk = λ a n. read_of (disk a n)
 
 -- what a crash may have left after one of the events from that number on
 abbrev pub LeftSince : List Event → ℕ → Remains → Type 0
-LeftSince h t c = (k : ℕ) × (t ≤ k) × (k ≤ length h) × MayLeave (state_of (take k h)) c
+LeftSince h t c = (k : ℕ) × (t ≤ k) × (k ≤ length h) × MayLeave (host_state_of (take k h)) c
 
 -- what is told after a history
 abbrev pub view_of : List Event → View
 view_of h = record {
-  files = files_of (state_of h).disk;
-  told = (state_of h).told;
-  may_leave = MayLeave (state_of h);
+  files = files_of (host_state_of h).disk;
+  told = (host_state_of h).told;
+  may_leave = MayLeave (host_state_of h);
   moment = length h;
   left_since = LeftSince h;
 }

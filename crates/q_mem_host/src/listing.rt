@@ -2,7 +2,7 @@
 ghost use Rattle.std.specs.Prelude.{◌≡◌, ◌≤◌, length, OnOk};
 ghost use Rattle.q_host.specs.Reads.{IsListing};
 ghost use Rattle.q_mem_host.specs.Data.{table};
-ghost use Rattle.q_mem_host.specs.Least.{after_test, before_test, is_better, IsLeastAfter};
+ghost use Rattle.q_mem_host.specs.Least.{after_test, before_test, is_lesser_name, IsLeastAfter};
 
 use crate::entries::{Entry, number};
 use q_model::{Area, Name, Names, NoMemory};
@@ -27,7 +27,7 @@ fn is_before(name: &Name, best: &Option<Name>) -> bool
 
 // Whether the entry's name is the best so far.
 fn is_better(entry: &Entry, area: Area, after: &Option<Name>, best: &Option<Name>) -> bool
-    ensures { result ≡ is_better entry.now area after.now best.now }
+    ensures { result ≡ is_lesser_name entry.now area after.now best.now }
 {
     number(entry.area) == number(area)
         && is_after(after, &entry.name)

@@ -2,7 +2,7 @@
 ghost use Rattle.std.specs.Prelude.{◌≡◌, OnOk, OnErr, option_copied};
 ghost use Rattle.q_model.specs.declared.spot.Area.{Area};
 ghost use Rattle.q_host.specs.View.{Remains, now};
-ghost use Rattle.q_mem_host.specs.Event.{place, crash, state_of, after};
+ghost use Rattle.q_mem_host.specs.Event.{place, crash, host_state_of, host_state_after};
 ghost use Rattle.q_mem_host.specs.Left.{MayLeave, nothing, view_of};
 ghost use Rattle.q_mem_host.specs.Memo.{new_memo, with_event, with_plan};
 ghost use Rattle.q_mem_host.specs.Plans.{no_plan, stopping, failing_at};
@@ -118,7 +118,7 @@ impl MemHost {
     }
 
     fn fall_down(&mut self, choice: Rot)
-        ensures left { state_of self.new.history ≡ after (crash choice) (state_of self.old.history) }
+        ensures left { host_state_of self.new.history ≡ host_state_after (crash choice) (host_state_of self.old.history) }
         ensures faults { self.new.faults ≡ self.old.faults }
         ensures plan { self.new.plan ≡ no_plan }
     {
@@ -136,7 +136,7 @@ impl MemHost {
     /// The host after a crash, with the told bytes, the counts of faults, and no calls that are to
     /// fail. All that it has is on the disk.
     pub fn crash(self, choice: Rot) -> MemHost
-        ensures left { state_of result.history ≡ after (crash choice) (state_of self.history) }
+        ensures left { host_state_of result.history ≡ host_state_after (crash choice) (host_state_of self.history) }
         ensures faults { result.faults ≡ self.faults }
         ensures plan { result.plan ≡ no_plan }
         // What is there now is among what a crash might have left, and from now on a crash leaves just that.

@@ -1,10 +1,10 @@
 -- The parts of a reading, as the program keeps them: two pairs of numbers stand apart.
 use Rattle.std.specs.Prelude.{◌≤◌}
-use Rattle.q_params.specs.Readings.{Reading}
+use Rattle.q_params.specs.Readings.{SettingsSoFar}
 use Rattle.q_params.specs.declared.draft.Draft.TheInside.{Inside}
 
 -- the parts together
-abbrev pub reading_of : Inside → Reading
+abbrev pub reading_of : Inside → SettingsSoFar
 reading_of d = record {
   settings = record d.params {
     recipient_limit = d.recipient_limit;

@@ -5,7 +5,7 @@ use Rattle.std.specs.Result.{result_map_both}
 use Rattle.q_model.specs.Lists.{least}
 use Rattle.q_model.specs.Settings.{defaults, Settings}
 use Rattle.q_text.specs.Lines.{through_lines}
-use Rattle.q_params.specs.Readings.{line_of, read_line, Reading}
+use Rattle.q_params.specs.Readings.{setting_line, read_setting_line, SettingsSoFar}
 use Rattle.q_params.specs.declared.error.ParamCause.{ParamCause}
 use Rattle.q_params.specs.declared.error.ParamCause.TheVariants.{BadValue}
 use Rattle.q_params.specs.declared.error.ParamError.{ParamError}
@@ -13,7 +13,7 @@ use Rattle.q_params.specs.declared.parameter.Parameter.{Parameter}
 use Rattle.q_params.specs.declared.parameter.Parameter.TheVariants as p
 
 -- before the first line
-abbrev pub nothing_read : Reading
+abbrev pub nothing_read : SettingsSoFar
 nothing_read = record { settings = defaults; lines = replicate 20 0 }
 
 -- a fault of line n
@@ -21,24 +21,24 @@ abbrev pub at_line : ℕ → ParamCause → ParamError
 at_line n cause = record { line = n; cause = cause }
 
 -- a line with its number, unless an earlier line was at fault
-abbrev pub then_line : Result Reading ParamError → ℕ × List ℕ → Result Reading ParamError
-then_line (Err e) line = Err e
-then_line (Ok r) line = result_map_both (λ r. r) (at_line line.0) (read_line line.0 r line.1)
+abbrev pub then_setting_line : Result SettingsSoFar ParamError → ℕ × List ℕ → Result SettingsSoFar ParamError
+then_setting_line (Err e) line = Err e
+then_setting_line (Ok r) line = result_map_both (λ r. r) (at_line line.0) (read_setting_line line.0 r line.1)
 
 -- the lines of these bytes, of which the first has number n
-abbrev pub read_from : Result Reading ParamError → ℕ → List ℕ → Result Reading ParamError
-read_from r n bytes = through_lines then_line r n bytes
+abbrev pub settings_from : Result SettingsSoFar ParamError → ℕ → List ℕ → Result SettingsSoFar ParamError
+settings_from r n bytes = through_lines then_setting_line r n bytes
 
 -- all lines, which count from 1
-abbrev pub read_lines : List ℕ → Result Reading ParamError
-read_lines bytes = read_from (Ok nothing_read) 1 bytes
+abbrev pub read_lines : List ℕ → Result SettingsSoFar ParamError
+read_lines bytes = settings_from (Ok nothing_read) 1 bytes
 
 -- the later of the lines that set two parameters, where these disagree
-abbrev pub later_line : Bool → Reading → Parameter → Parameter → List ℕ
-later_line disagree r a b = if disagree then max (line_of r a) (line_of r b) ∷ [] else []
+abbrev pub later_line : Bool → SettingsSoFar → Parameter → Parameter → List ℕ
+later_line disagree r a b = if disagree then max (setting_line r a) (setting_line r b) ∷ [] else []
 
 -- the later line of each pair that disagrees
-abbrev pub disagreements : Reading → List ℕ
+abbrev pub disagreements : SettingsSoFar → List ℕ
 disagreements r =
     later_line (nat_lt r.settings.recipient_limit r.settings.recipient_minimum) r
     p.RecipientLimit p.RecipientMinimum
@@ -46,15 +46,15 @@ disagreements r =
     p.MaximalBackoff p.MinimalBackoff
 
 -- the settings, unless two of them disagree
-abbrev pub agreed : Reading → Result Settings ParamError
+abbrev pub agreed : SettingsSoFar → Result Settings ParamError
 agreed r =
     option_map_or (λ line. Err (at_line line BadValue)) (least nat_lt (disagreements r)) (Ok r.settings)
 
 -- the settings of a reading without a fault
-abbrev pub agreed_of : Result Reading ParamError → Result Settings ParamError
+abbrev pub agreed_of : Result SettingsSoFar ParamError → Result Settings ParamError
 agreed_of (Err e) = Err e
 agreed_of (Ok r) = agreed r
 
 -- what the bytes of a file say
-abbrev pub file_of : List ℕ → Result Settings ParamError
-file_of bytes = agreed_of (read_lines bytes)
+abbrev pub settings_of_file : List ℕ → Result Settings ParamError
+settings_of_file bytes = agreed_of (read_lines bytes)

@@ -27,8 +27,8 @@ name_of p.BounceLifetime = codes "bounce_queue_lifetime"
 name_of p.MarkSyncLimit = codes "mark_sync_limit"
 
 -- all of them
-abbrev pub all : List Parameter
-all =
+abbrev pub all_parameters : List Parameter
+all_parameters =
     p.ActiveLimit ∷ p.RecipientLimit ∷ p.RecipientMinimum ∷ p.InitialConcurrency ∷ p.ConcurrencyLimit
     ∷ p.EntryLimit ∷ p.PositiveFeedback ∷ p.NegativeFeedback ∷ p.FailedCohortLimit ∷ p.ProcessLimit
     ∷ p.SlotCost ∷ p.SlotLoan ∷ p.SlotDiscount ∷ p.MinimumSlots ∷ p.QueueRunDelay ∷ p.MinimalBackoff

@@ -18,8 +18,8 @@ abbrev pub within : ℕ → ℕ → ℕ → Option ℕ
 within low high n = if nat_le low n && nat_le n high then Some n else None
 
 -- so many times the unit, where that is from low to high
-abbrev pub counted : ℕ → ℕ → ℕ → List ℕ → Option ℕ
-counted low high unit text =
+abbrev pub counted_in_units : ℕ → ℕ → ℕ → List ℕ → Option ℕ
+counted_in_units low high unit text =
     option_and_then (λ n. within low high (n * unit)) (number_within 0 high text)
 
 -- the unit at the end
@@ -29,5 +29,5 @@ last_unit text = option_and_then unit_of (slice_get text (length text - 1))
 -- the seconds of a time from low to high; a number without a unit counts `alone` seconds
 abbrev pub seconds_within : ℕ → ℕ → ℕ → List ℕ → Option ℕ
 seconds_within low high alone text =
-    option_map_or (λ unit. counted low high unit (take (length text - 1) text)) (last_unit text)
-    (counted low high alone text)
+    option_map_or (λ unit. counted_in_units low high unit (take (length text - 1) text)) (last_unit text)
+    (counted_in_units low high alone text)

@@ -2,7 +2,7 @@
 ghost use Rattle.std.specs.Prelude.{◌≡◌, ◌≢◌, ◌≤◌, IfSome, nat_lt};
 ghost use Rattle.q_model.specs.Lists.{least};
 ghost use Rattle.q_params.specs.ParameterFile.{agreed, disagreements, nothing_read};
-ghost use Rattle.q_params.specs.Readings.{Gives, line_of, read_line, read_setting, set_at, set_named, Sets};
+ghost use Rattle.q_params.specs.Readings.{BecomesSettings, setting_line, read_setting_line, read_setting, set_at, set_named, Sets};
 ghost use Rattle.q_params.specs.Values.{cost_of};
 
 use crate::error::{ParamCause, ParamError};
@@ -30,9 +30,9 @@ pub(crate) struct Draft {
 }
 
 impl Model for Draft {
-    ghost use Rattle.q_params.specs.Readings.{Reading};
+    ghost use Rattle.q_params.specs.Readings.{SettingsSoFar};
 
-    ghost Value = { Reading };
+    ghost Value = { SettingsSoFar };
 
     ghost use Rattle.q_params.specs.Drafts.{reading_of, HasPairsInRange};
 
@@ -111,7 +111,7 @@ impl Draft {
 
     /// Sets a parameter by the line of this number.
     fn set_at(&mut self, number: u64, value: &[u8], parameter: Parameter) -> Result<(), ParamCause>
-        ensures { Gives result self.new (set_at number self.old value.now parameter) }
+        ensures { BecomesSettings result self.new (set_at number self.old value.now parameter) }
     {
         if self.lines[parameter.place()] != 0 {
             return Err(ParamCause::Twice);
@@ -125,7 +125,7 @@ impl Draft {
 
     /// Sets the parameter of this name.
     fn set_named(&mut self, number: u64, name: &[u8], value: &[u8]) -> Result<(), ParamCause>
-        ensures { Gives result self.new (set_named number self.old name.now value.now) }
+        ensures { BecomesSettings result self.new (set_named number self.old name.now value.now) }
     {
         match Parameter::named(name) {
             Some(parameter) => self.set_at(number, value, parameter),
@@ -135,7 +135,7 @@ impl Draft {
 
     /// Reads a line that isn't passed over.
     fn read_setting(&mut self, number: u64, line: &[u8]) -> Result<(), ParamCause>
-        ensures { Gives result self.new (read_setting number self.old line.now) }
+        ensures { BecomesSettings result self.new (read_setting number self.old line.now) }
     {
         let Some((name, value)) = cut(line, b'=') else {
             return Err(ParamCause::NoEquals);
@@ -145,7 +145,7 @@ impl Draft {
 
     /// Reads the line of this number.
     pub(crate) fn read_line(&mut self, number: u64, line: &[u8]) -> Result<(), ParamCause>
-        ensures { Gives result self.new (read_line number self.old line.now) }
+        ensures { BecomesSettings result self.new (read_setting_line number self.old line.now) }
     {
         if is_passed_over(line) {
             return Ok(());
@@ -158,7 +158,7 @@ impl Draft {
 
     /// The line that set a parameter, and 0 where none did.
     fn line(&self, parameter: Parameter) -> u64
-        ensures { result ≡ line_of self.now parameter }
+        ensures { result ≡ setting_line self.now parameter }
     {
         self.lines[parameter.place()]
     }

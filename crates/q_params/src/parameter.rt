@@ -1,6 +1,6 @@
 //! The names of parameters.
 ghost use Rattle.std.specs.Prelude.{◌≡◌, ◌<◌, bytes_eq, find};
-ghost use Rattle.q_params.specs.Parameters.{all, name_of, place_of};
+ghost use Rattle.q_params.specs.Parameters.{all_parameters, name_of, place_of};
 
 /// A parameter that a file may set.
 #[derive(Clone, Copy, Debug, PartialEq, Eq)]
@@ -92,7 +92,7 @@ impl Parameter {
 
     /// The parameter of this name.
     pub(crate) fn named(name: &[u8]) -> Option<Parameter>
-        ensures { result ≡ find (λ p. bytes_eq (name_of p) name.now) all }
+        ensures { result ≡ find (λ p. bytes_eq (name_of p) name.now) all_parameters }
     {
         Parameter::ALL.iter().copied().find(|p| p.name() == name)
     }

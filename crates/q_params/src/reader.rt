@@ -1,6 +1,6 @@
 //! The parameter file.
 ghost use Rattle.std.specs.Prelude.{◌≡◌, IfOk};
-ghost use Rattle.q_params.specs.ParameterFile.{file_of, read_lines};
+ghost use Rattle.q_params.specs.ParameterFile.{settings_of_file, read_lines};
 ghost use Rattle.q_params.specs.Ranges.{IsInRange};
 
 use crate::draft::Draft;
@@ -37,7 +37,7 @@ fn read_lines(bytes: &[u8]) -> Result<Draft, ParamError>
 /// `minimal_backoff_time` above `maximal_backoff_time`, it is a bad value at the later line of the
 /// two; a default counts as line 0. Where both pairs are at fault the smaller line is named.
 pub fn read_params(bytes: &[u8]) -> Result<Params, ParamError>
-    ensures exact { result ≡ file_of bytes.now }
+    ensures exact { result ≡ settings_of_file bytes.now }
     ensures in_range { IfOk result IsInRange }
 {
     read_lines(bytes)?.finish()

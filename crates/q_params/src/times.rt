@@ -1,6 +1,6 @@
 //! Times as values of parameters.
 ghost use Rattle.std.specs.Prelude.{◌≡◌, ◌<◌, ◌≤◌, IfSome, length, OnSome};
-ghost use Rattle.q_params.specs.Times.{counted, last_unit, seconds_within, unit_of};
+ghost use Rattle.q_params.specs.Times.{counted_in_units, last_unit, seconds_within, unit_of};
 
 use q_text::read_number32;
 
@@ -35,7 +35,7 @@ fn last_unit(text: &[u8]) -> Option<u32>
 /// So many times the unit, where that is from `low` seconds to the longest time.
 fn counted(text: &[u8], low: u32, unit: u32) -> Option<u32>
     requires { unit ≤ 604800 }
-    ensures exact { result ≡ counted low 9999999 unit text.now }
+    ensures exact { result ≡ counted_in_units low 9999999 unit text.now }
     ensures within { IfSome result (λ n. (low ≤ n) × (n ≤ 9999999)) }
 {
     let number = read_number32(text, 0, LONGEST)?;

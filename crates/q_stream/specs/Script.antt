@@ -28,8 +28,8 @@ abbrev pub counted : ℕ → ℕ
 counted n = min (n + 1) (2 ^ 64 - 1)
 
 -- whether the next call fails
-abbrev pub fails_next : Script → Bool
-fails_next s = list_any (λ k. k == counted s.calls) s.fails
+abbrev pub script_fails_next : Script → Bool
+script_fails_next s = list_any (λ k. k == counted s.calls) s.fails
 
 -- how many bytes come, where the next call doesn't fail
 abbrev pub share : Script → ℕ → ℕ
@@ -38,14 +38,14 @@ share s room = min s.piece (min room (length s.rest))
 -- the answer of a call into a buffer of so many bytes
 abbrev pub answer : Script → ℕ → Take
 answer s room =
-    if fails_next s then Failed else if nat_lt 0 (length s.rest) then Took (share s room) else End
+    if script_fails_next s then Failed else if nat_lt 0 (length s.rest) then Took (share s room) else End
 
 -- the script after it
-abbrev pub after : Script → ℕ → Script
-after s room = record {
-  rest = if fails_next s then s.rest else drop (share s room) s.rest;
+abbrev pub script_after : Script → ℕ → Script
+script_after s room = record {
+  rest = if script_fails_next s then s.rest else drop (share s room) s.rest;
   piece = s.piece;
   fails = s.fails;
   calls = counted s.calls;
-  faults = if fails_next s then counted s.faults else s.faults;
+  faults = if script_fails_next s then counted s.faults else s.faults;
 }

@@ -2,7 +2,7 @@
 ghost use Rattle.std.specs.Prelude.{◌≡◌, ◌≤◌, ◌==◌, ◌<◌, length, take, min, IfOk};
 ghost use Rattle.std.specs.List.{list_any};
 ghost use Rattle.q_stream.specs.Takes.{TakesFront, HasCause};
-ghost use Rattle.q_stream.specs.Script.{answer, after, script_of};
+ghost use Rattle.q_stream.specs.Script.{answer, script_after, script_of};
 
 use crate::{Source, Take};
 use q_model::NoMemory;
@@ -96,7 +96,7 @@ impl Source for MemSource {
         ensures cause { HasCause self.old.faults self.new.faults result }
         // What it gives is what its script says.
         ensures answer { result ≡ answer self.old (length buf.old) }
-        ensures after { self.new ≡ after self.old (length buf.old) }
+        ensures after { self.new ≡ script_after self.old (length buf.old) }
     {
         self.calls = self.calls.saturating_add(1);
         if has_number(&self.fails, self.calls) {

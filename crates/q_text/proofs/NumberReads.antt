@@ -6,7 +6,7 @@ use Rattle.std.proofs.lemmas.Bool.{and_parts, cond-true, leb-true}
 use Rattle.std.proofs.lemmas.Option.{cond_some}
 use Rattle.q_model.specs.Texts.{is_address}
 use Rattle.q_text.specs.Numbers.{is_number, number_within, number32_of, number64_of}
-use Rattle.q_text.specs.ValueForms.{FitsBits, IsAddress}
+use Rattle.q_text.specs.ValueForms.{FitsBits, HasAddressForm}
 use Rattle.q_text.specs.ValueTexts.{address_of}
 use Rattle.q_text.proofs.Exactness.{ExactPart}
 use Rattle.q_text.proofs.NumberLaws.{decimal_is_read, read_decimal}
@@ -44,7 +44,7 @@ exact_number64 = exact_number 0 18446744073709551615 (FitsBits 64) (omega arith)
 pub as_it_is : (test : List ℕ → Bool) (text a : List ℕ) → (if test text then Some text else None) ≡ Some a → (test a ≡ true) × (a ≡ text)
 as_it_is test text a h = let (passes, same) = cond_some (test text) text a h in (ap test (sym same) ∙ passes, sym same)
 
-pub exact_address : ExactPart address_of IsAddress (λ a. a)
+pub exact_address : ExactPart address_of HasAddressForm (λ a. a)
 exact_address = record {
   exact = record { back = as_it_is is_address; gives = λ a h. cond-true (is_address a) (Some a) None h };
   solid = address_is_solid;

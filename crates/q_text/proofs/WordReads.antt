@@ -11,7 +11,7 @@ use Rattle.q_model.specs.declared.outcome.SiteState.TheVariants.{Down, Up}
 use Rattle.q_model.specs.Text.{sender_text, state_text, trigger_text}
 use Rattle.q_model.specs.Texts.{is_address}
 use Rattle.q_text.specs.ValueForms.{IsSender}
-use Rattle.q_text.specs.ValueTexts.{address_of, sender_of, state_of, trigger_of}
+use Rattle.q_text.specs.ValueTexts.{address_of, sender_of_text, state_of_text, trigger_of}
 use Rattle.q_text.proofs.Exactness.{ExactPart}
 use Rattle.q_text.proofs.NumberReads.{exact_address}
 use Rattle.q_text.proofs.SolidTexts.{address_is_solid, is_solid}
@@ -36,12 +36,12 @@ word_or {A} text word a b other P h this rest =
 pub no_words : {A : Type 0} (b : A) (P : Type 0) → ◌≡◌ {A = Option A} None (Some b) → P
 no_words b P e = absurd (cc)
 
-state_back : (text : List ℕ) (state : SiteState) → state_of text ≡ Some state → Unit {0} × (state_text state ≡ text)
+state_back : (text : List ℕ) (state : SiteState) → state_of_text text ≡ Some state → Unit {0} × (state_text state ≡ text)
 state_back text state h =
     word_or text (codes "up") Up state _ (Unit {0} × (state_text state ≡ text)) h (λ e same. (tt, ap state_text (sym same) ∙ sym e))
     (λ _ k. word_or text (codes "down") Down state None (Unit {0} × (state_text state ≡ text)) k (λ e same. (tt, ap state_text (sym same) ∙ sym e)) (λ _ n. no_words state _ n))
 
-state_gives : (state : SiteState) → Unit {0} → state_of (state_text state) ≡ Some state
+state_gives : (state : SiteState) → Unit {0} → state_of_text (state_text state) ≡ Some state
 state_gives Up h = refl
 state_gives Down h = refl
 
@@ -49,7 +49,7 @@ state_solid : (state : SiteState) → Unit {0} → list_all is_solid (state_text
 state_solid Up h = refl
 state_solid Down h = refl
 
-pub exact_state : ExactPart state_of (λ _. Unit {0}) state_text
+pub exact_state : ExactPart state_of_text (λ _. Unit {0}) state_text
 exact_state = record { exact = record { back = state_back; gives = state_gives }; solid = state_solid }
 
 this_trigger : (kind k : Trigger) (text word : List ℕ) → trigger_text k ≡ word → text ≡ word → k ≡ kind → Unit {0} × (trigger_text kind ≡ text)
@@ -75,7 +75,7 @@ pub exact_trigger : ExactPart trigger_of (λ _. Unit {0}) trigger_text
 exact_trigger = record { exact = record { back = trigger_back; gives = trigger_gives }; solid = trigger_solid }
 
 -- an address, or `<>`, which is none
-sender_back : (text : List ℕ) (sender : Option (List ℕ)) → sender_of text ≡ Some sender → IsSender sender × (sender_text sender ≡ text)
+sender_back : (text : List ℕ) (sender : Option (List ℕ)) → sender_of_text text ≡ Some sender → IsSender sender × (sender_text sender ≡ text)
 sender_back text sender h =
     let P = IsSender sender × (sender_text sender ≡ text) in
     let null = λ (e : text ≡ codes "<>") (same : None ≡ sender). subst (λ (s : Option (List ℕ)). IsSender s × (sender_text s ≡ text)) same (tt, sym e) in
@@ -88,7 +88,7 @@ sender_back text sender h =
 no_bracket : (text : List ℕ) → is_address text ≡ true → bytes_eq text (codes "<>") ≡ false
 no_bracket text h = false_from_ne_true (bytes_eq text (codes "<>")) (λ e. false≢true (sym (ap is_address ((bytes_eq-Decides text (codes "<>")).0 e)) ∙ h))
 
-sender_gives : (sender : Option (List ℕ)) → IsSender sender → sender_of (sender_text sender) ≡ Some sender
+sender_gives : (sender : Option (List ℕ)) → IsSender sender → sender_of_text (sender_text sender) ≡ Some sender
 sender_gives None h = refl
 sender_gives (Some address) h = rw (no_bracket address h, exact_address.exact.gives address h) refl
 
@@ -96,5 +96,5 @@ sender_solid : (sender : Option (List ℕ)) → IsSender sender → list_all is_
 sender_solid None h = refl
 sender_solid (Some address) h = address_is_solid address h
 
-pub exact_sender : ExactPart sender_of IsSender sender_text
+pub exact_sender : ExactPart sender_of_text IsSender sender_text
 exact_sender = record { exact = record { back = sender_back; gives = sender_gives }; solid = sender_solid }

@@ -16,13 +16,13 @@ abbrev pub FitsBits : ℕ → ℕ → Type 0
 FitsBits bits n = n < 2 ^ bits
 
 -- a text with the form of an address
-abbrev pub IsAddress : List ℕ → Type 0
-IsAddress address = is_address address ≡ true
+abbrev pub HasAddressForm : List ℕ → Type 0
+HasAddressForm address = is_address address ≡ true
 
 -- an address, or the null sender
 abbrev pub IsSender : Option (List ℕ) → Type 0
 IsSender None = Unit {0}
-IsSender (Some address) = IsAddress address
+IsSender (Some address) = HasAddressForm address
 
 -- no code, or one of the hundred from low on (RFC 5321, section 4.2.1)
 abbrev pub IsCode : ℕ → ℕ → Type 0

@@ -16,14 +16,14 @@ abbrev pub address_of : List ℕ → Option (List ℕ)
 address_of text = if is_address text then Some text else None
 
 -- an address, or `<>` for the null sender
-abbrev pub sender_of : List ℕ → Option (Option (List ℕ))
-sender_of text =
+abbrev pub sender_of_text : List ℕ → Option (Option (List ℕ))
+sender_of_text text =
     if bytes_eq text (codes "<>") then Some None
     else option_map (λ address. Some address) (address_of text)
 
 -- `up` or `down`
-abbrev pub state_of : List ℕ → Option SiteState
-state_of text =
+abbrev pub state_of_text : List ℕ → Option SiteState
+state_of_text text =
     if bytes_eq text (codes "up") then Some Up
     else if bytes_eq text (codes "down") then Some Down
     else None

@@ -1,13 +1,13 @@
 //! Words that are values.
 ghost use Rattle.std.specs.Prelude.{◌≡◌};
-ghost use Rattle.q_text.specs.ValueTexts.{code_behind, later_of, never_of, outcome_of, sender_of, state_of, trigger_of};
+ghost use Rattle.q_text.specs.ValueTexts.{code_behind, later_of, never_of, outcome_of, sender_of_text, state_of_text, trigger_of};
 
 use crate::numbers::read_number;
 use q_model::{Address, Outcome, SiteState, Trigger};
 
 /// An address, or `<>` for the null sender.
 pub fn read_sender(text: &[u8]) -> Option<Option<Address>>
-    ensures { result ≡ sender_of text.now }
+    ensures { result ≡ sender_of_text text.now }
 {
     if text == b"<>".as_slice() {
         return Some(None);
@@ -18,7 +18,7 @@ pub fn read_sender(text: &[u8]) -> Option<Option<Address>>
 
 /// `up` or `down`.
 pub fn read_state(text: &[u8]) -> Option<SiteState>
-    ensures { result ≡ state_of text.now }
+    ensures { result ≡ state_of_text text.now }
 {
     if text == b"up".as_slice() {
         Some(SiteState::Up)

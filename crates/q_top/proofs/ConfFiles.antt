@@ -9,10 +9,10 @@ use Rattle.q_model.specs.SpoolFiles.{Files}
 use Rattle.q_host.specs.Reads.{IsRead}
 use Rattle.q_host.specs.View.{View}
 use Rattle.q_model.specs.Settings.{Settings}
-use Rattle.q_params.specs.ParameterFile.{file_of as params_of}
+use Rattle.q_params.specs.ParameterFile.{settings_of_file as params_of}
 use Rattle.q_params.specs.Ranges.{IsInRange}
 use Rattle.q_params.specs.declared.error.ParamError.{ParamError}
-use Rattle.q_transport.specs.TableFile.{file_of as contents_of}
+use Rattle.q_transport.specs.TableFile.{table_of_file as contents_of}
 use Rattle.q_top.specs.ConfReads.{GivesParams, GivesTable}
 use Rattle.q_top.specs.Confs.{at_fault, conf_bytes, conf_of, goes_by, IsConfFault, line_of, with_params, with_table}
 use Rattle.q_top.specs.Worlds.{world_of}

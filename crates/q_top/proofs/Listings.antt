@@ -4,7 +4,7 @@ use Rattle.std.specs.List.{flat_map, list_all, prefix_len, take_while}
 use Rattle.std.specs.Option.{option_map_or}
 use Rattle.std.specs.Prelude.{option_and_then}
 use Rattle.std.proofs.lemmas.Bool.{and_parts}
-use Rattle.q_events.specs.EventList.{Reading, found, bad, past_limit, command_in, content_of, first_item, item_at, item_of, leads, meaning, passes_limit}
+use Rattle.q_events.specs.EventList.{FirstItem, found, bad, past_limit, command_in, content_of, first_item, item_at, item_of, leads, meaning, passes_limit}
 use Rattle.q_events.specs.TextLines.{TextLine}
 use Rattle.q_events.specs.declared.item.Item.{Item}
 use Rattle.q_top.specs.Listings.{Listing, listing}
@@ -14,7 +14,7 @@ abbrev pub Lines : Type 0
 Lines = List TextLine
 
 -- what stands first in these lines behind this content
-abbrev first_from : List ℕ → ℕ → Lines → Reading
+abbrev first_from : List ℕ → ℕ → Lines → FirstItem
 first_from content n lines = item_at (content ++ flat_map content_of (take_while leads lines)) (n + length (take_while leads lines)) (drop (length (take_while leads lines)) lines)
 
 first_is : (n : ℕ) (lines : Lines) → first_item n lines ≡ first_from [] n lines
@@ -49,7 +49,7 @@ first_here content n line lines h =
 -- ---- all lines
 
 -- what a list says that begins so
-abbrev pub said : Reading → Listing
+abbrev pub said : FirstItem → Listing
 said (found item n more) = says item n (listing [] (n + 1) more)
 said (bad n) = breaks n
 said past_limit = passes

@@ -13,7 +13,7 @@ use Rattle.q_model.specs.Run.{run, run_of, turn}
 use Rattle.q_model.specs.Step.{after_all}
 use Rattle.q_model.proofs.RunLaws.{after_all-append, run-turn}
 use Rattle.q_events.specs.EventList.{first_item, found, bad, past_limit}
-use Rattle.q_events.specs.Readings.{Gives, reading}
+use Rattle.q_events.specs.Readings.{GivesItem, reading}
 use Rattle.q_events.specs.States.{EventsState}
 use Rattle.q_events.specs.TextLines.{lines_from}
 use Rattle.q_events.specs.declared.error.Bound.{Bound}
@@ -250,30 +250,30 @@ module _ (world : World) (text left : Option (List ℕ)) (events : EventsState) 
   pub ends_no_memory : (source : Option (List ℕ)) → Went world text left events life before after → ReplayEnds world text source before after NoMemory
   ends_no_memory source (items, steps, w) = (items, front_so_far items steps w, inl (told_so_far items steps w))
 
-  ends_cut_off : (events' : EventsState) (left' source : Option (List ℕ)) → Gives events left events' left' source (Err event_errors.Source) → Went world text left events life before after → ReplayEnds world text source before after Source
+  ends_cut_off : (events' : EventsState) (left' source : Option (List ℕ)) → GivesItem events left events' left' source (Err event_errors.Source) → Went world text left events life before after → ReplayEnds world text source before after Source
   ends_cut_off events' left' source stop (items, steps, w) = (items, by text w.reading, told_so_far items steps w)
     where
       by : (t : Option (List ℕ)) → ReadSo t items → IsCutOff world t source items
       by None r = tt
       by (Some bytes) (lines, rest, is, r) =
-          let (more, budget, part, others, there, cut, lead, open_line) : Gives events (Some rest) events' left' source (Err event_errors.Source) = rw is at stop in
+          let (more, budget, part, others, there, cut, lead, open_line) : GivesItem events (Some rest) events' left' source (Err event_errors.Source) = rw is at stop in
           (lines ++ more, budget, part, others, r.all ∙ ap (λ (x : Lines). lines ++ x) cut ∙ sym (append_assoc lines more (lines_from budget (part ++ others))), open_line, there, reading_lacks world bytes lines items events.budget rest events.lines r more lead)
 
   -- the line can't be taken
-  ends_broken_line : (events' : EventsState) (left' source : Option (List ℕ)) (n : ℕ) → Gives events left events' left' source (Err (event_errors.BadEvent n)) → Went world text left events life before after → ReplayEnds world text source before after (BadInput Events n)
+  ends_broken_line : (events' : EventsState) (left' source : Option (List ℕ)) (n : ℕ) → GivesItem events left events' left' source (Err (event_errors.BadEvent n)) → Went world text left events life before after → ReplayEnds world text source before after (BadInput Events n)
   ends_broken_line events' left' source n broken (items, steps, w) = (items, by_text _ items (λ bytes lines rest is r. at bytes lines rest r (rw is at broken)) text w.reading, told_so_far items steps w)
     where
       at : (bytes : List ℕ) (lines : Lines) (rest : List ℕ) → IsReading world bytes lines items events.budget rest events.lines → reading events rest ≡ bad n → IsFaulty world (Some bytes) items n
       at bytes lines rest r h = reading_breaks world bytes lines items events.budget rest events.lines r n (sym (first rest) ∙ h)
 
-  ends_past_limit : (events' : EventsState) (left' source : Option (List ℕ)) (bound : Bound) → Gives events left events' left' source (Err (event_errors.Limit bound)) → Went world text left events life before after → ReplayEnds world text source before after (Limit bound)
+  ends_past_limit : (events' : EventsState) (left' source : Option (List ℕ)) (bound : Bound) → GivesItem events left events' left' source (Err (event_errors.Limit bound)) → Went world text left events life before after → ReplayEnds world text source before after (Limit bound)
   ends_past_limit events' left' source bound (is_input, past) (items, steps, w) = (items, is_input, by_text _ items (λ bytes lines rest is r. at bytes lines rest r (rw is at past)) text w.reading, told_so_far items steps w)
     where
       at : (bytes : List ℕ) (lines : Lines) (rest : List ℕ) → IsReading world bytes lines items events.budget rest events.lines → reading events rest ≡ past_limit → IsLimited world (Some bytes) items
       at bytes lines rest r h = reading_passes_limit world bytes lines items events.budget rest events.lines r (sym (first rest) ∙ h)
 
   -- there is no next item
-  pub ends_unread : (events' : EventsState) (left' source : Option (List ℕ)) (error : EventError) → Gives events left events' left' source (Err error) → Went world text left events life before after → ReplayEnds world text source before after (unread error)
+  pub ends_unread : (events' : EventsState) (left' source : Option (List ℕ)) (error : EventError) → GivesItem events left events' left' source (Err error) → Went world text left events life before after → ReplayEnds world text source before after (unread error)
   ends_unread events' left' source event_errors.NoMemory gives w = ends_no_memory source w
   ends_unread events' left' source event_errors.Source gives w = ends_cut_off events' left' source gives w
   ends_unread events' left' source (event_errors.BadEvent n) gives w = ends_broken_line events' left' source n gives w

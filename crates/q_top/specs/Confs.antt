@@ -4,10 +4,10 @@ use Rattle.std.specs.Prelude.{◌≡◌, ℕ, Bool, List, [], Result, Ok, Err, c
 use Rattle.q_model.specs.declared.spot.Area.TheVariants.{Conf as ConfArea}
 use Rattle.q_model.specs.Settings.{Settings, World}
 use Rattle.q_model.specs.SpoolFiles.{Files}
-use Rattle.q_params.specs.ParameterFile.{file_of as params_of}
+use Rattle.q_params.specs.ParameterFile.{settings_of_file as params_of}
 use Rattle.q_params.specs.declared.error.ParamError.{ParamError}
 use Rattle.q_transport.specs.Contents.{Contents}
-use Rattle.q_transport.specs.TableFile.{file_of as contents_of}
+use Rattle.q_transport.specs.TableFile.{table_of_file as contents_of}
 use Rattle.q_transport.specs.Routing.{table_of}
 use Rattle.q_transport.specs.declared.error.TableError.{TableError}
 use Rattle.q_transport.specs.declared.error.TableError.TheVariants as table_errors

@@ -3,7 +3,7 @@ use Rattle.std.proofs.Common.{◌≡◌, ◌≤◌, ◌<◌, ◌^◌, ◌∙◌,
 use Rattle.std.specs.Prelude.{decimal, option_map}
 use Rattle.q_text.specs.Numbers.{number32_of, number64_of, number_within}
 use Rattle.q_text.specs.ValueForms.{FitsBits, IsListOf, IsOutcomeAt, IsSender}
-use Rattle.q_text.specs.ValueTexts.{sender_of, state_of}
+use Rattle.q_text.specs.ValueTexts.{sender_of_text, state_of_text}
 use Rattle.q_text.proofs.Exactness.{Exact, exact_last}
 use Rattle.q_text.proofs.NumberReads.{exact_number, exact_number32, exact_number64}
 use Rattle.q_text.proofs.WordReads.{exact_sender, exact_state}
@@ -16,7 +16,7 @@ use Rattle.q_model.specs.Text.{joined, outcome_text, sender_text, state_text, tr
 use Rattle.q_model.specs.Texts.{is_hop}
 use Rattle.q_trace.specs.Bounds.{IsEntry, IsTransport}
 use Rattle.q_trace.specs.Parts.{then_read}
-use Rattle.q_trace.specs.PartTexts.{addresses_of, hop_of, id_of, outcomes_of, positions_of, size_of, transport_of, why_of}
+use Rattle.q_trace.specs.PartTexts.{addresses_of, hop_of, id_of, outcomes_of, positions_of, size_of, transport_of, why_of_text}
 use Rattle.q_trace.proofs.Exactness.{exact_then}
 use Rattle.q_trace.proofs.ListReads.{exact_outcomes, exact_positions, exact_to, IsTo}
 use Rattle.q_trace.proofs.ValueReads.{exact_hop, exact_id, exact_size}
@@ -35,7 +35,7 @@ exact_defer = exact_then exact_id (λ _. exact_last (exact_number 0 999999999999
 pub exact_moment : Exact (number_within 0 999990000000) (λ n. n ≤ 999990000000) (λ n. decimal n ++ [])
 exact_moment = exact_last (exact_number 0 999990000000 (λ n. n ≤ 999990000000) (omega arith) (λ n a b. b) (λ n h. (omega arith, h))).exact
 
-pub exact_log : Exact (then_read id_of (λ _. then_read number32_of (λ _. then_read why_of (λ _. number_within 0 65535))))
+pub exact_log : Exact (then_read id_of (λ _. then_read number32_of (λ _. then_read why_of_text (λ _. number_within 0 65535))))
     (λ v. IsId v.0 × (FitsBits 32 v.1.0 × (Unit {0} × FitsBits 16 v.1.1.1))) (λ v. id_text v.0 ++ 32 ∷ (decimal v.1.0 ++ 32 ∷ (why_text v.1.1.0 ++ 32 ∷ (decimal v.1.1.1 ++ []))))
 exact_log =
     exact_then exact_id (λ _. exact_then exact_number32 (λ _. exact_then exact_why (λ _.
@@ -46,7 +46,7 @@ pub exact_preempt : (table : Table) → Exact (then_read id_of (λ _. then_read 
     (λ v. id_text v.0 ++ 32 ∷ (id_text v.1.0 ++ 32 ∷ (transport_text table v.1.1.0 ++ 32 ∷ (decimal v.1.1.1 ++ []))))
 exact_preempt table = exact_then exact_id (λ _. exact_then exact_id (λ _. exact_then (exact_transport table) (λ _. exact_last exact_number32.exact)))
 
-pub exact_arrive : Exact (then_read id_of (λ _. then_read sender_of (λ _. then_read size_of (λ _. addresses_of))))
+pub exact_arrive : Exact (then_read id_of (λ _. then_read sender_of_text (λ _. then_read size_of (λ _. addresses_of))))
     (λ v. IsId v.0 × (IsSender v.1.0 × ((v.1.1.0 ≤ 10240000) × IsTo v.1.1.1)))
     (λ v. id_text v.0 ++ 32 ∷ (sender_text v.1.0 ++ 32 ∷ (decimal v.1.1.0 ++ 32 ∷ joined v.1.1.1)))
 exact_arrive = exact_then exact_id (λ _. exact_then exact_sender (λ _. exact_then exact_size (λ _. exact_to)))
@@ -62,7 +62,7 @@ pub exact_start : (table : Table)
     (λ v. decimal v.0 ++ 32 ∷ (id_text v.1.0 ++ 32 ∷ (transport_text table v.1.1.0 ++ 32 ∷ (v.1.1.1.0 ++ 32 ∷ joined (map decimal v.1.1.1.1)))))
 exact_start table = exact_then exact_number64 (λ _. exact_skip table)
 
-pub exact_reply : Exact (then_read number64_of (λ _. then_read state_of outcomes_of)) (λ v. FitsBits 64 v.0 × (Unit {0} × IsListOf (IsOutcomeAt v.1.0) v.1.1))
+pub exact_reply : Exact (then_read number64_of (λ _. then_read state_of_text outcomes_of)) (λ v. FitsBits 64 v.0 × (Unit {0} × IsListOf (IsOutcomeAt v.1.0) v.1.1))
     (λ v. decimal v.0 ++ 32 ∷ (state_text v.1.0 ++ 32 ∷ joined (map outcome_text v.1.1)))
 exact_reply = exact_then exact_number64 (λ _. exact_then exact_state exact_outcomes)
 

@@ -23,7 +23,7 @@ use Rattle.q_text.specs.Pieces.{cut}
 use Rattle.q_text.proofs.SolidTexts.{decimal_solid, is_solid}
 use Rattle.q_text.proofs.Exactness.{exact_last}
 use Rattle.q_text.proofs.WordReads.{exact_trigger}
-use Rattle.q_trace.specs.Bodies.{body_of, entry_of, kind_of, life_in, plain_of}
+use Rattle.q_trace.specs.Bodies.{entry_behind, entry_of_line, kind_of, life_in, plain_behind}
 use Rattle.q_trace.specs.Bounds.{IsEntry, with_zeros}
 use Rattle.q_trace.specs.Kinds.{word_of}
 use Rattle.q_trace.specs.PartTexts.{id_of}
@@ -63,8 +63,8 @@ word_is kinds.Corrupt = record { solid = refl; other = λ rest. refl; named = re
 word_is kinds.Trigger = record { solid = refl; other = λ rest. refl; named = refl }
 
 -- a line is read by what stands behind its word
-line_gives : (table : Table) (kind : Kind) (rest : List ℕ) (e : Entry) → body_of table kind rest ≡ Some e → entry_of table (word_of kind ++ 32 ∷ rest) ≡ Some e
-unfolding entry_of
+line_gives : (table : Table) (kind : Kind) (rest : List ℕ) (e : Entry) → entry_behind table kind rest ≡ Some e → entry_of_line table (word_of kind ++ 32 ∷ rest) ≡ Some e
+unfolding entry_of_line
 line_gives table kind rest e h =
     let w = word_is kind in
     rw (w.other rest, cut_at (word_of kind) rest w.solid, w.named) h
@@ -78,8 +78,8 @@ generation_solid g h = decimal_solid g (omega (arith, h.1))
 life_in_gives : (g : ℕ) (mode : Mode) → (1 ≤ g) × FitsBits 32 g → life_in mode (decimal g) ≡ Some (entries.Life g mode)
 life_in_gives g mode h = ap (life_in mode) (sym (append-nil (decimal g))) ∙ ap (option_map (λ (g : ℕ). entries.Life g mode)) (exact_generation.gives g h)
 
-life_gives : (table : Table) (g : ℕ) (mode : Mode) → (1 ≤ g) × FitsBits 32 g → entry_of table (joined (words table (entries.Life g mode))) ≡ Some (entries.Life g mode)
-unfolding body_of plain_of
+life_gives : (table : Table) (g : ℕ) (mode : Mode) → (1 ≤ g) × FitsBits 32 g → entry_of_line table (joined (words table (entries.Life g mode))) ≡ Some (entries.Life g mode)
+unfolding entry_behind plain_behind
 life_gives table g Deliver h =
     let alone : cut 32 (decimal g ++ []) ≡ None = ap (cut 32) (append-nil (decimal g)) ∙ cut_none (decimal g) (generation_solid g h) in
     line_gives table kinds.Life (decimal g ++ []) (entries.Life g Deliver) (rw (alone, append-nil (decimal g)) (life_in_gives g Deliver h))
@@ -87,60 +87,60 @@ life_gives table g Intake h =
     line_gives table kinds.Life (decimal g ++ 32 ∷ codes "intake") (entries.Life g Intake) (rw (cut_at (decimal g) (codes "intake") (generation_solid g h)) (life_in_gives g Intake h))
 
 arrive_gives : (table : Table) (id : Id) (sender : Option (List ℕ)) (to : List (List ℕ)) (content : List ℕ) → IsEntry table (entries.Arrive id sender to content)
-    → entry_of table (joined (words table (entries.Arrive id sender to content))) ≡ Some (entries.Arrive id sender to (replicate (length content) 0))
-unfolding body_of
+    → entry_of_line table (joined (words table (entries.Arrive id sender to content))) ≡ Some (entries.Arrive id sender to (replicate (length content) 0))
+unfolding entry_behind
 arrive_gives table id sender to content h =
     let front = λ (x : List ℕ). id_text id ++ 32 ∷ (sender_text sender ++ 32 ∷ (decimal (length content) ++ x)) in
-    ap (λ (x : List ℕ). entry_of table (codes "arrive" ++ 32 ∷ front x)) (spaced_joined to h.3.0)
+    ap (λ (x : List ℕ). entry_of_line table (codes "arrive" ++ 32 ∷ front x)) (spaced_joined to h.3.0)
     ∙ line_gives table kinds.Arrive (front (32 ∷ joined to)) (entries.Arrive id sender to (replicate (length content) 0))
     (ap (option_map (λ (v : Id × (Option (List ℕ) × (ℕ × List (List ℕ)))). entries.Arrive v.0 v.1.0 v.1.1.1 (replicate v.1.1.0 0)))
     (exact_arrive.gives (id, (sender, (length content, to))) (h.0, (h.1, (h.2, (h.3, h.4))))))
 
 start_gives : (table : Table) (number : ℕ) (id : Id) (site : Site) (positions : List ℕ) → IsEntry table (entries.Start number id site positions)
-    → entry_of table (joined (words table (entries.Start number id site positions))) ≡ Some (entries.Start number id site positions)
-unfolding body_of
+    → entry_of_line table (joined (words table (entries.Start number id site positions))) ≡ Some (entries.Start number id site positions)
+unfolding entry_behind
 start_gives table number id site positions h =
     let front = λ (x : List ℕ). decimal number ++ 32 ∷ (id_text id ++ 32 ∷ (transport_text table site.transport ++ 32 ∷ x)) in
-    ap (λ (x : List ℕ). entry_of table (codes "start" ++ 32 ∷ front x)) (list_line site.hop decimal positions h.3.0)
+    ap (λ (x : List ℕ). entry_of_line table (codes "start" ++ 32 ∷ front x)) (list_line site.hop decimal positions h.3.0)
     ∙ line_gives table kinds.Start (front (site.hop ++ 32 ∷ joined (map decimal positions))) (entries.Start number id site positions)
     (ap (option_map (λ (v : ℕ × (Id × (ℕ × (List ℕ × List ℕ)))). entries.Start v.0 v.1.0 (record { transport = v.1.1.0; hop = v.1.1.1.0 }) v.1.1.1.1))
     ((exact_start table).gives (number, (id, (site.transport, (site.hop, positions)))) (h.0, (h.1, (h.2.0, (h.2.1, h.3))))))
 
 reply_gives : (table : Table) (number : ℕ) (state : SiteState) (outcomes : List Outcome) → IsEntry table (entries.Reply number state outcomes)
-    → entry_of table (joined (words table (entries.Reply number state outcomes))) ≡ Some (entries.Reply number state outcomes)
-unfolding body_of
+    → entry_of_line table (joined (words table (entries.Reply number state outcomes))) ≡ Some (entries.Reply number state outcomes)
+unfolding entry_behind
 reply_gives table number state outcomes h =
     let front = λ (x : List ℕ). decimal number ++ 32 ∷ x in
-    ap (λ (x : List ℕ). entry_of table (codes "reply" ++ 32 ∷ front x)) (list_line (state_text state) outcome_text outcomes h.1.0)
+    ap (λ (x : List ℕ). entry_of_line table (codes "reply" ++ 32 ∷ front x)) (list_line (state_text state) outcome_text outcomes h.1.0)
     ∙ line_gives table kinds.Reply (front (state_text state ++ 32 ∷ joined (map outcome_text outcomes))) (entries.Reply number state outcomes)
     (ap (option_map (λ (v : ℕ × (SiteState × List Outcome)). entries.Reply v.0 v.1.0 v.1.1)) (exact_reply.gives (number, (state, outcomes)) (h.0, (tt, h.1))))
 
 skip_gives : (table : Table) (id : Id) (site : Site) (positions : List ℕ) → IsEntry table (entries.Skip id site positions)
-    → entry_of table (joined (words table (entries.Skip id site positions))) ≡ Some (entries.Skip id site positions)
-unfolding body_of
+    → entry_of_line table (joined (words table (entries.Skip id site positions))) ≡ Some (entries.Skip id site positions)
+unfolding entry_behind
 skip_gives table id site positions h =
     let front = λ (x : List ℕ). id_text id ++ 32 ∷ (transport_text table site.transport ++ 32 ∷ x) in
-    ap (λ (x : List ℕ). entry_of table (codes "skip" ++ 32 ∷ front x)) (list_line site.hop decimal positions h.2.0)
+    ap (λ (x : List ℕ). entry_of_line table (codes "skip" ++ 32 ∷ front x)) (list_line site.hop decimal positions h.2.0)
     ∙ line_gives table kinds.Skip (front (site.hop ++ 32 ∷ joined (map decimal positions))) (entries.Skip id site positions)
     (ap (option_map (λ (v : Id × (ℕ × (List ℕ × List ℕ))). entries.Skip v.0 (record { transport = v.1.0; hop = v.1.1.0 }) v.1.1.1))
     ((exact_skip table).gives (id, (site.transport, (site.hop, positions))) (h.0, (h.1.0, (h.1.1, h.2)))))
 
-log_gives : (table : Table) (id : Id) (f : Failure) → IsEntry table (entries.Log id f) → entry_of table (joined (words table (entries.Log id f))) ≡ Some (entries.Log id f)
-unfolding body_of plain_of
+log_gives : (table : Table) (id : Id) (f : Failure) → IsEntry table (entries.Log id f) → entry_of_line table (joined (words table (entries.Log id f))) ≡ Some (entries.Log id f)
+unfolding entry_behind plain_behind
 log_gives table id f h =
     line_gives table kinds.Log (id_text id ++ 32 ∷ (decimal f.position ++ 32 ∷ (why_text f.why ++ 32 ∷ (decimal f.code ++ [])))) (entries.Log id f)
     (ap (option_map (λ (v : Id × (ℕ × (Why × ℕ))). entries.Log v.0 (record { position = v.1.0; why = v.1.1.0; code = v.1.1.1 })))
     (exact_log.gives (id, (f.position, (f.why, f.code))) (h.0, (h.1, (tt, h.2)))))
 
 preempt_gives : (table : Table) (child parent : Id) (transport need : ℕ) → IsEntry table (entries.Preempt child parent transport need)
-    → entry_of table (joined (words table (entries.Preempt child parent transport need))) ≡ Some (entries.Preempt child parent transport need)
-unfolding body_of plain_of
+    → entry_of_line table (joined (words table (entries.Preempt child parent transport need))) ≡ Some (entries.Preempt child parent transport need)
+unfolding entry_behind plain_behind
 preempt_gives table child parent transport need h =
     line_gives table kinds.Preempt (id_text child ++ 32 ∷ (id_text parent ++ 32 ∷ (transport_text table transport ++ 32 ∷ (decimal need ++ [])))) (entries.Preempt child parent transport need)
     (ap (option_map (λ (v : Id × (Id × (ℕ × ℕ))). entries.Preempt v.0 v.1.0 v.1.1.0 v.1.1.1)) ((exact_preempt table).gives (child, (parent, (transport, need))) (h.0, (h.1, (h.2, h.3)))))
 
-pub entry_gives : (table : Table) (e : Entry) → IsEntry table e → entry_of table (joined (words table e)) ≡ Some (with_zeros e)
-unfolding body_of plain_of entry_of
+pub entry_gives : (table : Table) (e : Entry) → IsEntry table e → entry_of_line table (joined (words table e)) ≡ Some (with_zeros e)
+unfolding entry_behind plain_behind entry_of_line
 entry_gives table (entries.Life g mode) h = life_gives table g mode h
 entry_gives table (entries.At t) h = line_gives table kinds.At (decimal t ++ []) (entries.At t) (ap (option_map (λ (t : ℕ). entries.At t)) (exact_moment.gives t h))
 entry_gives table (entries.Arrive id sender to content) h = arrive_gives table id sender to content h

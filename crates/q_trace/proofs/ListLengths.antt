@@ -7,7 +7,7 @@ use Rattle.std.proofs.lemmas.Bool.{le-leb, lt-leb}
 use Rattle.std.proofs.lemmas.List.Splits.{length-slice_split}
 use Rattle.q_text.specs.Pieces.{is_space, one_or_more, words_in}
 use Rattle.q_text.specs.ValueTexts.{address_of}
-use Rattle.q_trace.specs.Answers.{IsAnswer}
+use Rattle.q_trace.specs.Answers.{AnswersText}
 use Rattle.q_trace.specs.declared.error.EntryError.TheVariants.{BadEntry}
 use Rattle.q_trace.specs.PartTexts.{addresses_of}
 
@@ -26,6 +26,6 @@ few text n o e h k =
     let short : nat_le (length (words_in text)) 50000 ≡ true = le-leb (length (words_in text)) 50000 (omega (arith, word_count text, e, h)) in
     rw short (sym k)
 
-pub as_listed : (o : Option (List (List ℕ))) → IsAnswer (ok_or o BadEntry) o
+pub as_listed : (o : Option (List (List ℕ))) → AnswersText (ok_or o BadEntry) o
 as_listed None = refl
 as_listed (Some to) = refl

@@ -6,7 +6,7 @@ use Rattle.std.proofs.lemmas.List.{map-id}
 use Rattle.q_model.specs.declared.outcome.SiteState.{SiteState}
 use Rattle.q_model.specs.Text.{joined, outcome_text}
 use Rattle.q_text.specs.Pieces.{one_or_more, words_in}
-use Rattle.q_text.specs.ValueForms.{FitsBits, IsAddress, IsListOf, IsOutcomeAt}
+use Rattle.q_text.specs.ValueForms.{FitsBits, HasAddressForm, IsListOf, IsOutcomeAt}
 use Rattle.q_text.specs.ValueTexts.{address_of}
 use Rattle.q_text.proofs.Exactness.{Exact}
 use Rattle.q_text.proofs.NumberReads.{exact_address, exact_number32}
@@ -23,9 +23,9 @@ exact_outcomes state = exact_list (exact_outcome state)
 
 -- at most 50,000 addresses
 abbrev pub IsTo : List (List ℕ) → Type 0
-IsTo to = IsListOf IsAddress to × (length to ≤ 50000)
+IsTo to = IsListOf HasAddressForm to × (length to ≤ 50000)
 
-to_words : (to : List (List ℕ)) → IsListOf IsAddress to → words_in (joined to) ≡ to
+to_words : (to : List (List ℕ)) → IsListOf HasAddressForm to → words_in (joined to) ≡ to
 to_words to h = ap (λ (ws : List (List ℕ)). words_in (joined ws)) (sym (map-id to)) ∙ list_words exact_address to h ∙ map-id to
 
 to_back : (text : List ℕ) (to : List (List ℕ)) → addresses_of text ≡ Some to → IsTo to × (joined to ≡ text)

@@ -17,14 +17,14 @@ use Rattle.q_text.proofs.SolidTexts.{hop_is_solid, is_solid}
 use Rattle.q_text.proofs.WordReads.{guarded, no_words, word_or}
 use Rattle.q_transport.specs.Names.{number_of}
 use Rattle.q_trace.specs.Bounds.{IsTransport}
-use Rattle.q_trace.specs.PartTexts.{transport_of, why_of}
+use Rattle.q_trace.specs.PartTexts.{transport_of, why_of_text}
 
-why_back : (text : List ℕ) (why : Why) → why_of text ≡ Some why → Unit {0} × (why_text why ≡ text)
+why_back : (text : List ℕ) (why : Why) → why_of_text text ≡ Some why → Unit {0} × (why_text why ≡ text)
 why_back text why h =
     word_or text (codes "refused") Refused why _ (Unit {0} × (why_text why ≡ text)) h (λ e same. (tt, ap why_text (sym same) ∙ sym e))
     (λ _ k. word_or text (codes "expired") Expired why None (Unit {0} × (why_text why ≡ text)) k (λ e same. (tt, ap why_text (sym same) ∙ sym e)) (λ _ n. no_words why _ n))
 
-why_gives : (why : Why) → Unit {0} → why_of (why_text why) ≡ Some why
+why_gives : (why : Why) → Unit {0} → why_of_text (why_text why) ≡ Some why
 why_gives Refused h = refl
 why_gives Expired h = refl
 
@@ -32,7 +32,7 @@ why_solid : (why : Why) → Unit {0} → list_all is_solid (why_text why) ≡ tr
 why_solid Refused h = refl
 why_solid Expired h = refl
 
-pub exact_why : ExactPart why_of (λ _. Unit {0}) why_text
+pub exact_why : ExactPart why_of_text (λ _. Unit {0}) why_text
 exact_why = record { exact = record { back = why_back; gives = why_gives }; solid = why_solid }
 
 -- the first transport of a name

@@ -4,7 +4,7 @@ use Rattle.q_trace.specs.declared.error.EntryError.{EntryError}
 use Rattle.q_trace.specs.declared.error.EntryError.TheVariants.{BadEntry, NoMemory}
 
 -- a call answers what is read, unless memory runs out
-abbrev pub IsAnswer : {A : Type 0} → Result A EntryError → Option A → Type 0
-IsAnswer (Ok a) read = read ≡ Some a
-IsAnswer (Err NoMemory) read = Unit {0}
-IsAnswer (Err BadEntry) read = read ≡ None
+abbrev pub AnswersText : {A : Type 0} → Result A EntryError → Option A → Type 0
+AnswersText (Ok a) read = read ≡ Some a
+AnswersText (Err NoMemory) read = Unit {0}
+AnswersText (Err BadEntry) read = read ≡ None

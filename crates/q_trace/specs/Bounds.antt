@@ -6,7 +6,7 @@ use Rattle.q_model.specs.Settings.{Table}
 use Rattle.q_model.specs.Text.{line, transport_text}
 use Rattle.q_model.specs.Texts.{is_hop}
 use Rattle.q_model.specs.Values.{Site}
-use Rattle.q_text.specs.ValueForms.{FitsBits, IsAddress, IsListOf, IsOutcomeAt, IsSender}
+use Rattle.q_text.specs.ValueForms.{FitsBits, HasAddressForm, IsListOf, IsOutcomeAt, IsSender}
 use Rattle.q_transport.specs.Names.{number_of}
 use Rattle.q_model.specs.declared.entry.Entry.TheVariants as entries
 
@@ -27,7 +27,7 @@ IsEntry table (entries.Life generation mode) = (1 ≤ generation) × FitsBits 32
 IsEntry table (entries.At t) = t ≤ 999990000000
 IsEntry table (entries.Arrive id sender to content) =
     IsId id × IsSender sender × (length content ≤ 10240000)
-    × IsListOf IsAddress to × (length to ≤ 50000)
+    × IsListOf HasAddressForm to × (length to ≤ 50000)
 IsEntry table (entries.Back id) = IsId id
 IsEntry table (entries.Admit id) = IsId id
 IsEntry table (entries.Load id from to) = IsId id × FitsBits 32 from × FitsBits 32 to

@@ -25,8 +25,8 @@ word_of kinds.Corrupt = codes "corrupt"
 word_of kinds.Trigger = codes "trigger"
 
 -- all of them
-abbrev pub all : List Kind
-all =
+abbrev pub all_kinds : List Kind
+all_kinds =
     kinds.Life ∷ kinds.At ∷ kinds.Arrive ∷ kinds.Back ∷ kinds.Admit ∷ kinds.Load ∷ kinds.Start
     ∷ kinds.Preempt ∷ kinds.Reply ∷ kinds.Skip ∷ kinds.Log ∷ kinds.Mark ∷ kinds.Sync ∷ kinds.Defer
     ∷ kinds.Bounce ∷ kinds.Remove ∷ kinds.Corrupt ∷ kinds.Trigger ∷ []

@@ -56,8 +56,8 @@ abbrev pub hop_of : List ℕ → Option (List ℕ)
 hop_of text = if is_hop text then Some text else None
 
 -- why a recipient failed
-abbrev pub why_of : List ℕ → Option Why
-why_of text =
+abbrev pub why_of_text : List ℕ → Option Why
+why_of_text text =
     if bytes_eq text (codes "refused") then Some Refused
     else if bytes_eq text (codes "expired") then Some Expired
     else None

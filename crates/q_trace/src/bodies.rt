@@ -1,6 +1,6 @@
 //! What stands behind the first word of a line whose entry has no list.
 ghost use Rattle.std.specs.Prelude.{◌≡◌, option_map};
-ghost use Rattle.q_trace.specs.Bodies.{at_of, defer_of, life_in, life_of, load_of, log_of, mark_of, plain_of, preempt_of};
+ghost use Rattle.q_trace.specs.Bodies.{at_behind, defer_behind, life_in, life_behind, load_behind, log_behind, mark_behind, plain_behind, preempt_behind};
 ghost use Rattle.q_trace.specs.PartTexts.{id_of};
 ghost use Rattle.q_transport.specs.Routing.{table_of};
 
@@ -25,7 +25,7 @@ fn life_in(text: &[u8], mode: Mode) -> Option<Entry>
 }
 
 fn life(text: &[u8]) -> Option<Entry>
-    ensures { result ≡ life_of text.now }
+    ensures { result ≡ life_behind text.now }
 {
     match cut(text, b' ') {
         None => life_in(text, Mode::Deliver),
@@ -35,14 +35,14 @@ fn life(text: &[u8]) -> Option<Entry>
 }
 
 fn at(text: &[u8]) -> Option<Entry>
-    ensures { result ≡ at_of text.now }
+    ensures { result ≡ at_behind text.now }
 {
     let moment = read_number(text, 0, LAST_MOMENT)?;
     Some(Entry::At { moment })
 }
 
 fn load(text: &[u8]) -> Option<Entry>
-    ensures { result ≡ load_of text.now }
+    ensures { result ≡ load_behind text.now }
 {
     let (id, rest) = id_field(text)?;
     let (from, rest) = number32_field(rest)?;
@@ -51,7 +51,7 @@ fn load(text: &[u8]) -> Option<Entry>
 }
 
 fn preempt(text: &[u8], table: &Table) -> Option<Entry>
-    ensures { result ≡ preempt_of (table_of table.now) text.now }
+    ensures { result ≡ preempt_behind (table_of table.now) text.now }
 {
     let (child, rest) = id_field(text)?;
     let (parent, rest) = id_field(rest)?;
@@ -66,7 +66,7 @@ fn preempt(text: &[u8], table: &Table) -> Option<Entry>
 }
 
 fn log(text: &[u8]) -> Option<Entry>
-    ensures { result ≡ log_of text.now }
+    ensures { result ≡ log_behind text.now }
 {
     let (id, rest) = id_field(text)?;
     let (position, rest) = number32_field(rest)?;
@@ -81,7 +81,7 @@ fn log(text: &[u8]) -> Option<Entry>
 }
 
 fn mark(text: &[u8]) -> Option<Entry>
-    ensures { result ≡ mark_of text.now }
+    ensures { result ≡ mark_behind text.now }
 {
     let (id, rest) = id_field(text)?;
     let position = read_number32(rest, 0, u32::MAX)?;
@@ -89,7 +89,7 @@ fn mark(text: &[u8]) -> Option<Entry>
 }
 
 fn defer(text: &[u8]) -> Option<Entry>
-    ensures { result ≡ defer_of text.now }
+    ensures { result ≡ defer_behind text.now }
 {
     let (id, rest) = id_field(text)?;
     let due = read_number(rest, 0, LAST_DUE)?;
@@ -97,9 +97,9 @@ fn defer(text: &[u8]) -> Option<Entry>
 }
 
 /// The entry of a kind without a list; of the other kinds none.
-#[tactic(auto, unfolding(crate::specs::Bodies::plain_of))]
+#[tactic(auto, unfolding(crate::specs::Bodies::plain_behind))]
 pub(crate) fn plain(kind: Kind, text: &[u8], table: &Table) -> Option<Entry>
-    ensures { result ≡ plain_of (table_of table.now) kind text.now }
+    ensures { result ≡ plain_behind (table_of table.now) kind text.now }
 {
     match kind {
         Kind::Life => life(text),

@@ -2,8 +2,8 @@
 ghost use Rattle.std.specs.Prelude.{◌≡◌, option_map};
 ghost use Rattle.q_trace.specs.Parts.{field};
 ghost use Rattle.q_text.specs.Numbers.{number32_of, number64_of};
-ghost use Rattle.q_text.specs.ValueTexts.{sender_of, state_of};
-ghost use Rattle.q_trace.specs.PartTexts.{hop_of, id_of, size_of, transport_of, why_of};
+ghost use Rattle.q_text.specs.ValueTexts.{sender_of_text, state_of_text};
+ghost use Rattle.q_trace.specs.PartTexts.{hop_of, id_of, size_of, transport_of, why_of_text};
 ghost use Rattle.q_transport.specs.Routing.{table_of};
 
 use crate::part_texts::{hop, id, transport, why};
@@ -44,7 +44,7 @@ pub(crate) fn size_field(text: &[u8]) -> Option<(u32, &[u8])>
 }
 
 pub(crate) fn sender_field(text: &[u8]) -> Option<(Option<Address>, &[u8])>
-    ensures { option_map (λ f. (f.0, f.1.now)) result ≡ field sender_of text.now }
+    ensures { option_map (λ f. (f.0, f.1.now)) result ≡ field sender_of_text text.now }
 {
     let (part, rest) = cut(text, b' ')?;
     Some((read_sender(part)?, rest))
@@ -66,14 +66,14 @@ pub(crate) fn hop_field(text: &[u8]) -> Option<(Hop, &[u8])>
 }
 
 pub(crate) fn state_field(text: &[u8]) -> Option<(SiteState, &[u8])>
-    ensures { option_map (λ f. (f.0, f.1.now)) result ≡ field state_of text.now }
+    ensures { option_map (λ f. (f.0, f.1.now)) result ≡ field state_of_text text.now }
 {
     let (part, rest) = cut(text, b' ')?;
     Some((read_state(part)?, rest))
 }
 
 pub(crate) fn why_field(text: &[u8]) -> Option<(Why, &[u8])>
-    ensures { option_map (λ f. (f.0, f.1.now)) result ≡ field why_of text.now }
+    ensures { option_map (λ f. (f.0, f.1.now)) result ≡ field why_of_text text.now }
 {
     let (part, rest) = cut(text, b' ')?;
     Some((why(part)?, rest))

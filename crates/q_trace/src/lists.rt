@@ -1,5 +1,5 @@
 //! The lists at the ends of lines.
-ghost use Rattle.q_trace.specs.Answers.{IsAnswer};
+ghost use Rattle.q_trace.specs.Answers.{AnswersText};
 ghost use Rattle.q_trace.specs.PartTexts.{addresses_of, outcomes_of, positions_of};
 
 use crate::error::EntryError;
@@ -13,7 +13,7 @@ const MOST_ADDRESSES: usize = 50_000;
 
 /// 1 to 50,000 addresses.
 pub(crate) fn addresses(alloc: Global, text: &[u8]) -> Result<Addresses, EntryError>
-    ensures { IsAnswer result (addresses_of text.now) }
+    ensures { AnswersText result (addresses_of text.now) }
 {
     if spaces(text) >= MOST_ADDRESSES {
         return Err(EntryError::BadEntry);
@@ -23,14 +23,14 @@ pub(crate) fn addresses(alloc: Global, text: &[u8]) -> Result<Addresses, EntryEr
 
 /// At least one position.
 pub(crate) fn positions(alloc: Global, text: &[u8]) -> Result<Positions, EntryError>
-    ensures { IsAnswer result (positions_of text.now) }
+    ensures { AnswersText result (positions_of text.now) }
 {
     read_positions(alloc, text)?.ok_or(EntryError::BadEntry)
 }
 
 /// At least one outcome at a site in this state.
 pub(crate) fn outcomes(alloc: Global, text: &[u8], state: SiteState) -> Result<Outcomes, EntryError>
-    ensures { IsAnswer result (outcomes_of state text.now) }
+    ensures { AnswersText result (outcomes_of state text.now) }
 {
     read_outcomes(alloc, text, state)?.ok_or(EntryError::BadEntry)
 }

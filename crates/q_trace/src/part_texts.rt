@@ -2,7 +2,7 @@
 ghost use Rattle.std.specs.Prelude.{◌≡◌, ◌<◌, bytes_eq, length, true};
 ghost use Rattle.q_model.specs.Text.{transport_text};
 ghost use Rattle.q_model.specs.Texts.{is_hop};
-ghost use Rattle.q_trace.specs.PartTexts.{hop_of, id_of, transport_of, why_of};
+ghost use Rattle.q_trace.specs.PartTexts.{hop_of, id_of, transport_of, why_of_text};
 ghost use Rattle.q_transport.specs.Routing.{table_of};
 
 use q_model::{Hop, Id, Name, Why, id_of};
@@ -41,7 +41,7 @@ pub(crate) fn hop(text: &[u8]) -> Option<Hop>
 }
 
 pub(crate) fn why(text: &[u8]) -> Option<Why>
-    ensures { result ≡ why_of text.now }
+    ensures { result ≡ why_of_text text.now }
 {
     if text == b"refused".as_slice() {
         Some(Why::Refused)

@@ -1,8 +1,8 @@
 //! The entry of a line.
 ghost use Rattle.std.specs.Prelude.{◌≡◌, ◌≢◌, IfOk, IsErrOf, replicate};
 ghost use Rattle.q_model.specs.declared.entry.Entry.{Entry as EntryValue};
-ghost use Rattle.q_trace.specs.Answers.{IsAnswer};
-ghost use Rattle.q_trace.specs.Bodies.{arrive_of, body_of, entry_of, reply_of, skip_of, start_of};
+ghost use Rattle.q_trace.specs.Answers.{AnswersText};
+ghost use Rattle.q_trace.specs.Bodies.{arrive_behind, entry_behind, entry_of_line, reply_behind, skip_behind, start_behind};
 ghost use Rattle.q_trace.specs.Bounds.{IsEntry, IsLineOf, with_zeros};
 ghost use Rattle.q_model.specs.Text.{line as line_of};
 ghost use Rattle.q_transport.specs.Routing.{table_of};
@@ -29,7 +29,7 @@ fn zeros(alloc: Global, size: u32) -> Result<Bytes, NoMemory>
 }
 
 fn arrive(alloc: Global, text: &[u8]) -> Result<Entry, EntryError>
-    ensures { IsAnswer result (arrive_of text.now) }
+    ensures { AnswersText result (arrive_behind text.now) }
 {
     let Some((id, rest)) = id_field(text) else {
         return Err(EntryError::BadEntry);
@@ -51,7 +51,7 @@ fn arrive(alloc: Global, text: &[u8]) -> Result<Entry, EntryError>
 }
 
 fn start(alloc: Global, text: &[u8], table: &Table) -> Result<Entry, EntryError>
-    ensures { IsAnswer result (start_of (table_of table.now) text.now) }
+    ensures { AnswersText result (start_behind (table_of table.now) text.now) }
 {
     let Some((number, rest)) = number64_field(text) else {
         return Err(EntryError::BadEntry);
@@ -75,7 +75,7 @@ fn start(alloc: Global, text: &[u8], table: &Table) -> Result<Entry, EntryError>
 }
 
 fn reply(alloc: Global, text: &[u8]) -> Result<Entry, EntryError>
-    ensures { IsAnswer result (reply_of text.now) }
+    ensures { AnswersText result (reply_behind text.now) }
 {
     let Some((number, rest)) = number64_field(text) else {
         return Err(EntryError::BadEntry);
@@ -92,7 +92,7 @@ fn reply(alloc: Global, text: &[u8]) -> Result<Entry, EntryError>
 }
 
 fn skip(alloc: Global, text: &[u8], table: &Table) -> Result<Entry, EntryError>
-    ensures { IsAnswer result (skip_of (table_of table.now) text.now) }
+    ensures { AnswersText result (skip_behind (table_of table.now) text.now) }
 {
     let Some((id, rest)) = id_field(text) else {
         return Err(EntryError::BadEntry);
@@ -112,9 +112,9 @@ fn skip(alloc: Global, text: &[u8], table: &Table) -> Result<Entry, EntryError>
 }
 
 /// The entry of this kind with this text behind its word.
-#[tactic(auto, unfolding(crate::specs::Bodies::body_of))]
+#[tactic(auto, unfolding(crate::specs::Bodies::entry_behind))]
 fn body(alloc: Global, kind: Kind, text: &[u8], table: &Table) -> Result<Entry, EntryError>
-    ensures { IsAnswer result (body_of (table_of table.now) kind text.now) }
+    ensures { AnswersText result (entry_behind (table_of table.now) kind text.now) }
 {
     match kind {
         Kind::Arrive => arrive(alloc, text),
@@ -126,9 +126,9 @@ fn body(alloc: Global, kind: Kind, text: &[u8], table: &Table) -> Result<Entry, 
 }
 
 /// The entry of a line without its end.
-#[tactic(auto, unfolding(crate::specs::Bodies::entry_of))]
+#[tactic(auto, unfolding(crate::specs::Bodies::entry_of_line))]
 fn entry(alloc: Global, text: &[u8], table: &Table) -> Result<Entry, EntryError>
-    ensures { IsAnswer result (entry_of (table_of table.now) text.now) }
+    ensures { AnswersText result (entry_of_line (table_of table.now) text.now) }
 {
     if text == b"end".as_slice() {
         return Ok(Entry::End);

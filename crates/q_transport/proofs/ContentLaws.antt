@@ -7,7 +7,7 @@ use Rattle.std.proofs.lemmas.Bool.{and_from, and_parts, cond_both, lt-ltb, ltb-t
 use Rattle.std.proofs.lemmas.Option.{same_Some}
 use Rattle.q_model.specs.Lists.{first_some}
 use Rattle.q_model.specs.Texts.{is_hop}
-use Rattle.q_transport.specs.Contents.{AreContents, entry_of, is_rule, Rule}
+use Rattle.q_transport.specs.Contents.{AreContents, rule_of_pattern, is_rule, Rule}
 use Rattle.q_transport.specs.Entries.{target_of}
 use Rattle.q_transport.specs.Names.{number_of, with_name}
 use Rattle.q_transport.specs.Routing.{deciding, patterns_of}
@@ -58,7 +58,7 @@ pub decided_rule : (entries : List Rule) (address : List ℕ) (n : ℕ) (entry :
     → (entry.transport < n) × (option_map_or is_hop entry.hop true ≡ true)
 decided_rule entries address n entry all e =
     let (below, hop) = and_parts (nat_lt entry.transport n) (option_map_or is_hop entry.hop true)
-    (chosen_passes (entry_of entries) (is_rule n) (λ pattern x k. found_passes _ (is_rule n) entries x all k) (patterns_of address) entry e) in
+    (chosen_passes (rule_of_pattern entries) (is_rule n) (λ pattern x k. found_passes _ (is_rule n) entries x all k) (patterns_of address) entry e) in
     (ltb-true entry.transport n below, hop)
 
 decided_as : (o : Option Rule) (n : ℕ) (target : Target) → ((entry : Rule) → o ≡ Some entry → (entry.transport < n) × (option_map_or is_hop entry.hop true ≡ true)) → Some target ≡ option_map target_of o

@@ -6,7 +6,7 @@ use Rattle.std.specs.Map.{lookup}
 use Rattle.std.proofs.lemmas.List.{map-append}
 use Rattle.indexmap.specs.IndexMap.{IndexMap, insert_entry}
 use Rattle.indexmap.proofs.CallerLemmas.{insert_entry-new}
-use Rattle.q_transport.specs.Contents.{entry_of, Rule}
+use Rattle.q_transport.specs.Contents.{rule_of_pattern, Rule}
 use Rattle.q_transport.specs.Entries.{rule_of, rules_of, target_at, target_of}
 use Rattle.q_transport.specs.declared.entries.Target.{Target}
 
@@ -19,10 +19,10 @@ pub looked_up : {A : Type 0} (pattern : List ℕ) (entries : List (Vec ℕ A × 
 looked_up pattern [] = refl
 looked_up pattern (e ∷ es) =
     rw (nat_list_eq_equiv.symm pattern e.0.items)
-    (chosen (bytes_eq e.0.items pattern) (rule_of e) (lookup (λ key. bytes_eq pattern key.items) es) (entry_of (rules_of es) pattern) (looked_up pattern es))
+    (chosen (bytes_eq e.0.items pattern) (rule_of e) (lookup (λ key. bytes_eq pattern key.items) es) (rule_of_pattern (rules_of es) pattern) (looked_up pattern es))
 
 -- what goes into a map at a pattern that no entry has is the last
-pub added : {A S : Type 0} (pattern : Vec ℕ A) (target : Target) (m : IndexMap (Vec ℕ A) Target S) (new : List (Vec ℕ A × Target)) (rules : List Rule) → rules_of m.entries ≡ rules → entry_of rules pattern.items ≡ None
+pub added : {A S : Type 0} (pattern : Vec ℕ A) (target : Target) (m : IndexMap (Vec ℕ A) Target S) (new : List (Vec ℕ A × Target)) (rules : List Rule) → rules_of m.entries ≡ rules → rule_of_pattern rules pattern.items ≡ None
     → new ≡ insert_entry (λ (key other : Vec ℕ A). bytes_eq key.items other.items) m.entries pattern target → rules_of new ≡ rules ++ rule_of (pattern, target) ∷ []
 added {A} pattern target m new rules same none e =
     let eq = λ (key other : Vec ℕ A). bytes_eq key.items other.items in

@@ -11,14 +11,14 @@ use Rattle.q_model.specs.Texts.{domain_from, domain_of, is_address, is_address_b
 use Rattle.q_model.specs.Values.{Site}
 use Rattle.q_transport.specs.Contents.{AreContents, Contents, Rule}
 use Rattle.q_transport.specs.Lawful.{IsLawful}
-use Rattle.q_transport.specs.Names.{AreNames, name_at, number_of, smtp, with_name}
+use Rattle.q_transport.specs.Names.{AreTransportNames, name_of_number, number_of, smtp, with_name}
 use Rattle.q_transport.specs.Routing.{deciding, site_by, table_of}
 use Rattle.q_transport.specs.Texts.{is_transport}
 use Rattle.q_transport.proofs.ContentLaws.{decided_rule, with_name_longer}
 use Rattle.q_transport.proofs.NameLaws.{transport_is_hop}
 use Rattle.q_transport.proofs.NumberLaws.{named, number_below}
 
-name_form : (names : List (List ℕ)) (n : ℕ) → AreNames names → n < length names → is_transport (name_at names n) ≡ true
+name_form : (names : List (List ℕ)) (n : ℕ) → AreTransportNames names → n < length names → is_transport (name_of_number names n) ≡ true
 name_form names n h below =
     rw (unwrap_or-slice_get names n [])
     (true_from_ne_false (is_transport (get_or names n [])) (λ other. both_ways (list_all is_transport names) (list_all_at is_transport names n [] below other) h.forms))
@@ -54,10 +54,10 @@ hop_form c address h form =
 
 pub lawful : (c : Contents) → AreContents c → IsLawful (table_of c)
 lawful c h =
-    let names : AreNames (with_name c.names smtp) = named c.names smtp h.names refl in
+    let names : AreTransportNames (with_name c.names smtp) = named c.names smtp h.names refl in
     record {
       names = λ n below. name_form (with_name c.names smtp) n names below;
-      words = λ n below. transport_is_hop (name_at (with_name c.names smtp) n) (name_form (with_name c.names smtp) n names below);
+      words = λ n below. transport_is_hop (name_of_number (with_name c.names smtp) n) (name_form (with_name c.names smtp) n names below);
       numbers = names.numbers;
       routed = λ address. routed c address h;
       hops = λ address form. hop_form c address h form;

@@ -8,7 +8,7 @@ use Rattle.q_model.specs.Lists.{first_some}
 use Rattle.q_model.specs.Routes.{no_table}
 use Rattle.q_model.specs.Texts.{domain_of, lower}
 use Rattle.q_model.specs.Values.{Site}
-use Rattle.q_transport.specs.Contents.{entry_of, nothing, Rule}
+use Rattle.q_transport.specs.Contents.{rule_of_pattern, empty_contents, Rule}
 use Rattle.q_transport.specs.Entries.{target_at, target_of}
 use Rattle.q_transport.specs.Names.{smtp}
 use Rattle.q_transport.specs.Routing.{deciding, parents, patterns_of, site_by, table_of}
@@ -41,11 +41,11 @@ or_target : (a b : Option Rule) → option_or (option_map target_of a) (option_m
 or_target None b = refl
 or_target (Some x) b = refl
 
-first_target : (entries : List Rule) (patterns : List (List ℕ)) → first_some (target_at entries) patterns ≡ option_map target_of (first_some (entry_of entries) patterns)
+first_target : (entries : List Rule) (patterns : List (List ℕ)) → first_some (target_at entries) patterns ≡ option_map target_of (first_some (rule_of_pattern entries) patterns)
 first_target entries [] = refl
 first_target entries (p ∷ ps) =
     first_then (target_at entries) p ps ∙ ap (option_or (target_at entries p)) (first_target entries ps)
-    ∙ or_target (entry_of entries p) (first_some (entry_of entries) ps) ∙ ap (option_map target_of) (sym (first_then (entry_of entries) p ps))
+    ∙ or_target (rule_of_pattern entries p) (first_some (rule_of_pattern entries) ps) ∙ ap (option_map target_of) (sym (first_then (rule_of_pattern entries) p ps))
 
 -- the address, its domain and the parents of that, `*`
 deciding_is : (entries : List Rule) (address : List ℕ) → option_map target_of (deciding entries address)
@@ -62,12 +62,12 @@ pub decided : (entries : List Rule) (address domain : List ℕ) (whole host star
 decided entries address domain whole host star d a b c = rw (a, b, c, d) (sym (deciding_is entries address))
 
 -- without entries none decides
-none_found : (xs : List (List ℕ)) → first_some (entry_of []) xs ≡ None
+none_found : (xs : List (List ℕ)) → first_some (rule_of_pattern []) xs ≡ None
 none_found [] = refl
 none_found (x ∷ xs) = none_found xs
 
-pub empty_table : table_of nothing ≡ no_table
+pub empty_table : table_of empty_contents ≡ no_table
 empty_table =
-    let route : (address : List ℕ) → (table_of nothing).route address ≡ no_table.route address = λ address.
+    let route : (address : List ℕ) → (table_of empty_contents).route address ≡ no_table.route address = λ address.
     ap (λ o. option_map_or (site_by address) o (record { transport = 0; hop = domain_of address })) (none_found (patterns_of address)) in
     ap (λ (r : List ℕ → Site). record { transports = smtp ∷ []; route = r }) (fun_ext route)

@@ -3,7 +3,7 @@ use Rattle.std.specs.List.{list_all}
 use Rattle.std.specs.Option.{option_map_or}
 use Rattle.std.specs.Prelude.{◌&&◌, ◌≡◌, ◌≤◌, [], Bool, bytes_eq, find, length, List, nat_lt, Option, true, ℕ}
 use Rattle.q_model.specs.Texts.{is_hop}
-use Rattle.q_transport.specs.Names.{AreNames}
+use Rattle.q_transport.specs.Names.{AreTransportNames}
 
 -- an entry: a pattern in lower case, the number of its transport, and its next hop; none is the domain
 -- of the recipient
@@ -28,13 +28,13 @@ is_rule transports entry = nat_lt entry.transport transports && option_map_or is
 -- there are at most 20 names, no two the same, and the transport of each entry is one of them
 pub record AreContents (c : Contents) : Type 0 where
   pub few : length c.names ≤ 20
-  pub names : AreNames c.names
+  pub names : AreTransportNames c.names
   pub entries : list_all (is_rule (length c.names)) c.entries ≡ true
 
 -- a table without lines
-abbrev pub nothing : Contents
-nothing = record { names = []; entries = [] }
+abbrev pub empty_contents : Contents
+empty_contents = record { names = []; entries = [] }
 
 -- the entry of a pattern
-abbrev pub entry_of : List Rule → List ℕ → Option Rule
-entry_of entries pattern = find (λ entry. bytes_eq entry.pattern pattern) entries
+abbrev pub rule_of_pattern : List Rule → List ℕ → Option Rule
+rule_of_pattern entries pattern = find (λ entry. bytes_eq entry.pattern pattern) entries

@@ -1,6 +1,6 @@
 -- The entries of a transport table as they lie in a map: by their patterns, in order.
 use Rattle.std.specs.Prelude.{List, map, Option, option_map, Vec, ℕ}
-use Rattle.q_transport.specs.Contents.{entry_of, Rule}
+use Rattle.q_transport.specs.Contents.{rule_of_pattern, Rule}
 use Rattle.q_transport.specs.declared.entries.Target.{Target}
 
 -- a pattern and where its addresses go
@@ -16,4 +16,4 @@ target_of entry = record { transport = entry.transport; hop = entry.hop }
 
 -- where the addresses of a pattern go
 abbrev pub target_at : List Rule → List ℕ → Option Target
-target_at entries pattern = option_map target_of (entry_of entries pattern)
+target_at entries pattern = option_map target_of (rule_of_pattern entries pattern)

@@ -5,7 +5,7 @@ use Rattle.q_model.specs.Lists.{first_some}
 use Rattle.q_model.specs.Settings.{Table}
 use Rattle.q_model.specs.Texts.{domain_of, lower}
 use Rattle.q_model.specs.Values.{Site}
-use Rattle.q_transport.specs.Contents.{Contents, entry_of, Rule}
+use Rattle.q_transport.specs.Contents.{Contents, rule_of_pattern, Rule}
 use Rattle.q_transport.specs.Names.{number_of, smtp, with_name}
 
 -- the parents of a domain, the nearest first: what stands behind each dot, with that dot before it
@@ -20,7 +20,7 @@ patterns_of address =
 
 -- the entry that decides
 abbrev pub deciding : List Rule → List ℕ → Option Rule
-deciding entries address = first_some (entry_of entries) (patterns_of address)
+deciding entries address = first_some (rule_of_pattern entries) (patterns_of address)
 
 -- the site that an entry gives; without a next hop it is at the domain
 abbrev pub site_by : List ℕ → Rule → Site

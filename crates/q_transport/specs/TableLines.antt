@@ -43,9 +43,9 @@ divided_at line at =
     if at == 0 then None else behind_pattern (take at line) (trimmed_start (drop at line))
 
 -- the first blank stands behind the pattern
-abbrev pub divided : List ℕ → Option Parts
-divided line = option_and_then (divided_at line) (position is_blank line)
+abbrev pub divided_line : List ℕ → Option Parts
+divided_line line = option_and_then (divided_at line) (position is_blank line)
 
 -- the parts of a line
-abbrev pub line_of : List ℕ → Option Parts
-line_of line = if list_all is_text_byte line then divided line else None
+abbrev pub parts_of_line : List ℕ → Option Parts
+parts_of_line line = if list_all is_text_byte line then divided_line line else None

@@ -1,6 +1,6 @@
 //! The entries of a transport table.
 ghost use Rattle.std.specs.Prelude.{◌≡◌, ◌++◌, ◌∷◌, [], IfErr, length, None, OnErr, OnOk, option_copied};
-ghost use Rattle.q_transport.specs.Contents.{entry_of, rule_from};
+ghost use Rattle.q_transport.specs.Contents.{rule_of_pattern, rule_from};
 ghost use Rattle.q_transport.specs.Entries.{target_at};
 
 use crate::error::TableError;
@@ -58,7 +58,7 @@ impl Entries {
 
     /// Adds an entry, whose pattern none has so far.
     pub(crate) fn push(&mut self, pattern: Vec<u8>, target: Target) -> Result<(), TableError>
-        requires { entry_of self.old pattern.items ≡ None }
+        requires { rule_of_pattern self.old pattern.items ≡ None }
         ensures ok { OnOk result (self.new
             ≡ self.old ++ rule_from pattern.items target.transport target.hop ∷ []) }
         ensures same { OnErr result (self.new ≡ self.old) }

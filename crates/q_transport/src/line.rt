@@ -1,7 +1,7 @@
 //! The parts of a line of a transport table.
 ghost use Rattle.std.specs.Prelude.{◌≡◌, if◌then◌else◌, None, option_map, Some};
 ghost use Rattle.q_transport.specs.Parts.{seen};
-ghost use Rattle.q_transport.specs.TableLines.{behind_pattern, divided, next_hop_of, line_of, parts_of};
+ghost use Rattle.q_transport.specs.TableLines.{behind_pattern, divided_line, next_hop_of, parts_of_line, parts_of};
 ghost use Rattle.q_transport.specs.Texts.{is_transport};
 
 use crate::text::{blank, is_transport};
@@ -58,7 +58,7 @@ fn behind_pattern<'a>(pattern: &'a [u8], text: &[u8]) -> Option<Line<'a>>
 
 /// The first blank stands behind the pattern, which isn't empty.
 fn divided(line: &[u8]) -> Option<Line<'_>>
-    ensures { option_map seen result ≡ divided line.now }
+    ensures { option_map seen result ≡ divided_line line.now }
 {
     let at = blank(line)?;
     if at == 0 {
@@ -70,7 +70,7 @@ fn divided(line: &[u8]) -> Option<Line<'_>>
 
 /// The parts of a line that isn't passed over.
 pub(crate) fn parse(line: &[u8]) -> Option<Line<'_>>
-    ensures { option_map seen result ≡ line_of line.now }
+    ensures { option_map seen result ≡ parts_of_line line.now }
 {
     if !is_text(line) {
         return None;

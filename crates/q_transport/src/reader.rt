@@ -1,6 +1,6 @@
 //! The file of a transport table.
-ghost use Rattle.q_transport.specs.TableFile.{file_of};
-ghost use Rattle.q_transport.specs.Readings.{IsAnswer};
+ghost use Rattle.q_transport.specs.TableFile.{table_of_file};
+ghost use Rattle.q_transport.specs.Readings.{AnswersTable};
 
 use crate::error::TableError;
 use crate::table::Table;
@@ -15,7 +15,7 @@ use std::alloc::Global;
 /// An error names the first line at fault: it isn't of this form, or has the pattern of an
 /// earlier line, or is a 10,001st entry or names a 21st transport, in this order.
 pub fn read_table(alloc: Global, bytes: &[u8]) -> Result<Table, TableError>
-    ensures { IsAnswer result (file_of bytes.now) }
+    ensures { AnswersTable result (table_of_file bytes.now) }
 {
     let mut table = Table::empty(alloc);
     let mut number = 0;

@@ -3,11 +3,11 @@ ghost use Rattle.std.specs.Prelude.{◌≡◌, ◌<◌, ◌≤◌, ◌++◌, ◌
 ghost use Rattle.std.specs.Option.{option_map_or};
 ghost use Rattle.q_model.specs.Routes.{no_table};
 ghost use Rattle.q_model.specs.Texts.{is_hop};
-ghost use Rattle.q_transport.specs.Contents.{entry_of, nothing, rule_from};
+ghost use Rattle.q_transport.specs.Contents.{rule_of_pattern, empty_contents, rule_from};
 ghost use Rattle.q_transport.specs.Lawful.{IsLawful};
 ghost use Rattle.q_transport.specs.Names.{number_of, smtp};
 ghost use Rattle.q_transport.specs.Parts.{seen};
-ghost use Rattle.q_transport.specs.Readings.{add_parts, Gives, is_full, read_line};
+ghost use Rattle.q_transport.specs.Readings.{add_parts, BecomesTable, is_full, read_table_line};
 ghost use Rattle.q_transport.specs.Routing.{table_of};
 ghost use Rattle.q_transport.specs.TableLines.{AreParts};
 ghost use Rattle.q_transport.specs.Texts.{is_transport};
@@ -72,7 +72,7 @@ impl Table {
     /// A table without lines, which routes each address to its domain by `smtp`. It takes no
     /// memory.
     pub fn empty(alloc: Global) -> Table
-        ensures exact { result ≡ nothing }
+        ensures exact { result ≡ empty_contents }
         ensures no_table { table_of result ≡ no_table }
     {
         Table {
@@ -105,7 +105,7 @@ impl Table {
     fn push_entry(&mut self, pattern: Vec<u8>, target: Target) -> Result<(), TableError>
         requires named { target.transport < length self.old.names }
         requires hop { option_map_or is_hop target.hop true ≡ true }
-        requires new { entry_of self.old.entries pattern.items ≡ None }
+        requires new { rule_of_pattern self.old.entries pattern.items ≡ None }
         ensures ok { OnOk result (self.new ≡ record self.old {
           entries = self.old.entries ++ rule_from pattern.items target.transport target.hop ∷ [];
         }) }
@@ -117,7 +117,7 @@ impl Table {
     /// Adds the line of this number.
     fn add(&mut self, alloc: Global, number: u64, line: &Line<'_>) -> Result<(), TableError>
         requires { AreParts (seen line.now) }
-        ensures { Gives result self.new (add_parts number self.old (seen line.now)) }
+        ensures { BecomesTable result self.new (add_parts number self.old (seen line.now)) }
     {
         let pattern = lowered(alloc, line.pattern)?;
         if self.entries.get(pattern.as_slice()).is_some() {
@@ -144,7 +144,7 @@ impl Table {
         number: u64,
         line: &[u8],
     ) -> Result<(), TableError>
-        ensures { Gives result self.new (read_line number self.old line.now) }
+        ensures { BecomesTable result self.new (read_table_line number self.old line.now) }
     {
         if is_passed_over(line) {
             return Ok(());

@@ -1,5 +1,5 @@
 use Rattle.std.proofs.Common.{◌≡◌, refl, sym, ap, ◌∙◌, subst, arith}
-use Rattle.q_events.specs.Readings.{is_end}
+use Rattle.q_events.specs.Readings.{is_list_end}
 use Rattle.q_events.specs.States.{text_left, EventsState}
 use Rattle.q_top.specs.ReplayEnds.{ReplayEnds}
 use Rattle.q_top.specs.Statuses.{status_of}
@@ -97,7 +97,7 @@ loop-item-preserved g c = let world = world_of c.args.conf.now in
           let went = old.invariant.went t in
           let next = text_left c.read_event.new.self.buffered (left c.read_event.new.source) in
           went_hears world text at old.events old.invariant.going old.life before after next c.read_event.new.self c.take.new.life (view c.take.new.host) c.in-Ok-read_event.item read.0 read.1 c.in-Ok-read_event.ensures.exact read.2 read.3 (read.4 t) went;
-      going = c.in-Ok-read_event.ensures.ended ∙ ap is_end read.2;
+      going = c.in-Ok-read_event.ensures.ended ∙ ap is_list_end read.2;
       clock = c.in-Ok-Heard.ensures.clock;
       files = λ t. c.in-Ok-Heard.ensures.files t;
       disk_later = omega (arith, old.invariant.disk_later, c.take.ensures.disk_later);
