@@ -4,7 +4,7 @@ use Rattle.std.specs.Prelude.{find, not, ◌&&◌, ◌||◌, ◌==◌}
 use Rattle.std.specs.List.{list_any}
 use Rattle.std.specs.Option.{option_map_or}
 use Rattle.q_core.proofs.ListLaws.{find-map, list_any-map}
-use Rattle.q_core.specs.Agrees.{Holds, slot_of}
+use Rattle.q_core.specs.Agrees.{AgreesButScan, slot_of}
 use Rattle.q_core.specs.Held.{has_flight_in, has_rows_in, has_unsettled_in, has_waiting_in, is_admitted_in, is_dead_in, is_idle_in, unread_in}
 use Rattle.q_core.specs.declared.slot.Slot.{Slot}
 use Rattle.q_core.specs.declared.state.Core.{Core}
@@ -23,10 +23,10 @@ use Rattle.q_model.specs.declared.rows.Delivery.{Delivery}
 use Rattle.q_model.specs.declared.rows.Row.{Row}
 use Rattle.q_model.specs.declared.rows.Unsettled.{Unsettled}
 
-pub same_dead : {w : World} {c : Core} {l : Ledger} → Holds w c l → (site : Site) → is_dead_in c site ≡ is_dead_site l site
+pub same_dead : {w : World} {c : Core} {l : Ledger} → AgreesButScan w c l → (site : Site) → is_dead_in c site ≡ is_dead_site l site
 same_dead a site = ap (λ (ds : List SiteRecord). option_map_or (λ (d : SiteRecord). not (is_alive d.health)) (find (λ d. site_eq d.site site) ds) false) a.sites
 
-pub same_admitted : {w : World} {c : Core} {l : Ledger} → Holds w c l → (id : Id) → is_admitted_in c id ≡ is_admitted l id
+pub same_admitted : {w : World} {c : Core} {l : Ledger} → AgreesButScan w c l → (id : Id) → is_admitted_in c id ≡ is_admitted l id
 same_admitted {l = l} a id = ap (list_any (λ s. id_eq s.id id)) a.admitted ∙ list_any-map (λ s. id_eq s.id id) (slot_of l) l.admitted
 
 abbrev pub recipients_on : Option Message → ℕ
@@ -49,22 +49,22 @@ unread_found : (l : Ledger) (o : Option Admitted) → unread_slot (option_map (s
 unread_found l None = refl
 unread_found l (Some a) = unread_same (message_of l.book a.id) a.unread
 
-pub same_unread : {w : World} {c : Core} {l : Ledger} → Holds w c l → (id : Id) → unread_in c id ≡ unread_of l id
+pub same_unread : {w : World} {c : Core} {l : Ledger} → AgreesButScan w c l → (id : Id) → unread_in c id ≡ unread_of l id
 same_unread {l = l} a id =
     ap (λ (ss : List Slot). unread_slot (find (λ s. id_eq s.id id) ss)) a.admitted
     ∙ ap unread_slot (find-map (λ s. id_eq s.id id) (slot_of l) l.admitted)
     ∙ unread_found l (find (λ x. id_eq x.id id) l.admitted)
 
-pub same_waiting : {w : World} {c : Core} {l : Ledger} → Holds w c l → (id : Id) → has_waiting_in c id ≡ has_waiting l id
+pub same_waiting : {w : World} {c : Core} {l : Ledger} → AgreesButScan w c l → (id : Id) → has_waiting_in c id ≡ has_waiting l id
 same_waiting a id = ap (list_any (λ (r : Row). id_eq r.id id)) a.waiting
 
-pub same_rows : {w : World} {c : Core} {l : Ledger} → Holds w c l → (id : Id) → has_rows_in c id ≡ has_rows l id
+pub same_rows : {w : World} {c : Core} {l : Ledger} → AgreesButScan w c l → (id : Id) → has_rows_in c id ≡ has_rows l id
 same_rows {c = c} {l = l} a id =
     ap (λ (rs : List Row). list_any (λ r. id_eq r.id id) rs || has_flight_in c id || has_unsettled_in c id) a.waiting
     ∙ ap (λ (fs : List Delivery). has_waiting l id || list_any (λ f. id_eq f.row.id id) fs || has_unsettled_in c id) a.flights
     ∙ ap (λ (us : List Unsettled). has_waiting l id || list_any (λ f. id_eq f.row.id id) l.flights || list_any (λ u. id_eq u.id id) us) a.unsettled
 
-pub same_idle : {w : World} {c : Core} {l : Ledger} → Holds w c l → (id : Id) → is_idle_in c id ≡ is_idle l id
+pub same_idle : {w : World} {c : Core} {l : Ledger} → AgreesButScan w c l → (id : Id) → is_idle_in c id ≡ is_idle l id
 same_idle {c = c} {l = l} a id =
     ap (λ b. b && (unread_in c id == 0) && not (has_rows_in c id)) (same_admitted a id)
     ∙ ap (λ n. is_admitted l id && (n == 0) && not (has_rows_in c id)) (same_unread a id)

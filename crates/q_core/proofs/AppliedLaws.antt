@@ -5,14 +5,14 @@ use Rattle.std.specs.Prelude.{◌&&◌, ◌==◌, find, option_and_then, positio
 use Rattle.q_core.proofs.NameLaws.{and_true_parts, id_eq-true}
 use Rattle.q_core.proofs.NextLaws.{next_law}
 use Rattle.q_core.specs.Agrees.{Agrees}
-use Rattle.q_core.specs.Deciding.{IsLooking, IsNext, decide_in}
+use Rattle.q_core.specs.Deciding.{IsLooking, IsNextDecision, decide_in}
 use Rattle.q_core.proofs.DroppedLaws.{found_first}
 use Rattle.q_core.proofs.ListLaws.{position-find}
 use Rattle.q_core.proofs.RuleLaws.{first_at_site}
-use Rattle.q_core.specs.Decisions.{IsRead, IsRowAt, IsRowFor, IsRule}
+use Rattle.q_core.specs.Decisions.{WantsRead, IsRowAt, IsRowFor, IsRule}
 use Rattle.q_core.specs.Sending.{row_for}
 use Rattle.q_core.specs.Held.{is_dead_in}
-use Rattle.q_core.specs.Rules.{next_skip_in, next_skip_number, skip_at, skip_of}
+use Rattle.q_core.specs.Rules.{next_skip_in, next_skip_number, skip_at, skip_decision}
 use Rattle.q_core.specs.declared.decision.Decision.{Decision}
 use Rattle.q_core.specs.declared.decision.Decision.TheVariants as decisions
 use Rattle.q_core.specs.declared.state.Core.{Core}
@@ -45,7 +45,7 @@ is_plain decisions.LookIncoming = false
 is_plain (decisions.LookDeferred after until) = false
 is_plain _ = true
 
-pub not_read : (w : World) (l : Ledger) (d : Decision) (r : Option Entry) → is_plain d ≡ true → IsRead w l d r → ⊥
+pub not_read : (w : World) (l : Ledger) (d : Decision) (r : Option Entry) → is_plain d ≡ true → WantsRead w l d r → ⊥
 not_read w l (decisions.Log id failure) r p h = h
 not_read w l (decisions.Mark id position) r p h = h
 not_read w l (decisions.Sync id) r p h = h
@@ -71,14 +71,14 @@ not_looking c d p (inl h) = is_other d decisions.LookActive p refl h.0
 not_looking c d p (inr (inl h)) = is_other d decisions.LookIncoming p refl h.0
 not_looking c d p (inr (inr h)) = is_other d (decisions.LookDeferred h.0.place h.0.until) p refl h.1
 
-plain_rule : (w : World) (l : Ledger) (c : Core) (d : Decision) (r : Option Entry) → is_plain d ≡ true → IsNext w l c (Some d) r → IsRule c (Some d) r
+plain_rule : (w : World) (l : Ledger) (c : Core) (d : Decision) (r : Option Entry) → is_plain d ≡ true → IsNextDecision w l c (Some d) r → IsRule c (Some d) r
 plain_rule w l c d r p (inl h) = h
 plain_rule w l c d r p (inr (inl h)) = absurd (not_read w l d r p h)
 plain_rule w l c d r p (inr (inr h)) = absurd (not_looking c d p h)
 
 -- what the core decides is the ledger's next
 pub decided_rule : {w : World} {c : Core} {l : Ledger} → Agrees w c l → (d : Decision) → is_plain d ≡ true → decide_in c ≡ Some d → IsRule c (Some d) (next w l)
-decided_rule {w = w} {c = c} {l = l} a d p e = plain_rule w l c d (next w l) p (subst (λ o. IsNext w l c o (next w l)) e (next_law a))
+decided_rule {w = w} {c = c} {l = l} a d p e = plain_rule w l c d (next w l) p (subst (λ o. IsNextDecision w l c o (next w l)) e (next_law a))
 
 pub may_next : {w : World} {c : Core} {l : Ledger} → Agrees w c l → (e : Entry) → next w l ≡ Some e → Decided w l e
 may_next {w = w} {l = l} a e h = next_decided w l e a.consistent h
@@ -151,7 +151,7 @@ pub record IsSkipAt (c : Core) (id : Id) (site : Site) (place : ℕ) : Type 0 wh
   pub name : row.id ≡ id
   pub at_site : row.site ≡ site
 
-skip_row : (c : Core) (id : Id) (s : Site) (k : ℕ) (n : ℕ) (o : Option Row) → slice_get c.waiting n ≡ o → option_map (skip_of c) o ≡ Some (decisions.Skip id s k) → IsSkipAt c id s n
+skip_row : (c : Core) (id : Id) (s : Site) (k : ℕ) (n : ℕ) (o : Option Row) → slice_get c.waiting n ≡ o → option_map (skip_decision c) o ≡ Some (decisions.Skip id s k) → IsSkipAt c id s n
 skip_row c id s entry n None e h = cc
 skip_row c id s entry n (Some r) e h = record { row = r; there = e; name = cc; at_site = cc }
 
@@ -180,7 +180,7 @@ skip_there c n p = elim (position-find (λ r. is_dead_in c r.site) c.waiting) [
 ]
 
 -- the number of a skip is the next one
-skip_numbered : (c : Core) (id : Id) (s : Site) (k : ℕ) (o : Option Row) → option_map (skip_of c) o ≡ Some (decisions.Skip id s k) → next_skip_number c ≡ k
+skip_numbered : (c : Core) (id : Id) (s : Site) (k : ℕ) (o : Option Row) → option_map (skip_decision c) o ≡ Some (decisions.Skip id s k) → next_skip_number c ≡ k
 skip_numbered c id s k None h = cc
 skip_numbered c id s k (Some r) h = cc
 

@@ -2,7 +2,7 @@
 use Rattle.std.proofs.Common.{◌≡◌, ◌<◌, arith, ℕ, Bool, true, false, refl, sym, ap, ◌∙◌, subst, Option, Some, None, inl, inr, IsTrue, List, ◌≤◌}
 use Rattle.std.specs.Prelude.{◌&&◌, ◌||◌, if◌then◌else◌, is_none, is_some, not}
 use Rattle.std.specs.Option.{option_or}
-use Rattle.q_core.proofs.BeginningLaws.{next_is_load}
+use Rattle.q_core.proofs.LastRuleLaws.{next_is_load}
 use Rattle.q_core.proofs.NextLaws.{next_law}
 use Rattle.q_laws.specs.Traces.{is_inner}
 use Rattle.q_core.proofs.WholeLaws.{inner_goes_on, inner_moment, still_agrees, whole_law}
@@ -10,7 +10,7 @@ use Rattle.q_core.specs.Agrees.{Agrees, Matches}
 use Rattle.q_core.specs.Changes.{is_known, is_looked_at, looked_at, scan_ended}
 use Rattle.q_core.specs.Facts.{is_nothing}
 use Rattle.q_core.specs.declared.decision.Found.{Found}
-use Rattle.q_core.specs.Deciding.{IsDecided, IsNext, IsApplied, decide_in, first_rule_in, is_asking, is_reading, question_of, scan_look_in}
+use Rattle.q_core.specs.Deciding.{IsDecided, IsNextDecision, IsApplied, decide_in, first_rule_in, is_asking, is_reading, question_of, scan_look_in}
 use Rattle.q_core.specs.Decisions.{IsOf}
 use Rattle.q_core.specs.declared.decision.Decision.{Decision}
 use Rattle.q_core.specs.declared.decision.Decision.TheVariants as decisions
@@ -89,23 +89,23 @@ named_law xs m = let h = m.parts in record {
 }
 
 pub look_active_applied : {w : World} {c : Core} {l : Ledger} → Agrees w c l → decide_in c ≡ Some decisions.LookActive → IsApplied w l c decisions.LookActive c
-look_active_applied {w = w} {c = c} {l = l} a e = on (subst (λ o. IsNext w l c o (next w l)) e (next_law a))
+look_active_applied {w = w} {c = c} {l = l} a e = on (subst (λ o. IsNextDecision w l c o (next w l)) e (next_law a))
   where
-    on : IsNext w l c (Some decisions.LookActive) (next w l) → IsApplied w l c decisions.LookActive c
+    on : IsNextDecision w l c (Some decisions.LookActive) (next w l) → IsApplied w l c decisions.LookActive c
     on (inl h) = absurd h.1
     on (inr h) = inr (h, a.matches)
 
 pub look_incoming_applied : {w : World} {c : Core} {l : Ledger} → Agrees w c l → decide_in c ≡ Some decisions.LookIncoming → IsApplied w l c decisions.LookIncoming c
-look_incoming_applied {w = w} {c = c} {l = l} a e = on (subst (λ o. IsNext w l c o (next w l)) e (next_law a))
+look_incoming_applied {w = w} {c = c} {l = l} a e = on (subst (λ o. IsNextDecision w l c o (next w l)) e (next_law a))
   where
-    on : IsNext w l c (Some decisions.LookIncoming) (next w l) → IsApplied w l c decisions.LookIncoming c
+    on : IsNextDecision w l c (Some decisions.LookIncoming) (next w l) → IsApplied w l c decisions.LookIncoming c
     on (inl h) = absurd h.1
     on (inr h) = inr (h, a.matches)
 
 pub look_deferred_applied : {w : World} {c : Core} {l : Ledger} → Agrees w c l → (place : Option DeferredName) (until : ℕ) → decide_in c ≡ Some (decisions.LookDeferred place until) → IsApplied w l c (decisions.LookDeferred place until) c
-look_deferred_applied {w = w} {c = c} {l = l} a place until e = on (subst (λ o. IsNext w l c o (next w l)) e (next_law a))
+look_deferred_applied {w = w} {c = c} {l = l} a place until e = on (subst (λ o. IsNextDecision w l c o (next w l)) e (next_law a))
   where
-    on : IsNext w l c (Some (decisions.LookDeferred place until)) (next w l) → IsApplied w l c (decisions.LookDeferred place until) c
+    on : IsNextDecision w l c (Some (decisions.LookDeferred place until)) (next w l) → IsApplied w l c (decisions.LookDeferred place until) c
     on (inl h) = absurd h.1
     on (inr h) = inr (h, a.matches)
 
@@ -200,7 +200,7 @@ decided_law {w = w} {c = c} {d = d} {k = k} {l = l} x a (inl h) same =
 decided_law {w = w} {c = c} {d = d} {k = k} {l = l} x a (inr h) same =
     inr (h.0, subst (λ y. Agrees w y l) (sym same) (still_agrees a (asking_law (question_of x) k.named h.1)))
 
-none_next : (w : World) (l : Ledger) (c : Core) (r : Option Entry) → IsNext w l c None r → r ≡ None
+none_next : (w : World) (l : Ledger) (c : Core) (r : Option Entry) → IsNextDecision w l c None r → r ≡ None
 none_next w l c r (inl h) = h
 none_next w l c r (inr (inl h)) = h
 none_next w l c r (inr (inr (inl h))) = cc
@@ -209,7 +209,7 @@ none_next w l c r (inr (inr (inr (inr h)))) = cc
 
 -- there is none exactly where the ledger is quiet
 pub quiet_law : {w : World} {c : Core} {l : Ledger} → Agrees w c l → decide_in c ≡ None → IsDecided w l c None c
-quiet_law {w = w} {c = c} {l = l} a e = (none_next w l c (next w l) (subst (λ o. IsNext w l c o (next w l)) e (next_law a)), a)
+quiet_law {w = w} {c = c} {l = l} a e = (none_next w l c (next w l) (subst (λ o. IsNextDecision w l c o (next w l)) e (next_law a)), a)
 
 -- ---- an answer leaves fewer looks
 

@@ -8,7 +8,7 @@ use Rattle.q_core.specs.Deciding.{clearing_on, decide_in, first_rule_in, is_look
 use Rattle.q_core.specs.Facts.{file_pending, file_wants_bounce, picked, picked_decision, picked_place}
 use Rattle.q_core.specs.Held.{due_in, finish_in, free_in, is_dead_in, is_idle_in, may_read_in, wants_sync_in}
 use Rattle.q_core.specs.Looking.{is_unseen}
-use Rattle.q_core.specs.Rules.{admission_in, admission_seen, clear_found_in, clear_in, clear_marked, decision_of, first_need_in, has_message_room_in, is_synced_in, needed_in, next_admission_in, next_clearing_in, next_finish_in, next_read_in, next_skip_in, next_sync_in, skip_at, skip_of}
+use Rattle.q_core.specs.Rules.{admission_in, admission_seen, clear_found_in, clear_in, clear_marked_in, decision_of, first_need_in, has_message_room_in, is_synced_in, needed_in, next_admission_in, next_clearing_in, next_finish_in, next_read_in, next_skip_in, next_sync_in, skip_at, skip_decision}
 use Rattle.q_core.specs.Slots.{wants_bounce_in}
 use Rattle.q_core.specs.Starting.{next_row_in, start_of_row}
 use Rattle.q_core.specs.declared.decision.Decision.{Decision}
@@ -76,7 +76,7 @@ marked_plain id f true true e = refl
 marked_plain id f true false true = refl
 marked_plain id f true false false = refl
 
-clear_plain : (c : Core) (id : Id) (f : FileFacts) (o : Option ℕ) → is_look (question_of (option_map_or (λ position. decisions.Mark id position) o (clear_marked (is_synced_in c id) id f))) ≡ false
+clear_plain : (c : Core) (id : Id) (f : FileFacts) (o : Option ℕ) → is_look (question_of (option_map_or (λ position. decisions.Mark id position) o (clear_marked_in (is_synced_in c id) id f))) ≡ false
 clear_plain c id f None = marked_plain id f (is_synced_in c id) (nat_lt 0 (file_pending f)) (file_wants_bounce f id && not f.bounced)
 clear_plain c id f (Some k) = refl
 
@@ -133,7 +133,7 @@ all_fit c =
     or_fits c (scan_look_in c.deferred c.scan) (first_rule_in c) (scan_fits c c.deferred c.scan refl refl)
     (or_fits c (first_need_in c) from_sync (map_fits c decision_of (slice_get c.unsettled 0) (λ u. need_plain u u.need))
     (or_fits c (next_sync_in c) from_skip (map_fits c (λ s. decisions.Sync s.id) (find (wants_sync_in c) c.admitted) (λ s. refl))
-    (or_fits c (next_skip_in c) from_finish (then_fits c (skip_at c) (position (λ r. is_dead_in c r.site) c.waiting) (λ n. map_fits c (skip_of c) (slice_get c.waiting n) (λ r. refl)))
+    (or_fits c (next_skip_in c) from_finish (then_fits c (skip_at c) (position (λ r. is_dead_in c r.site) c.waiting) (λ n. map_fits c (skip_decision c) (slice_get c.waiting n) (λ r. refl)))
     (or_fits c (next_finish_in c) (clearing_on c) (then_fits c (finish_in c) (find (λ s. is_idle_in c s.id) c.admitted) (finish_fits c))
     (or_fits c (next_clearing_in c c.active) from_admission (clearing_fits c c.active refl)
     (or_fits c (next_admission_in c c.incoming) from_read (if_fits c (not (has_message_room_in c)) None (admission_seen c c.incoming) tt (seen_fits c c.incoming refl))

@@ -5,15 +5,15 @@ use Rattle.std.specs.Prelude.{filter, if◌then◌else◌}
 use Rattle.std.specs.Prelude.{◌&&◌}
 use Rattle.std.specs.List.{list_all}
 use Rattle.q_core.specs.Choosing.{choice_in, choices_from}
-use Rattle.q_core.specs.Lists.{over, prefer}
+use Rattle.q_core.specs.Lists.{better_of, prefer}
 use Rattle.q_core.specs.declared.decision.Decision.{Decision}
 use Rattle.q_core.specs.declared.state.Core.{Core}
 use Rattle.q_model.specs.Lists.{least}
 
 abbrev least_of : {A : Type 0} → (A → A → Bool) → A → Option A → Option A
-least_of before x o = Some (over before x o)
+least_of before x o = Some (better_of before x o)
 
-prefer_cons : {A : Type 0} (before : A → A → Bool) (b : Bool) (x : A) (xs : List A) → (if b then Some (over before x (least before xs)) else least before xs) ≡ least before (cond b (x ∷ xs) xs)
+prefer_cons : {A : Type 0} (before : A → A → Bool) (b : Bool) (x : A) (xs : List A) → (if b then Some (better_of before x (least before xs)) else least before xs) ≡ least before (cond b (x ∷ xs) xs)
 prefer_cons before true x xs = refl
 prefer_cons before false x xs = refl
 
@@ -29,11 +29,11 @@ least_down before p xs i x best result some within at is step =
 
 -- the search from the end without a test
 pub least_back : {A : Type 0} (before : A → A → Bool) (xs : List A) (i : ℕ) (x : A) (best : Option A) →
-    0 < i → i ≤ length xs → x ≡ get_or xs (i - 1) x → best ≡ least before (drop i xs) → Some (over before x best) ≡ least before (drop (i - 1) xs)
+    0 < i → i ≤ length xs → x ≡ get_or xs (i - 1) x → best ≡ least before (drop i xs) → Some (better_of before x best) ≡ least before (drop (i - 1) xs)
 least_back before xs i x best some within at is =
     let next : i ≡ suc (i - 1) = omega arith in
     let lt : i - 1 < length xs = omega arith in
-    ap (λ o. Some (over before x o)) (is ∙ ap (λ n. least before (drop n xs)) next)
+    ap (λ o. Some (better_of before x o)) (is ∙ ap (λ n. least before (drop n xs)) next)
     ∙ ap (least before) (ap (λ y. y ∷ drop (suc (i - 1)) xs) at ∙ sym (drop-cons xs (i - 1) x lt))
 
 choices_at : (c : Core) (t n : ℕ) → t < n → choices_from c t (n - t) ≡ option_or (choice_in c t) (choices_from c (t + 1) (n - (t + 1)))

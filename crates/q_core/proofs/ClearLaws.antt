@@ -8,7 +8,7 @@ use Rattle.q_core.proofs.MarkLaws.{keeps_mark}
 use Rattle.q_core.proofs.MarksLaws.{keeps_sync}
 use Rattle.q_core.proofs.NameLaws.{and_true_parts}
 use Rattle.q_core.proofs.StepLaws.{HoldsRaw, IsStillSeen}
-use Rattle.q_core.specs.Agrees.{Holds}
+use Rattle.q_core.specs.Agrees.{AgreesButScan}
 use Rattle.q_core.specs.Changes.{IsNoted}
 use Rattle.q_core.specs.declared.state.Core.{Core}
 use Rattle.q_core.specs.declared.state.Seen.{Seen}
@@ -88,7 +88,7 @@ synced_law : {w : World} {c d : Core} {l : Ledger} (id : Id) → HoldsRaw w (rec
 synced_law {w = w} {c = c} {d = d} {l = l} id r n =
     let h = r.parts in
     let next : Ledger = record l { synced = id ∷ l.synced } in
-    let kept : Holds w (record c { synced = d.synced; active = Unknown }) next = record {
+    let kept : AgreesButScan w (record c { synced = d.synced; active = Unknown }) next = record {
       settings = h.settings;
       count = h.count;
       transports = h.transports;

@@ -142,18 +142,18 @@ corrupt_left_law {w = w} {c = c} {l = l} id r k shown may =
     subst (λ (b : Bool). HoldsRaw w (record c { active = Unknown; incoming = Unknown; deferred = Unknown }) (let t : Ledger = if b then l else after_pick l in record t { book = move_damaged l.book id places.Corrupt })) (sym (shown_next c.active l id r.parts.active shown))
     (corrupt_law id r k parts.0 parts.1)
 
-rows_taken : (l : Ledger) (o : Option Pick) → HasRowsOf l (option_map_or (λ p. passed p l) o l)
-rows_taken l None = record { waiting = refl; flights = refl }
-rows_taken l (Some (from_incoming id)) = record { waiting = refl; flights = refl }
-rows_taken l (Some (from_deferred name)) = record { waiting = refl; flights = refl }
+rows_picked : (l : Ledger) (o : Option Pick) → HasRowsOf l (option_map_or (λ p. passed p l) o l)
+rows_picked l None = record { waiting = refl; flights = refl }
+rows_picked l (Some (from_incoming id)) = record { waiting = refl; flights = refl }
+rows_picked l (Some (from_deferred name)) = record { waiting = refl; flights = refl }
 
 -- taking a file moves no row
-pub taken_rows : (l : Ledger) → HasRowsOf l (after_pick l)
-taken_rows l = rows_taken l (pick l)
+pub picked_rows : (l : Ledger) → HasRowsOf l (after_pick l)
+picked_rows l = rows_picked l (pick l)
 
 rows_either : (l : Ledger) (b : Bool) → HasRowsOf l (if b then l else after_pick l)
 rows_either l true = record { waiting = refl; flights = refl }
-rows_either l false = taken_rows l
+rows_either l false = picked_rows l
 
 pub corrupt_rows : (l : Ledger) (id : Id) → HasRowsOf l (after_corrupt l id)
 corrupt_rows l id = let rows = rows_either l (is_next_leftover l id) in record { waiting = rows.waiting; flights = rows.flights }

@@ -6,7 +6,7 @@ use Rattle.std.specs.Prelude.{◌&&◌, option_and_then}
 use Rattle.q_core.proofs.AdmitLaws.{IsComing, admitting, coming_active, coming_same, newcomer}
 use Rattle.q_core.proofs.BackLaws.{moved_names}
 use Rattle.q_core.proofs.ChangeLaws.{seen_same}
-use Rattle.q_core.proofs.CorruptLaws.{taken_rows}
+use Rattle.q_core.proofs.CorruptLaws.{picked_rows}
 use Rattle.q_core.proofs.DeferLaws.{moved_out}
 use Rattle.q_core.proofs.DueLaws.{deferred_or_incoming, due_listed, one_queue, is_deferred}
 use Rattle.q_core.proofs.HeldLaws.{is_there}
@@ -156,4 +156,4 @@ admit_law {w = w} {c = c} {d = d} {l = l} id r k looked known may e =
 
 -- no row moves
 pub admit_rows : (l : Ledger) (id : Id) → HasRowsOf l (after_admit l id)
-admit_rows l id = let rows = taken_rows l in record { waiting = rows.waiting; flights = rows.flights }
+admit_rows l id = let rows = picked_rows l in record { waiting = rows.waiting; flights = rows.flights }

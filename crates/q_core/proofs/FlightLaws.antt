@@ -28,28 +28,28 @@ none_picked n (f ∷ fs) h =
     ap (λ b. cond (not b) (f ∷ filter (λ (x : Delivery). not (x.number == n)) fs) (filter (λ (x : Delivery). not (x.number == n)) fs)) parts.0
     ∙ ap (λ xs. f ∷ xs) (none_picked n fs parts.1)
 
-taken_step : (g : Delivery → ℕ) (n : ℕ) (f x : Delivery) (xs : List Delivery) → list_any (λ m. m == x.number) (map (λ (y : Delivery). y.number) xs) ≡ false →
+removed_step : (g : Delivery → ℕ) (n : ℕ) (f x : Delivery) (xs : List Delivery) → list_any (λ m. m == x.number) (map (λ (y : Delivery). y.number) xs) ≡ false →
     (find (λ y. y.number == n) xs ≡ Some f → sum_by g xs ≡ g f + sum_by g (filter (λ y. not (y.number == n)) xs)) →
     (b : Bool) → (x.number == n) ≡ b → cond b (Some x) (find (λ y. y.number == n) xs) ≡ Some f →
     sum_by g (x ∷ xs) ≡ g f + sum_by g (cond (not b) (x ∷ filter (λ y. not (y.number == n)) xs) (filter (λ y. not (y.number == n)) xs))
-taken_step g n f x xs alone rest true e h =
+removed_step g n f x xs alone rest true e h =
     let same : x ≡ f = cc in
     let others : filter (λ (y : Delivery). not (y.number == n)) xs ≡ xs = none_picked n xs (ap (λ k. list_any (λ m. m == k) (map (λ (y : Delivery). y.number) xs)) (sym (eqb-true x.number n e)) ∙ alone) in
     sum_by-cons g x xs ∙ ap (λ (z : Delivery). g z + sum_by g xs) same ∙ ap (λ (ys : List Delivery). g f + sum_by g ys) (sym others)
-taken_step g n f x xs alone rest false e h =
+removed_step g n f x xs alone rest false e h =
     let whole = sum_by-cons g x xs in
     let part = sum_by-cons g x (filter (λ (y : Delivery). not (y.number == n)) xs) in
     let less = rest h in
     omega (arith, whole, part, less)
 
 -- a sum without the one delivery of a number
-pub sum_by-taken : (g : Delivery → ℕ) (n : ℕ) (f : Delivery) (fs : List Delivery) → are_once (map (λ (x : Delivery). x.number) fs) ≡ true → find (λ x. x.number == n) fs ≡ Some f →
+pub sum_by-removed : (g : Delivery → ℕ) (n : ℕ) (f : Delivery) (fs : List Delivery) → are_once (map (λ (x : Delivery). x.number) fs) ≡ true → find (λ x. x.number == n) fs ≡ Some f →
     sum_by g fs ≡ g f + sum_by g (filter (λ x. not (x.number == n)) fs)
-sum_by-taken g n f [] once h = cc
-sum_by-taken g n f (x ∷ xs) once h =
+sum_by-removed g n f [] once h = cc
+sum_by-removed g n f (x ∷ xs) once h =
     let numbers = map (λ (y : Delivery). y.number) xs in
     let parts = and_true_parts (not (list_any (λ m. m == x.number) numbers)) (are_once numbers) once in
-    taken_step g n f x xs (not_true (list_any (λ m. m == x.number) numbers) parts.0) (sum_by-taken g n f xs parts.1) (x.number == n) refl h
+    removed_step g n f x xs (not_true (list_any (λ m. m == x.number) numbers) parts.0) (sum_by-removed g n f xs parts.1) (x.number == n) refl h
 
 either : (b : Bool) (x y : SiteRecord) (s : Site) → x.site ≡ s → y.site ≡ s → (if b then x else y).site ≡ s
 either true x y s h k = h

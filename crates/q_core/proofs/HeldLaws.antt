@@ -6,7 +6,7 @@ use Rattle.std.specs.Prelude.{◌||◌}
 use Rattle.q_core.proofs.ChangeLaws.{IsBookChange, active_changed, changed_ledger, incoming_changed, seen_same, slots_apart, slots_changed, still_changed}
 use Rattle.q_core.proofs.NameLaws.{and_true_parts, id_eq-true}
 use Rattle.q_core.proofs.StepLaws.{HoldsRaw, IsStillSeen}
-use Rattle.q_core.specs.Agrees.{Holds, found_active, found_incoming, slot_from}
+use Rattle.q_core.specs.Agrees.{AgreesButScan, found_active, found_incoming, slot_from}
 use Rattle.q_core.specs.Changes.{IsSlotChange, IsUnsettledChange}
 use Rattle.q_core.specs.Slots.{changed_at}
 use Rattle.q_core.specs.declared.slot.Slot.{Slot}
@@ -56,7 +56,7 @@ pub slot_law : {w : World} {c d : Core} {l : Ledger} (id : Id) (f : Message → 
 slot_law {w = w} {c = c} {d = d} {l = l} id f m g r k adm same s =
     let h = r.parts in
     let next : Ledger = changed_ledger l id f in
-    let kept : Holds w (record c { admitted = d.admitted }) next = record {
+    let kept : AgreesButScan w (record c { admitted = d.admitted }) next = record {
       settings = h.settings;
       count = h.count;
       transports = h.transports;
@@ -88,7 +88,7 @@ pub apart_law : {w : World} {c : Core} {l : Ledger} (id : Id) (f : Message → M
 apart_law {w = w} {c = c} {l = l} id f m r k gone =
     let h = r.parts in
     let next : Ledger = changed_ledger l id f in
-    let kept : Holds w (record c { active = Unknown }) next = record {
+    let kept : AgreesButScan w (record c { active = Unknown }) next = record {
       settings = h.settings;
       count = h.count;
       transports = h.transports;
@@ -122,7 +122,7 @@ pub unsettled_law : {w : World} {c d : Core} {l : Ledger} (us : List Unsettled) 
 unsettled_law {w = w} {c = c} {d = d} {l = l} us r s memory =
     let h = r.parts in
     let next : Ledger = record l { unsettled = us } in
-    let kept : Holds w (record c { unsettled = d.unsettled; in_memory = d.in_memory }) next = record {
+    let kept : AgreesButScan w (record c { unsettled = d.unsettled; in_memory = d.in_memory }) next = record {
       settings = h.settings;
       count = h.count;
       transports = h.transports;

@@ -7,7 +7,7 @@ use Rattle.q_core.specs.Choosing.{behind_jobs, best_in, choice_in, choices_from,
 use Rattle.q_core.specs.Deciding.{clearing_on, decide_in, first_rule_in, scan_look_in}
 use Rattle.q_core.specs.Facts.{file_pending, file_wants_bounce, picked, picked_decision, picked_place, shows_damaged}
 use Rattle.q_core.specs.Held.{due_in, finish_in, free_in, is_dead_in, is_idle_in, may_read_in, wants_sync_in}
-use Rattle.q_core.specs.Rules.{admission_in, admission_seen, clear_found_in, clear_marked, decision_of, first_need_in, has_message_room_in, is_synced_in, needed_in, next_admission_in, next_clearing_in, next_finish_in, next_read_in, next_skip_in, next_sync_in, skip_at, skip_of, next_skip_number}
+use Rattle.q_core.specs.Rules.{admission_in, admission_seen, clear_found_in, clear_marked_in, decision_of, first_need_in, has_message_room_in, is_synced_in, needed_in, next_admission_in, next_clearing_in, next_finish_in, next_read_in, next_skip_in, next_sync_in, skip_at, skip_decision, next_skip_number}
 use Rattle.q_core.specs.Slots.{wants_bounce_in}
 use Rattle.q_core.specs.Starting.{next_row_in, start_in, start_of_row}
 use Rattle.q_core.specs.declared.decision.Decision.{Decision}
@@ -66,10 +66,10 @@ abbrev pub is_admit : Decision → Bool
 is_admit (decisions.Admit id place) = true
 is_admit _ = false
 
-abbrev pub is_begin : Decision → Bool
-is_begin (decisions.Preempt child parent transport need) = true
-is_begin (decisions.Start number id site) = true
-is_begin _ = false
+abbrev pub is_start_or_preempt : Decision → Bool
+is_start_or_preempt (decisions.Preempt child parent transport need) = true
+is_start_or_preempt (decisions.Start number id site) = true
+is_start_or_preempt _ = false
 
 need_one : (p : Decision → Bool) (u : Unsettled) (n : Need) → ((f : Failure) → p (decisions.Log u.id f) ≡ false) → p (decisions.Mark u.id u.position) ≡ false → p (needed_in u.id u.position n) ≡ false
 need_one p u (needs.Log why code) a b = a (record { position = u.position; why = why; code = code })
@@ -87,9 +87,9 @@ row_avoids : (p : Decision → Bool) (f : Row → Decision) (o : Option Row) →
 row_avoids p f None a = tt
 row_avoids p f (Some r) a = a r
 
-skip_avoids : (p : Decision → Bool) (c : Core) (o : Option ℕ) → ((r : Row) → p (skip_of c r) ≡ false) → Avoids p (option_and_then (skip_at c) o)
+skip_avoids : (p : Decision → Bool) (c : Core) (o : Option ℕ) → ((r : Row) → p (skip_decision c r) ≡ false) → Avoids p (option_and_then (skip_at c) o)
 skip_avoids p c None a = tt
-skip_avoids p c (Some n) a = row_avoids p (skip_of c) (slice_get c.waiting n) a
+skip_avoids p c (Some n) a = row_avoids p (skip_decision c) (slice_get c.waiting n) a
 
 finish_avoids : (p : Decision → Bool) (c : Core) (o : Option Slot) → ((s : Slot) → Avoids p (finish_in c s)) → Avoids p (option_and_then (finish_in c) o)
 finish_avoids p c None a = tt
@@ -101,7 +101,7 @@ marked_avoids p true true e w x y z a b c h = b
 marked_avoids p true false true w x y z a b c h = c
 marked_avoids p true false false w x y z a b c h = h
 
-clear_avoids : (p : Decision → Bool) (synced : Bool) (id : Id) (f : FileFacts) (o : Option ℕ) → ((k : ℕ) → p (decisions.Mark id k) ≡ false) → p (clear_marked synced id f) ≡ false → p (option_map_or (λ position. decisions.Mark id position) o (clear_marked synced id f)) ≡ false
+clear_avoids : (p : Decision → Bool) (synced : Bool) (id : Id) (f : FileFacts) (o : Option ℕ) → ((k : ℕ) → p (decisions.Mark id k) ≡ false) → p (clear_marked_in synced id f) ≡ false → p (option_map_or (λ position. decisions.Mark id position) o (clear_marked_in synced id f)) ≡ false
 clear_avoids p synced id f None a b = b
 clear_avoids p synced id f (Some k) a b = a k
 
@@ -222,8 +222,8 @@ admit_rare = record { log = λ id f. refl; mark = λ id k. refl; sync = λ id. r
 admit_no_start : IsNoStart is_admit
 admit_no_start = record { preempt = λ child parent transport need. refl; start = λ number id site. refl }
 
-begin_rare : IsRare is_begin
-begin_rare = record { log = λ id f. refl; mark = λ id k. refl; sync = λ id. refl; defer = λ id due. refl; back = λ id. refl; bounce = λ id. refl; remove = λ id. refl; corrupt = λ id place. refl; look_active = refl; look_incoming = refl; look_deferred = λ s. refl }
+start_rare : IsRare is_start_or_preempt
+start_rare = record { log = λ id f. refl; mark = λ id k. refl; sync = λ id. refl; defer = λ id due. refl; back = λ id. refl; bounce = λ id. refl; remove = λ id. refl; corrupt = λ id place. refl; look_active = refl; look_incoming = refl; look_deferred = λ s. refl }
 
 -- a decision that isn't common comes behind the first two rules
 behind_two : (p : Decision → Bool) → IsRare p → (c : Core) (d : Decision) → p d ≡ true → decide_in c ≡ Some d → option_or (next_skip_in c) (option_or (next_finish_in c) (clearing_on c)) ≡ Some d
@@ -317,12 +317,12 @@ read_first c d h e =
     (k, or_first is_read (next_read_in c) (next_start_in c) d (starts_avoid is_read (record { preempt = λ child parent transport need. refl; start = λ number id site. refl }) c) h k.last)
 
 -- a start and a preemption are those of the last
-pub begin_first : (c : Core) (d : Decision) → is_begin d ≡ true → decide_in c ≡ Some d → IsBehind c d × (next_read_in c ≡ None) × (next_start_in c ≡ Some d)
-begin_first c d h e =
-    let k = behind_admission is_begin begin_rare (λ id site entry. refl) (λ id place. refl) c d h e in (
+pub start_first : (c : Core) (d : Decision) → is_start_or_preempt d ≡ true → decide_in c ≡ Some d → IsBehind c d × (next_read_in c ≡ None) × (next_start_in c ≡ Some d)
+start_first c d h e =
+    let k = behind_admission is_start_or_preempt start_rare (λ id site entry. refl) (λ id place. refl) c d h e in (
       k,
-      none_of is_begin (next_read_in c) (next_start_in c) d (reads_avoid is_begin (λ id from max. refl) c) h k.last,
-      or_second is_begin (next_read_in c) (next_start_in c) d (reads_avoid is_begin (λ id from max. refl) c) h k.last,
+      none_of is_start_or_preempt (next_read_in c) (next_start_in c) d (reads_avoid is_start_or_preempt (λ id from max. refl) c) h k.last,
+      or_second is_start_or_preempt (next_read_in c) (next_start_in c) d (reads_avoid is_start_or_preempt (λ id from max. refl) c) h k.last,
     )
 
 abbrev pub is_corrupt : Decision → Bool
@@ -377,7 +377,7 @@ cleared_damaged c id place Nothing e = cc
 cleared_damaged c id place (Damaged k due true) e = let same : k ≡ id = cc in ap (λ i. id_eq i id) same ∙ id_eq-same id
 cleared_damaged c id place (Damaged k due false) e = cc
 cleared_damaged c id place (Whole k due f) e =
-    let bad = sym (ap is_corrupt (same_decision (option_map_or (λ position. decisions.Mark k position) f.unmarked (clear_marked (is_synced_in c k) k f)) (decisions.Corrupt id place) e))
+    let bad = sym (ap is_corrupt (same_decision (option_map_or (λ position. decisions.Mark k position) f.unmarked (clear_marked_in (is_synced_in c k) k f)) (decisions.Corrupt id place) e))
     ∙ clear_avoids is_corrupt (is_synced_in c k) k f f.unmarked (λ n. refl) (marked_avoids is_corrupt (is_synced_in c k) (nat_lt 0 (file_pending f)) (file_wants_bounce f k && not f.bounced) (decisions.Sync k) (decisions.Back k) (decisions.Bounce k) (decisions.Remove k) refl refl refl refl) in
     cc
 

@@ -10,11 +10,11 @@ use Rattle.q_core.proofs.NameLaws.{and_true_parts, id_eq-same, id_eq-true, or_ri
 use Rattle.q_model.specs.declared.rows.Place.TheVariants as places
 use Rattle.q_core.proofs.PendingLaws.{pending_count}
 use Rattle.q_core.proofs.RuleLaws.{kept_wants, no_length}
-use Rattle.q_core.specs.Agrees.{Holds, IsSeen, file_of, found_active, found_at}
+use Rattle.q_core.specs.Agrees.{AgreesButScan, IsSeen, file_of, found_active, found_at}
 use Rattle.q_laws.specs.Consistency.{IsConsistent, is_synced_well}
 use Rattle.q_core.proofs.StandingLaws.{leftover_active}
 use Rattle.q_core.specs.Decisions.{IsRule, IsRuleOrLook}
-use Rattle.q_core.specs.Rules.{clear_found_in, clear_in, clear_marked, is_synced_in, next_clearing_in}
+use Rattle.q_core.specs.Rules.{clear_found_in, clear_in, clear_marked_in, is_synced_in, next_clearing_in}
 use Rattle.q_core.specs.declared.decision.Decision.{Decision}
 use Rattle.q_core.specs.declared.decision.Found.{Found}
 use Rattle.q_core.specs.declared.decision.Found.TheVariants.{Damaged, Nothing, Whole}
@@ -199,22 +199,22 @@ left_choice l id m k =
 abbrev left_kept : Id → Bool → Bool → Bool → Decision
 left_kept id some_pending wants bounced = if some_pending then decisions.Back id else (if wants && not bounced then decisions.Bounce id else decisions.Remove id)
 
-left_code : (l : Ledger) (id : Id) (m : Message) → has_none (unmarked_logged m) ≡ true → m.id ≡ id → clear_marked true id (file_of l id m) ≡ left_kept id (not (has_none (pending m))) (wants_bounce m) (has_bounce l id)
+left_code : (l : Ledger) (id : Id) (m : Message) → has_none (unmarked_logged m) ≡ true → m.id ≡ id → clear_marked_in true id (file_of l id m) ≡ left_kept id (not (has_none (pending m))) (wants_bounce m) (has_bounce l id)
 left_code l id m marked name =
     ap (λ b. left_kept id b (nat_lt 0 (length m.failures) && not (is_none m.sender) && not id.bounce) (has_bounce l id)) (ap (nat_lt 0) (sym (pending_count m marked)) ∙ no_length (pending m))
     ∙ ap (λ b. left_kept id (not (has_none (pending m))) b (has_bounce l id)) (kept_wants m id name)
 
-left_synced : (c : Core) (l : Ledger) (id : Id) (m : Message) → IsSyncedLeft l id m → IsRule c (Some (clear_marked true id (file_of l id m))) (clear_tests l id)
+left_synced : (c : Core) (l : Ledger) (id : Id) (m : Message) → IsSyncedLeft l id m → IsRule c (Some (clear_marked_in true id (file_of l id m))) (clear_tests l id)
 left_synced c l id m k =
     subst (λ d. IsRule c (Some d) (clear_tests l id)) (sym (left_code l id m k.marked k.name))
     (subst (λ o. IsRule c (Some (left_kept id (not (has_none (pending m))) (wants_bounce m) (has_bounce l id))) o) (sym (left_choice l id m k))
     (left_table c id (has_none (pending m)) (wants_bounce m) (has_bounce l id)))
 
-left_unsynced : (c : Core) (l : Ledger) (id : Id) (m : Message) → was_synced l id ≡ false → IsRule c (Some (clear_marked false id (file_of l id m))) (clear_tests l id)
+left_unsynced : (c : Core) (l : Ledger) (id : Id) (m : Message) → was_synced l id ≡ false → IsRule c (Some (clear_marked_in false id (file_of l id m))) (clear_tests l id)
 left_unsynced c l id m s = (entries.Sync id, refl, ap (λ b. clear_choice id (not b) (may_bounce l id) (may_remove l id) (may_back l id)) s)
 
 -- a leftover that was synced in this life has each mark synced
-left_well : {w : World} {c : Core} {l : Ledger} → Holds w c l → IsConsistent w l → (id : Id) (m : Message) → message_of l.book id ≡ Some m → is_leftover l id ≡ true → was_synced l id ≡ true →
+left_well : {w : World} {c : Core} {l : Ledger} → AgreesButScan w c l → IsConsistent w l → (id : Id) (m : Message) → message_of l.book id ≡ Some m → is_leftover l id ≡ true → was_synced l id ≡ true →
     (is_clean m && has_none (unmarked_logged m)) ≡ true
 left_well {l = l} h k id m e left synced =
     let well : Message → Bool = λ (x : Message). is_clean x && has_none (unmarked_logged x) in
@@ -222,19 +222,19 @@ left_well {l = l} h k id m e left synced =
     ∙ sym (ap (λ b. not b || option_map_or well (message_of l.book id) true) left)
     ∙ in_all (is_synced_well l) id l.synced k.memory.synced synced
 
-left_none : {w : World} {c : Core} {l : Ledger} → Holds w c l → IsConsistent w l → (id : Id) (m : Message) (s : Bool) → was_synced l id ≡ s → message_of l.book id ≡ Some m → m.id ≡ id → is_leftover l id ≡ true →
-    unmarked_logged m ≡ [] → IsRule c (Some (clear_marked s id (file_of l id m))) (clear_tests l id)
+left_none : {w : World} {c : Core} {l : Ledger} → AgreesButScan w c l → IsConsistent w l → (id : Id) (m : Message) (s : Bool) → was_synced l id ≡ s → message_of l.book id ≡ Some m → m.id ≡ id → is_leftover l id ≡ true →
+    unmarked_logged m ≡ [] → IsRule c (Some (clear_marked_in s id (file_of l id m))) (clear_tests l id)
 left_none {c = c} {l = l} h k id m false s e name left none = left_unsynced c l id m s
 left_none {c = c} {l = l} h k id m true s e name left none =
     let well = and_true_parts (is_clean m) (has_none (unmarked_logged m)) (left_well h k id m e left s) in
     left_synced c l id m (record { there = e; name = name; left = left; active = leftover_active l k.book.distinct id m left e; synced = s; clean = well.0; marked = well.1 })
 
-left_list : {w : World} {c : Core} {l : Ledger} → Holds w c l → IsConsistent w l → (id : Id) (m : Message) → message_of l.book id ≡ Some m → m.id ≡ id → is_leftover l id ≡ true →
-    (xs : List ℕ) → unmarked_logged m ≡ xs → IsRule c (Some (option_map_or (λ position. decisions.Mark id position) (slice_get xs 0) (clear_marked (was_synced l id) id (file_of l id m)))) (option_or (mark_of id xs) (clear_tests l id))
+left_list : {w : World} {c : Core} {l : Ledger} → AgreesButScan w c l → IsConsistent w l → (id : Id) (m : Message) → message_of l.book id ≡ Some m → m.id ≡ id → is_leftover l id ≡ true →
+    (xs : List ℕ) → unmarked_logged m ≡ xs → IsRule c (Some (option_map_or (λ position. decisions.Mark id position) (slice_get xs 0) (clear_marked_in (was_synced l id) id (file_of l id m)))) (option_or (mark_of id xs) (clear_tests l id))
 left_list h k id m e name left [] none = left_none h k id m _ refl e name left none
 left_list {c = c} h k id m e name left (p ∷ ps) some = (entries.Mark id p, refl, refl)
 
-left_whole : {w : World} {c : Core} {l : Ledger} → Holds w c l → IsConsistent w l → (id : Id) (m : Message) → message_of l.book id ≡ Some m → is_leftover l id ≡ true →
+left_whole : {w : World} {c : Core} {l : Ledger} → AgreesButScan w c l → IsConsistent w l → (id : Id) (m : Message) → message_of l.book id ≡ Some m → is_leftover l id ≡ true →
     IsRule c (Some (clear_in (is_synced_in c id) id (file_of l id m))) (leftover_decision w l id)
 left_whole {w = w} {c = c} {l = l} h k id m e left =
     let name : m.id ≡ id = id_eq-true m.id id (find-passes (λ x. id_eq x.id id) l.book.messages m e) in
@@ -247,7 +247,7 @@ left_whole {w = w} {c = c} {l = l} h k id m e left =
 abbrev found_on : Ledger → ℕ → Id → Option Message → Found
 found_on l due id o = option_map_or (λ m. Whole id due (file_of l id m)) o (Damaged id due (cause_gone l.book id))
 
-left_at : {w : World} {c : Core} {l : Ledger} → Holds w c l → IsConsistent w l → (id : Id) → next_leftover l ≡ Some id → (o : Option Message) → message_of l.book id ≡ o →
+left_at : {w : World} {c : Core} {l : Ledger} → AgreesButScan w c l → IsConsistent w l → (id : Id) → next_leftover l ≡ Some id → (o : Option Message) → message_of l.book id ≡ o →
     IsRule c (clear_found_in c (found_on l 0 id o)) (leftover_decision w l id)
 left_at {w = w} {c = c} {l = l} h k id next None e = left_damaged w c l id next e
 left_at {l = l} h k id next (Some m) e = left_whole h k id m e (least_in id_before (leftovers l) id next)
@@ -258,13 +258,13 @@ active_on l o = option_map_or (λ id. found_at l 0 id) o Nothing
 abbrev rule_on : World → Ledger → Option Id → Option Entry
 rule_on w l o = option_and_then (λ id. leftover_decision w l id) o
 
-left_found : {w : World} {c : Core} {l : Ledger} → Holds w c l → IsConsistent w l → (o : Option Id) → next_leftover l ≡ o → IsRule c (clear_found_in c (active_on l o)) (rule_on w l o)
+left_found : {w : World} {c : Core} {l : Ledger} → AgreesButScan w c l → IsConsistent w l → (o : Option Id) → next_leftover l ≡ o → IsRule c (clear_found_in c (active_on l o)) (rule_on w l o)
 left_found h k None e = refl
 left_found {l = l} h k (Some id) e = left_at h k id e (message_of l.book id) refl
 
-left_seen : {w : World} {c : Core} {l : Ledger} → Holds w c l → IsConsistent w l → (seen : Seen) → IsSeen seen (found_active l) → IsRuleOrLook c decisions.LookActive seen (next_clearing_in c seen) (leftover_rule w l)
+left_seen : {w : World} {c : Core} {l : Ledger} → AgreesButScan w c l → IsConsistent w l → (seen : Seen) → IsSeen seen (found_active l) → IsRuleOrLook c decisions.LookActive seen (next_clearing_in c seen) (leftover_rule w l)
 left_seen h k Unknown e = inr (refl, refl)
 left_seen {w = w} {c = c} {l = l} h k (Known found) e = inl (subst (λ f. IsRule c (clear_found_in c f) (leftover_rule w l)) (sym e) (left_found h k (next_leftover l) refl))
 
-pub leftover_law : {w : World} {c : Core} {l : Ledger} → Holds w c l → IsConsistent w l → IsRuleOrLook c decisions.LookActive c.active (next_clearing_in c c.active) (leftover_rule w l)
+pub leftover_law : {w : World} {c : Core} {l : Ledger} → AgreesButScan w c l → IsConsistent w l → IsRuleOrLook c decisions.LookActive c.active (next_clearing_in c c.active) (leftover_rule w l)
 leftover_law {c = c} h k = left_seen h k c.active h.active

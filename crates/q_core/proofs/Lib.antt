@@ -16,7 +16,7 @@ pub mod AskedLaws
 pub mod PlacedDecisions
 pub mod StartedLaws
 pub mod AppliedLaws
-pub mod BeginningLaws
+pub mod LastRuleLaws
 pub mod WholeLaws
 pub mod AskLaws
 pub mod LookLaws

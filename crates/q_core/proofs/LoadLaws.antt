@@ -13,7 +13,7 @@ use Rattle.q_core.proofs.NameLaws.{id_eq-true}
 use Rattle.q_core.proofs.NoteLaws.{IsQuiet, note_law}
 use Rattle.q_core.proofs.SiteLaws.{tidy_used_law}
 use Rattle.q_core.proofs.StepLaws.{HoldsRaw, IsStillSeen, raw_law}
-use Rattle.q_core.specs.Agrees.{Agrees, Holds, Matches, found_active, found_at, jobs_of, slot_of}
+use Rattle.q_core.specs.Agrees.{Agrees, AgreesButScan, Matches, found_active, found_at, jobs_of, slot_of}
 use Rattle.q_core.specs.Changes.{IsTidied, is_looked_at}
 use Rattle.q_core.specs.UsedSites.{busy_in, is_unused_in, waits_at_in}
 use Rattle.q_core.specs.Loading.{IsLoaded, joined_line, new_sites, read_up, rows_in}
@@ -113,7 +113,7 @@ load_raw {w = w} {c = c} {d = d} {l = l} r k id from to m ts e may read change =
     (length (load_positions m from to)) w.settings.recipient_limit (length ts) (in_memory l) refl k.memory.recipients (fits w l id from to m k e may).few (rows_length w m [] (load_positions m from to))
     (sym (length-map ts (λ (t : Taken). t.position)) ∙ ap length read)
     ∙ ap (λ n. n + sum_by (λ (f : Delivery). length f.row.positions) l.flights + length l.unsettled) (sym row_sum) in
-    let parts : Holds w kept next = record {
+    let parts : AgreesButScan w kept next = record {
       settings = h.settings;
       count = (h.count ∙ sym (length-numbered (joins id rows) 0 l.lines));
       transports = (length-numbered (joins id rows) 0 l.lines ∙ h.transports);
@@ -155,7 +155,7 @@ load_used l rows s =
 -- ---- the whole entry
 
 -- the rows that the core makes are those of the load
-rows_are : {w : World} {c : Core} {l : Ledger} → Holds w c l → (id : Id) (from to : ℕ) (m : Message) (ts : List Taken) → message_of l.book id ≡ Some m → map (λ (t : Taken). t.position) ts ≡ load_positions m from to →
+rows_are : {w : World} {c : Core} {l : Ledger} → AgreesButScan w c l → (id : Id) (from to : ℕ) (m : Message) (ts : List Taken) → message_of l.book id ≡ Some m → map (λ (t : Taken). t.position) ts ≡ load_positions m from to →
     c.named ≡ map (λ p. w.table.route (address_at m p)) (load_positions m from to) → load_rows w m from to ≡ rows_in c.params.entry_limit id [] ts c.named
 rows_are {w = w} {c = c} {l = l} h id from to m ts e read named =
     let name : m.id ≡ id = id_eq-true m.id id (find-passes (λ (x : Message). id_eq x.id id) l.book.messages m e) in

@@ -5,7 +5,6 @@ use Rattle.q_core.proofs.PickLaws.{next_of, some_found}
 use Rattle.q_core.specs.Agrees.{Matches, found_active, found_incoming, found_next}
 use Rattle.q_core.specs.Changes.{looked_at, scan_ended}
 use Rattle.q_core.specs.Facts.{is_nothing}
-use Rattle.q_core.specs.Lists.{over}
 use Rattle.q_core.specs.Scanning.{scan_after, scan_at, scan_over}
 use Rattle.q_core.specs.declared.decision.Found.{Found}
 use Rattle.q_core.specs.declared.state.Core.{Core}

@@ -5,7 +5,7 @@ use Rattle.std.specs.List.{enumerate_from}
 use Rattle.std.proofs.lemmas.List.Sums.{take_while-cons, sum_by-cons}
 use Rattle.q_core.proofs.ListLaws.{map-same}
 use Rattle.q_core.proofs.StepLaws.{HoldsRaw, IsStillSeen}
-use Rattle.q_core.specs.Agrees.{Holds, job_of, jobs_of}
+use Rattle.q_core.specs.Agrees.{AgreesButScan, job_of, jobs_of}
 use Rattle.q_core.specs.Changes.{IsRevived}
 use Rattle.q_core.specs.UsedSites.{busy_in, revive_dead_in}
 use Rattle.q_core.specs.declared.state.Core.{Core}
@@ -148,7 +148,7 @@ revive_law {w = w} {c = c} {d = d} {l = l} r revives =
     ∙ map-same (λ (x : SiteRecord). if not (is_alive x.health) then revived w (busy l x.site) x else x) (λ (x : SiteRecord). if is_alive x.health then x else revived w (busy l x.site) x)
     (λ x. alive_or (is_alive x.health) x (revived w (busy l x.site) x)) l.sites in
     let later : Ledger = record l { sites = revive_all w l } in
-    let kept : Holds w (record c { sites = d.sites }) later = record {
+    let kept : AgreesButScan w (record c { sites = d.sites }) later = record {
       settings = h.settings;
       count = h.count;
       transports = h.transports;

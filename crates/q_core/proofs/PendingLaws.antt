@@ -2,7 +2,7 @@
 use Rattle.std.proofs.Common.{◌≡◌, ℕ, suc, ◌+◌, ◌-◌, Bool, true, false, cond, List, [], ◌∷◌, length, refl, ap, ◌∙◌, arith}
 use Rattle.std.proofs.lemmas.List.Sums.{sum_by-cons}
 use Rattle.std.specs.Prelude.{◌&&◌, ◌||◌, count_by, if◌then◌else◌, not}
-use Rattle.q_core.specs.Agrees.{marks_of}
+use Rattle.q_core.specs.Agrees.{count_of_marked}
 use Rattle.q_model.specs.Lists.{has_none, places_from}
 use Rattle.q_model.specs.Marks.{is_marked}
 use Rattle.q_model.specs.Message.{Message, Recipient, is_logged, pending, unmarked_logged}
@@ -33,7 +33,7 @@ none_long [] h = refl
 none_long (x ∷ xs) h = cc
 
 -- where none is logged and not marked, all that aren't marked are pending
-pub pending_count : (m : Message) → has_none (unmarked_logged m) ≡ true → length (pending m) ≡ length m.recipients - marks_of m
+pub pending_count : (m : Message) → has_none (unmarked_logged m) ≡ true → length (pending m) ≡ length m.recipients - count_of_marked m
 pending_count m h =
     let total = counted m 0 m.recipients in
     let none = none_long (unmarked_logged m) h in

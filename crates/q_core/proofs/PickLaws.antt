@@ -8,7 +8,7 @@ use Rattle.q_core.proofs.ChoiceLaws.{least-all, list_all-filter}
 use Rattle.q_core.proofs.LeftLaws.{damaged_there, stand_each, stands_all}
 use Rattle.q_core.proofs.NameLaws.{and_true_parts, id_eq-same, or_right}
 use Rattle.q_core.proofs.RuleLaws.{same_free}
-use Rattle.q_core.specs.Agrees.{Matches, Holds, IsSeen, IsSeenScan, file_of, found_at, found_deferred, found_incoming, found_next, slot_of}
+use Rattle.q_core.specs.Agrees.{Matches, AgreesButScan, IsSeen, IsSeenScan, file_of, found_at, found_deferred, found_incoming, found_next, slot_of}
 use Rattle.q_core.specs.Decisions.{IsRule, IsRuleOrLooks}
 use Rattle.q_core.specs.Facts.{is_nothing, picked, picked_decision, picked_next, picked_place}
 use Rattle.q_core.specs.Held.{free_in}
@@ -162,45 +162,45 @@ move_is w l p room e =
     (or_right (is_next_leftover l (pick_id p)) (has_room w l && is_pick l (pick_id p)) (ap (λ b. b && is_pick l (pick_id p)) room ∙ picks_itself l p e))
     ∙ drops (is_some (damaged_of l.book (pick_id p))) (cause_gone l.book (pick_id p))
 
-abbrev take_choice : Id → Bool → Bool → Option Entry
-take_choice id admit corrupt = first_of ((admit, entries.Admit id) ∷ (corrupt, entries.Corrupt id) ∷ [])
+abbrev pick_choice : Id → Bool → Bool → Option Entry
+pick_choice id admit corrupt = first_of ((admit, entries.Admit id) ∷ (corrupt, entries.Corrupt id) ∷ [])
 
-whole_table : (c : Core) (id : Id) (place : Place) (damaged alone : Bool) → IsRule c (if alone then Some (decisions.Admit id place) else None) (take_choice id alone (damaged && alone))
+whole_table : (c : Core) (id : Id) (place : Place) (damaged alone : Bool) → IsRule c (if alone then Some (decisions.Admit id place) else None) (pick_choice id alone (damaged && alone))
 whole_table c id place damaged true = (entries.Admit id, refl, refl)
 whole_table c id place true false = refl
 whole_table c id place false false = refl
 
-damaged_table : (c : Core) (id : Id) (place : Place) (alone : Bool) → IsRule c (if alone then Some (decisions.Corrupt id place) else None) (take_choice id false alone)
+damaged_table : (c : Core) (id : Id) (place : Place) (alone : Bool) → IsRule c (if alone then Some (decisions.Corrupt id place) else None) (pick_choice id false alone)
 damaged_table c id place true = (entries.Corrupt id, refl, refl)
 damaged_table c id place false = refl
 
-take_at : (c : Core) (l : Ledger) (place : Place) (due : ℕ) (id : Id) → stands l.book id ≡ true → (o : Option Message) → message_of l.book id ≡ o →
-    IsRule c (picked_decision place (found_on l due id o)) (take_choice id (is_some o && cause_gone l.book id) (is_some (damaged_of l.book id) && cause_gone l.book id))
-take_at c l place due id h None e =
-    subst (λ b. IsRule c (if cause_gone l.book id then Some (decisions.Corrupt id place) else None) (take_choice id false (b && cause_gone l.book id))) (sym (damaged_there l.book id h e))
+pick_at : (c : Core) (l : Ledger) (place : Place) (due : ℕ) (id : Id) → stands l.book id ≡ true → (o : Option Message) → message_of l.book id ≡ o →
+    IsRule c (picked_decision place (found_on l due id o)) (pick_choice id (is_some o && cause_gone l.book id) (is_some (damaged_of l.book id) && cause_gone l.book id))
+pick_at c l place due id h None e =
+    subst (λ b. IsRule c (if cause_gone l.book id then Some (decisions.Corrupt id place) else None) (pick_choice id false (b && cause_gone l.book id))) (sym (damaged_there l.book id h e))
     (damaged_table c id place (cause_gone l.book id))
-take_at c l place due id h (Some m) e = whole_table c id place (is_some (damaged_of l.book id)) (cause_gone l.book id)
+pick_at c l place due id h (Some m) e = whole_table c id place (is_some (damaged_of l.book id)) (cause_gone l.book id)
 
-abbrev take_on : World → Ledger → Option Pick → Option Entry
-take_on w l o = option_and_then (λ p. take_choice (pick_id p) (may_admit w l (pick_id p)) (may_corrupt w l (pick_id p))) o
+abbrev pick_entry : World → Ledger → Option Pick → Option Entry
+pick_entry w l o = option_and_then (λ p. pick_choice (pick_id p) (may_admit w l (pick_id p)) (may_corrupt w l (pick_id p))) o
 
-take_pick : (w : World) (c : Core) (l : Ledger) (place : Place) → has_room w l ≡ true → (o : Option Pick) → pick l ≡ o → IsRule c (picked_decision place (pick_found l o)) (take_on w l o)
-take_pick w c l place room None e = refl
-take_pick w c l place room (Some p) e =
+pick_decided : (w : World) (c : Core) (l : Ledger) (place : Place) → has_room w l ≡ true → (o : Option Pick) → pick l ≡ o → IsRule c (picked_decision place (pick_found l o)) (pick_entry w l o)
+pick_decided w c l place room None e = refl
+pick_decided w c l place room (Some p) e =
     let id = pick_id p in
     subst (λ o. IsRule c (picked_decision place (found_at l (pick_due p) id)) o)
-    (sym (ap (λ b. take_choice id b (may_corrupt w l id)) (admit_is w l p room e)
-    ∙ ap (λ b. take_choice id (is_some (message_of l.book id) && cause_gone l.book id) b) (move_is w l p room e)))
-    (take_at c l place (pick_due p) id (pick_stands l p e) (message_of l.book id) refl)
+    (sym (ap (λ b. pick_choice id b (may_corrupt w l id)) (admit_is w l p room e)
+    ∙ ap (λ b. pick_choice id (is_some (message_of l.book id) && cause_gone l.book id) b) (move_is w l p room e)))
+    (pick_at c l place (pick_due p) id (pick_stands l p e) (message_of l.book id) refl)
 
 -- with both looks answered, the core takes what the ledger picks
-take_law : {w : World} {c : Core} {l : Ledger} (place : Place) → Holds w c l → has_room w l ≡ true → IsRule c (picked_decision place (picked c.deferred_turn (found_incoming l) (found_deferred l))) (take_on w l (pick l))
-take_law {w = w} {c = c} {l = l} place h room =
-    subst (λ f. IsRule c (picked_decision place f) (take_on w l (pick l)))
+pick_decides : {w : World} {c : Core} {l : Ledger} (place : Place) → AgreesButScan w c l → has_room w l ≡ true → IsRule c (picked_decision place (picked c.deferred_turn (found_incoming l) (found_deferred l))) (pick_entry w l (pick l))
+pick_decides {w = w} {c = c} {l = l} place h room =
+    subst (λ f. IsRule c (picked_decision place f) (pick_entry w l (pick l)))
     (sym (ap (λ b. picked b (found_incoming l) (found_deferred l)) h.deferred_turn ∙ picked_is l l.deferred_turn (incoming_next l) (deferred_next l)))
-    (take_pick w c l place room (pick l) refl)
+    (pick_decided w c l place room (pick l) refl)
 
-same_room : {w : World} {c : Core} {l : Ledger} → Holds w c l → has_message_room_in c ≡ has_room w l
+same_room : {w : World} {c : Core} {l : Ledger} → AgreesButScan w c l → has_message_room_in c ≡ has_room w l
 same_room {w = w} {c = c} {l = l} h =
     ap (λ m. delivers m && nat_lt (length c.admitted) c.params.active_limit && nat_le c.params.recipient_minimum (free_in c)) h.mode
     ∙ ap (λ n. delivers l.mode && nat_lt n c.params.active_limit && nat_le c.params.recipient_minimum (free_in c)) (ap length h.admitted ∙ length-map l.admitted (slot_of l))
@@ -208,22 +208,22 @@ same_room {w = w} {c = c} {l = l} h =
     ∙ ap (λ n. delivers l.mode && nat_lt (length l.admitted) w.settings.active_limit && nat_le w.settings.recipient_minimum n) (same_free h)
 
 abbrev room_on : World → Ledger → Bool → Option Entry
-room_on w l b = if b then take_on w l (pick l) else None
+room_on w l b = if b then pick_entry w l (pick l) else None
 
 -- a core without a scan agrees with a ledger without one
 pub no_deferred : (c : Core) (l : Ledger) → scan_after l.book l.now None c.asked ≡ (l.scan, l.asked) → Nothing ≡ found_deferred l
 no_deferred c l h = ap (λ (p : Option Scan × Option Request). found_next l (next_of l.book p.0)) h
 
-admission_known : {w : World} {c : Core} {l : Ledger} → Holds w c l → has_room w l ≡ true → (incoming deferred : Found) → incoming ≡ found_incoming l → deferred ≡ found_deferred l →
+admission_known : {w : World} {c : Core} {l : Ledger} → AgreesButScan w c l → has_room w l ≡ true → (incoming deferred : Found) → incoming ≡ found_incoming l → deferred ≡ found_deferred l →
     IsRule c (picked_next c.deferred_turn incoming deferred) (admission_rule w l)
 admission_known {w = w} {c = c} {l = l} h room incoming deferred i d =
     let place = picked_place c.deferred_turn incoming deferred in
     subst (λ f. IsRule c (picked_decision place (picked c.deferred_turn f deferred)) (admission_rule w l)) (sym i)
     (subst (λ f. IsRule c (picked_decision place (picked c.deferred_turn (found_incoming l) f)) (admission_rule w l)) (sym d)
     (subst (λ o. IsRule c (picked_decision place (picked c.deferred_turn (found_incoming l) (found_deferred l))) o) (sym (ap (room_on w l) room))
-    (take_law place h room)))
+    (pick_decides place h room)))
 
-admission_scanning : {w : World} {c : Core} {l : Ledger} → Holds w c l → has_room w l ≡ true → (found : Found) → found ≡ found_incoming l → (scan : Scan) → c.scan ≡ Some scan →
+admission_scanning : {w : World} {c : Core} {l : Ledger} → AgreesButScan w c l → has_room w l ≡ true → (found : Found) → found ≡ found_incoming l → (scan : Scan) → c.scan ≡ Some scan →
     (seen : Seen) → c.deferred ≡ seen → IsSeenScan seen c.scan c.asked l → IsRuleOrLooks c (admission_of c found scan seen) (admission_rule w l)
 admission_scanning h room found i scan e Unknown u s = inr (inr (scan, refl, e, u))
 admission_scanning h room found i scan e (Known deferred) u s = inl (admission_known h room found deferred i s.2)

@@ -6,7 +6,7 @@ use Rattle.q_core.specs.Choosing.{behind_jobs, best_in, choice_in, choices_from,
 use Rattle.q_core.specs.Deciding.{clearing_on, decide_in, first_rule_in, scan_look_in, IsPlaced}
 use Rattle.q_core.specs.Facts.{file_pending, file_wants_bounce, picked_decision, picked_next, deferred_place, is_nothing}
 use Rattle.q_core.specs.Held.{due_in, finish_in, free_in, is_dead_in, is_idle_in, may_read_in, wants_sync_in}
-use Rattle.q_core.specs.Rules.{admission_in, admission_seen, clear_found_in, decision_of, first_need_in, has_message_room_in, is_synced_in, needed_in, next_admission_in, next_clearing_in, next_finish_in, next_read_in, next_skip_in, next_sync_in, skip_at, skip_of}
+use Rattle.q_core.specs.Rules.{admission_in, admission_seen, clear_found_in, decision_of, first_need_in, has_message_room_in, is_synced_in, needed_in, next_admission_in, next_clearing_in, next_finish_in, next_read_in, next_skip_in, next_sync_in, skip_at, skip_decision}
 use Rattle.q_core.specs.Slots.{wants_bounce_in}
 use Rattle.q_core.specs.Starting.{next_row_in, start_of_row}
 use Rattle.q_core.specs.declared.decision.Decision.{Decision}
@@ -189,7 +189,7 @@ rules_placed {c = c} {l = l} a distinct =
     or_placed l (scan_look_in c.deferred c.scan) (first_rule_in c) (scan_placed l c.deferred c.scan)
     (or_placed l (first_need_in c) from_sync (map_placed l decision_of (slice_get c.unsettled 0) (λ u. need_placed l u u.need))
     (or_placed l (next_sync_in c) from_skip (map_placed l (λ s. decisions.Sync s.id) (find (wants_sync_in c) c.admitted) (λ s. tt))
-    (or_placed l (next_skip_in c) from_finish (then_placed l (skip_at c) (position (λ r. is_dead_in c r.site) c.waiting) (λ n. map_placed l (skip_of c) (slice_get c.waiting n) (λ r. tt)))
+    (or_placed l (next_skip_in c) from_finish (then_placed l (skip_at c) (position (λ r. is_dead_in c r.site) c.waiting) (λ n. map_placed l (skip_decision c) (slice_get c.waiting n) (λ r. tt)))
     (or_placed l (next_finish_in c) (clearing_on c) (finish_placed l c (find (λ s. is_idle_in c s.id) c.admitted) (whole_law a.parts))
     (or_placed l (next_clearing_in c c.active) from_admission (clearing_placed l distinct c c.active a.parts.active)
     (or_placed l (next_admission_in c c.incoming) from_read (if_placed l (not (has_message_room_in c)) None (admission_seen c c.incoming) tt (seen_placed a distinct c.incoming refl))

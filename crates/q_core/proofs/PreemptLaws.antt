@@ -12,7 +12,7 @@ use Rattle.q_core.proofs.NameLaws.{and_true_parts, id_eq-same, id_eq-true, or_ri
 use Rattle.q_core.proofs.TidyLaws.{tidy_law}
 use Rattle.q_core.proofs.StartLaws.{same_rest}
 use Rattle.q_core.proofs.StepLaws.{HoldsRaw, IsStillSeen, raw_law}
-use Rattle.q_core.specs.Agrees.{Agrees, Holds, Matches, job_of, jobs_of}
+use Rattle.q_core.specs.Agrees.{Agrees, AgreesButScan, Matches, job_of, jobs_of}
 use Rattle.q_core.specs.Sending.{charged_job, IsPreempted, moved_job, moved_line, preempted_line, with_charge}
 use Rattle.q_core.specs.Changes.{IsTidied, is_looked_at}
 use Rattle.q_core.specs.Choosing.{rest_in}
@@ -199,7 +199,7 @@ preempt_raw {w = w} {c = c} {d = d} {l = l} r k child parent transport need left
     change.lines
     ∙ ap (λ (js : List (List Job)). map (preempted_line child parent transport need left) (enumerate_from 0 js)) h.lines
     ∙ lines_preempted w l child parent transport need left k.memory.single p (same ∙ same_rest h transport parent) less in
-    let parts : Holds w (record c { lines = d.lines }) next = record {
+    let parts : AgreesButScan w (record c { lines = d.lines }) next = record {
       settings = h.settings;
       count = (h.count ∙ sym (length-numbered (preempt_line child parent transport) 0 l.lines));
       transports = (length-numbered (preempt_line child parent transport) 0 l.lines ∙ h.transports);

@@ -4,7 +4,7 @@ use Rattle.std.specs.Option.{option_map_or}
 use Rattle.std.specs.Prelude.{filter, option_and_then}
 use Rattle.q_core.proofs.StepLaws.{HoldsRaw, IsStillSeen}
 use Rattle.q_core.proofs.PickLaws.{found_on, next_of}
-use Rattle.q_core.specs.Agrees.{Holds, IsSeen, file_of, found_active, found_at, found_incoming, found_next, slot_from, slot_of}
+use Rattle.q_core.specs.Agrees.{AgreesButScan, IsSeen, file_of, found_active, found_at, found_incoming, found_next, slot_from, slot_of}
 use Rattle.q_core.specs.Scanning.{scan_after}
 use Rattle.q_core.specs.declared.decision.Found.{Found}
 use Rattle.q_core.specs.declared.decision.Found.TheVariants.{Damaged, Nothing, Whole}
@@ -125,7 +125,7 @@ files_law {w = w} {c = c} {d = d} {l = l} b rows r rest slots active incoming de
     let h = r.parts in
     let next : Ledger = with_files l b rows in
     let changed : Core = record c { admitted = d.admitted; active = d.active; incoming = d.incoming; deferred = d.deferred } in
-    let kept : Holds w changed next = record {
+    let kept : AgreesButScan w changed next = record {
       settings = h.settings;
       count = h.count;
       transports = h.transports;

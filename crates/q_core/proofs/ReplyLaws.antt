@@ -4,7 +4,7 @@ use Rattle.std.proofs.lemmas.Bool.{eqb-true}
 use Rattle.std.specs.Option.{option_map_or}
 use Rattle.std.specs.Prelude.{◌&&◌, ◌||◌, ◌==◌, filter, find, not}
 use Rattle.q_core.proofs.DroppedLaws.{other_site}
-use Rattle.q_core.proofs.FlightLaws.{apart_state, sum_by-taken}
+use Rattle.q_core.proofs.FlightLaws.{apart_state, sum_by-removed}
 use Rattle.q_core.proofs.ListLaws.{find-all, find-passes}
 use Rattle.q_core.proofs.NameLaws.{and_true_parts}
 use Rattle.q_core.proofs.NeedsLaws.{needs_few}
@@ -91,7 +91,7 @@ reply_raw {w = w} {c = c} {u = u} {v = v} {d = d} {l = l} h k ds number state os
     ap (λ (x : Core). x.in_memory) last
     ∙ replies.memory
     ∙ counted (sum_by (λ (x : Row). length x.positions) l.waiting) (sum_by (λ (x : Delivery). length x.row.positions) l.flights) (length f.row.positions) (sum_by (λ (x : Delivery). length x.row.positions) fs)
-    (length l.unsettled) (length (replied_in c f os)) c.in_memory h.parts.memory (sum_by-taken (λ x. length x.row.positions) number f l.flights k.memory.numbers found) (needs_few _ f.row.id f.row.positions os)
+    (length l.unsettled) (length (replied_in c f os)) c.in_memory h.parts.memory (sum_by-removed (λ x. length x.row.positions) number f l.flights k.memory.numbers found) (needs_few _ f.row.id f.row.positions os)
     ∙ ap (λ n. sum_by (λ (x : Row). length x.positions) l.waiting + sum_by (λ (x : Delivery). length x.row.positions) fs + n)
     (ap (λ (xs : List Unsettled). length l.unsettled + length xs) needs ∙ sym (length-append l.unsettled (needs_of w l.now m f.row.positions os))) in
     rows_law l.waiting fs us raw rest (record { waiting = ap (λ (x : Core). x.waiting) last ∙ h.parts.waiting; flights = flights; unsettled = unsettled; memory = memory })
@@ -112,7 +112,7 @@ reply_leaves : (w : World) (l : Ledger) → IsConsistent w l → (e : Entry) (nu
     LeavesFrom f.row.site l (noted e (over w l state os number f m))
 reply_leaves w l k e number state os f m found =
     let site = f.row.site in
-    let counts : (s : Site) → busy_in l.flights s ≡ at_site s f + busy_in (others l number) s = λ s. sum_by-taken (at_site s) number f l.flights k.memory.numbers found in
+    let counts : (s : Site) → busy_in l.flights s ≡ at_site s f + busy_in (others l number) s = λ s. sum_by-removed (at_site s) number f l.flights k.memory.numbers found in
     record {
       here = ap (λ n. not (waits_at_in l.waiting site) && (n == 0)) (counts site ∙ ap (λ b. cond b 1 0 + busy_in (others l number) site) (site_eq-refl site))
           ∙ ap (λ b. not (waits_at_in l.waiting site) && b) (some_busy (busy_in (others l number) site)) ∙ and_false (not (waits_at_in l.waiting site));

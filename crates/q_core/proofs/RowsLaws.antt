@@ -9,7 +9,7 @@ use Rattle.q_core.proofs.ListLaws.{find-all, find-none, find-passes}
 use Rattle.q_core.proofs.NameLaws.{id_eq-true}
 use Rattle.q_core.proofs.NeedsLaws.{needs_same}
 use Rattle.q_core.proofs.StepLaws.{HoldsRaw, IsStillSeen}
-use Rattle.q_core.specs.Agrees.{Holds}
+use Rattle.q_core.specs.Agrees.{AgreesButScan}
 use Rattle.q_core.specs.Needs.{needs_in}
 use Rattle.q_core.specs.Queries.{expired_in}
 use Rattle.q_core.specs.declared.state.Core.{Core}
@@ -49,7 +49,7 @@ pub rows_law : {w : World} {c d : Core} {l : Ledger} (ws : List Row) (fs : List 
 rows_law {w = w} {c = c} {d = d} {l = l} ws fs us r rest rows =
     let h = r.parts in
     let later : Ledger = record l { waiting = ws; flights = fs; unsettled = us } in
-    let kept : Holds w (record c { waiting = d.waiting; flights = d.flights; unsettled = d.unsettled; in_memory = d.in_memory }) later = record {
+    let kept : AgreesButScan w (record c { waiting = d.waiting; flights = d.flights; unsettled = d.unsettled; in_memory = d.in_memory }) later = record {
       settings = h.settings;
       count = h.count;
       transports = h.transports;
@@ -91,7 +91,7 @@ pub stands : (l : Ledger) (id : Id) → is_admitted l id ≡ true → list_all (
 stands l id there present = stands_at l id there present (find (λ a. id_eq a.id id) l.admitted) refl
 
 -- the needs of outcomes are the ledger's
-pub needs_law : {w : World} {c : Core} {l : Ledger} → Holds w c l → (id : Id) (m : Message) → is_admitted l id ≡ true → message_of l.book id ≡ Some m → (ps : List ℕ) (os : List Outcome) →
+pub needs_law : {w : World} {c : Core} {l : Ledger} → AgreesButScan w c l → (id : Id) (m : Message) → is_admitted l id ≡ true → message_of l.book id ≡ Some m → (ps : List ℕ) (os : List Outcome) →
     needs_in (expired_in c id) id ps os ≡ needs_of w l.now m ps os
 needs_law {w = w} {c = c} {l = l} h id m there e ps os =
     let name : m.id ≡ id = id_eq-true m.id id (find-passes (λ (x : Message). id_eq x.id id) l.book.messages m e) in

@@ -9,12 +9,12 @@ use Rattle.q_core.proofs.NameLaws.{and_true_parts, id_eq-same, id_eq-true}
 use Rattle.q_model.proofs.IdLaws.{site_eq-refl, site_eq-true}
 use Rattle.q_core.specs.Sending.{is_for, row_for}
 use Rattle.q_model.specs.Sites.{site_eq}
-use Rattle.q_core.specs.Agrees.{Holds, slot_from, slot_of}
+use Rattle.q_core.specs.Agrees.{AgreesButScan, slot_from, slot_of}
 use Rattle.q_laws.specs.Consistency.{is_present}
 use Rattle.q_core.specs.Decisions.{IsReadRule, IsRule}
 use Rattle.q_core.proofs.KindLaws.{is_whole}
 use Rattle.q_core.specs.Held.{due_in, finish_in, free_in, is_damaged_in, is_dead_in, is_idle_in, may_read_in, wants_sync_in}
-use Rattle.q_core.specs.Rules.{decision_of, first_need_in, needed_in, next_finish_in, next_read_in, next_skip_in, next_sync_in, skip_at, skip_of}
+use Rattle.q_core.specs.Rules.{decision_of, first_need_in, needed_in, next_finish_in, next_read_in, next_skip_in, next_sync_in, skip_at, skip_decision}
 use Rattle.q_core.specs.declared.decision.Decision.{Decision}
 use Rattle.q_core.specs.declared.slot.Slot.{Slot}
 use Rattle.q_core.specs.declared.state.Core.{Core}
@@ -49,13 +49,13 @@ and_false : (b : Bool) → (b && false) ≡ false
 and_false true = refl
 and_false false = refl
 
-same_wish : {w : World} {c : Core} {l : Ledger} → Holds w c l → (x : Admitted) → wants_sync_in c (slot_of l x) ≡ wants_sync w l x
+same_wish : {w : World} {c : Core} {l : Ledger} → AgreesButScan w c l → (x : Admitted) → wants_sync_in c (slot_of l x) ≡ wants_sync w l x
 same_wish {w = w} {c = c} {l = l} a x =
     ap (λ n. nat_le n (marks_of l x.id) || (nat_lt 0 (marks_of l x.id) && is_idle_in c x.id)) (ap (λ (s : Settings). s.mark_sync_limit) a.settings)
     ∙ ap (λ b. nat_le w.settings.mark_sync_limit (marks_of l x.id) || (nat_lt 0 (marks_of l x.id) && b)) (same_idle a x.id)
 
 -- the slots that are found are those of the admitted that are found
-pub found_slot : {w : World} {c : Core} {l : Ledger} → Holds w c l → (p : Slot → Bool) (q : Admitted → Bool) → ((x : Admitted) → p (slot_of l x) ≡ q x) →
+pub found_slot : {w : World} {c : Core} {l : Ledger} → AgreesButScan w c l → (p : Slot → Bool) (q : Admitted → Bool) → ((x : Admitted) → p (slot_of l x) ≡ q x) →
     find p c.admitted ≡ option_map (slot_of l) (find q l.admitted)
 found_slot {l = l} a p q h = ap (find p) a.admitted ∙ find-map p (slot_of l) l.admitted ∙ ap (option_map (slot_of l)) (find-same (λ x. p (slot_of l x)) q h l.admitted)
 
@@ -64,7 +64,7 @@ whole_one l None = refl
 whole_one l (Some x) = refl
 
 -- a message in memory can be read, on a ledger
-pub whole_law : {w : World} {c : Core} {l : Ledger} → Holds w c l → is_whole c ≡ true
+pub whole_law : {w : World} {c : Core} {l : Ledger} → AgreesButScan w c l → is_whole c ≡ true
 whole_law {c = c} {l = l} a =
     ap (λ (ss : List Slot). option_map_or (λ s. not s.damaged) (find (λ s. is_idle_in c s.id) ss) true) a.admitted
     ∙ ap (λ o. option_map_or (λ (s : Slot). not s.damaged) o true) (find-map (λ s. is_idle_in c s.id) (slot_of l) l.admitted)
@@ -74,14 +74,14 @@ no_damage_in : (l : Ledger) (id : Id) (xs : List Admitted) → list_any (λ (s :
 no_damage_in l id [] = refl
 no_damage_in l id (x ∷ xs) = ap (λ b. b || list_any (λ (s : Slot). id_eq s.id id && s.damaged) (map (slot_of l) xs)) (and_false (id_eq x.id id)) ∙ no_damage_in l id xs
 
-pub no_damage : {w : World} {c : Core} {l : Ledger} → Holds w c l → (id : Id) → is_damaged_in c id ≡ false
+pub no_damage : {w : World} {c : Core} {l : Ledger} → AgreesButScan w c l → (id : Id) → is_damaged_in c id ≡ false
 no_damage {l = l} a id = ap (list_any (λ (s : Slot). id_eq s.id id && s.damaged)) a.admitted ∙ no_damage_in l id l.admitted
 
 sync_found : (c : Core) (l : Ledger) (o : Option Admitted) → IsRule c (option_map (λ s. decisions.Sync s.id) (option_map (slot_of l) o)) (option_map (λ a. entries.Sync a.id) o)
 sync_found c l None = refl
 sync_found c l (Some x) = (entries.Sync x.id, refl, refl)
 
-pub sync_law : {w : World} {c : Core} {l : Ledger} → Holds w c l → IsRule c (next_sync_in c) (sync_rule w l)
+pub sync_law : {w : World} {c : Core} {l : Ledger} → AgreesButScan w c l → IsRule c (next_sync_in c) (sync_rule w l)
 sync_law {w = w} {c = c} {l = l} a =
     subst (λ (o : Option Slot). IsRule c (option_map (λ s. decisions.Sync s.id) o) (sync_rule w l))
     (sym (found_slot a (wants_sync_in c) (wants_sync w l) (same_wish a)))
@@ -113,10 +113,10 @@ first_at_site c x e =
 skip_at_row : (c : Core) (l : Ledger) (i : ℕ) (x : Row) → IsFoundAt (λ (r : Row). is_dead_in c r.site) c.waiting i x → skip_rule l ≡ Some (skip_entry x) → IsRule c (next_skip_in c) (skip_rule l)
 skip_at_row c l i x f e =
     subst (λ o. IsRule c (option_and_then (skip_at c) o) (skip_rule l)) (sym f.place)
-    (subst (λ o. IsRule c (option_map (skip_of c) o) (skip_rule l)) (sym f.there)
+    (subst (λ o. IsRule c (option_map (skip_decision c) o) (skip_rule l)) (sym f.there)
     (skip_entry x, (x.positions, first_at_site c x f.found, refl), e))
 
-pub skip_law : {w : World} {c : Core} {l : Ledger} → Holds w c l → IsRule c (next_skip_in c) (skip_rule l)
+pub skip_law : {w : World} {c : Core} {l : Ledger} → AgreesButScan w c l → IsRule c (next_skip_in c) (skip_rule l)
 skip_law {c = c} {l = l} a =
     let p : Row → Bool = λ (r : Row). is_dead_in c r.site in
     let same : find (λ (r : Row). is_dead_site l r.site) l.waiting ≡ find p c.waiting =
@@ -199,7 +199,7 @@ finish_is w l id m e idle active =
 abbrev finish_kept : Id → ℕ → Bool → Bool → Bool → Bool → Bool → Option Decision
 finish_kept id t marked some_pending some_half wants bounced = if marked then None else (if some_pending then Some (decisions.Defer id t) else (if some_half then None else (if wants && not bounced then Some (decisions.Bounce id) else Some (decisions.Remove id))))
 
-same_due : {w : World} {c : Core} {l : Ledger} → Holds w c l → (m : Message) → due_in c m.arrival ≡ due w l.now m
+same_due : {w : World} {c : Core} {l : Ledger} → AgreesButScan w c l → (m : Message) → due_in c m.arrival ≡ due w l.now m
 same_due {c = c} {l = l} a m =
     ap (λ n. n + max c.params.minimal_backoff (min c.params.maximal_backoff (n - m.arrival))) a.clock
     ∙ ap (λ (s : Settings). l.now + max s.minimal_backoff (min s.maximal_backoff (l.now - m.arrival))) a.settings
@@ -207,7 +207,7 @@ same_due {c = c} {l = l} a m =
 pub kept_wants : (m : Message) (id : Id) → m.id ≡ id → (nat_lt 0 (length m.failures) && not (is_none m.sender) && not id.bounce) ≡ wants_bounce m
 kept_wants m id e = ap (λ b. b && not (is_none m.sender) && not id.bounce) (no_length m.failures) ∙ ap (λ (i : Id). not (has_none m.failures) && not (is_none m.sender) && not i.bounce) (sym e)
 
-kept_is : {w : World} {c : Core} {l : Ledger} → Holds w c l → (x : Admitted) (m : Message) → message_of l.book x.id ≡ Some m → m.id ≡ x.id →
+kept_is : {w : World} {c : Core} {l : Ledger} → AgreesButScan w c l → (x : Admitted) (m : Message) → message_of l.book x.id ≡ Some m → m.id ≡ x.id →
     finish_in c (slot_of l x) ≡ finish_kept x.id (due w l.now m) (not (is_clean m)) (not (has_none (pending m))) (not (has_none (unmarked_logged m))) (wants_bounce m) (has_bounce l x.id)
 kept_is {w = w} {c = c} {l = l} a x m e same =
     ap (λ o. finish_in c (slot_from x (has_bounce l x.id) o)) e
@@ -216,7 +216,7 @@ kept_is {w = w} {c = c} {l = l} a x m e same =
     ∙ ap (λ b. finish_kept x.id (due w l.now m) (not (is_clean m)) b (not (has_none (unmarked_logged m))) (not (has_none m.failures) && not (is_none m.sender) && not x.id.bounce) (has_bounce l x.id)) (no_length (pending m))
     ∙ ap (λ b. finish_kept x.id (due w l.now m) (not (is_clean m)) (not (has_none (pending m))) (not (has_none (unmarked_logged m))) b (has_bounce l x.id)) (ap (λ (i : Id). not (has_none m.failures) && not (is_none m.sender) && not i.bounce) (sym same))
 
-finish_same : {w : World} {c : Core} {l : Ledger} → Holds w c l → (x : Admitted) (m : Message) → message_of l.book x.id ≡ Some m → m.id ≡ x.id → is_idle l x.id ≡ true → is_active m.place ≡ true → IsRule c (finish_in c (slot_of l x)) (finish w l x.id)
+finish_same : {w : World} {c : Core} {l : Ledger} → AgreesButScan w c l → (x : Admitted) (m : Message) → message_of l.book x.id ≡ Some m → m.id ≡ x.id → is_idle l x.id ≡ true → is_active m.place ≡ true → IsRule c (finish_in c (slot_of l x)) (finish w l x.id)
 finish_same {w = w} {c = c} {l = l} a x m e same idle active =
     subst (λ o. IsRule c o (finish w l x.id)) (sym (kept_is a x m e same))
     (subst (λ o. IsRule c (finish_kept x.id (due w l.now m) (not (is_clean m)) (not (has_none (pending m))) (not (has_none (unmarked_logged m))) (wants_bounce m) (has_bounce l x.id)) o) (sym (finish_is w l x.id m e idle active))
@@ -227,25 +227,25 @@ stands_there : (l : Ledger) (x : Admitted) (o : Option Message) → message_of l
 stands_there l x None e h = cc
 stands_there l x (Some m) e h = (m, e, id_eq-true m.id x.id (find-passes (λ m'. id_eq m'.id x.id) l.book.messages m e), h)
 
-finish_found : {w : World} {c : Core} {l : Ledger} → Holds w c l → IsTrue (list_all (is_present l) l.admitted) → (o : Option Admitted) → find (λ x. is_idle l x.id) l.admitted ≡ o → IsRule c (option_and_then (finish_in c) (option_map (slot_of l) o)) (option_and_then (λ (x : Admitted). finish w l x.id) o)
+finish_found : {w : World} {c : Core} {l : Ledger} → AgreesButScan w c l → IsTrue (list_all (is_present l) l.admitted) → (o : Option Admitted) → find (λ x. is_idle l x.id) l.admitted ≡ o → IsRule c (option_and_then (finish_in c) (option_map (slot_of l) o)) (option_and_then (λ (x : Admitted). finish w l x.id) o)
 finish_found a p None e = refl
 finish_found {l = l} a p (Some x) e =
     let there = stands_there l x (message_of l.book x.id) refl (find-all (λ y. is_idle l y.id) (is_present l) l.admitted x p e) in
     finish_same a x there.0 there.1 there.2 (find-passes (λ y. is_idle l y.id) l.admitted x e) there.3
 
-pub finishing_law : {w : World} {c : Core} {l : Ledger} → Holds w c l → IsTrue (list_all (is_present l) l.admitted) → IsRule c (next_finish_in c) (finishing_rule w l)
+pub finishing_law : {w : World} {c : Core} {l : Ledger} → AgreesButScan w c l → IsTrue (list_all (is_present l) l.admitted) → IsRule c (next_finish_in c) (finishing_rule w l)
 finishing_law {w = w} {c = c} {l = l} a p =
     subst (λ (o : Option Slot). IsRule c (option_and_then (finish_in c) o) (finishing_rule w l))
     (sym (found_slot a (λ s. is_idle_in c s.id) (λ x. is_idle l x.id) (λ x. same_idle a x.id)))
     (finish_found a p (find (λ x. is_idle l x.id) l.admitted) refl)
 
-pub same_free : {w : World} {c : Core} {l : Ledger} → Holds w c l → free_in c ≡ free w l
+pub same_free : {w : World} {c : Core} {l : Ledger} → AgreesButScan w c l → free_in c ≡ free w l
 same_free {w = w} {c = c} {l = l} a = ap (λ n. c.params.recipient_limit - n) a.memory ∙ ap (λ (s : Settings). s.recipient_limit - in_memory l) a.settings
 
 abbrev reads_at : World → Ledger → Id → ℕ → Bool
 reads_at w l id n = nat_lt 0 n && not (has_waiting l id) && nat_le (min w.settings.recipient_minimum n) (free w l)
 
-same_read : {w : World} {c : Core} {l : Ledger} → Holds w c l → (x : Admitted) → may_read_in c (slot_of l x) ≡ may_read w l x
+same_read : {w : World} {c : Core} {l : Ledger} → AgreesButScan w c l → (x : Admitted) → may_read_in c (slot_of l x) ≡ may_read w l x
 same_read {w = w} {c = c} {l = l} a x =
     let n = recipients_on (message_of l.book x.id) - x.unread in
     ap (λ b. nat_lt 0 n && not b && nat_le (min c.params.recipient_minimum n) (free_in c)) (same_waiting a x.id)
@@ -256,14 +256,14 @@ same_read {w = w} {c = c} {l = l} a x =
 abbrev load_on : World → Ledger → Admitted → Option Message → Option Entry
 load_on w l x o = option_and_then (λ (m : Message). Some (entries.Load x.id x.unread (load_end m x.unread (free w l)))) o
 
-read_found : {w : World} {c : Core} {l : Ledger} → Holds w c l → IsTrue (list_all (is_present l) l.admitted) → (o : Option Admitted) → find (may_read w l) l.admitted ≡ o →
+read_found : {w : World} {c : Core} {l : Ledger} → AgreesButScan w c l → IsTrue (list_all (is_present l) l.admitted) → (o : Option Admitted) → find (may_read w l) l.admitted ≡ o →
     IsReadRule w l (option_map (λ s. decisions.Read s.id s.unread (free_in c)) (option_map (slot_of l) o)) (option_and_then (λ (x : Admitted). load_of w l x) o)
 read_found a p None e = refl
 read_found {w = w} {c = c} {l = l} a p (Some x) e =
     let there = stands_there l x (message_of l.book x.id) refl (find-all (may_read w l) (is_present l) l.admitted x p e) in
     (there.0, there.1, same_free a, ap (load_on w l x) there.1 ∙ ap (λ n. Some (entries.Load x.id x.unread (load_end there.0 x.unread n))) (sym (same_free a)))
 
-pub load_law : {w : World} {c : Core} {l : Ledger} → Holds w c l → IsTrue (list_all (is_present l) l.admitted) → IsReadRule w l (next_read_in c) (load_rule w l)
+pub load_law : {w : World} {c : Core} {l : Ledger} → AgreesButScan w c l → IsTrue (list_all (is_present l) l.admitted) → IsReadRule w l (next_read_in c) (load_rule w l)
 load_law {w = w} {c = c} {l = l} a p =
     subst (λ (o : Option Slot). IsReadRule w l (option_map (λ s. decisions.Read s.id s.unread (free_in c)) o) (load_rule w l))
     (sym (found_slot a (may_read_in c) (may_read w l) (same_read a)))
@@ -277,5 +277,5 @@ need_found : (c : Core) (o : Option Unsettled) → IsRule c (option_map decision
 need_found c None = refl
 need_found c (Some u) = need_of c u.id u.position u.need
 
-pub settling_law : {w : World} {c : Core} {l : Ledger} → Holds w c l → IsRule c (first_need_in c) (settling_rule l)
+pub settling_law : {w : World} {c : Core} {l : Ledger} → AgreesButScan w c l → IsRule c (first_need_in c) (settling_rule l)
 settling_law {c = c} {l = l} h = subst (λ (us : List Unsettled). IsRule c (option_map decision_of (slice_get us 0)) (settling_rule l)) (sym h.unsettled) (need_found c (slice_get l.unsettled 0))

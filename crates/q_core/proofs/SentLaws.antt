@@ -10,7 +10,7 @@ use Rattle.q_core.proofs.ListLaws.{drop_first-Some, position-find}
 use Rattle.q_core.proofs.NameLaws.{and_true_parts, id_eq-same}
 use Rattle.q_core.proofs.SiteLaws.{tidy_used_law}
 use Rattle.q_core.proofs.StepLaws.{HoldsRaw, IsStillSeen, raw_law}
-use Rattle.q_core.specs.Agrees.{Agrees, Holds, Matches, jobs_of}
+use Rattle.q_core.specs.Agrees.{Agrees, AgreesButScan, Matches, jobs_of}
 use Rattle.q_core.specs.Sending.{started_line, is_for, IsStarted, IsSent, served_now}
 use Rattle.q_core.specs.Changes.{IsTidied, is_looked_at}
 use Rattle.q_core.specs.UsedSites.{busy_in, is_unused_in, waits_at_in}
@@ -50,7 +50,7 @@ is_row-for : (id : Id) (site : Site) (ps : List ℕ) (y : Row) → is_row id sit
 is_row-for id site ps y h = ap (λ (x : Row). is_for id site x) (is_row-true id site ps y h) ∙ ap (λ b. b && site_eq site site) (id_eq-same id) ∙ site_eq-refl site
 
 -- the first row for the site is the first equal one
-dropped_same : {w : World} {c : Core} {l : Ledger} → Holds w c l → (number : ℕ) (id : Id) (site : Site) (ps : List ℕ) (entry : ℕ) → IsChosen l number id site ps → position (is_for id site) c.waiting ≡ Some entry →
+dropped_same : {w : World} {c : Core} {l : Ledger} → AgreesButScan w c l → (number : ℕ) (id : Id) (site : Site) (ps : List ℕ) (entry : ℕ) → IsChosen l number id site ps → position (is_for id site) c.waiting ≡ Some entry →
     remove c.waiting entry ≡ drop_first (is_row id site ps) l.waiting
 dropped_same {c = c} {l = l} h number id site ps entry chosen there =
     drop_first-Some (is_for id site) c.waiting entry there
@@ -85,9 +85,9 @@ same_memory l number id site ps chosen =
     omega (arith, out, narrow, inn)
 
 -- the whole change of the lists
-begin_raw : {w : World} {c u d : Core} {l : Ledger} → HoldsRaw w c l → (number : ℕ) (id : Id) (site : Site) (ps : List ℕ) (entry : ℕ) → IsChosen l number id site ps → position (is_for id site) c.waiting ≡ Some entry → slice_get c.waiting entry ≡ Some (row_at id site ps) →
+start_raw : {w : World} {c u d : Core} {l : Ledger} → HoldsRaw w c l → (number : ℕ) (id : Id) (site : Site) (ps : List ℕ) (entry : ℕ) → IsChosen l number id site ps → position (is_for id site) c.waiting ≡ Some entry → slice_get c.waiting entry ≡ Some (row_at id site ps) →
     IsSent c u number id site entry → IsStarted u d id site.transport → HoldsRaw w d (noted (entries.Start number id site ps) (after_start l number id site ps))
-begin_raw {w = w} {c = c} {u = u} {d = d} {l = l} r number id site ps entry chosen there row sent begun =
+start_raw {w = w} {c = c} {u = u} {d = d} {l = l} r number id site ps entry chosen there row sent begun =
     let h = r.parts in
     let e : Entry = entries.Start number id site ps in
     let next : Ledger = noted e (after_start l number id site ps) in
@@ -102,7 +102,7 @@ begin_raw {w = w} {c = c} {u = u} {d = d} {l = l} r number id site ps entry chos
     let more = sum_by-cons (λ x. cond (is_start x) 1 0) e l.past in
     let is = chosen.count in
     omega (arith, more, is) in
-    let parts : Holds w kept next = record {
+    let parts : AgreesButScan w kept next = record {
       settings = h.settings;
       count = h.count;
       transports = h.transports;
@@ -147,12 +147,12 @@ used_there l k s n e =
     ∙ ap (λ b. (not (waits_at_in k.waiting s) && b) && not (is_unused_in l.waiting l.flights s)) (some_busy n)
     ∙ ap (λ b. b && not (is_unused_in l.waiting l.flights s)) (and_false (not (waits_at_in k.waiting s)))
 
-begin_used : (l : Ledger) (number : ℕ) (id : Id) (site : Site) (ps : List ℕ) (s : Site) (b : Bool) → site_eq site s ≡ b →
+start_used : (l : Ledger) (number : ℕ) (id : Id) (site : Site) (ps : List ℕ) (s : Site) (b : Bool) → site_eq site s ≡ b →
     (is_unused_in (drop_first (is_row id site ps) l.waiting) (l.flights ++ delivery_at number id site ps ∷ []) s && not (is_unused_in l.waiting l.flights s)) ≡ false
-begin_used l number id site ps s true e =
+start_used l number id site ps s true e =
     used_there l (after_start l number id site ps) s (busy_in l.flights s)
     (sum_by_push (λ (f : Delivery). cond (site_eq f.row.site s) 1 0) l.flights (delivery_at number id site ps) ∙ ap (λ b. busy_in l.flights s + cond b 1 0) e)
-begin_used l number id site ps s false e =
+start_used l number id site ps s false e =
     let count : busy_in (l.flights ++ delivery_at number id site ps ∷ []) s ≡ busy_in l.flights s =
     sum_by_push (λ (f : Delivery). cond (site_eq f.row.site s) 1 0) l.flights (delivery_at number id site ps) ∙ ap (λ b. busy_in l.flights s + cond b 1 0) e ∙ add-zero (busy_in l.flights s) in
     let waits : waits_at_in (drop_first (is_row id site ps) l.waiting) s ≡ waits_at_in l.waiting s =
@@ -163,13 +163,13 @@ begin_used l number id site ps s false e =
 
 -- ---- the whole entry
 
-pub begin_law : {w : World} {c u v d : Core} {l : Ledger} → Agrees w c l → IsTrue (is_looked_at c) → (number : ℕ) (id : Id) (site : Site) (ps : List ℕ) (entry : ℕ) → start_rule w l ≡ Some (entries.Start number id site ps) →
+pub sent_law : {w : World} {c u v d : Core} {l : Ledger} → Agrees w c l → IsTrue (is_looked_at c) → (number : ℕ) (id : Id) (site : Site) (ps : List ℕ) (entry : ℕ) → start_rule w l ≡ Some (entries.Start number id site ps) →
     position (is_for id site) c.waiting ≡ Some entry → IsSent c u number id site entry → IsStarted u v id site.transport → IsTidied v d → Matches w d (tidied w l (noted (entries.Start number id site ps) (after_start l number id site ps)))
-begin_law {w = w} {c = c} {u = u} {v = v} {d = d} {l = l} a looked number id site ps entry rule there sent begun s =
+sent_law {w = w} {c = c} {u = u} {v = v} {d = d} {l = l} a looked number id site ps entry rule there sent begun s =
     let chosen = chosen_row w l number id site ps rule in
     let raw = raw_law a.matches looked in
     let row = row_there (is_for id site) c.waiting entry (row_at id site ps) there (ap (find (is_for id site)) a.matches.parts.waiting ∙ chosen.first) in
-    tidy_used_law l (λ r. begin_used l number id site ps r.site (site_eq site r.site) refl) (begin_raw raw number id site ps entry chosen there row sent begun) s
+    tidy_used_law l (λ r. start_used l number id site ps r.site (site_eq site r.site) refl) (start_raw raw number id site ps entry chosen there row sent begun) s
 
 -- the delivery is in flight by its number
 

@@ -6,7 +6,7 @@ use Rattle.q_core.proofs.MovedLaws.{moved_is}
 use Rattle.q_core.proofs.NameLaws.{and_true_parts}
 use Rattle.q_core.proofs.TidyLaws.{kept_alive, tidy_law, tidied_as, tidied_by}
 use Rattle.q_core.proofs.StepLaws.{HoldsRaw, IsStillSeen}
-use Rattle.q_core.specs.Agrees.{Holds, Matches}
+use Rattle.q_core.specs.Agrees.{AgreesButScan, Matches}
 use Rattle.q_core.specs.Changes.{HasLeftSite, IsTidied}
 use Rattle.q_core.specs.UsedSites.{is_left_in, is_unused_in}
 use Rattle.q_core.specs.Lists.{moved_back}
@@ -33,7 +33,7 @@ pub sites_law : {w : World} {c d : Core} {l : Ledger} (sites : List SiteRecord) 
 sites_law {w = w} {c = c} {d = d} {l = l} sites r rest e =
     let h = r.parts in
     let later : Ledger = record l { sites = sites } in
-    let kept : Holds w (record c { sites = d.sites }) later = record {
+    let kept : AgreesButScan w (record c { sites = d.sites }) later = record {
       settings = h.settings;
       count = h.count;
       transports = h.transports;

@@ -7,7 +7,7 @@ use Rattle.q_core.proofs.AgreesLaws.{same_unread}
 use Rattle.q_core.proofs.ChoiceLaws.{least-map, least-same, list_all-filter}
 use Rattle.q_core.proofs.ListLaws.{filter-map, filter-same, find-map, find-same, list_any-same, slice_get-numbered}
 use Rattle.q_core.proofs.NameLaws.{id_eq-true}
-use Rattle.q_core.specs.Agrees.{Holds, job_of, jobs_of, slot_of}
+use Rattle.q_core.specs.Agrees.{AgreesButScan, job_of, jobs_of, slot_of}
 use Rattle.q_laws.proofs.Members.{IsIn, in_filtered, least_in}
 use Rattle.q_laws.proofs.Rests.{rest_few}
 use Rattle.q_laws.specs.Consistency.{IsMemoryConsistent, is_present}
@@ -50,19 +50,19 @@ rows_of w l id t r = id_eq r.id id && (r.site.transport == t) && is_startable w 
 abbrev room_of : List Delivery → Site → Option SiteRecord → Bool
 room_of fs site o = option_map_or (λ d. is_alive d.health && nat_lt (count_by (λ f. site_eq f.row.site site) fs) d.window) o false
 
-same_startable : {w : World} {c : Core} {l : Ledger} → Holds w c l → (r : Row) → is_startable_in c r ≡ is_startable w l r
+same_startable : {w : World} {c : Core} {l : Ledger} → AgreesButScan w c l → (r : Row) → is_startable_in c r ≡ is_startable w l r
 same_startable {w = w} {c = c} {l = l} h r =
     ap (λ (s : Settings). nat_lt (flights_at c r.site.transport) s.process_limit && has_room_in c r.site) h.settings
     ∙ ap (λ (fs : List Delivery). nat_lt (count_by (λ f. f.row.site.transport == r.site.transport) fs) w.settings.process_limit && room_of fs r.site (find (λ d. site_eq d.site r.site) c.sites)) h.flights
     ∙ ap (λ (ds : List SiteRecord). nat_lt (flights_of l r.site.transport) w.settings.process_limit && room_of l.flights r.site (find (λ d. site_eq d.site r.site) ds)) h.sites
 
-same_for : {w : World} {c : Core} {l : Ledger} → Holds w c l → (id : Id) (t : ℕ) (r : Row) → rows_for c id t r ≡ rows_of w l id t r
+same_for : {w : World} {c : Core} {l : Ledger} → AgreesButScan w c l → (id : Id) (t : ℕ) (r : Row) → rows_for c id t r ≡ rows_of w l id t r
 same_for h id t r = ap (λ b. id_eq r.id id && (r.site.transport == t) && b) (same_startable h r)
 
-same_can_start : {w : World} {c : Core} {l : Ledger} → Holds w c l → (t : ℕ) (id : Id) → can_start_in c t id ≡ can_start w l t id
+same_can_start : {w : World} {c : Core} {l : Ledger} → AgreesButScan w c l → (t : ℕ) (id : Id) → can_start_in c t id ≡ can_start w l t id
 same_can_start {w = w} {c = c} {l = l} h t id = ap (list_any (rows_for c id t)) h.waiting ∙ list_any-same (rows_for c id t) (rows_of w l id t) (same_for h id t) l.waiting
 
-pub same_rest : {w : World} {c : Core} {l : Ledger} → Holds w c l → (t : ℕ) (id : Id) → rest_in c t id ≡ rest l id t
+pub same_rest : {w : World} {c : Core} {l : Ledger} → AgreesButScan w c l → (t : ℕ) (id : Id) → rest_in c t id ≡ rest l id t
 same_rest {c = c} {l = l} h t id =
     ap (λ (rs : List Row). count_by (λ r. id_eq r.id id && (r.site.transport == t)) rs + unread_in c id) h.waiting
     ∙ ap (λ n. count_by (λ r. id_eq r.id id && (r.site.transport == t)) l.waiting + n) (same_unread h id)
@@ -77,13 +77,13 @@ jobs_found : (l : Ledger) (t : ℕ) (o : Option (List Id)) → jobs_or (option_m
 jobs_found l t None = refl
 jobs_found l t (Some ids) = refl
 
-same_jobs_at : {w : World} {c : Core} {l : Ledger} → Holds w c l → (t : ℕ) → jobs_at c t ≡ map (job_of l t) (line_of l t)
+same_jobs_at : {w : World} {c : Core} {l : Ledger} → AgreesButScan w c l → (t : ℕ) → jobs_at c t ≡ map (job_of l t) (line_of l t)
 same_jobs_at {c = c} {l = l} h t =
     ap (λ (ls : List (List Job)). jobs_or (slice_get ls t)) h.lines
     ∙ ap jobs_or (slice_get-numbered (jobs_of l) 0 t t l.lines (omega arith))
     ∙ jobs_found l t (slice_get l.lines t)
 
-same_current : {w : World} {c : Core} {l : Ledger} → Holds w c l → (t : ℕ) → current_in c t ≡ option_map (job_of l t) (current w l t)
+same_current : {w : World} {c : Core} {l : Ledger} → AgreesButScan w c l → (t : ℕ) → current_in c t ≡ option_map (job_of l t) (current w l t)
 same_current {w = w} {c = c} {l = l} h t =
     ap (find (λ j. can_start_in c t j.id)) (same_jobs_at h t)
     ∙ find-map (λ (j : Job). can_start_in c t j.id) (job_of l t) (line_of l t)
@@ -112,7 +112,7 @@ same_fresh l t id (x ∷ xs) =
     ap (λ b. (id_eq id x && (starts_of l x t == 0)) || b) (same_fresh l t id xs)
     ∙ fresh_step l t id x (id_eq id x) (list_any (id_eq id) xs) refl
 
-same_pays : {w : World} {c : Core} {l : Ledger} → Holds w c l → (t : ℕ) (parent : Id) (need : ℕ) → pays_in c.params (job_of l t parent) (rest l parent t) need ≡ pays w l t parent need
+same_pays : {w : World} {c : Core} {l : Ledger} → AgreesButScan w c l → (t : ℕ) (parent : Id) (need : ℕ) → pays_in c.params (job_of l t parent) (rest l parent t) need ≡ pays w l t parent need
 same_pays {w = w} {c = c} {l = l} h t parent need =
     ap (λ (s : Settings).
     nat_le (need * (100 - s.slot_discount) * s.slot_cost + 100 * (s.slot_cost * charged l parent t)) (100 * (starts_of l parent t + s.slot_loan * s.slot_cost))
@@ -123,7 +123,7 @@ and_split : (a f s c p : Bool) → (a && (f && s) && c && p) ≡ (a && f && s &&
 and_split true f s c p = refl
 and_split false f s c p = refl
 
-same_candidate : {w : World} {c : Core} {l : Ledger} → Holds w c l → (t : ℕ) (parent id : Id) →
+same_candidate : {w : World} {c : Core} {l : Ledger} → AgreesButScan w c l → (t : ℕ) (parent id : Id) →
     is_candidate_in c t (behind_jobs parent (jobs_at c t)) (job_of l t parent) id ≡ is_candidate w l t parent id
 same_candidate {w = w} {c = c} {l = l} h t parent id =
     ap (λ (s : Settings). not (s.slot_cost == 0) && is_fresh_among (behind_jobs parent (jobs_at c t)) id && can_start_in c t id && pays_in c.params (job_of l t parent) (rest_in c t parent) (rest_in c t id)) h.settings
@@ -145,10 +145,10 @@ aged : (n : ℕ) (o : Option Message) → option_map_or (λ m. is_active m.place
 aged n None h = cc
 aged n (Some m) h = refl
 
-same_age : {w : World} {c : Core} {l : Ledger} → Holds w c l → (x : Admitted) → is_present l x ≡ true → c.clock.seconds - (slot_of l x).arrival ≡ age l x.id
+same_age : {w : World} {c : Core} {l : Ledger} → AgreesButScan w c l → (x : Admitted) → is_present l x ≡ true → c.clock.seconds - (slot_of l x).arrival ≡ age l x.id
 same_age {l = l} h x there = ap (λ n. n - arrival_at (message_of l.book x.id)) h.clock ∙ aged l.now (message_of l.book x.id) there
 
-same_better : {w : World} {c : Core} {l : Ledger} → Holds w c l → (t : ℕ) (x y : Admitted) → is_present l x ≡ true → is_present l y ≡ true →
+same_better : {w : World} {c : Core} {l : Ledger} → AgreesButScan w c l → (t : ℕ) (x y : Admitted) → is_present l x ≡ true → is_present l y ≡ true →
     is_better_in c t (slot_of l x) (slot_of l y) ≡ is_better l t x.id y.id
 same_better {c = c} {l = l} h t x y px py =
     ap (λ n. nat_lt ((n + 1) * rest_in c t x.id) ((c.clock.seconds - (slot_of l x).arrival + 1) * rest_in c t y.id)) (same_age h y py)
@@ -160,7 +160,7 @@ same_better {c = c} {l = l} h t x y px py =
 abbrev best_admitted : World → Ledger → ℕ → Id → Option Admitted
 best_admitted w l t parent = least (λ (a b : Admitted). is_better l t a.id b.id) (filter (λ (a : Admitted). is_candidate w l t parent a.id) l.admitted)
 
-same_best : {w : World} {c : Core} {l : Ledger} → Holds w c l → IsTrue (list_all (is_present l) l.admitted) → (t : ℕ) (parent : Id) →
+same_best : {w : World} {c : Core} {l : Ledger} → AgreesButScan w c l → IsTrue (list_all (is_present l) l.admitted) → (t : ℕ) (parent : Id) →
     best_in c t (behind_jobs parent (jobs_at c t)) (job_of l t parent) ≡ option_map (slot_of l) (best_admitted w l t parent)
 same_best {w = w} {c = c} {l = l} h p t parent =
     let test : Slot → Bool = λ (s : Slot). is_candidate_in c t (behind_jobs parent (jobs_at c t)) (job_of l t parent) s.id in
@@ -179,14 +179,14 @@ best_is w l t parent =
 abbrev last_of : Option Served → ℕ
 last_of o = option_map_or (λ s. s.last) o 0
 
-same_last : {w : World} {c : Core} {l : Ledger} → Holds w c l → (r : Row) → last_start_in c r ≡ last_start l r
+same_last : {w : World} {c : Core} {l : Ledger} → AgreesButScan w c l → (r : Row) → last_start_in c r ≡ last_start l r
 same_last h r = ap (λ (vs : List Served). last_of (find (λ s. id_eq s.id r.id && site_eq s.site r.site) vs)) h.served
 
 all_true : {A : Type 0} (xs : List A) → list_all (λ (x : A). true) xs ≡ true
 all_true [] = refl
 all_true (x ∷ xs) = all_true xs
 
-same_row : {w : World} {c : Core} {l : Ledger} → Holds w c l → (t : ℕ) (id : Id) → next_row_in c t id ≡ next_row w l t id
+same_row : {w : World} {c : Core} {l : Ledger} → AgreesButScan w c l → (t : ℕ) (id : Id) → next_row_in c t id ≡ next_row w l t id
 same_row {w = w} {c = c} {l = l} h t id =
     ap (λ (rs : List Row). least (λ a b. nat_lt (last_start_in c a) (last_start_in c b)) (filter (rows_for c id t) rs)) h.waiting
     ∙ ap (least (λ a b. nat_lt (last_start_in c a) (last_start_in c b))) (filter-same (rows_for c id t) (rows_of w l id t) (same_for h id t) l.waiting)
@@ -194,12 +194,12 @@ same_row {w = w} {c = c} {l = l} h t id =
     (λ a b p q. ap (λ n. nat_lt n (last_start_in c b)) (same_last h a) ∙ ap (nat_lt (last_start l a)) (same_last h b))
     (filter (rows_of w l id t) l.waiting) (all_true (filter (rows_of w l id t) l.waiting))
 
-start_found : {w : World} {c : Core} {l : Ledger} → Holds w c l → (o : Option Row) → IsRule c (option_map (start_of_row c) o) (option_map (start_of l) o)
+start_found : {w : World} {c : Core} {l : Ledger} → AgreesButScan w c l → (o : Option Row) → IsRule c (option_map (start_of_row c) o) (option_map (start_of l) o)
 start_found h None = refl
 start_found {c = c} {l = l} h (Some r) =
     (entries.Start (c.starts + 1) r.id r.site r.positions, (r.positions, refl), ap (λ n. Some (entries.Start (n + 1) r.id r.site r.positions)) (sym h.starts))
 
-start_of_job : {w : World} {c : Core} {l : Ledger} → Holds w c l → (t : ℕ) (id : Id) → IsRule c (start_in c t id) (option_map (start_of l) (next_row w l t id))
+start_of_job : {w : World} {c : Core} {l : Ledger} → AgreesButScan w c l → (t : ℕ) (id : Id) → IsRule c (start_in c t id) (option_map (start_of l) (next_row w l t id))
 start_of_job {w = w} {c = c} {l = l} h t id =
     subst (λ o. IsRule c (option_map (start_of_row c) o) (option_map (start_of l) (next_row w l t id))) (sym (same_row h t id)) (start_found h (next_row w l t id))
 
@@ -210,11 +210,11 @@ least_is : (a b : ℕ) → a ≤ b → min a b ≡ a
 least_is a b h = grind (arith, h)
 
 -- the need of a message in memory is all that it has left
-same_need : {w : World} {c : Core} {l : Ledger} → Holds w c l → IsMemoryConsistent w l → (t : ℕ) (x : Admitted) → IsIn x l.admitted → need_in c t (slot_of l x) ≡ rest l x.id t
+same_need : {w : World} {c : Core} {l : Ledger} → AgreesButScan w c l → IsMemoryConsistent w l → (t : ℕ) (x : Admitted) → IsIn x l.admitted → need_in c t (slot_of l x) ≡ rest l x.id t
 same_need {w = w} {c = c} {l = l} h m t x inside =
     ap (λ n. min n (slot_of l x).recipients) (same_rest h t x.id) ∙ least_is (rest l x.id t) (slot_of l x).recipients (rest_few w l x t m inside)
 
-preempt_found : {w : World} {c : Core} {l : Ledger} → Holds w c l → IsMemoryConsistent w l → (t : ℕ) (parent : Id) (o : Option Admitted) → ((x : Admitted) → o ≡ Some x → IsIn x l.admitted) →
+preempt_found : {w : World} {c : Core} {l : Ledger} → AgreesButScan w c l → IsMemoryConsistent w l → (t : ℕ) (parent : Id) (o : Option Admitted) → ((x : Admitted) → o ≡ Some x → IsIn x l.admitted) →
     IsRule c (preempt_or c t (job_of l t parent) (option_map (slot_of l) o)) (preempt_on w l t parent (option_map (λ (a : Admitted). a.id) o))
 preempt_found h m t parent None inside = start_of_job h t parent
 preempt_found {c = c} {l = l} h m t parent (Some x) inside =
@@ -225,7 +225,7 @@ best_inside w l t parent x e =
     let passes : Admitted → Bool = λ (a : Admitted). is_candidate w l t parent a.id in
     (in_filtered passes x l.admitted (least_in (λ (a b : Admitted). is_better l t a.id b.id) x (filter passes l.admitted) e)).0
 
-choose_law : {w : World} {c : Core} {l : Ledger} → Holds w c l → IsMemoryConsistent w l → (t : ℕ) (parent : Id) → IsRule c (choose_in c t (job_of l t parent)) (preempt_on w l t parent (best w l t parent))
+choose_law : {w : World} {c : Core} {l : Ledger} → AgreesButScan w c l → IsMemoryConsistent w l → (t : ℕ) (parent : Id) → IsRule c (choose_in c t (job_of l t parent)) (preempt_on w l t parent (best w l t parent))
 choose_law {w = w} {c = c} {l = l} h p t parent =
     subst (λ o. IsRule c (preempt_or c t (job_of l t parent) o) (preempt_on w l t parent (best w l t parent))) (sym (same_best h p.present t parent))
     (subst (λ o. IsRule c (preempt_or c t (job_of l t parent) (option_map (slot_of l) (best_admitted w l t parent))) (preempt_on w l t parent o)) (sym (best_is w l t parent))
@@ -234,11 +234,11 @@ choose_law {w = w} {c = c} {l = l} h p t parent =
 abbrev choice_on : World → Ledger → ℕ → Option Id → Option Entry
 choice_on w l t o = option_and_then (λ parent. preempt_on w l t parent (best w l t parent)) o
 
-choice_found : {w : World} {c : Core} {l : Ledger} → Holds w c l → IsMemoryConsistent w l → (t : ℕ) (o : Option Id) → IsRule c (option_and_then (choose_in c t) (option_map (job_of l t) o)) (choice_on w l t o)
+choice_found : {w : World} {c : Core} {l : Ledger} → AgreesButScan w c l → IsMemoryConsistent w l → (t : ℕ) (o : Option Id) → IsRule c (option_and_then (choose_in c t) (option_map (job_of l t) o)) (choice_on w l t o)
 choice_found h p t None = refl
 choice_found h p t (Some parent) = choose_law h p t parent
 
-choice_law : {w : World} {c : Core} {l : Ledger} → Holds w c l → IsMemoryConsistent w l → (t : ℕ) → IsRule c (choice_in c t) (choice w l t)
+choice_law : {w : World} {c : Core} {l : Ledger} → AgreesButScan w c l → IsMemoryConsistent w l → (t : ℕ) → IsRule c (choice_in c t) (choice w l t)
 choice_law {w = w} {c = c} {l = l} h p t =
     subst (λ o. IsRule c (option_and_then (choose_in c t) o) (choice w l t)) (sym (same_current h t)) (choice_found h p t (current w l t))
 
@@ -255,7 +255,7 @@ first_step (Some e) rest = refl
 abbrev line_choice : World → Ledger → (ℕ × List Id) → Option Entry
 line_choice w l line = choice w l line.0
 
-choices_law : {w : World} {c : Core} {l : Ledger} → Holds w c l → IsMemoryConsistent w l → (n : ℕ) (ls : List (List Id)) → IsRule c (choices_from c n (length ls)) (first_some (line_choice w l) (enumerate_from n ls))
+choices_law : {w : World} {c : Core} {l : Ledger} → AgreesButScan w c l → IsMemoryConsistent w l → (n : ℕ) (ls : List (List Id)) → IsRule c (choices_from c n (length ls)) (first_some (line_choice w l) (enumerate_from n ls))
 choices_law h p n [] = refl
 choices_law {w = w} {c = c} {l = l} h p n (ids ∷ ls) =
     subst (λ o. IsRule c (choices_from c n (suc (length ls))) o) (sym (first_step (choice w l n) (filter_map (line_choice w l) (enumerate_from (n + 1) ls))))
@@ -265,7 +265,7 @@ limit_law : (c : Core) (b : Bool) (d : Option Decision) (r : Option Entry) → I
 limit_law c true d r h = h
 limit_law c false d r h = refl
 
-pub start_law : {w : World} {c : Core} {l : Ledger} → Holds w c l → IsMemoryConsistent w l → IsRule c (next_start_in c) (start_rule w l)
+pub start_law : {w : World} {c : Core} {l : Ledger} → AgreesButScan w c l → IsMemoryConsistent w l → IsRule c (next_start_in c) (start_rule w l)
 start_law {w = w} {c = c} {l = l} h p =
     subst (λ n. IsRule c (if nat_lt n (2 ^ 48) then choices_from c 0 c.transports else None) (start_rule w l)) (sym h.starts)
     (subst (λ n. IsRule c (if nat_lt (starts l) (2 ^ 48) then choices_from c 0 n else None) (start_rule w l)) (sym h.count)

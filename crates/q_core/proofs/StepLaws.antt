@@ -1,7 +1,7 @@
 -- How agreement goes on from step to step.
 use Rattle.std.proofs.Common.{◌≡◌, ℕ, ◌+◌, Bool, true, false, List, map, refl, sym, ap, ◌∙◌, subst, Option, Some, None, IsTrue}
 use Rattle.std.specs.Prelude.{◌||◌, nat_le, if◌then◌else◌, is_none}
-use Rattle.q_core.specs.Agrees.{Matches, Holds, IsScan, IsSeenScan, found_deferred}
+use Rattle.q_core.specs.Agrees.{Matches, AgreesButScan, IsScan, IsSeenScan, found_deferred}
 use Rattle.q_core.specs.Changes.{IsWoken, asked_scan, asked_when_due, is_known, is_looked_at, request_by}
 use Rattle.q_core.specs.UsedSites.{busy_in, revive_due_in}
 use Rattle.q_core.specs.Scanning.{scan_after, scan_at}
@@ -29,7 +29,7 @@ IsStillSeen (Known found) l = (found ≡ found_deferred l) × (scan_after l.book
 
 -- agreement before the ledger is tidied
 pub record HoldsRaw (w : World) (c : Core) (l : Ledger) : Type 0 where
-  pub parts : Holds w c l
+  pub parts : AgreesButScan w c l
   pub scan : c.scan ≡ l.scan
   pub asked : c.asked ≡ l.asked
   pub seen : IsStillSeen c.deferred l
@@ -76,7 +76,7 @@ wake_law {w = w} {c = c} {d = d} {l = l} {t = t} a t' wakes =
     ∙ ap (map (revive_due_in c.params l.flights t)) h.sites
     ∙ ap (λ (s : Settings). map (λ (r : SiteRecord). if is_due t r.health then revived (world_without_table s) (busy_in l.flights r.site) r else r) l.sites) h.settings in
     let later : Ledger = woken w l t in
-    let kept : Holds w (record c { clock = d.clock; timed = true; sites = d.sites }) later = record {
+    let kept : AgreesButScan w (record c { clock = d.clock; timed = true; sites = d.sites }) later = record {
       settings = h.settings;
       count = h.count;
       transports = h.transports;

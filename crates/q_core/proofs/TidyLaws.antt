@@ -7,7 +7,7 @@ use Rattle.q_core.proofs.AgreesLaws.{same_unread}
 use Rattle.q_core.proofs.ListLaws.{filter-map, filter-same, filter_each, filter_none, length-numbered, slice_get-numbered}
 use Rattle.q_core.proofs.NameLaws.{id_eq-true}
 use Rattle.q_core.proofs.StepLaws.{HoldsRaw, IsStillSeen}
-use Rattle.q_core.specs.Agrees.{Matches, Holds, IsScan, IsSeenScan, found_deferred, job_of, jobs_of}
+use Rattle.q_core.specs.Agrees.{Matches, AgreesButScan, IsScan, IsSeenScan, found_deferred, job_of, jobs_of}
 use Rattle.q_core.specs.Changes.{IsTidied}
 use Rattle.q_core.specs.UsedSites.{forget_in, is_kept_in, is_unused_in, used_in}
 use Rattle.q_core.specs.Scanning.{scan_after, scan_at}
@@ -50,18 +50,18 @@ pub tidy_scan_is : (l : Ledger) → tidy_scan l ≡ record l { scan = (scan_afte
 tidy_scan_is l = tidied_scan_at l l.scan l.asked
 
 -- the same jobs stay in a line
-same_stays : {w : World} {c : Core} {l : Ledger} → Holds w c l → (t : ℕ) (id : Id) → stays_among c.admitted c.waiting t id ≡ stays l t id
+same_stays : {w : World} {c : Core} {l : Ledger} → AgreesButScan w c l → (t : ℕ) (id : Id) → stays_among c.admitted c.waiting t id ≡ stays l t id
 same_stays {c = c} {l = l} h t id =
     ap (λ n. not (n == 0) || waits_for c.waiting id t) (same_unread h id)
     ∙ ap (λ (rs : List Row). not (unread_of l id == 0) || waits_for rs id t) h.waiting
 
-jobs_tidied : {w : World} {c : Core} {l : Ledger} → Holds w c l → (t : ℕ) (ids : List Id) →
+jobs_tidied : {w : World} {c : Core} {l : Ledger} → AgreesButScan w c l → (t : ℕ) (ids : List Id) →
     tidied_jobs c.admitted c.waiting t (map (job_of l t) ids) ≡ map (job_of l t) (filter (stays l t) ids)
 jobs_tidied {c = c} {l = l} h t ids =
     filter-map (λ (j : Job). stays_among c.admitted c.waiting t j.id) (job_of l t) ids
     ∙ ap (map (job_of l t)) (filter-same (λ id. stays_among c.admitted c.waiting t id) (stays l t) (same_stays h t) ids)
 
-lines_tidied : {w : World} {c : Core} {l : Ledger} → Holds w c l → (n : ℕ) (ls : List (List Id)) →
+lines_tidied : {w : World} {c : Core} {l : Ledger} → AgreesButScan w c l → (n : ℕ) (ls : List (List Id)) →
     map (tidied_line c.admitted c.waiting) (enumerate_from n (map (jobs_of l) (enumerate_from n ls))) ≡ map (jobs_of l) (enumerate_from n (map (tidy_line l) (enumerate_from n ls)))
 lines_tidied h n [] = refl
 lines_tidied {c = c} {l = l} h n (ids ∷ ls) =
@@ -115,7 +115,7 @@ ordered_same l =
 abbrev pub kept_alive : Ledger → List SiteRecord → List SiteRecord
 kept_alive l rs = filter (λ r. not (is_unused l r && is_alive r.health)) rs
 
-sites_tidied : {w : World} {c : Core} {l : Ledger} → Holds w c l →
+sites_tidied : {w : World} {c : Core} {l : Ledger} → AgreesButScan w c l →
     forget_in c.waiting c.flights c.params.recipient_limit (used_in c.waiting c.flights c.sites) ≡ forget_oldest w l (kept_alive l l.sites)
 sites_tidied {w = w} {c = c} {l = l} h =
     ap (λ (rs : List Row). forget_in rs c.flights c.params.recipient_limit (used_in rs c.flights c.sites)) h.waiting
@@ -170,7 +170,7 @@ tidy_law {w = w} {c = c} {d = d} {l = l} before rows flights r s =
     s.lines ∙ ap (λ (js : List (List Job)). map (tidied_line c.admitted c.waiting) (enumerate_from 0 js)) h.lines ∙ lines_tidied h 0 l.lines in
     let served : d.served ≡ filter (λ (x : Served). list_any (λ (y : Row). id_eq y.id x.id && site_eq y.site x.site) l.waiting) l.served =
     s.served ∙ ap (λ (rs : List Row). tidied_served rs c.served) h.waiting ∙ ap (tidied_served l.waiting) h.served in
-    let parts : Holds w kept after = record {
+    let parts : AgreesButScan w kept after = record {
       settings = h.settings;
       count = (h.count ∙ sym (length-numbered (tidy_line l) 0 l.lines));
       transports = (length-numbered (tidy_line l) 0 l.lines ∙ h.transports);

@@ -7,7 +7,7 @@ use Rattle.q_core.proofs.PickLaws.{found_on, next_of, some_found}
 use Rattle.q_core.specs.Agrees.{IsSeen, found_at, found_deferred, found_incoming, found_next}
 use Rattle.q_core.specs.Changes.{is_known, is_looked_at}
 use Rattle.q_core.specs.Facts.{is_nothing, picked}
-use Rattle.q_core.specs.Picking.{found_name, from_deferred_in, is_from_deferred, moved_on, passed_in, picked_in, scanned_in, shown}
+use Rattle.q_core.specs.Picking.{found_name, from_deferred_in, is_from_deferred, scan_moved_on, passed_in, picked_in, scanned_in, shown}
 use Rattle.q_core.specs.declared.decision.Found.{Found}
 use Rattle.q_core.specs.declared.decision.Found.TheVariants.{Nothing}
 use Rattle.q_core.specs.declared.state.Core.{Core}
@@ -145,7 +145,7 @@ turn_law {c = c} {l = l} true name r = let h = r.parts in record {
     active = h.active;
     incoming = h.incoming;
   };
-  scan = ap (moved_on name) r.scan;
+  scan = ap (scan_moved_on name) r.scan;
   asked = r.asked;
   seen = tt;
 }

@@ -2,7 +2,7 @@
 use Rattle.std.proofs.Common.{◌≡◌, ◌≤◌, false, true, refl, sym, ap, ◌∙◌, subst, inl}
 use Rattle.std.specs.Prelude.{◌&&◌}
 use Rattle.q_core.specs.Agrees.{Agrees, Matches}
-use Rattle.q_core.specs.Changes.{IsAsBefore}
+use Rattle.q_core.specs.Changes.{IsUnchanged}
 use Rattle.q_core.specs.Hearing.{IsHeard, IsInTime}
 use Rattle.q_core.specs.declared.event.Heard.{Heard}
 use Rattle.q_core.specs.declared.event.Heard.TheVariants.{At, Mail, Reply, Trigger}
@@ -79,7 +79,7 @@ heard_law {w = w} {l = l} h e time a k may m =
     whole_law e a (inl (ap (λ b. b && allowed w l e) (outside h e k) ∙ may)) (heard_goes_on h e k) (heard_moment w l h e k time a.moment) m
 
 -- a core with other room in its lists is the same
-pub same_core : {c d : Core} → IsAsBefore c d → d ≡ c
+pub same_core : {c d : Core} → IsUnchanged c d → d ≡ c
 same_core {c = c} {d = d} b =
     b.rest
     ∙ ap (λ x. record c { admitted = x; waiting = d.waiting; flights = d.flights; unsettled = d.unsettled; served = d.served; lines = d.lines; sites = d.sites; synced = d.synced; named = d.named }) b.admitted

@@ -74,8 +74,8 @@ abbrev pub jobs_of : Ledger → (ℕ × List Id) → List Job
 jobs_of l line = map (job_of l line.0) line.1
 
 -- how many recipients are marked
-abbrev pub marks_of : Message → ℕ
-marks_of m = count_by (λ r. is_marked r.mark) m.recipients
+abbrev pub count_of_marked : Message → ℕ
+count_of_marked m = count_by (λ r. is_marked r.mark) m.recipients
 
 -- what a look tells of a message
 abbrev pub file_of : Ledger → Id → Message → FileFacts
@@ -83,7 +83,7 @@ file_of l id m = record {
   arrival = m.arrival;
   null_sender = is_none m.sender;
   recipients = length m.recipients;
-  marked = marks_of m;
+  marked = count_of_marked m;
   failures = length m.failures;
   unmarked = slice_get (unmarked_logged m) 0;
   bounced = has_bounce l id;
@@ -128,7 +128,7 @@ pub record IsScan (c : Core) (l : Ledger) : Type 0 where
   pub seen : IsSeenScan c.deferred c.scan c.asked l
 
 -- all but the scan
-pub record Holds (w : World) (c : Core) (l : Ledger) : Type 0 where
+pub record AgreesButScan (w : World) (c : Core) (l : Ledger) : Type 0 where
   pub settings : c.params ≡ w.settings
   pub count : c.transports ≡ length l.lines
   pub transports : length l.lines ≡ length w.table.transports
@@ -153,7 +153,7 @@ pub record Holds (w : World) (c : Core) (l : Ledger) : Type 0 where
 
 -- what the core holds is what the ledger says
 pub record Matches (w : World) (c : Core) (l : Ledger) : Type 0 where
-  pub parts : Holds w c l
+  pub parts : AgreesButScan w c l
   pub scan : IsScan c l
 
 -- the core agrees with the ledger of a life that goes on, of which all fits together

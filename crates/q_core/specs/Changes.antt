@@ -106,7 +106,7 @@ pub record IsUnsettledChange (old new : Core) (us : List Unsettled) : Type 0 whe
   pub unsettled : new.unsettled ≡ us
 
 -- the core is as it was, but for the room of its lists
-pub record IsAsBefore (old new : Core) : Type 0 where
+pub record IsUnchanged (old new : Core) : Type 0 where
   pub rest : new ≡ record old {
     admitted = new.admitted;
     waiting = new.waiting;

@@ -55,8 +55,8 @@ IsLooking c d = ((d ≡ Some decisions.LookActive) × (c.active ≡ Unknown))
     × (c.deferred ≡ Unknown)))
 
 -- the rule has the entry of the decision, which may be a read; or the decision is a look
-abbrev pub IsNext : World → Ledger → Core → Option Decision → Option Entry → Type 0
-IsNext w l c d rule = IsRule c d rule ⊎ (IsReadRule w l d rule ⊎ IsLooking c d)
+abbrev pub IsNextDecision : World → Ledger → Core → Option Decision → Option Entry → Type 0
+IsNextDecision w l c d rule = IsRule c d rule ⊎ (IsReadRule w l d rule ⊎ IsLooking c d)
 
 -- The decision has an entry, the ledger's next, and the core says what the ledger is after it. Or it is a
 -- look or a read, and the ledger is as it was.

@@ -57,15 +57,15 @@ IsRule c (Some d) rule = (e : Entry) × IsOf c d e × (rule ≡ Some e)
 
 -- The rule wants a load of this message from the read's place on, of at most so many recipients as
 -- the ledger has free.
-abbrev pub IsRead : World → Ledger → Decision → Option Entry → Type 0
-IsRead w l (decisions.Read id from max) rule = (m : Message) × (message_of l.book id ≡ Some m)
+abbrev pub WantsRead : World → Ledger → Decision → Option Entry → Type 0
+WantsRead w l (decisions.Read id from max) rule = (m : Message) × (message_of l.book id ≡ Some m)
     × (max ≡ free w l) × (rule ≡ Some (entries.Load id from (load_end m from max)))
-IsRead w l _ rule = ⊥
+WantsRead w l _ rule = ⊥
 
 -- the rule has the load of this read, or none where there is none
 abbrev pub IsReadRule : World → Ledger → Option Decision → Option Entry → Type 0
 IsReadRule w l None rule = rule ≡ None
-IsReadRule w l (Some d) rule = IsRead w l d rule
+IsReadRule w l (Some d) rule = WantsRead w l d rule
 
 -- the rule has the entry of this decision; or the decision is to look, and what the look tells
 -- isn't known

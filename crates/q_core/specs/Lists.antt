@@ -4,12 +4,12 @@ use Rattle.std.specs.Option.{option_map_or}
 use Rattle.q_model.specs.Lists.{drop_first}
 
 -- the one behind, where there is one and it stands before the other
-abbrev pub over : {A : Type 0} → (A → A → Bool) → A → Option A → A
-over before x o = option_map_or (λ y. if before y x then y else x) o x
+abbrev pub better_of : {A : Type 0} → (A → A → Bool) → A → Option A → A
+better_of before x o = option_map_or (λ y. if before y x then y else x) o x
 
 -- an element that passes against the best of those behind it
 abbrev pub prefer : {A : Type 0} → (A → Bool) → (A → A → Bool) → A → Option A → Option A
-prefer passes before x next = if passes x then Some (over before x next) else next
+prefer passes before x next = if passes x then Some (better_of before x next) else next
 
 -- the first that passes goes to the end
 abbrev pub moved_back : {A : Type 0} → (A → Bool) → List A → List A

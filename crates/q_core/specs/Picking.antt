@@ -83,13 +83,13 @@ found_slot (Whole id due f) = record {
 }
 
 -- the scan goes on behind the name
-abbrev pub moved_on : DeferredName → Option Scan → Option Scan
-moved_on name o = option_map (λ (s : Scan). record s { place = Some name }) o
+abbrev pub scan_moved_on : DeferredName → Option Scan → Option Scan
+scan_moved_on name o = option_map (λ (s : Scan). record s { place = Some name }) o
 
 -- the turn is with the queue that didn't give, and the other is to be looked at anew
 abbrev pub passed_in : Bool → DeferredName → Core → Core
 passed_in from_deferred name c = if from_deferred
-    then record c { deferred_turn = false; scan = moved_on name c.scan; deferred = Unknown }
+    then record c { deferred_turn = false; scan = scan_moved_on name c.scan; deferred = Unknown }
     else record c { deferred_turn = true; incoming = Unknown }
 
 -- the message comes last

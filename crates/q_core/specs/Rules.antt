@@ -46,11 +46,11 @@ abbrev pub next_skip_number : Core → ℕ
 next_skip_number c = if nat_lt c.skips 4294967295 then c.skips + 1 else 1
 
 -- the row is put off
-abbrev pub skip_of : Core → Row → Decision
-skip_of c r = decisions.Skip r.id r.site (next_skip_number c)
+abbrev pub skip_decision : Core → Row → Decision
+skip_decision c r = decisions.Skip r.id r.site (next_skip_number c)
 
 abbrev pub skip_at : Core → ℕ → Option Decision
-skip_at c place = option_map (skip_of c) (slice_get c.waiting place)
+skip_at c place = option_map (skip_decision c) (slice_get c.waiting place)
 
 -- the first row at a dead site is put off
 abbrev pub next_skip_in : Core → Option Decision
@@ -70,8 +70,8 @@ abbrev pub is_synced_in : Core → Id → Bool
 is_synced_in c id = list_any (id_eq id) c.synced
 
 -- with each failure marked it is synced, goes back, or is finished
-abbrev pub clear_marked : Bool → Id → FileFacts → Decision
-clear_marked synced id f = if not synced then decisions.Sync id
+abbrev pub clear_marked_in : Bool → Id → FileFacts → Decision
+clear_marked_in synced id f = if not synced then decisions.Sync id
     else (if nat_lt 0 (file_pending f) then decisions.Back id
     else (if file_wants_bounce f id && not f.bounced then decisions.Bounce id
     else decisions.Remove id))
@@ -79,7 +79,7 @@ clear_marked synced id f = if not synced then decisions.Sync id
 -- what is done with a message that an earlier life left in active
 abbrev pub clear_in : Bool → Id → FileFacts → Decision
 clear_in synced id f = option_map_or (λ position. decisions.Mark id position) f.unmarked
-    (clear_marked synced id f)
+    (clear_marked_in synced id f)
 
 -- a damaged one goes to corrupt
 abbrev pub clear_found_in : Core → Found → Option Decision

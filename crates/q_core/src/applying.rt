@@ -2,7 +2,7 @@
 //! concerns a message in memory and one that an earlier life left is told apart here.
 ghost use Rattle.std.specs.Prelude.{◌≡◌, IsTrue, OnErr, OnOk, Some};
 ghost use Rattle.q_core.specs.Agrees.{ForLedgers};
-ghost use Rattle.q_core.specs.Changes.{IsAsBefore, is_looked_at};
+ghost use Rattle.q_core.specs.Changes.{IsUnchanged, is_looked_at};
 ghost use Rattle.q_core.specs.Deciding.{IsApplied, decide_in};
 ghost use Rattle.q_core.specs.Leaving.{IsSkipNoted};
 ghost use Rattle.q_model.specs.Lists.{has_none};
@@ -50,7 +50,7 @@ impl Core {
         requires decided { decide_in self.old ≡ Some (Decision.Sync id) }
         ensures ok { OnOk result (ForLedgers self.old
             (λ w l. IsApplied w l self.old (Decision.Sync id) self.new)) }
-        ensures err { OnErr result (IsAsBefore self.old self.new) }
+        ensures err { OnErr result (IsUnchanged self.old self.new) }
     {
         if self.has_slot(id) {
             self.sync(id);
@@ -72,7 +72,7 @@ impl Core {
         ensures ok { OnOk result (ForLedgers self.old
             (λ w l. IsApplied w l self.old (Decision.Skip id site entry) self.new)) }
         ensures noted { OnOk result (IsSkipNoted self.old id site entry self.new) }
-        ensures err { OnErr result (IsAsBefore self.old self.new) }
+        ensures err { OnErr result (IsUnchanged self.old self.new) }
     {
         let Some(place) = self.first_dead() else {
             return Ok(());
@@ -146,7 +146,7 @@ impl Core {
         requires decided { decide_in self.old ≡ Some (Decision.Admit id place) }
         ensures ok { OnOk result (ForLedgers self.old
             (λ w l. IsApplied w l self.old (Decision.Admit id place) self.new)) }
-        ensures err { OnErr result (IsAsBefore self.old self.new) }
+        ensures err { OnErr result (IsUnchanged self.old self.new) }
     {
         self.admit()?;
         Ok(())
@@ -157,7 +157,7 @@ impl Core {
         requires decided { decide_in self.old ≡ Some (Decision.Start number id site) }
         ensures ok { OnOk result (ForLedgers self.old
             (λ w l. IsApplied w l self.old (Decision.Start number id site) self.new)) }
-        ensures err { OnErr result (IsAsBefore self.old self.new) }
+        ensures err { OnErr result (IsUnchanged self.old self.new) }
     {
         self.start_delivery(number, id, site)?;
         Ok(())

@@ -2,7 +2,7 @@
 ghost use Rattle.std.specs.Prelude.{◌≡◌, IsTrue, OnErr, OnOk, [], false, true, ℕ};
 ghost use Rattle.q_core.specs.Agrees.{ForLedgers, Agrees, Matches, Follows, MarksLeftovers};
 ghost use Rattle.q_core.specs.Held.{is_admitted_in};
-ghost use Rattle.q_core.specs.Changes.{IsAsBefore, IsNoted, is_looked_at};
+ghost use Rattle.q_core.specs.Changes.{IsUnchanged, IsNoted, is_looked_at};
 ghost use Rattle.q_model.specs.Ledger.{Ledger};
 ghost use Rattle.q_model.specs.Marking.{marks_leftover};
 ghost use Rattle.q_model.specs.Settings.{World};
@@ -34,7 +34,7 @@ impl Core {
     /// The message counts as synced in this life.
     fn note_synced(&mut self, id: Id) -> Result<(), NoMemory>
         ensures ok { OnOk result (IsNoted self.old self.new id) }
-        ensures err { OnErr result (IsAsBefore self.old self.new) }
+        ensures err { OnErr result (IsUnchanged self.old self.new) }
     {
         self.synced.insert(0, id)?;
         self.active = Seen::Unknown;
@@ -46,7 +46,7 @@ impl Core {
         requires { IsTrue (is_looked_at self.old) }
         ensures ok { OnOk result (is_admitted_in self.old id ≡ false
             → Follows self.old self.new (Entry.Sync id)) }
-        ensures err { OnErr result (IsAsBefore self.old self.new) }
+        ensures err { OnErr result (IsUnchanged self.old self.new) }
     {
         self.note_synced(id)?;
         self.tidy();

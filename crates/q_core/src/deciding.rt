@@ -1,7 +1,7 @@
 //! The next decision, and what it changes.
 ghost use Rattle.std.specs.Prelude.{◌≡◌, IfOk, IsTrue, None, OnErr, OnOk, Some, true, [], ◌≤◌};
 ghost use Rattle.q_core.specs.Agrees.{ForLedgers, Agrees};
-ghost use Rattle.q_core.specs.Changes.{IsAsBefore, is_looked_at};
+ghost use Rattle.q_core.specs.Changes.{IsUnchanged, is_looked_at};
 ghost use Rattle.q_core.specs.Deciding.{IsDecided, IsApplied, decide_in, is_answered, is_look, is_reading, question_for, question_of, IsPlaced, IsSkipOf, IsStartOf, NotesSkip};
 ghost use Rattle.q_core.specs.Looking.{is_unseen, looks_left};
 ghost use Rattle.q_model.specs.Ledger.{Ledger};
@@ -43,7 +43,7 @@ impl Core {
         ensures ok { OnOk result (ForLedgers self.old
             (λ w l. IsApplied w l self.old decision.now self.new)) }
         ensures skipped { OnOk result (IsSkipOf self.old decision.now self.new) }
-        ensures err { OnErr result (IsAsBefore self.old self.new) }
+        ensures err { OnErr result (IsUnchanged self.old self.new) }
     {
         match *decision {
             Decision::Log { id, failure } => self.apply_log(id, failure),

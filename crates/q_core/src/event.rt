@@ -1,7 +1,7 @@
 //! Events: what comes to the core from outside.
 ghost use Rattle.std.specs.Prelude.{◌≡◌, IsTrue, OnErr, OnOk, true};
 ghost use Rattle.q_core.specs.Agrees.{Agrees, Matches, ForLedgers, FollowsAllowed};
-ghost use Rattle.q_core.specs.Changes.{IsAsBefore, is_looked_at};
+ghost use Rattle.q_core.specs.Changes.{IsUnchanged, is_looked_at};
 ghost use Rattle.q_core.specs.Deciding.{is_answered};
 ghost use Rattle.q_core.specs.Hearing.{Hears, IsHeard, IsInTime};
 ghost use Rattle.q_model.specs.declared.entry.Entry.{Entry};
@@ -40,7 +40,7 @@ impl Core {
         requires seen { IsTrue (is_looked_at self.old) }
         ensures ok { OnOk result ((e : Entry) → IsHeard heard.entry e
             → FollowsAllowed self.old self.new e) }
-        ensures err { OnErr result (IsAsBefore self.old self.new) }
+        ensures err { OnErr result (IsUnchanged self.old self.new) }
     {
         match heard {
             Heard::At { moment } => self.hear_at(moment),

@@ -47,7 +47,7 @@ fn row_of(alloc: Global, id: Id, site: Site, position: u32) -> Result<Row, NoMem
     })
 }
 
-fn begin_row(
+fn add_row(
     alloc: Global,
     rows: &mut Vec<Row>,
     id: Id,
@@ -80,7 +80,7 @@ fn join_row(
         add_position(rows, place, position)?;
         return Ok(());
     }
-    begin_row(alloc, rows, id, site, position)?;
+    add_row(alloc, rows, id, site, position)?;
     Ok(())
 }
 

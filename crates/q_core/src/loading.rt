@@ -1,7 +1,7 @@
 //! Recipients come into memory.
 ghost use Rattle.std.specs.Prelude.{◌≡◌, ◌+◌, ◌++◌, ◌∷◌, [], IfOk, IsTrue, true, length, List, map, min, OnErr, OnOk, Some, ℕ};
 ghost use Rattle.q_core.specs.Agrees.{Agrees, Matches, ForLedgers};
-ghost use Rattle.q_core.specs.Changes.{IsAsBefore, IsSlotChange, is_looked_at};
+ghost use Rattle.q_core.specs.Changes.{IsUnchanged, IsSlotChange, is_looked_at};
 ghost use Rattle.q_core.specs.Deciding.{is_answered, is_reading};
 ghost use Rattle.q_core.specs.Loading.{LoadsAs, ReadsAre, IsLoaded, AreRowsAdded, read_up, rows_in, may_name, ReadsAs};
 ghost use Rattle.q_core.specs.Slots.{changed_at};
@@ -70,7 +70,7 @@ impl Core {
     /// Takes the rows of the message in.
     fn add_rows(&mut self, alloc: Global, id: Id, rows: Vec<Row>) -> Result<(), NoMemory>
         ensures ok { OnOk result (AreRowsAdded self.old self.new id rows.items) }
-        ensures err { OnErr result (IsAsBefore self.old self.new) }
+        ensures err { OnErr result (IsUnchanged self.old self.new) }
     {
         let mut rows = rows;
         let mut fresh = new_sites(alloc, &self.sites, &rows, &self.params)?;
@@ -133,7 +133,7 @@ impl Core {
         ensures ok { OnOk result ((rows : List Row)
             → rows ≡ rows_in self.old.params.entry_limit id [] taken.now.items self.old.named
             → IsLoaded self.old self.new id to taken.now.items rows) }
-        ensures err { OnErr result (IsAsBefore self.old self.new) }
+        ensures err { OnErr result (IsUnchanged self.old self.new) }
     {
         let rows = self.read_rows(alloc, id, taken)?;
         self.add_rows(alloc, id, rows)?;
@@ -148,7 +148,7 @@ impl Core {
         requires { IsTrue (is_looked_at self.old) }
         ensures ok { OnOk result (ForLedgers self.old
             (λ w l. ReadsAs w l self.old taken.now.items to self.new)) }
-        ensures err { OnErr result (IsAsBefore self.old self.new) }
+        ensures err { OnErr result (IsUnchanged self.old self.new) }
     {
         let Question::Recipients { id, .. } = self.question else {
             return Ok(());

@@ -1,7 +1,7 @@
 //! The next decision: the first of eight rules that applies.
 ghost use Rattle.std.specs.Prelude.{◌≡◌};
 ghost use Rattle.q_core.specs.Agrees.{Agrees, ForLedgers};
-ghost use Rattle.q_core.specs.Deciding.{IsNext, IsPlaced, clearing_on, decide_in, first_rule_in, scan_look_in};
+ghost use Rattle.q_core.specs.Deciding.{IsNextDecision, IsPlaced, clearing_on, decide_in, first_rule_in, scan_look_in};
 ghost use Rattle.q_model.specs.Ledger.{Ledger};
 ghost use Rattle.q_model.specs.Next.{next};
 ghost use Rattle.q_model.specs.Settings.{World};
@@ -79,7 +79,7 @@ impl Core {
     /// look or read that is wanted before it is known. It is None exactly where the ledger is quiet.
     pub fn decision(&self) -> Option<Decision>
         ensures value { result ≡ decide_in self.now }
-        ensures ledger { ForLedgers self.now (λ w l. IsNext w l self.now result (next w l)) }
+        ensures ledger { ForLedgers self.now (λ w l. IsNextDecision w l self.now result (next w l)) }
         ensures placed { ForLedgers self.now (λ w l. IsPlaced l result) }
     {
         self.decide()

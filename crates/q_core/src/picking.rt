@@ -1,9 +1,9 @@
 //! The next file is picked from incoming or deferred, by turns.
 ghost use Rattle.std.specs.Prelude.{◌≡◌, IsTrue, OnErr, OnOk, false, true};
 ghost use Rattle.q_core.specs.Agrees.{ForLedgers, Agrees, Matches, Follows};
-ghost use Rattle.q_core.specs.Changes.{IsAsBefore, is_known, is_looked_at};
+ghost use Rattle.q_core.specs.Changes.{IsUnchanged, is_known, is_looked_at};
 ghost use Rattle.q_core.specs.Facts.{shows_damaged};
-ghost use Rattle.q_core.specs.Picking.{IsEntered, found_name, found_slot, from_deferred_in, moved_on, passed_in, picked_in, scanned_in, shown, IsHidden};
+ghost use Rattle.q_core.specs.Picking.{IsEntered, found_name, found_slot, from_deferred_in, scan_moved_on, passed_in, picked_in, scanned_in, shown, IsHidden};
 ghost use Rattle.q_model.specs.Admissions.{may_admit};
 ghost use Rattle.q_model.specs.Leaving.{may_corrupt};
 ghost use Rattle.q_model.specs.Ledger.{Ledger};
@@ -74,7 +74,7 @@ impl Found {
 
 /// The scan goes on behind the name.
 fn moved_on(scan: Option<Scan>, name: DeferredName) -> Option<Scan>
-    ensures { result ≡ moved_on name scan }
+    ensures { result ≡ scan_moved_on name scan }
 {
     match scan {
         None => None,
@@ -149,7 +149,7 @@ impl Core {
     /// The message comes last of those in memory.
     fn enter(&mut self, found: Found) -> Result<(), NoMemory>
         ensures ok { OnOk result (IsEntered self.old self.new found) }
-        ensures err { OnErr result (IsAsBefore self.old self.new) }
+        ensures err { OnErr result (IsUnchanged self.old self.new) }
     {
         self.admitted.push(found.slot())?;
         Ok(())
@@ -160,7 +160,7 @@ impl Core {
         requires { IsTrue (is_looked_at self.old) }
         ensures ok { OnOk result ((id : Id) → is_known self.old.incoming ≡ true
             → Follows self.old self.new (Entry.Admit id)) }
-        ensures err { OnErr result (IsAsBefore self.old self.new) }
+        ensures err { OnErr result (IsUnchanged self.old self.new) }
     {
         let found = self.picked();
         let from_deferred = self.picks_deferred();

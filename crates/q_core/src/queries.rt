@@ -4,7 +4,7 @@ ghost use Rattle.std.specs.Option.{option_copied};
 ghost use Rattle.q_core.specs.Agrees.{Agrees, ForLedgers};
 ghost use Rattle.q_model.specs.Memory.{is_admitted};
 ghost use Rattle.q_core.specs.Held.{is_admitted_in};
-ghost use Rattle.q_core.specs.Lists.{over};
+ghost use Rattle.q_core.specs.Lists.{better_of};
 ghost use Rattle.q_core.specs.Queries.{expired_in, flight_in, flight_shown, slot_expired_in, skipped_in};
 ghost use Rattle.q_model.specs.Book.{message_of};
 ghost use Rattle.q_model.specs.Deliveries.{flight_of};
@@ -43,7 +43,7 @@ impl Model for Flight {
 
 /// Of two deliveries the one with the smaller number.
 fn smaller<'a>(flight: &'a Delivery, least: Option<&'a Delivery>) -> &'a Delivery
-    ensures { result.now ≡ over (λ a b. nat_lt a.number b.number) flight.now
+    ensures { result.now ≡ better_of (λ a b. nat_lt a.number b.number) flight.now
         (option_copied least.entry) }
 {
     match least {

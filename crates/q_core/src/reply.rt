@@ -1,7 +1,7 @@
 //! A delivery in flight ends.
 ghost use Rattle.std.specs.Prelude.{◌≡◌, ◌==◌, filter, IfOk, IsTrue, not, OnErr, OnOk, true};
 ghost use Rattle.q_core.specs.Agrees.{ForLedgers, Agrees, Matches, FollowsAllowed};
-ghost use Rattle.q_core.specs.Changes.{IsAsBefore, is_looked_at};
+ghost use Rattle.q_core.specs.Changes.{IsUnchanged, is_looked_at};
 ghost use Rattle.q_core.specs.Leaving.{AreAdded, IsSiteHeard, IsLanded, replied_in};
 ghost use Rattle.q_model.specs.Ledger.{Ledger};
 ghost use Rattle.q_model.specs.Settings.{World};
@@ -52,7 +52,7 @@ impl Core {
         outcomes: &[Outcome],
     ) -> Result<Option<Site>, NoMemory>
         ensures ok { IfOk result (λ site. AreAdded self.old self.new number outcomes.now site) }
-        ensures err { OnErr result (IsAsBefore self.old self.new) }
+        ensures err { OnErr result (IsUnchanged self.old self.new) }
     {
         let Some(delivery) = self.delivery(number) else {
             return Ok(None);
@@ -98,7 +98,7 @@ impl Core {
         requires seen { IsTrue (is_looked_at self.old) }
         ensures ok { OnOk result (FollowsAllowed self.old self.new
             (Entry.Reply number state outcomes.now)) }
-        ensures err { OnErr result (IsAsBefore self.old self.new) }
+        ensures err { OnErr result (IsUnchanged self.old self.new) }
     {
         let Some(site) = self.add_outcomes(alloc, number, outcomes)? else {
             return Ok(());

@@ -1,7 +1,7 @@
 //! Recipients whose site is dead are put off.
 ghost use Rattle.std.specs.Prelude.{◌≡◌, ◌<◌, IfOk, IsTrue, length, List, OnErr, OnOk, slice_get, Some, ℕ};
 ghost use Rattle.q_core.specs.Agrees.{ForLedgers, Agrees, Matches};
-ghost use Rattle.q_core.specs.Changes.{IsAsBefore, is_looked_at};
+ghost use Rattle.q_core.specs.Changes.{IsUnchanged, is_looked_at};
 ghost use Rattle.q_core.specs.Decisions.{IsRowAt};
 ghost use Rattle.q_core.specs.Leaving.{IsFirstDead, IsLastSkip, IsUnqueued, put_off_in, SkipsRowAt};
 ghost use Rattle.q_model.specs.Ledger.{Ledger};
@@ -29,7 +29,7 @@ impl Core {
     fn unqueue(&mut self, alloc: Global, entry: usize) -> Result<Row, NoMemory>
         requires { entry < length self.old.waiting }
         ensures ok { IfOk result (λ r. IsUnqueued self.old self.new entry r) }
-        ensures err { OnErr result (IsAsBefore self.old self.new) }
+        ensures err { OnErr result (IsUnchanged self.old self.new) }
     {
         let needs = self.row_needs(alloc, entry)?;
         self.unsettled.extend_from_slice(&needs)?;
@@ -55,7 +55,7 @@ impl Core {
         ensures ok { OnOk result (IsFirstDead self.old entry → SkipsRowAt self.old entry self.new) }
         ensures noted { OnOk result ((r : Row) → slice_get self.old.waiting entry ≡ Some r
             → IsLastSkip self.old r.positions self.new) }
-        ensures err { OnErr result (IsAsBefore self.old self.new) }
+        ensures err { OnErr result (IsUnchanged self.old self.new) }
     {
         let row = self.unqueue(alloc, entry)?;
         self.leave(&row.site);

@@ -137,9 +137,9 @@ row_alike i site ps id t r h =
     let this = this_row i site ps r h in
     ap (λ (j : Id). id_eq j id && (r.site.transport == t)) this.name ∙ ap (λ (s : Site). id_eq i id && (s.transport == t)) this.at
 
-take_falls : (l : Ledger) (i : Id) (site : Site) (ps : List ℕ) (id : Id) (t : ℕ) → list_any (is_row i site ps) l.waiting ≡ true →
+row_falls : (l : Ledger) (i : Id) (site : Site) (ps : List ℕ) (id : Id) (t : ℕ) → list_any (is_row i site ps) l.waiting ≡ true →
     cond (id_eq i id && (site.transport == t)) 1 0 + waiting_of id t (drop_first (is_row i site ps) l.waiting) ≤ waiting_of id t l.waiting
-take_falls l i site ps id t h = count_dropped (is_row i site ps) (is_of id t) (id_eq i id && (site.transport == t)) l.waiting h (row_alike i site ps id t)
+row_falls l i site ps id t h = count_dropped (is_row i site ps) (is_of id t) (id_eq i id && (site.transport == t)) l.waiting h (row_alike i site ps id t)
 
 some_row : (w : World) (l : Ledger) (i : Id) (site : Site) (ps : List ℕ) → list_any (λ (r : Row). is_row i site ps r && is_startable w l r) l.waiting ≡ true → list_any (is_row i site ps) l.waiting ≡ true
 some_row w l i site ps h =
@@ -158,7 +158,7 @@ reply_less w l state os id t None = same_less l id t
 reply_less w l state os id t (Some f) = outcomes_less w l (landed w l state f) id t 0 f.row.positions os (message_of l.book f.row.id) (record { past = refl; rest = omega arith })
 
 skip_less : (w : World) (l : Ledger) (i : Id) (site : Site) (ps : List ℕ) (id : Id) (t : ℕ) → list_any (is_row i site ps) l.waiting ≡ true → IsLess 0 l (unqueued l i site ps) id t
-skip_less w l i site ps id t h = let fall = take_falls l i site ps id t h in record { past = refl; rest = omega (arith, fall) }
+skip_less w l i site ps id t h = let fall = row_falls l i site ps id t h in record { past = refl; rest = omega (arith, fall) }
 
 -- ---- those in memory
 
@@ -226,7 +226,7 @@ load_less w l i from to id t load =
     subst (λ (o : Option Message). IsLess 0 l (option_map_or (λ (m : Message). loaded w l i to (load_rows w m from to)) o l) id t) (sym load.there) (read_less w l i from to load id t)
 
 start_less : (w : World) (l : Ledger) (number : ℕ) (i : Id) (site : Site) (ps : List ℕ) (id : Id) (t : ℕ) → list_any (is_row i site ps) l.waiting ≡ true → IsLess (cond (id_eq i id && (site.transport == t)) 1 0) l (change w l (entries.Start number i site ps)) id t
-start_less w l number i site ps id t h = let fall = take_falls l i site ps id t h in record { past = refl; rest = omega (arith, fall) }
+start_less w l number i site ps id t h = let fall = row_falls l i site ps id t h in record { past = refl; rest = omega (arith, fall) }
 
 remove_same : (w : World) (l : Ledger) (i : Id) → IsConsistent w l → (j : Id) → id_eq j i ≡ false → message_of (remove_message l.book i) j ≡ message_of l.book j
 remove_same w l i c j other = other_left l.book i j c.book.distinct other

@@ -4,7 +4,7 @@ use Rattle.std.proofs.lemmas.List.Sums.{count_by-le-length}
 use Rattle.std.specs.Option.{option_map_or}
 use Rattle.std.specs.Prelude.{◌==◌, ◌&&◌, nat_lt}
 use Rattle.q_inflation.proofs.Rests.{count_append, count_none, is_of, unread_in, waiting_of}
-use Rattle.q_laws.proofs.Batched.{IsRising, pending_rising, rising_filter, rows_of, taken_up}
+use Rattle.q_laws.proofs.Batched.{IsRising, pending_rising, rising_filter, rows_of, loaded_at}
 use Rattle.q_laws.proofs.Books.{message_in}
 use Rattle.q_laws.proofs.Distinct.{id_cases, id_same}
 use Rattle.q_laws.proofs.Loaded.{IsLoad, find_read, read_to}
@@ -34,7 +34,7 @@ rising_fits (n ∷ ns) lo hi h k =
 -- a load takes no more positions than it reads
 positions_few : (m : Message) (from to : ℕ) → length (load_positions m from to) ≤ to - from
 positions_few m from to = rising_fits (load_positions m from to) from to (rising_filter (λ q. nat_lt q to) (pending_from m from) (pending_rising m from))
-    (λ p there. let t = taken_up m from to p there in (t.late, t.early))
+    (λ p there. let t = loaded_at m from to p there in (t.late, t.early))
 
 -- a position adds a row at most
 join_few : (limit : ℕ) (id : Id) (site : Site) (p : ℕ) (rs : List Row) → length (join_rows limit id site p rs) ≤ suc (length rs)

@@ -85,7 +85,7 @@ filter_length p (n ∷ ns) = kept_length n (filter p ns) (p n) (length ns) (filt
 -- ---- the positions of a load
 
 -- a position that a load takes
-pub record IsTakenUp (m : Message) (from to p : ℕ) : Type 0 where
+pub record IsLoadedAt (m : Message) (from to p : ℕ) : Type 0 where
   pub late : from ≤ p
   pub early : p < to
   pub within : p < length m.recipients
@@ -100,8 +100,8 @@ pending_in m from p h =
     let neither = or_parts (is_marked one.item.mark) (is_logged m p) (not-true (is_marked one.item.mark || is_logged m p) one.passes) in
     (leb-true from p two.1, got_below one.item m.recipients p there, unmarked_from m p (record { recipient = one.item; there = there; bare = neither.0 }))
 
-pub taken_up : (m : Message) (from to p : ℕ) → IsIn p (load_positions m from to) → IsTakenUp m from to p
-taken_up m from to p h =
+pub loaded_at : (m : Message) (from to p : ℕ) → IsIn p (load_positions m from to) → IsLoadedAt m from to p
+loaded_at m from to p h =
     let two = in_filtered (λ q. nat_lt q to) p (pending_from m from) h in
     let one = pending_in m from p two.0 in
     record { late = one.0; early = ltb-true p to two.1; within = one.1; bare = one.2 }
@@ -109,8 +109,8 @@ taken_up m from to p h =
 pub pending_rising : (m : Message) (from : ℕ) → IsRising (pending_from m from)
 pending_rising m from = rising_filter (λ q. nat_le from q) (pending m) (rising_places 0 (λ i (r : Recipient). not (is_marked r.mark || is_logged m i)) m.recipients)
 
-pub taken_once : (m : Message) (from to p : ℕ) → times p (load_positions m from to) ≤ 1
-taken_once m from to p = rising_once p (load_positions m from to) (rising_filter (λ q. nat_lt q to) (pending_from m from) (pending_rising m from))
+pub loaded_once : (m : Message) (from to p : ℕ) → times p (load_positions m from to) ≤ 1
+loaded_once m from to p = rising_once p (load_positions m from to) (rising_filter (λ q. nat_lt q to) (pending_from m from) (pending_rising m from))
 
 -- where a load ends
 pub record IsEnd (m : Message) (from room to : ℕ) : Type 0 where

@@ -95,13 +95,13 @@ turned w l b e (from_incoming id) h = otherwise_ready w (with_book l b e) l.now 
 turned w l b e (from_deferred name) h = otherwise_ready w (with_book l b e) l.now l.timed l.next_run (passed (from_deferred name) l).scan l.asked l.ignores false l.served l.sites h
 
 -- the turn and the scan go on
-taken_ready : (w : World) (l : Ledger) (b : Book) (e : Entry) (o : Option Pick) → IsReady w (with_book l b e) → IsReady w (noted e (record (option_map_or (λ p. passed p l) o l) { book = b }))
-taken_ready w l b e None h = h
-taken_ready w l b e (Some p) h = turned w l b e p h
+picked_ready : (w : World) (l : Ledger) (b : Book) (e : Entry) (o : Option Pick) → IsReady w (with_book l b e) → IsReady w (noted e (record (option_map_or (λ p. passed p l) o l) { book = b }))
+picked_ready w l b e None h = h
+picked_ready w l b e (Some p) h = turned w l b e p h
 
 corrupt_on : (w : World) (l : Ledger) (b : Book) (e : Entry) (t : Bool) → IsReady w (with_book l b e) → IsReady w (noted e (record (if t then l else after_pick l) { book = b }))
 corrupt_on w l b e true h = h
-corrupt_on w l b e false h = taken_ready w l b e (pick l) h
+corrupt_on w l b e false h = picked_ready w l b e (pick l) h
 
 -- a damaged file goes to corrupt
 pub corrupt_consistent : (w : World) (l : Ledger) (id : Id) → IsConsistent w l → may_corrupt w l id ≡ true → IsConsistent w (after w l (entries.Corrupt id))

@@ -231,9 +231,9 @@ turned : (w : World) (l : Ledger) (id : Id) (p : Pick) → IsReady w (entered l 
 turned w l id (from_incoming i) h = otherwise_ready w (entered l id) l.now l.timed l.next_run l.scan l.asked l.ignores true l.served l.sites h
 turned w l id (from_deferred name) h = otherwise_ready w (entered l id) l.now l.timed l.next_run (passed (from_deferred name) l).scan l.asked l.ignores false l.served l.sites h
 
-taken_on : (w : World) (l : Ledger) (id : Id) (o : Option Pick) → IsReady w (entered l id) → IsReady w (noted (entries.Admit id) (record (option_map_or (λ p. passed p l) o l) { book = move_message l.book id places.Active; admitted = l.admitted ++ new_admitted id ∷ [] }))
-taken_on w l id None h = h
-taken_on w l id (Some p) h = turned w l id p h
+pick_ready : (w : World) (l : Ledger) (id : Id) (o : Option Pick) → IsReady w (entered l id) → IsReady w (noted (entries.Admit id) (record (option_map_or (λ p. passed p l) o l) { book = move_message l.book id places.Active; admitted = l.admitted ++ new_admitted id ∷ [] }))
+pick_ready w l id None h = h
+pick_ready w l id (Some p) h = turned w l id p h
 
 not_admitted : (w : World) (l : Ledger) (id : Id) (m : Message) → IsConsistent w l → message_of l.book id ≡ Some m → is_active m.place ≡ false → (t : Bool) → is_admitted l id ≡ t → t ≡ false
 not_admitted w l id m c there out false e = refl
@@ -262,4 +262,4 @@ admit_consistent w l id c may =
       gone = three.1;
       room = ltb-true (length l.admitted) w.settings.active_limit (and_parts (delivers l.mode) (nat_lt (length l.admitted) w.settings.active_limit) room.0).1;
     } in
-    after_consistent w l (entries.Admit id) (taken_on w l id (pick l) (enter_ready w l id m.0 c enters))
+    after_consistent w l (entries.Admit id) (pick_ready w l id (pick l) (enter_ready w l id m.0 c enters))

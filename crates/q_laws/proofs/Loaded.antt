@@ -6,7 +6,7 @@ use Rattle.std.proofs.lemmas.Option.{same_Some}
 use Rattle.std.specs.List.{list_any}
 use Rattle.std.specs.Option.{option_map_or}
 use Rattle.std.specs.Prelude.{◌==◌, ◌&&◌, ◌||◌, nat_le, nat_lt}
-use Rattle.q_laws.proofs.Batched.{IsEnd, end_is, rows_count, taken_once, taken_up}
+use Rattle.q_laws.proofs.Batched.{IsEnd, end_is, rows_count, loaded_once, loaded_at}
 use Rattle.q_laws.proofs.Counts.{all_fewer, in_times, once_fewer, once_times, times, times_append, times_in, times_none, times_once}
 use Rattle.q_laws.proofs.Distinct.{id_same}
 use Rattle.q_laws.proofs.Mapped.{found_step}
@@ -147,12 +147,12 @@ mine_held w l id from to sites e m a start name up h =
     record {
       read = all_from (λ q. nat_lt q to) all (λ q there. elim (held_cases q 0 old new all (count q) there) [
         | inl was ↦ let less = before q was in lt-ltb q to (omega (arith, less, up))
-        | inr is ↦ lt-ltb q to (taken_up m from to q is).early
+        | inr is ↦ lt-ltb q to (loaded_at m from to q is).early
       ]);
       once = times_once all (λ q. one q (times q new) refl before (count q));
       unmarked = all_from (is_unmarked_at m) all (λ q there. elim (held_cases q 0 old new all (count q) there) [
         | inl was ↦ all_at (is_unmarked_at m) q old h.unmarked was
-        | inr is ↦ (taken_up m from to q is).bare
+        | inr is ↦ (loaded_at m from to q is).bare
       ]);
       logged = h.logged;
     }
@@ -161,9 +161,9 @@ mine_held w l id from to sites e m a start name up h =
         times q (held_positions (loaded_ledger l id to (load_rows w m from to) sites e) a.id) ≤ 1
     one q zero none before s = let o = once_times (held_positions l a.id) h.once q in omega (arith, o, s, none)
     one q (suc n) some before s =
-        let late : from ≤ q = (taken_up m from to q (times_in q (load_positions m from to) (omega (arith, some)))).late in
+        let late : from ≤ q = (loaded_at m from to q (times_in q (load_positions m from to) (omega (arith, some)))).late in
         let none : times q (held_positions l a.id) ≡ 0 = times_none q (held_positions l a.id) (λ k. let less : q < from = before q k in omega (arith, less, late)) in
-        let o = taken_once m from to q in
+        let o = loaded_once m from to q in
         omega (arith, o, s, none)
 
 pub other_held : (w : World) (l : Ledger) (id : Id) (from to : ℕ) (sites : List SiteRecord) (e : Entry) (m : Message) (a : Admitted) (x : Message) → id_eq m.id a.id ≡ false → IsHeld l a x → IsHeld (loaded_ledger l id to (load_rows w m from to) sites e) a x

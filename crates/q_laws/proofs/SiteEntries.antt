@@ -77,13 +77,13 @@ passed_aside : (l : Ledger) (p : Pick) → IsAside l (passed p l)
 passed_aside l (from_incoming id) = record { sites = refl; flights = refl }
 passed_aside l (from_deferred name) = record { sites = refl; flights = refl }
 
-taken_aside : (l : Ledger) (o : Option Pick) → IsAside l (option_map_or (λ p. passed p l) o l)
-taken_aside l None = record { sites = refl; flights = refl }
-taken_aside l (Some p) = passed_aside l p
+picked_aside : (l : Ledger) (o : Option Pick) → IsAside l (option_map_or (λ p. passed p l) o l)
+picked_aside l None = record { sites = refl; flights = refl }
+picked_aside l (Some p) = passed_aside l p
 
 turned_aside : (l : Ledger) (b : Bool) → IsAside l (if b then l else after_pick l)
 turned_aside l true = record { sites = refl; flights = refl }
-turned_aside l false = taken_aside l (pick l)
+turned_aside l false = picked_aside l (pick l)
 
 tidy_aside : (w : World) (l : Ledger) (ps : List ℕ) (os : List Outcome) (o : Option Message) → IsAside l (option_map_or (λ m. record l { unsettled = l.unsettled ++ needs_of w l.now m ps os }) o l)
 tidy_aside w l ps os None = record { sites = refl; flights = refl }
@@ -130,7 +130,7 @@ change_sites w l (entries.Life generation mode) h m = life_sites w l generation 
 change_sites w l (entries.At t) h m = at_sites w l t (nat_le l.next_run t) h
 change_sites w l (entries.Arrive id sender to content) h m = unchanged w l (change w l (entries.Arrive id sender to content)) refl refl h
 change_sites w l (entries.Back id) h m = unchanged w l (change w l (entries.Back id)) refl refl h
-change_sites w l (entries.Admit id) h m = let a = taken_aside l (pick l) in unchanged w l (change w l (entries.Admit id)) a.sites a.flights h
+change_sites w l (entries.Admit id) h m = let a = picked_aside l (pick l) in unchanged w l (change w l (entries.Admit id)) a.sites a.flights h
 change_sites w l (entries.Load id from to) h m = load_sites w l id from to (message_of l.book id) h
 change_sites w l (entries.Start number id site positions) h m = start_sites w l number id site positions h m
 change_sites w l (entries.Preempt child parent transport need) h m = unchanged w l (change w l (entries.Preempt child parent transport need)) refl refl h

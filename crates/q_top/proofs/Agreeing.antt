@@ -33,15 +33,15 @@ use Rattle.q_message.specs.Pending.{taken_at}
 use Rattle.q_host.specs.declared.error.HostError.{HostError}
 use Rattle.q_model.specs.SpoolFiles.{Files}
 use Rattle.q_host.specs.View.{View}
-use Rattle.q_top.specs.Agrees.{Agrees, StageAgrees, IsAwaiting, IsFlying, HasFiles, Turns, Breaks}
+use Rattle.q_top.specs.Agrees.{LifeAgrees, StageAgrees, IsAwaiting, IsFlying, HasFiles, PlaysTurn, Breaks}
 use Rattle.q_top.specs.Begins.{before_life}
-use Rattle.q_top.specs.Books.{Follows}
+use Rattle.q_top.specs.Books.{FollowsSteps}
 use Rattle.q_top.specs.declared.life.Life.{Life as LifeOf}
 use Rattle.q_top.specs.declared.life.Stage.{Stage}
 use Rattle.q_top.specs.declared.life.Stage.TheVariants.{Awaited, InFlight, Gone}
 use Rattle.q_top.specs.Fits.{fits, is_awaited, is_in_flight}
 use Rattle.q_top.specs.MailSteps.{life_steps, mail_steps, reply_steps}
-use Rattle.q_top.specs.OneMessage.{idle, file_message, site_of}
+use Rattle.q_top.specs.OneMessage.{idle, spool_message, site_of}
 use Rattle.q_top.specs.Reading.{is_one_ok}
 use Rattle.q_top.specs.Spools.{Spool, unopened, empty, holds, first_id, IsSpool}
 use Rattle.q_top.specs.Steps.{entries_of, spool_after, Plays, Halts}
@@ -154,7 +154,7 @@ first_mail old sender to content address h e =
     record { timed = one.0; stage = awaited old.stage one.1; only = only_one to address two.1 e; no_content = nothing content three.1 }
 
 -- the forms of a message's addresses make a message that a queue file can hold
-one_message : (sender : Option (List ℕ)) (address : List ℕ) (arrival : ℕ) → option_map_or is_address sender true ≡ true → is_address address ≡ true → arrival ≤ 999990000000 → IsFileMessage (file_message sender arrival address false)
+one_message : (sender : Option (List ℕ)) (address : List ℕ) (arrival : ℕ) → option_map_or is_address sender true ≡ true → is_address address ≡ true → arrival ≤ 999990000000 → IsFileMessage (spool_message sender arrival address false)
 one_message sender address arrival from to le = record { sender = from; arrival = le; some = omega arith; few = omega arith; addresses = ap (λ b. b && true) to; content = omega arith }
 
 -- it has one recipient
@@ -186,24 +186,24 @@ short_content content bytes same none = omega (arith, ap length (same ∙ none))
 
 -- its file is that of the message
 pub one_file : (sender : Option (List ℕ)) (arrival : ℕ) (to : List (List ℕ)) (address content bytes file : List ℕ) → to ≡ address ∷ [] → content ≡ [] → bytes ≡ content
-    → file ≡ file_bytes (new_message (record { sender = sender; arrival = arrival }) to bytes) (replicate (length to) 80) → file ≡ file_bytes (file_message sender arrival address false) (80 ∷ [])
+    → file ≡ file_bytes (new_message (record { sender = sender; arrival = arrival }) to bytes) (replicate (length to) 80) → file ≡ file_bytes (spool_message sender arrival address false) (80 ∷ [])
 one_file sender arrival to address content bytes file only none same is =
     is ∙ ap (λ (x : List ℕ). file_bytes (new_message (record { sender = sender; arrival = arrival }) to x) (replicate (length to) 80)) (same ∙ none)
     ∙ ap (λ (xs : List (List ℕ)). file_bytes (new_message (record { sender = sender; arrival = arrival }) xs []) (replicate (length xs) 80)) only
 
 -- it reads as the message
-pub file_read : (sender : Option (List ℕ)) (arrival : ℕ) (address file : List ℕ) → option_map_or is_address sender true ≡ true → is_address address ≡ true → arrival ≤ 999990000000 → file ≡ file_bytes (file_message sender arrival address false) (80 ∷ [])
-    → queue_file file ≡ Some (file_message sender arrival address false)
-file_read sender arrival address file from to le is = ap queue_file is ∙ queue_file_again (file_message sender arrival address false) (80 ∷ []) (one_message sender address arrival from to le) refl
+pub file_read : (sender : Option (List ℕ)) (arrival : ℕ) (address file : List ℕ) → option_map_or is_address sender true ≡ true → is_address address ≡ true → arrival ≤ 999990000000 → file ≡ file_bytes (spool_message sender arrival address false) (80 ∷ [])
+    → queue_file file ≡ Some (spool_message sender arrival address false)
+file_read sender arrival address file from to le is = ap queue_file is ∙ queue_file_again (spool_message sender arrival address false) (80 ∷ []) (one_message sender address arrival from to le) refl
 
 -- what was read of it
 pub record IsTaken (m : FileMessage) (taken : Taken) (address : List ℕ) : Type 0 where
   pub mark : taken.mark_at ≡ mark_at m 0
   pub to : taken.address ≡ address
 
-pub one_taken : (sender : Option (List ℕ)) (arrival : ℕ) (address : List ℕ) (taken : Taken) → Some taken ≡ Some (taken_at (file_message sender arrival address false) 0) → IsTaken (file_message sender arrival address false) taken address
+pub one_taken : (sender : Option (List ℕ)) (arrival : ℕ) (address : List ℕ) (taken : Taken) → Some taken ≡ Some (taken_at (spool_message sender arrival address false) 0) → IsTaken (spool_message sender arrival address false) taken address
 one_taken sender arrival address taken h =
-    let same : taken ≡ taken_at (file_message sender arrival address false) 0 = cc in
+    let same : taken ≡ taken_at (spool_message sender arrival address false) 0 = cc in
     record { mark = ap (λ (t : Taken). t.mark_at) same; to = ap (λ (t : Taken). t.address) same }
 
 not_zero : (n : ℕ) → 1 ≤ n → (n == 0) ≡ false
@@ -221,23 +221,23 @@ first_arrival : (world : World) (sender : Option (List ℕ)) (address : List ℕ
 first_arrival world sender address past = some_arrivals 1 past (omega arith)
 
 module _ (world : World) (lawful : IsInRange world.settings) (old : LifeOf) (l : Ledger) (s : Spool) (sender : Option (List ℕ)) (to : List (List ℕ)) (content address file : List ℕ)
-    (first : IsFirstMail old to content address) (agrees : Agrees world old l s) (from_form : option_map_or is_address sender true ≡ true) (to_form : is_address address ≡ true) (routed : (site_of world address).transport < length world.table.transports)
-    (is : file ≡ file_bytes (file_message sender old.clock address false) (80 ∷ [])) where
+    (first : IsFirstMail old to content address) (agrees : LifeAgrees world old l s) (from_form : option_map_or is_address sender true ≡ true) (to_form : is_address address ≡ true) (routed : (site_of world address).transport < length world.table.transports)
+    (is : file ≡ file_bytes (spool_message sender old.clock address false) (80 ∷ [])) where
   awaiting : IsAwaiting world old.clock true l s
   awaiting = subst (λ x. IsAwaiting world old.clock x l s) first.timed (subst (λ (x : Stage). StageAgrees world x old.clock old.timed l s) first.stage agrees)
 
-  form_lawful : IsFileMessage (file_message sender old.clock address false)
+  form_lawful : IsFileMessage (spool_message sender old.clock address false)
   form_lawful = one_message sender address old.clock from_form to_form awaiting.clock
 
   -- the turn of the message, from a ledger with which the life agrees
-  pub mail_turn : (s ≡ empty) × (turn world l (Heard (events.Mail sender to content)) ≡ entries_of (mail_steps world sender address file)) × Follows world l (mail_steps world sender address file)
+  pub mail_turn : (s ≡ empty) × (turn world l (Heard (events.Mail sender to content)) ≡ entries_of (mail_steps world sender address file)) × FollowsSteps world l (mail_steps world sender address file)
   mail_turn = (
     awaiting.spool,
     rw (first.only, first.no_content, awaiting.ledger) (turn_mail world lawful old.clock awaiting.next_run sender address awaiting.past routed awaiting.no_arrival awaiting.no_start),
-    subst (λ (x : Ledger). Follows world x (mail_steps world sender address file)) (sym awaiting.ledger) (mail_follows world old.clock awaiting.next_run sender address awaiting.past file (file_reads sender address file old.clock is form_lawful)),
+    subst (λ (x : Ledger). FollowsSteps world x (mail_steps world sender address file)) (sym awaiting.ledger) (mail_follows world old.clock awaiting.next_run sender address awaiting.past file (file_reads sender address file old.clock is form_lawful)),
   )
 
-  pub mail_agrees : (at : ℕ) → at ≡ mark_at (file_message sender old.clock address false) 0 → Agrees world (life old.clock old.timed (InFlight at)) (after_all world l (entries_of (mail_steps world sender address file))) (holds Active file)
+  pub mail_agrees : (at : ℕ) → at ≡ mark_at (spool_message sender old.clock address false) 0 → LifeAgrees world (life old.clock old.timed (InFlight at)) (after_all world l (entries_of (mail_steps world sender address file))) (holds Active file)
   mail_agrees at mark = record {
     next_run = awaiting.next_run;
     sender = sender;
@@ -274,15 +274,15 @@ first_success old number Up os h =
     record { first = is_one number one.1; up = refl; one = is_success os two.1 }
 first_success old number Down os h = absurd cc
 
-pub reply_agrees : (world : World) (lawful : IsInRange world.settings) (old : LifeOf) (l : Ledger) (s : Spool) (number at : ℕ) (site : SiteState) (os : List Outcome) → IsSuccess number site os → old.stage ≡ InFlight at → Agrees world old l s
-    → (file : List ℕ) × (s ≡ holds Active file) × (turn world l (Heard (events.Reply number site os)) ≡ entries_of (reply_steps at file)) × Follows world l (reply_steps at file) × Agrees world (life old.clock old.timed Gone) (after_all world l (entries_of (reply_steps at file))) empty
+pub reply_agrees : (world : World) (lawful : IsInRange world.settings) (old : LifeOf) (l : Ledger) (s : Spool) (number at : ℕ) (site : SiteState) (os : List Outcome) → IsSuccess number site os → old.stage ≡ InFlight at → LifeAgrees world old l s
+    → (file : List ℕ) × (s ≡ holds Active file) × (turn world l (Heard (events.Reply number site os)) ≡ entries_of (reply_steps at file)) × FollowsSteps world l (reply_steps at file) × LifeAgrees world (life old.clock old.timed Gone) (after_all world l (entries_of (reply_steps at file))) empty
 reply_agrees world lawful old l s number at site os success stage agrees =
     let a : IsFlying world old.clock at old.timed l s = subst (λ (x : Stage). StageAgrees world x old.clock old.timed l s) stage agrees in (
-      file_bytes (file_message a.sender a.arrival a.address false) (80 ∷ []),
+      file_bytes (spool_message a.sender a.arrival a.address false) (80 ∷ []),
       a.spool,
       rw (success.first, success.up, success.one, a.ledger) (turn_reply world lawful old.clock a.next_run a.sender a.address a.arrival a.past),
-      subst (λ (x : Ledger). Follows world x (reply_steps at (file_bytes (file_message a.sender a.arrival a.address false) (80 ∷ [])))) (sym a.ledger) (reply_follows world old.clock a.next_run a.sender a.address a.arrival a.past at (file_bytes (file_message a.sender a.arrival a.address false) (80 ∷ [])) a.mark
-          (file_reads a.sender a.address (file_bytes (file_message a.sender a.arrival a.address false) (80 ∷ [])) a.arrival refl a.message)),
+      subst (λ (x : Ledger). FollowsSteps world x (reply_steps at (file_bytes (spool_message a.sender a.arrival a.address false) (80 ∷ [])))) (sym a.ledger) (reply_follows world old.clock a.next_run a.sender a.address a.arrival a.past at (file_bytes (spool_message a.sender a.arrival a.address false) (80 ∷ [])) a.mark
+          (file_reads a.sender a.address (file_bytes (spool_message a.sender a.arrival a.address false) (80 ∷ [])) a.arrival refl a.message)),
       record {
         next_run = a.next_run;
         past = Remove first_id ∷ Sync first_id ∷ Mark first_id 0 ∷ Reply 1 Up (outcomes.Ok ∷ []) ∷ a.past;
@@ -297,14 +297,14 @@ reply_agrees world lawful old l s number at site os success stage agrees =
 
 module _ (world : World) (lawful : IsInRange world.settings) (old : LifeOf) (sender : Option (List ℕ)) (to : List (List ℕ)) (content address : List ℕ) (before after : View)
     (first : IsFirstMail old to content address) (from_form : option_map_or is_address sender true ≡ true) (to_form : is_address address ≡ true) (routed : (site_of world address).transport < length world.table.transports) where
-  pub mail_breaks : (file : List ℕ) (error : HostError) → file ≡ file_bytes (file_message sender old.clock address false) (80 ∷ [])
+  pub mail_breaks : (file : List ℕ) (error : HostError) → file ≡ file_bytes (spool_message sender old.clock address false) (80 ∷ [])
       → Halts world empty (mail_steps world sender address file) error before after → Breaks world old (Heard (events.Mail sender to content)) error before after
   mail_breaks file error is h l s agrees =
       let (spool, entries, follows) = mail_turn world lawful old l s sender to content address file first agrees from_form to_form routed is in
       (mail_steps world sender address file, entries, follows, subst (λ x. Halts world x (mail_steps world sender address file) error before after) (sym spool) h)
 
-  pub mail_turns : (file : List ℕ) (at : ℕ) → file ≡ file_bytes (file_message sender old.clock address false) (80 ∷ []) → at ≡ mark_at (file_message sender old.clock address false) 0
-      → Plays world empty (mail_steps world sender address file) before after → Turns world old (life old.clock old.timed (InFlight at)) (Heard (events.Mail sender to content)) before after
+  pub mail_turns : (file : List ℕ) (at : ℕ) → file ≡ file_bytes (spool_message sender old.clock address false) (80 ∷ []) → at ≡ mark_at (spool_message sender old.clock address false) 0
+      → Plays world empty (mail_steps world sender address file) before after → PlaysTurn world old (life old.clock old.timed (InFlight at)) (Heard (events.Mail sender to content)) before after
   mail_turns file at is mark p l s agrees =
       let (spool, entries, follows) = mail_turn world lawful old l s sender to content address file first agrees from_form to_form routed is in
       (mail_steps world sender address file, entries, follows, mail_agrees world lawful old l s sender to content address file first agrees from_form to_form routed is at mark, subst (λ x. Plays world x (mail_steps world sender address file) before after) (sym spool) p)
@@ -316,7 +316,7 @@ reply_breaks world lawful old number at site os error before after success stage
     (reply_steps at file, entries, follows, subst (λ x. Halts world x (reply_steps at file) error before after) (sym spool) (h file))
 
 pub reply_turns : (world : World) (lawful : IsInRange world.settings) (old : LifeOf) (number at : ℕ) (site : SiteState) (os : List Outcome) (before after : View) → IsSuccess number site os → old.stage ≡ InFlight at
-    → ((file : List ℕ) → Plays world (holds Active file) (reply_steps at file) before after) → Turns world old (life old.clock old.timed Gone) (Heard (events.Reply number site os)) before after
+    → ((file : List ℕ) → Plays world (holds Active file) (reply_steps at file) before after) → PlaysTurn world old (life old.clock old.timed Gone) (Heard (events.Reply number site os)) before after
 reply_turns world lawful old number at site os before after success stage p l s agrees =
     let (file, spool, entries, follows, new) = reply_agrees world lawful old l s number at site os success stage agrees in
     (reply_steps at file, entries, follows, new, subst (λ x. Plays world x (reply_steps at file) before after) (sym spool) (p file))

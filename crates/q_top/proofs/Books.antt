@@ -27,8 +27,8 @@ use Rattle.q_model.proofs.StandLaws.{Stands-empty, same_test}
 use Rattle.q_host.specs.Files.{same_place, written}
 use Rattle.q_host.proofs.Puts.{other_area, same_place-refl, same_place-true}
 use Rattle.q_top.specs.Books.{StandsFor}
-use Rattle.q_top.specs.OneMessage.{file_message, one_message, only_book}
-use Rattle.q_top.specs.Spools.{unopened, empty, holds, marking, marked, first_id, is_looked_at, is_log, boot_file, IsSpool}
+use Rattle.q_top.specs.OneMessage.{spool_message, one_message, only_book}
+use Rattle.q_top.specs.Spools.{unopened, empty, holds, marking, marked, first_id, says_messages, is_log, boot_file, IsSpool}
 use Rattle.q_top.proofs.SpoolChanges.{name, boot, here, no_boot_in, no_log_holds}
 
 -- ---- what stands at no place
@@ -39,7 +39,7 @@ same_truth false true h k = k refl
 same_truth false false h k = refl
 
 -- the areas of messages are looked at, and none is boot or bounce
-looked_place : (p : Place) → is_looked_at (area_of p) ≡ true
+looked_place : (p : Place) → says_messages (area_of p) ≡ true
 looked_place places.Incoming = refl
 looked_place places.Active = refl
 looked_place (places.Deferred due) = refl
@@ -76,8 +76,8 @@ boot_stands f h = record { fits = omega arith; names = λ n is. ap is_some (h n)
 pub stands_unopened : (f : Files) → IsSpool unopened f → Stands f empty_book
 stands_unopened f h = Stands-empty f (λ n is. h Boot n refl) (λ p id is fits. h (area_of p) (name_at p id) (looked_place p))
 
-seen_place : (p : Place) (n : List ℕ) → (is_looked_at (area_of p) || is_log (area_of p) n) ≡ true
-seen_place p n = or_left (is_looked_at (area_of p)) (is_log (area_of p) n) (looked_place p)
+seen_place : (p : Place) (n : List ℕ) → (says_messages (area_of p) || is_log (area_of p) n) ≡ true
+seen_place p n = or_left (says_messages (area_of p)) (is_log (area_of p) n) (looked_place p)
 
 empty_stands : (f : Files) → IsSpool empty f → Stands f (only_book [])
 empty_stands f h = record {
@@ -107,7 +107,7 @@ pub record IsPlain (place : Place) (area : Area) : Type 0 where
   pub good : is_corrupt place ≡ false
   pub not_boot : area ≢ Boot
   pub not_bounce : Bounce ≢ area
-  pub seen : is_looked_at area ≡ true
+  pub seen : says_messages area ≡ true
   pub only : (p : Place) (id : Id) → area ≡ area_of p → name ≡ name_at p id → (p ≡ place) × (name ≡ id_text id)
 
 incoming_only : (p : Place) (id : Id) → Incoming ≡ area_of p → name ≡ name_at p id → (p ≡ places.Incoming) × (name ≡ id_text id)
@@ -132,7 +132,7 @@ active = record { in_area = refl; under_name = refl; fits = tt; good = refl; not
 
 module _ (sender : Option (List ℕ)) (address : List ℕ) (arrival : ℕ) where
   abbrev says : Bool → List ℕ → Type 0
-  says set file = IsFileOf file (file_message sender arrival address set)
+  says set file = IsFileOf file (spool_message sender arrival address set)
 
   module _ (mark : Mark) (place : Place) (area : Area) (plain : IsPlain place area) (file : List ℕ) (reads : says (is_marked mark) file) where
     abbrev message : Message
@@ -208,10 +208,10 @@ module _ (sender : Option (List ℕ)) (address : List ℕ) (arrival : ℕ) where
     crash = λ f h. (book marks.Unmarked places.Active, book_after marks.Unmarked marks.Unmarked places.Active (unmarked_kept places.Active), holds_stands marks.Unmarked places.Active Active active file reads f h);
   }
 
-  module _ (at : ℕ) (file : List ℕ) (here : at ≡ mark_at (file_message sender arrival address false) 0) (reads : says false file) where
+  module _ (at : ℕ) (file : List ℕ) (here : at ≡ mark_at (spool_message sender arrival address false) 0) (reads : says false file) where
     -- a byte in the mark's place
     byte_reads : (byte : ℕ) → says (eqb byte 68) (written at (byte ∷ []) file)
-    byte_reads byte = subst (λ n. says (eqb byte 68) (written n (byte ∷ []) file)) (sym here) (IsFileOf-mark file (file_message sender arrival address false) 0 byte (omega arith) reads)
+    byte_reads byte = subst (λ n. says (eqb byte 68) (written n (byte ∷ []) file)) (sym here) (IsFileOf-mark file (spool_message sender arrival address false) 0 byte (omega arith) reads)
 
     byte_left : (byte : ℕ) (t : Bool) → eqb byte 68 ≡ t → (f : Files) → IsSpool (holds Active (written at (byte ∷ []) file)) f → (left : Book) × IsCrashOf (book marks.Written places.Active) left × Stands f left
     byte_left byte true e f h = (book marks.Synced places.Active, book_after marks.Written marks.Synced places.Active (written_kept places.Active), holds_stands marks.Synced places.Active Active active (written at (byte ∷ []) file) (subst (λ t. says t (written at (byte ∷ []) file)) e (byte_reads byte)) f h)

@@ -14,7 +14,7 @@ use Rattle.q_params.specs.Ranges.{IsInRange}
 use Rattle.q_params.specs.declared.error.ParamError.{ParamError}
 use Rattle.q_transport.specs.TableFile.{table_of_file as contents_of}
 use Rattle.q_top.specs.ConfReads.{GivesParams, GivesTable}
-use Rattle.q_top.specs.Confs.{at_fault, conf_bytes, conf_of, goes_by, IsConfFault, line_of, with_params, with_table}
+use Rattle.q_top.specs.Confs.{at_fault, conf_bytes, conf_of, goes_by, IsConfFault, conf_line_of, with_params, with_table}
 use Rattle.q_top.specs.Worlds.{world_of}
 use Rattle.q_top.specs.declared.conf.Conf.{Conf}
 use Rattle.q_top.specs.declared.status.Status.{Status}
@@ -63,7 +63,7 @@ both f first second settings read is then_is =
 pub table_fault : (tells : Bool) (f : Files) (first second : List ℕ) (settings : Settings) (status : Status) → GivesTable (Err status) (contents_of second) → params_of first ≡ Ok settings → (IsTrue tells → first ≡ conf_bytes f (codes "params")) → (IsTrue tells → second ≡ conf_bytes f (codes "transport"))
     → IsConfFault tells (conf_of f) status
 table_fault tells f first second settings (BadInput file line) (e, read, is_table, is_line) params is then_is =
-    λ t. both f first second settings params (is t) (then_is t) ∙ ap (with_table settings) read ∙ ap (λ x. at_fault x (line_of e)) (sym is_table) ∙ ap (at_fault file) (sym is_line)
+    λ t. both f first second settings params (is t) (then_is t) ∙ ap (with_table settings) read ∙ ap (λ x. at_fault x (conf_line_of e)) (sym is_table) ∙ ap (at_fault file) (sym is_line)
 table_fault tells f first second settings NoMemory gives params is then_is = tt
 table_fault tells f first second settings Disk gives params is then_is = absurd gives
 table_fault tells f first second settings Done gives params is then_is = absurd gives

@@ -14,12 +14,12 @@ use Rattle.q_events.specs.TextLines.{TextLine}
 use Rattle.q_events.specs.declared.item.Item.{Item as ListItem}
 use Rattle.q_events.specs.declared.item.Item.TheVariants.{Step, Restart, End}
 use Rattle.q_top.specs.Listings.{Listing, gives, bad, past_limit, listing}
-use Rattle.q_top.specs.Reading.{Reading, ended, faulty, limited, reading_behind, may_hear, read_items}
+use Rattle.q_top.specs.Reading.{TakenItems, ended, faulty, limited, reading_behind, may_hear, read_items}
 use Rattle.q_top.specs.Replays.{items_in}
 use Rattle.q_top.proofs.Listings.{Lines, listed_led, listed_at}
 
 -- more items may stand behind these
-abbrev pub Begins : List LifeEvent → Reading → Type 0
+abbrev pub Begins : List LifeEvent → TakenItems → Type 0
 Begins items r = (more : List LifeEvent) × (items_in r ≡ items ++ more)
 
 same_fault : (items others : List LifeEvent) (n k : ℕ) → faulty items n ≡ faulty others k → (items ≡ others) × (n ≡ k)
@@ -29,12 +29,12 @@ earlier : (n k : ℕ) (items : List LifeEvent) (P : Type 0) → faulty [] n ≡ 
 earlier n k items P h = let same = (same_fault [] items n (n + (k + 1)) h).1 in absurd (omega (arith, same))
 
 -- the fault is behind an item
-fault_behind : (item : LifeEvent) (r : Reading) (items : List LifeEvent) (k : ℕ) → reading_behind (item ∷ []) r ≡ faulty items k → (more : List LifeEvent) × (r ≡ faulty more k) × (items ≡ item ∷ more)
+fault_behind : (item : LifeEvent) (r : TakenItems) (items : List LifeEvent) (k : ℕ) → reading_behind (item ∷ []) r ≡ faulty items k → (more : List LifeEvent) × (r ≡ faulty more k) × (items ≡ item ∷ more)
 fault_behind item (ended more) items k h = absurd cc
 fault_behind item (faulty more n) items k h = let same : n ≡ k = cc in (more, ap (faulty more) same, cc)
 fault_behind item (limited more) items k h = absurd cc
 
-begins_behind : (item : LifeEvent) (r : Reading) (more items : List LifeEvent) → items ≡ item ∷ more → Begins more r → Begins items (reading_behind (item ∷ []) r)
+begins_behind : (item : LifeEvent) (r : TakenItems) (more items : List LifeEvent) → items ≡ item ∷ more → Begins more r → Begins items (reading_behind (item ∷ []) r)
 begins_behind item (ended xs) more items all (others, e) = (others, ap (λ (x : List LifeEvent). item ∷ x) e ∙ ap (λ (x : List LifeEvent). x ++ others) (sym all))
 begins_behind item (faulty xs n) more items all (others, e) = (others, ap (λ (x : List LifeEvent). item ∷ x) e ∙ ap (λ (x : List LifeEvent). x ++ others) (sym all))
 begins_behind item (limited xs) more items all (others, e) = (others, ap (λ (x : List LifeEvent). item ∷ x) e ∙ ap (λ (x : List LifeEvent). x ++ others) (sym all))

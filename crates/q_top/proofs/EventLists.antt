@@ -14,24 +14,24 @@ use Rattle.q_host.specs.View.{View}
 use Rattle.q_top.specs.Answers.{answer_of, answer_to}
 use Rattle.q_top.specs.Commands.{IsRun}
 use Rattle.q_events.specs.declared.item.Item.TheVariants.{Step, Restart, End}
-use Rattle.q_top.specs.Listings.{Listing, gives, bad, past_limit, event_list, items_of, listing_of}
-use Rattle.q_top.specs.Reading.{Reading, ended, faulty, limited, reading_behind, may_hear, read_items}
+use Rattle.q_top.specs.Listings.{Listing, gives, bad, past_limit, event_list, listed_items, listing_of}
+use Rattle.q_top.specs.Reading.{TakenItems, ended, faulty, limited, reading_behind, may_hear, read_items}
 use Rattle.q_top.specs.ReplayEnds.{ReplayEnds}
 use Rattle.q_top.specs.Replays.{first_ledger, read_text, IsTold, IsWhole}
 use Rattle.q_top.specs.declared.status.Status.{Status}
 use Rattle.q_top.specs.declared.status.InputFile.TheVariants.{Events, Parameters, Table}
 use Rattle.q_top.specs.declared.status.Status.TheVariants.{Done, Usage, BadInput, Disk, Tell, Source, Damaged, Limit, NoMemory}
 
-ends_behind : (event : Event) (r : Reading) (items : List LifeEvent) → reading_behind (Heard event ∷ []) r ≡ ended items → (more : List LifeEvent) × (r ≡ ended more) × (items ≡ Heard event ∷ more)
+ends_behind : (event : Event) (r : TakenItems) (items : List LifeEvent) → reading_behind (Heard event ∷ []) r ≡ ended items → (more : List LifeEvent) × (r ≡ ended more) × (items ≡ Heard event ∷ more)
 ends_behind event (ended more) items h = (more, refl, cc)
 ends_behind event (faulty more n) items h = absurd cc
 ends_behind event (limited more) items h = absurd cc
 
 -- the items behind an item, wherever they are read from
 abbrev EndsSo : World → Listing → Type 0
-EndsSo w more = (m : Ledger) (items : List LifeEvent) → read_items w m more ≡ ended items → items_of more ≡ Some items
+EndsSo w more = (m : Ledger) (items : List LifeEvent) → read_items w m more ≡ ended items → listed_items more ≡ Some items
 
-heard_ends : (w : World) (l : Ledger) (event : Event) (line n : ℕ) (more : Listing) (items : List LifeEvent) (b : Bool) → EndsSo w more → may_hear w l event ≡ b → read_items w l (gives (Step event line) n more) ≡ ended items → items_of (gives (Step event line) n more) ≡ Some items
+heard_ends : (w : World) (l : Ledger) (event : Event) (line n : ℕ) (more : Listing) (items : List LifeEvent) (b : Bool) → EndsSo w more → may_hear w l event ≡ b → read_items w l (gives (Step event line) n more) ≡ ended items → listed_items (gives (Step event line) n more) ≡ Some items
 unfolding read_items
 heard_ends w l event line n more items true ih fits h =
     let m = after_all w l (turn w l (Heard event)) in
@@ -39,7 +39,7 @@ heard_ends w l event line n more items true ih fits h =
     ap (λ (o : Option (List LifeEvent)). option_map (λ items. Heard event ∷ items) o) (ih m others is) ∙ ap Some (sym all)
 heard_ends w l event line n more items false ih fits h = let is : faulty [] n ≡ ended items = rw fits at h in absurd cc
 
-items_end : (w : World) (list : Listing) (l : Ledger) (items : List LifeEvent) → read_items w l list ≡ ended items → items_of list ≡ Some items
+items_end : (w : World) (list : Listing) (l : Ledger) (items : List LifeEvent) → read_items w l list ≡ ended items → listed_items list ≡ Some items
 unfolding read_items
 items_end w (gives (Step event line) n more) l items h = heard_ends w l event line n more items (may_hear w l event) (λ m others e. items_end w more m others e) refl h
 items_end w (gives Restart n more) l items h = absurd cc

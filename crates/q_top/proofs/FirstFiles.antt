@@ -10,7 +10,7 @@ use Rattle.q_model.specs.Values.{Spot}
 use Rattle.q_model.specs.SpoolFiles.{Files}
 use Rattle.q_host.specs.Reads.{IsListing}
 use Rattle.q_top.specs.FirstFile.{IsFirstName, IsFirstFile, IsSameHost, areas_in_order}
-use Rattle.q_top.specs.Spools.{IsSpool, is_looked_at, unopened}
+use Rattle.q_top.specs.Spools.{IsSpool, says_messages, unopened}
 use Rattle.q_host.specs.Calls.{Stays}
 use Rattle.q_host.specs.Steps.{Stay}
 use Rattle.q_host.specs.View.{View, now}
@@ -59,14 +59,14 @@ nothing None e some = absurd cc
 nothing (Some bytes) e some = absurd cc
 
 -- no file stands in an area that is looked at
-pub no_file : (f : Files) (a : Area) (n : List ℕ) → IsSpool unopened f → is_looked_at a ≡ true → IsSome (f a n) → ⊥
+pub no_file : (f : Files) (a : Area) (n : List ℕ) → IsSpool unopened f → says_messages a ≡ true → IsSome (f a n) → ⊥
 no_file f a n h e some = nothing (f a n) (h a n e) some
 
 -- a name that stands first is that of a file
 first_is_there : (f : List ℕ → Option (List ℕ)) (n : List ℕ) → IsFirstName f (Some n) → IsSome (f n)
 first_is_there f n (others, l) = l.there n (0, omega arith, refl)
 
-first_of : (a : Area) (f : Files) (spot : Spot) → IsSpool unopened f → is_looked_at a ≡ true → spot.area ≡ a → IsFirstName (f a) (Some spot.name) → ⊥
+first_of : (a : Area) (f : Files) (spot : Spot) → IsSpool unopened f → says_messages a ≡ true → spot.area ≡ a → IsFirstName (f a) (Some spot.name) → ⊥
 first_of a f spot h looked at first = no_file f a spot.name h looked (first_is_there (f a) spot.name first)
 
 -- a spool with a first file isn't empty

@@ -20,11 +20,11 @@ use Rattle.q_model.specs.declared.rows.Place.TheVariants as places
 use Rattle.q_model.specs.SpoolFiles.{Files}
 use Rattle.q_top.specs.Agrees.{StageAgrees}
 use Rattle.q_top.specs.Begins.{before_life}
-use Rattle.q_top.specs.Books.{Follows, StandsFor}
+use Rattle.q_top.specs.Books.{FollowsSteps, StandsFor}
 use Rattle.q_top.specs.declared.life.Stage.{Stage}
 use Rattle.q_top.specs.declared.life.Stage.TheVariants.{Awaited, InFlight, Gone}
 use Rattle.q_top.specs.MailSteps.{life_steps, mail_steps, reply_steps}
-use Rattle.q_top.specs.OneMessage.{file_message, idle, flying, one_message, only_book}
+use Rattle.q_top.specs.OneMessage.{spool_message, idle, flying, one_message, only_book}
 use Rattle.q_top.specs.Spools.{Spool, empty, holds, marking, marked, first_id, IsSpool}
 use Rattle.q_top.specs.Steps.{Steps, entries_of, spool_after}
 use Rattle.q_top.proofs.Books.{stands_empty, stands_incoming, stands_active, stands_marking, stands_marked}
@@ -33,7 +33,7 @@ use Rattle.q_top.proofs.Turning.{arrive, start}
 use Rattle.q_model.specs.Settings.{World}
 
 -- the file of the message
-pub file_reads : (sender : Option (List ℕ)) (address file : List ℕ) (arrival : ℕ) → file ≡ file_bytes (file_message sender arrival address false) (80 ∷ []) → IsFileMessage (file_message sender arrival address false) → IsFileOf file (file_message sender arrival address false)
+pub file_reads : (sender : Option (List ℕ)) (address file : List ℕ) (arrival : ℕ) → file ≡ file_bytes (spool_message sender arrival address false) (80 ∷ []) → IsFileMessage (spool_message sender arrival address false) → IsFileOf file (spool_message sender arrival address false)
 file_reads sender address file arrival is lawful = record { marks = 80 ∷ []; lawful = lawful; agree = refl; written = is }
 
 same_book : (s : Spool) (a b : Book) → a ≡ b → StandsFor s b → StandsFor s a
@@ -41,7 +41,7 @@ same_book s a b e h = subst (λ x. StandsFor s x) (sym e) h
 
 -- ---- the beginning
 
-pub begin_follows : (world : World) → Follows world before_life life_steps
+pub begin_follows : (world : World) → FollowsSteps world before_life life_steps
 begin_follows world = (same_book empty (after world before_life (Life 1 Deliver)).book (only_book []) (ap (λ (l : Ledger). l.book) (after_begin world)) stands_empty, tt)
 
 -- ---- a life that agrees
@@ -49,7 +49,7 @@ begin_follows world = (same_book empty (after world before_life (Life 1 Deliver)
 pub agrees_stand : (world : World) (stage : Stage) (clock : ℕ) (timed : Bool) (l : Ledger) (s : Spool) → StageAgrees world stage clock timed l s → StandsFor s l.book
 agrees_stand world Awaited clock timed l s a = subst (λ x. StandsFor x l.book) (sym a.spool) (same_book empty l.book (only_book []) (ap (λ (x : Ledger). x.book) a.ledger) stands_empty)
 agrees_stand world (InFlight at) clock timed l s a =
-    let file = file_bytes (file_message a.sender a.arrival a.address false) (80 ∷ []) in
+    let file = file_bytes (spool_message a.sender a.arrival a.address false) (80 ∷ []) in
     subst (λ x. StandsFor x l.book) (sym a.spool)
     (same_book (holds Active file) l.book (only_book (one_message a.sender a.address a.arrival marks.Unmarked places.Active ∷ [])) (ap (λ (x : Ledger). x.book) a.ledger)
     (stands_active a.sender a.address a.arrival file (file_reads a.sender a.address file a.arrival refl a.message)))
@@ -60,7 +60,7 @@ at_book world Awaited clock t timed l s a = rw a.ledger (ap (λ (x : Ledger). x.
 at_book world (InFlight at) clock t timed l s a = rw a.ledger (ap (λ (x : Ledger). x.book) (flying_at world clock a.next_run t a.sender a.address a.arrival a.past))
 at_book world Gone clock t timed l s a = rw a.ledger (ap (λ (x : Ledger). x.book) (idle_at world clock a.next_run t timed true a.past))
 
-pub at_follows : (world : World) (stage : Stage) (clock t : ℕ) (timed : Bool) (l : Ledger) (s : Spool) → StageAgrees world stage clock timed l s → Follows world l ((At t, s) ∷ [])
+pub at_follows : (world : World) (stage : Stage) (clock t : ℕ) (timed : Bool) (l : Ledger) (s : Spool) → StageAgrees world stage clock timed l s → FollowsSteps world l ((At t, s) ∷ [])
 at_follows world stage clock t timed l s a = (same_book s (after world l (At t)).book l.book (at_book world stage clock t timed l s a) (agrees_stand world stage clock timed l s a), tt)
 
 -- a scan that goes on, ends or begins changes no book
@@ -83,7 +83,7 @@ end_book : (world : World) (l : Ledger) → (after world l End).book ≡ l.book
 unfolding after
 end_book world l = scan_book (noted End l)
 
-pub end_follows : (world : World) (stage : Stage) (clock : ℕ) (timed : Bool) (l : Ledger) (s : Spool) → StageAgrees world stage clock timed l s → Follows world l ((End, s) ∷ [])
+pub end_follows : (world : World) (stage : Stage) (clock : ℕ) (timed : Bool) (l : Ledger) (s : Spool) → StageAgrees world stage clock timed l s → FollowsSteps world l ((End, s) ∷ [])
 end_follows world stage clock timed l s a = (same_book s (after world l End).book l.book (end_book world l) (agrees_stand world stage clock timed l s a), tt)
 
 -- ---- the message comes
@@ -114,7 +114,7 @@ module _ (world : World) (now next_run : ℕ) (sender : Option (List ℕ)) (addr
   unfolding after
   started_book = refl
 
-  pub mail_follows : (file : List ℕ) → IsFileOf file (file_message sender now address false) → Follows world (idle world now true next_run false past) (mail_steps world sender address file)
+  pub mail_follows : (file : List ℕ) → IsFileOf file (spool_message sender now address false) → FollowsSteps world (idle world now true next_run false past) (mail_steps world sender address file)
   mail_follows file reads =
       let active = stands_active sender address now file reads in (
         same_book (holds Incoming file) arrived.book (only_book (one_message sender address now marks.Unmarked places.Incoming ∷ [])) arrived_book (stands_incoming sender address now file reads),
@@ -155,7 +155,7 @@ module _ (world : World) (now next_run : ℕ) (sender : Option (List ℕ)) (addr
   unfolding after
   removed_book = refl
 
-  pub reply_follows : (at : ℕ) (file : List ℕ) → at ≡ mark_at (file_message sender arrival address false) 0 → IsFileOf file (file_message sender arrival address false) → Follows world (flying world now next_run sender address arrival past) (reply_steps at file)
+  pub reply_follows : (at : ℕ) (file : List ℕ) → at ≡ mark_at (spool_message sender arrival address false) 0 → IsFileOf file (spool_message sender arrival address false) → FollowsSteps world (flying world now next_run sender address arrival past) (reply_steps at file)
   reply_follows at file here reads = (
     same_book (holds Active file) replied.book (only_book (one_message sender address arrival marks.Unmarked places.Active ∷ [])) replied_book (stands_active sender address arrival file reads),
     (
@@ -169,23 +169,23 @@ module _ (world : World) (now next_run : ℕ) (sender : Option (List ℕ)) (addr
 
 -- ---- many steps
 
-pub follows_both : (world : World) (l : Ledger) (xs ys : Steps) → Follows world l xs → Follows world (after_all world l (entries_of xs)) ys → Follows world l (xs ++ ys)
+pub follows_both : (world : World) (l : Ledger) (xs ys : Steps) → FollowsSteps world l xs → FollowsSteps world (after_all world l (entries_of xs)) ys → FollowsSteps world l (xs ++ ys)
 unfolding after_all
 follows_both world l [] ys p q = q
 follows_both world l (x ∷ xs) ys p q = (p.0, follows_both world (after world l x.0) xs ys p.1 q)
 
 -- the files after the last stand for the book
-pub follows_last : (world : World) (l : Ledger) (s : Spool) (steps : Steps) (f : Files) → ((g : Files) → IsSpool s g → Stands g l.book) → Follows world l steps → IsSpool (spool_after s steps) f → Stands f (after_all world l (entries_of steps)).book
+pub follows_last : (world : World) (l : Ledger) (s : Spool) (steps : Steps) (f : Files) → ((g : Files) → IsSpool s g → Stands g l.book) → FollowsSteps world l steps → IsSpool (spool_after s steps) f → Stands f (after_all world l (entries_of steps)).book
 unfolding after_all
 follows_last world l s [] f start h is = start f is
 follows_last world l s (x ∷ xs) f start h is = follows_last world (after world l x.0) x.1 xs f h.0.reads h.1 is
 
 -- so do those after the first ones
-pub follows_first : (world : World) (l : Ledger) (xs ys : Steps) → Follows world l (xs ++ ys) → Follows world l xs
+pub follows_first : (world : World) (l : Ledger) (xs ys : Steps) → FollowsSteps world l (xs ++ ys) → FollowsSteps world l xs
 follows_first world l [] ys h = tt
 follows_first world l (x ∷ xs) ys h = (h.0, follows_first world (after world l x.0) xs ys h.1)
 
-pub follows_second : (world : World) (l : Ledger) (xs ys : Steps) → Follows world l (xs ++ ys) → Follows world (after_all world l (entries_of xs)) ys
+pub follows_second : (world : World) (l : Ledger) (xs ys : Steps) → FollowsSteps world l (xs ++ ys) → FollowsSteps world (after_all world l (entries_of xs)) ys
 unfolding after_all
 follows_second world l [] ys h = h
 follows_second world l (x ∷ xs) ys h = follows_second world (after world l x.0) xs ys h.1

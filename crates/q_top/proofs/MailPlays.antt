@@ -13,14 +13,14 @@ use Rattle.q_host.specs.Calls.{Stays}
 use Rattle.q_host.specs.View.{View}
 use Rattle.q_top.specs.MailSteps.{sent, mail_steps, reply_steps}
 use Rattle.q_top.specs.OneMessage.{site_of}
-use Rattle.q_top.specs.Spools.{empty, holds, marking, marked, first_id, is_looked_at, IsSpool}
+use Rattle.q_top.specs.Spools.{empty, holds, marking, marked, first_id, says_messages, IsSpool}
 use Rattle.q_top.specs.Steps.{Steps, Does, Stops, Plays, Halts}
 use Rattle.q_top.proofs.Playing.{plays_one, plays_both, halts_first, halts_after, halts_before, plays_before, still_halts}
 use Rattle.q_top.proofs.SpoolChanges.{here}
 use Rattle.q_top.proofs.Stepping.{IsLawful}
 use Rattle.q_model.specs.Settings.{World}
 
-pub is_there : (b : Area) (file : List ℕ) (f : Files) → is_looked_at b ≡ true → IsSpool (holds b file) f → IsSome (f b (id_text first_id))
+pub is_there : (b : Area) (file : List ℕ) (f : Files) → says_messages b ≡ true → IsSpool (holds b file) f → IsSome (f b (id_text first_id))
 is_there b file f look h = subst (λ (o : Option (List ℕ)). IsSome o) (sym (here b file f look h)) refl
 
 pub long_enough : (at : ℕ) (file : List ℕ) (f : Files) → at < length file → IsSpool (holds Active file) f → IsSomeAnd (f Active (id_text first_id)) (λ x. at < length x)

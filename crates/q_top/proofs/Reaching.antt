@@ -14,7 +14,7 @@ use Rattle.q_host.specs.View.{LeavesOnly, Remains, View}
 use Rattle.q_host.specs.declared.error.HostError.{HostError}
 use Rattle.q_host.specs.declared.error.HostError.TheVariants as errors
 use Rattle.q_top.specs.Begins.{before_life}
-use Rattle.q_top.specs.Books.{Follows}
+use Rattle.q_top.specs.Books.{FollowsSteps}
 use Rattle.q_top.specs.declared.status.InputFile.TheVariants.{Events, Parameters, Table}
 use Rattle.q_top.specs.declared.status.Status.{Status}
 use Rattle.q_top.specs.declared.status.Status.TheVariants.{Done, Usage, BadInput, Disk, Tell, Source, Damaged, Limit, NoMemory}
@@ -23,7 +23,7 @@ use Rattle.q_top.specs.ReplayEnds.{ReplayEnds}
 use Rattle.q_events.specs.TextLines.{lines_from}
 use Rattle.q_top.specs.Listings.{listing}
 use Rattle.q_top.specs.Reading.{faulty, read_items}
-use Rattle.q_top.specs.Replays.{first_ledger, items_in, read_text, IsCutOff, IsFaulty, IsFront, IsLimited, IsTold, IsToldInPart, IsWhole}
+use Rattle.q_top.specs.Replays.{first_ledger, items_in, read_text, IsCutOff, IsFaulty, IsFrontOfItems, IsLimited, IsTold, IsToldInPart, IsWhole}
 use Rattle.q_top.specs.Spools.{Spool, unopened, HoldsSpool, MayBeLeft, IsSpool}
 use Rattle.q_top.specs.Steps.{Steps, entries_of, WithinSteps}
 use Rattle.q_top.proofs.Books.{stands_unopened}
@@ -34,22 +34,22 @@ use Rattle.q_model.specs.Settings.{World}
 
 -- ---- which items
 
-front_by : (world : World) (bytes : List ℕ) (items : List LifeEvent) → items_in (read_text world bytes) ≡ items → IsFront world (Some bytes) items
+front_by : (world : World) (bytes : List ℕ) (items : List LifeEvent) → items_in (read_text world bytes) ≡ items → IsFrontOfItems world (Some bytes) items
 front_by world bytes items e = ([], e ∙ sym (append-nil items))
 
-front_whole : (world : World) (bytes : Option (List ℕ)) (items : List LifeEvent) → IsWhole world bytes items → IsFront world bytes items
+front_whole : (world : World) (bytes : Option (List ℕ)) (items : List LifeEvent) → IsWhole world bytes items → IsFrontOfItems world bytes items
 front_whole world None items h = tt
 front_whole world (Some bytes) items h = front_by world bytes items (ap items_in h)
 
-front_faulty : (world : World) (bytes : Option (List ℕ)) (items : List LifeEvent) (n : ℕ) → IsFaulty world bytes items n → IsFront world bytes items
+front_faulty : (world : World) (bytes : Option (List ℕ)) (items : List LifeEvent) (n : ℕ) → IsFaulty world bytes items n → IsFrontOfItems world bytes items
 front_faulty world None items n h = tt
 front_faulty world (Some bytes) items n h = front_by world bytes items (ap items_in h)
 
-front_limited : (world : World) (bytes : Option (List ℕ)) (items : List LifeEvent) → IsLimited world bytes items → IsFront world bytes items
+front_limited : (world : World) (bytes : Option (List ℕ)) (items : List LifeEvent) → IsLimited world bytes items → IsFrontOfItems world bytes items
 front_limited world None items h = tt
 front_limited world (Some bytes) items h = front_by world bytes items (ap items_in h)
 
-front_cut_off : (world : World) (bytes left : Option (List ℕ)) (items : List LifeEvent) → IsCutOff world bytes left items → IsFront world bytes items
+front_cut_off : (world : World) (bytes left : Option (List ℕ)) (items : List LifeEvent) → IsCutOff world bytes left items → IsFrontOfItems world bytes items
 front_cut_off world None left items h = tt
 front_cut_off world (Some bytes) left items (lines, limit, part, rest, all, open_line, there, read) =
     let number : length lines + 1 ≡ 1 + length lines = omega arith in
@@ -61,7 +61,7 @@ front_cut_off world (Some bytes) left items (lines, limit, part, rest, all, open
 no_more : (before after done : List ℕ) → after ≡ before ++ done → after ≡ (before ++ done) ++ []
 no_more before after done e = e ∙ sym (append-nil (before ++ done))
 
-exit_told : (world : World) (bytes : Option (List ℕ)) (items : List LifeEvent) (before after : View) → IsSpool unopened before.files → IsFront world bytes items → IsTold world items before after → IsAtExit world bytes before after
+exit_told : (world : World) (bytes : Option (List ℕ)) (items : List LifeEvent) (before after : View) → IsSpool unopened before.files → IsFrontOfItems world bytes items → IsTold world items before after → IsAtExit world bytes before after
 exit_told world bytes items before after h front t = (
   items,
   front,
@@ -80,7 +80,7 @@ exit_told world bytes items before after h front t = (
 one_line : (world : World) (k : ℕ) (before : List ℕ) (e : Entry) (after : List ℕ) → after ≡ before ++ take k (line world.table e) → after ≡ before ++ take k (text world.table (e ∷ []))
 one_line world k before e after h = h ∙ ap (λ (x : List ℕ). before ++ take k x) (sym (text-one world.table e))
 
-exit_part : (world : World) (bytes : Option (List ℕ)) (items : List LifeEvent) (error : HostError) (before after : View) → IsSpool unopened before.files → IsFront world bytes items → IsToldInPart world items error before after → IsAtExit world bytes before after
+exit_part : (world : World) (bytes : Option (List ℕ)) (items : List LifeEvent) (error : HostError) (before after : View) → IsSpool unopened before.files → IsFrontOfItems world bytes items → IsToldInPart world items error before after → IsAtExit world bytes before after
 exit_part world bytes items error before after h front t = (
   items,
   front,
@@ -114,7 +114,7 @@ exit_reached world bytes left before after (Damaged area name) h ends = absurd e
 abbrev LeftOf : Remains → Book → Type 0
 LeftOf c b = (left : Book) × IsCrashOf b left × Stands c.files left
 
-within_reached : (world : World) (l : Ledger) (s : Spool) (steps : Steps) (before : List ℕ) (c : Remains) → (MayBeLeft s c.files → LeftOf c l.book) → Follows world l steps → WithinSteps world s steps before c → Reached world (LeftOf c) l (entries_of steps) before c.told
+within_reached : (world : World) (l : Ledger) (s : Spool) (steps : Steps) (before : List ℕ) (c : Remains) → (MayBeLeft s c.files → LeftOf c l.book) → FollowsSteps world l steps → WithinSteps world s steps before c → Reached world (LeftOf c) l (entries_of steps) before c.told
 unfolding after_all text
 within_reached world l s [] before c start follows w = record {
   done = [];
@@ -149,7 +149,7 @@ within_reached world l s (p ∷ ps) before c start follows (inr w) =
 unopened_left : (c : Remains) → MayBeLeft unopened c.files → LeftOf c before_life.book
 unopened_left c h = (empty_book, record { generation = refl; damaged = refl; messages = tt }, stands_unopened c.files h)
 
-moments_left : (world : World) (bytes : Option (List ℕ)) (items : List LifeEvent) (steps : Steps) (before after : View) → IsFront world bytes items → run_of world Deliver empty_book items ≡ entries_of steps → Follows world before_life steps → LeavesOnly before after (WithinSteps world unopened steps before.told) → LeavesOnly before after (IsLeftBehind world bytes before.told)
+moments_left : (world : World) (bytes : Option (List ℕ)) (items : List LifeEvent) (steps : Steps) (before after : View) → IsFrontOfItems world bytes items → run_of world Deliver empty_book items ≡ entries_of steps → FollowsSteps world before_life steps → LeavesOnly before after (WithinSteps world unopened steps before.told) → LeavesOnly before after (IsLeftBehind world bytes before.told)
 moments_left world bytes items steps before after front run follows l = record {
   later = l.later;
   each = λ c left. reached c (l.each c left);
@@ -160,10 +160,10 @@ moments_left world bytes items steps before after front run follows l = record {
     reached c w = (items, front, subst (λ (es : List Entry). Reached world (LeftOf c) before_life es before.told c.told) (sym run) (within_reached world before_life unopened steps before.told c (unopened_left c) follows w))
 
 module _ (world : World) (bytes left : Option (List ℕ)) (before after : View) (h : HoldsSpool unopened before) where
-  moments_told : (items : List LifeEvent) → IsFront world bytes items → IsTold world items before after → LeavesOnly before after (IsLeftBehind world bytes before.told)
+  moments_told : (items : List LifeEvent) → IsFrontOfItems world bytes items → IsTold world items before after → LeavesOnly before after (IsLeftBehind world bytes before.told)
   moments_told items front t = moments_left world bytes items t.steps before after front t.run t.follows (t.plays.moments h)
 
-  moments_part : (items : List LifeEvent) (error : HostError) → IsFront world bytes items → IsToldInPart world items error before after → LeavesOnly before after (IsLeftBehind world bytes before.told)
+  moments_part : (items : List LifeEvent) (error : HostError) → IsFrontOfItems world bytes items → IsToldInPart world items error before after → LeavesOnly before after (IsLeftBehind world bytes before.told)
   moments_part items error front t = moments_left world bytes items t.steps before after front t.run t.follows (t.halts.moments h)
 
   pub moments_reached : (status : Status) → ReplayEnds world bytes left before after status → LeavesOnly before after (IsLeftBehind world bytes before.told)

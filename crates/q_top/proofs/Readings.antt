@@ -16,16 +16,16 @@ use Rattle.q_events.specs.TextLines.{lines_from}
 use Rattle.q_events.specs.declared.item.Item.{Item as ListItem}
 use Rattle.q_events.specs.declared.item.Item.TheVariants.{Step, Restart, End}
 use Rattle.q_top.specs.Listings.{Listing, gives, bad, past_limit, lines_of, listing}
-use Rattle.q_top.specs.Reading.{Reading, ended, faulty, limited, reading_behind, may_hear, read_items}
+use Rattle.q_top.specs.Reading.{TakenItems, ended, faulty, limited, reading_behind, may_hear, read_items}
 use Rattle.q_top.specs.Replays.{first_ledger, read_text, items_in}
 use Rattle.q_top.proofs.Listings.{Lines, listed, lines_lack, said, up_to}
 
-behind_none : (r : Reading) → reading_behind [] r ≡ r
+behind_none : (r : TakenItems) → reading_behind [] r ≡ r
 behind_none (ended items) = refl
 behind_none (faulty items n) = refl
 behind_none (limited items) = refl
 
-behind_both : (xs ys : List LifeEvent) (r : Reading) → reading_behind xs (reading_behind ys r) ≡ reading_behind (xs ++ ys) r
+behind_both : (xs ys : List LifeEvent) (r : TakenItems) → reading_behind xs (reading_behind ys r) ≡ reading_behind (xs ++ ys) r
 behind_both xs ys (ended items) = ap ended (sym (append_assoc xs ys items))
 behind_both xs ys (faulty items n) = ap (λ (x : List LifeEvent). faulty x n) (sym (append_assoc xs ys items))
 behind_both xs ys (limited items) = ap limited (sym (append_assoc xs ys items))
@@ -136,7 +136,7 @@ module _ (world : World) (bytes : List ℕ) (lines : Lines) (items : List LifeEv
       let others = read_items world now (listing [] (count + 1) (lines_from limit rest)) in
       (items_in others, ap items_in onward ∙ items_behind others)
     where
-      items_behind : (x : Reading) → items_in (reading_behind items x) ≡ items ++ items_in x
+      items_behind : (x : TakenItems) → items_in (reading_behind items x) ≡ items ++ items_in x
       items_behind (ended more) = refl
       items_behind (faulty more n) = refl
       items_behind (limited more) = refl

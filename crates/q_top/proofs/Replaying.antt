@@ -26,9 +26,9 @@ use Rattle.q_host.specs.declared.error.HostError.TheVariants as errors
 use Rattle.q_host.specs.Calls.{IsAsItWas, Stays}
 use Rattle.q_model.specs.SpoolFiles.{Files}
 use Rattle.q_host.specs.View.{View}
-use Rattle.q_top.specs.Agrees.{Agrees, Breaks, Turns}
+use Rattle.q_top.specs.Agrees.{LifeAgrees, Breaks, PlaysTurn}
 use Rattle.q_top.specs.Begins.{before_life, Begins, NeverBegins, Ends}
-use Rattle.q_top.specs.Books.{Follows}
+use Rattle.q_top.specs.Books.{FollowsSteps}
 use Rattle.q_top.specs.declared.life.Life.{Life}
 use Rattle.q_top.specs.declared.status.InputFile.TheVariants.{Events, Parameters, Table}
 use Rattle.q_top.specs.declared.status.Status.{Status}
@@ -36,7 +36,7 @@ use Rattle.q_top.specs.declared.status.Status.TheVariants.{Done, Usage, BadInput
 use Rattle.q_top.specs.Fits.{fits}
 use Rattle.q_top.specs.Reading.{may_hear}
 use Rattle.q_top.specs.ReplayEnds.{ReplayEnds, Finishes}
-use Rattle.q_top.specs.Replays.{first_ledger, read_text, items_in, StandsAfter, IsTold, IsToldInPart, IsWhole, IsFaulty, IsLimited, IsCutOff, IsFront}
+use Rattle.q_top.specs.Replays.{first_ledger, read_text, items_in, StandsAfter, IsTold, IsToldInPart, IsWhole, IsFaulty, IsLimited, IsCutOff, IsFrontOfItems}
 use Rattle.q_top.specs.MailSteps.{life_steps}
 use Rattle.q_top.specs.Spools.{Spool, empty, unopened, IsSpool}
 use Rattle.q_top.specs.Statuses.{status_of, unread}
@@ -80,7 +80,7 @@ ledgers_same world items steps e = ap (λ (es : List Entry). after_all world bef
 
 -- ---- what was told, with the book that the files stand for
 
-all_told : (world : World) (items : List LifeEvent) (steps : Steps) (before after : View) → run_of world Deliver empty_book items ≡ entries_of steps → Follows world before_life steps → Plays world unopened steps before after → IsTold world items before after
+all_told : (world : World) (items : List LifeEvent) (steps : Steps) (before after : View) → run_of world Deliver empty_book items ≡ entries_of steps → FollowsSteps world before_life steps → Plays world unopened steps before after → IsTold world items before after
 all_told world items steps before after run follows plays = record {
   steps = steps;
   run = run;
@@ -90,13 +90,13 @@ all_told world items steps before after run follows plays = record {
 }
 
 -- the files after the first steps and the next one
-after_next : (world : World) (done : Steps) (e : Entry) (t : Spool) (more : Steps) (f : Files) → Follows world before_life (done ++ (e, t) ∷ more) → IsSpool t f → StandsAfter world (entries_of done ++ e ∷ []) f
+after_next : (world : World) (done : Steps) (e : Entry) (t : Spool) (more : Steps) (f : Files) → FollowsSteps world before_life (done ++ (e, t) ∷ more) → IsSpool t f → StandsAfter world (entries_of done ++ e ∷ []) f
 after_next world done e t more f follows is =
-    let first = follows_first world before_life (done ++ (e, t) ∷ []) more (subst (λ (x : Steps). Follows world before_life x) (sym (append_assoc done ((e, t) ∷ []) more)) follows) in
+    let first = follows_first world before_life (done ++ (e, t) ∷ []) more (subst (λ (x : Steps). FollowsSteps world before_life x) (sym (append_assoc done ((e, t) ∷ []) more)) follows) in
     subst (λ (es : List Entry). StandsAfter world es f) (entries_of-append done ((e, t) ∷ []))
     (follows_last world before_life unopened (done ++ (e, t) ∷ []) f stands_unopened first (subst (λ x. IsSpool x f) (sym (spool_after-append unopened done ((e, t) ∷ []))) is))
 
-part_told : (world : World) (items : List LifeEvent) (error : HostError) (steps : Steps) (before after : View) → run_of world Deliver empty_book items ≡ entries_of steps → Follows world before_life steps → Halts world unopened steps error before after → IsToldInPart world items error before after
+part_told : (world : World) (items : List LifeEvent) (error : HostError) (steps : Steps) (before after : View) → run_of world Deliver empty_book items ≡ entries_of steps → FollowsSteps world before_life steps → Halts world unopened steps error before after → IsToldInPart world items error before after
 part_told world items error steps before after run follows halts = record {
   steps = steps;
   run = run;
@@ -109,16 +109,16 @@ part_told world items error steps before after run follows halts = record {
   disk_first = λ some h. after_next world halts.done halts.e halts.t halts.more after.files all (halts.disk_first some h);
 }
   where
-    all : Follows world before_life (halts.done ++ (halts.e, halts.t) ∷ halts.more)
-    all = subst (λ (x : Steps). Follows world before_life x) halts.all follows
+    all : FollowsSteps world before_life (halts.done ++ (halts.e, halts.t) ∷ halts.more)
+    all = subst (λ (x : Steps). FollowsSteps world before_life x) halts.all follows
 
 -- ---- how far it went
 
 -- these items were taken and told, and what is left of the text goes on behind them
 pub record WentBy (world : World) (text left : Option (List ℕ)) (events : EventsState) (life : Life) (items : List LifeEvent) (steps : Steps) (before after : View) : Type 0 where
   pub entries : run_of world Deliver empty_book items ≡ entries_of steps
-  pub follows : Follows world before_life steps
-  pub agrees : Agrees world life (after_all world before_life (entries_of steps)) (spool_after unopened steps)
+  pub follows : FollowsSteps world before_life steps
+  pub agrees : LifeAgrees world life (after_all world before_life (entries_of steps)) (spool_after unopened steps)
   pub plays : Plays world unopened steps before after
   pub reading : IfSome text (λ bytes. (lines : Lines) × (rest : List ℕ) × (left ≡ Some rest) × IsReading world bytes lines items events.budget rest events.lines)
 
@@ -141,13 +141,13 @@ went_begins world text events life before after new (steps, entries, follows, ag
     subst (λ (e : EventsState). Went world text (option_map (λ rest. e.buffered ++ rest) text) e life before after) (sym new)
     ([], steps, record { entries = run_none world ∙ entries; follows = follows; agrees = agrees; plays = plays; reading = begin_reading world text })
 
-front_of_none : (world : World) (text : Option (List ℕ)) → IsFront world text []
+front_of_none : (world : World) (text : Option (List ℕ)) → IsFrontOfItems world text []
 front_of_none world None = tt
 front_of_none world (Some bytes) = (items_in (read_text world bytes), refl)
 
 -- ---- the end by a refusal of the host
 
-pub gives_up : (world : World) (text left : Option (List ℕ)) (before after : View) (items : List LifeEvent) (error : HostError) → IsFront world text items → IsToldInPart world items error before after → ReplayEnds world text left before after (status_of error)
+pub gives_up : (world : World) (text left : Option (List ℕ)) (before after : View) (items : List LifeEvent) (error : HostError) → IsFrontOfItems world text items → IsToldInPart world items error before after → ReplayEnds world text left before after (status_of error)
 gives_up world text left before after items errors.Disk front told = (items, front, told)
 gives_up world text left before after items errors.Tell front told = (items, front, told)
 gives_up world text left before after items errors.NoMemory front told = (items, front, inr told)
@@ -218,7 +218,7 @@ module _ (world : World) (text left : Option (List ℕ)) (events : EventsState) 
       let (front, more) = reading_hears world bytes lines items events.budget rest events.lines r event line events'.lines events'.budget others (sym (first rest) ∙ found_it) h in
       (lines ++ front, others, next, more)
 
-  pub went_hears : (left' : Option (List ℕ)) (events' : EventsState) (life' : Life) (later : View) (item : ListItem) (event : Event) (line : ℕ) → ItemGiven events left events' left' item → item ≡ Step event line → fits life event ≡ true → Turns world life life' (Heard event) after later
+  pub went_hears : (left' : Option (List ℕ)) (events' : EventsState) (life' : Life) (later : View) (item : ListItem) (event : Event) (line : ℕ) → ItemGiven events left events' left' item → item ≡ Step event line → fits life event ≡ true → PlaysTurn world life life' (Heard event) after later
       → Went world text left events life before after → Went world text left' events' life' before later
   went_hears left' events' life' later item event line given is f turns (items, steps, w) =
       let (more, entries, follows, agrees, plays) = turns (after_all world before_life (entries_of steps)) (spool_after unopened steps) w.agrees in (
@@ -227,8 +227,8 @@ module _ (world : World) (text left : Option (List ℕ)) (events : EventsState) 
         record {
           entries = entries_more world items (Heard event) steps more w.entries entries;
           follows = follows_both world before_life steps more w.follows follows;
-          agrees = subst (λ s. Agrees world life' (after_all world before_life (entries_of (steps ++ more))) s) (sym (spool_after-append unopened steps more))
-              (subst (λ (l : Ledger). Agrees world life' l (spool_after (spool_after unopened steps) more)) (sym (after_all-append world before_life (entries_of steps) (entries_of more)) ∙ ap (after_all world before_life) (sym (entries_of-append steps more))) agrees);
+          agrees = subst (λ s. LifeAgrees world life' (after_all world before_life (entries_of (steps ++ more))) s) (sym (spool_after-append unopened steps more))
+              (subst (λ (l : Ledger). LifeAgrees world life' l (spool_after (spool_after unopened steps) more)) (sym (after_all-append world before_life (entries_of steps) (entries_of more)) ∙ ap (after_all world before_life) (sym (entries_of-append steps more))) agrees);
           plays = plays_both world unopened steps more before after later w.plays plays;
           reading = heard_reading text left' events' items event line (subst (ItemGiven events left events' left') is given) (heard_fits event items steps true w f) w.reading;
         },
@@ -244,7 +244,7 @@ module _ (world : World) (text left : Option (List ℕ)) (events : EventsState) 
   by_text P items f None r = tt
   by_text P items f (Some bytes) (lines, rest, is, r) = f bytes lines rest is r
 
-  front_so_far : (items : List LifeEvent) (steps : Steps) → WentBy world text left events life items steps before after → IsFront world text items
+  front_so_far : (items : List LifeEvent) (steps : Steps) → WentBy world text left events life items steps before after → IsFrontOfItems world text items
   front_so_far items steps w = by_text _ items (λ bytes lines rest is r. reading_front world bytes lines items events.budget rest events.lines r) text w.reading
 
   pub ends_no_memory : (source : Option (List ℕ)) → Went world text left events life before after → ReplayEnds world text source before after NoMemory
@@ -296,7 +296,7 @@ module _ (world : World) (text left : Option (List ℕ)) (events : EventsState) 
       (front text (heard_reading text left' events' items event line (subst (ItemGiven events left events' left') is given) (heard_fits event items steps true w f) w.reading))
       (part_told world (items ++ Heard event ∷ []) error (steps ++ more) before later (entries_more world items (Heard event) steps more w.entries entries) (follows_both world before_life steps more w.follows follows) (halts_after world unopened steps more error before after later w.plays halts))
     where
-      front : (t : Option (List ℕ)) → IfSome t (λ bytes. (lines : Lines) × (rest : List ℕ) × (left' ≡ Some rest) × IsReading world bytes lines (items ++ Heard event ∷ []) events'.budget rest events'.lines) → IsFront world t (items ++ Heard event ∷ [])
+      front : (t : Option (List ℕ)) → IfSome t (λ bytes. (lines : Lines) × (rest : List ℕ) × (left' ≡ Some rest) × IsReading world bytes lines (items ++ Heard event ∷ []) events'.budget rest events'.lines) → IsFrontOfItems world t (items ++ Heard event ∷ [])
       front None r = tt
       front (Some bytes) (lines, rest, is, r) = reading_front world bytes lines (items ++ Heard event ∷ []) events'.budget rest events'.lines r
 
@@ -307,7 +307,7 @@ module _ (world : World) (text left : Option (List ℕ)) (events : EventsState) 
       at : (bytes : List ℕ) (lines : Lines) (rest : List ℕ) → IsReading world bytes lines items events.budget rest events.lines → ItemGiven events (Some rest) events' left' End → IsWhole world (Some bytes) (items ++ Finish ∷ [])
       at bytes lines rest r (others, next, found_it) = reading_ends world bytes lines items events.budget rest events.lines r events'.lines (lines_from events'.budget others) (sym (first rest) ∙ found_it)
 
-  whole_front : (t : Option (List ℕ)) (items : List LifeEvent) → IsWhole world t items → IsFront world t items
+  whole_front : (t : Option (List ℕ)) (items : List LifeEvent) → IsWhole world t items → IsFrontOfItems world t items
   whole_front None items h = tt
   whole_front (Some bytes) items h = ([], ap items_in h ∙ sym (append-nil items))
 

@@ -12,7 +12,7 @@ use Rattle.q_model.specs.SpoolFiles.{Files}
 use Rattle.q_host.specs.Steps.{SameBut, TornBytes}
 use Rattle.q_host.proofs.Puts.{put-here, put-other, other_area, same_place-refl, same_place-true}
 use Rattle.q_store.specs.Stores.{IsStored}
-use Rattle.q_top.specs.Spools.{unopened, empty, holds, first_id, is_looked_at, is_log, boot_file, IsSpool}
+use Rattle.q_top.specs.Spools.{unopened, empty, holds, first_id, says_messages, is_log, boot_file, IsSpool}
 
 abbrev pub name : List ℕ
 name = id_text first_id
@@ -20,14 +20,14 @@ name = id_text first_id
 abbrev pub boot : List ℕ
 boot = codes "00000001"
 
-looked : (a : Area) → is_looked_at a ≡ true → a ≢ Tmp
+looked : (a : Area) → says_messages a ≡ true → a ≢ Tmp
 looked a look same = cc
 
 -- nothing is seen of tmp
-pub seen : (a : Area) (n : List ℕ) → (is_looked_at a || is_log a n) ≡ true → a ≢ Tmp
-seen a n see same = by (or_cases (is_looked_at a) (is_log a n) see)
+pub seen : (a : Area) (n : List ℕ) → (says_messages a || is_log a n) ≡ true → a ≢ Tmp
+seen a n see same = by (or_cases (says_messages a) (is_log a n) see)
   where
-    by : (is_looked_at a ≡ true) ⊎ (is_log a n ≡ true) → ⊥
+    by : (says_messages a ≡ true) ⊎ (is_log a n ≡ true) → ⊥
     by (inl look) = looked a look same
     by (inr log) = let at : Bounce ≡ a = (same_place-true Bounce name a n log).0 in cc
 
@@ -60,7 +60,7 @@ other_name n differ = by (same_place Bounce name Bounce n) refl
     by false e = refl
 
 -- an opened spool lacks the log
-log_seen : (is_looked_at Bounce || is_log Bounce name) ≡ true
+log_seen : (says_messages Bounce || is_log Bounce name) ≡ true
 log_seen = same_place-refl Bounce name
 
 pub no_log_empty : (f : Files) → IsSpool empty f → f Bounce name ≡ None
@@ -72,9 +72,9 @@ no_log_holds b file f differ h = h Bounce name log_seen ∙ ap (λ (t : Bool). i
 -- ---- the life begins
 
 pub created : (f : Files) → f Bounce name ≡ None → IsSpool unopened f → IsSpool empty (with_file f Boot boot [])
-created f gone h a n see = put_at f Boot boot (Some []) a n ∙ by (or_cases (is_looked_at a) (is_log a n) see)
+created f gone h a n see = put_at f Boot boot (Some []) a n ∙ by (or_cases (says_messages a) (is_log a n) see)
   where
-    by : (is_looked_at a ≡ true) ⊎ (is_log a n ≡ true) → (if same_place Boot boot a n then Some [] else f a n) ≡ boot_file a n
+    by : (says_messages a ≡ true) ⊎ (is_log a n ≡ true) → (if same_place Boot boot a n then Some [] else f a n) ≡ boot_file a n
     by (inl look) = ap (λ (x : Option (List ℕ)). if same_place Boot boot a n then Some [] else x) (h a n look)
     by (inr log) =
         let same = same_place-true Bounce name a n log in
@@ -95,13 +95,13 @@ stored t file f g s h a n see = choose (same_place Incoming name a n) (Some file
 -- ---- it is moved and removed
 
 -- the message's file is at its place
-pub here : (b : Area) (file : List ℕ) (f : Files) → is_looked_at b ≡ true → IsSpool (holds b file) f → f b name ≡ Some file
-here b file f look h = h b name (or_left (is_looked_at b) (is_log b name) look) ∙ ap (λ (t : Bool). if t then Some file else boot_file b name) (same_place-refl b name)
+pub here : (b : Area) (file : List ℕ) (f : Files) → says_messages b ≡ true → IsSpool (holds b file) f → f b name ≡ Some file
+here b file f look h = h b name (or_left (says_messages b) (is_log b name) look) ∙ ap (λ (t : Bool). if t then Some file else boot_file b name) (same_place-refl b name)
 
-elsewhere : (b : Area) (file : List ℕ) (f : Files) → IsSpool (holds b file) f → (a : Area) (n : List ℕ) → (is_looked_at a || is_log a n) ≡ true → same_place b name a n ≡ false → f a n ≡ boot_file a n
+elsewhere : (b : Area) (file : List ℕ) (f : Files) → IsSpool (holds b file) f → (a : Area) (n : List ℕ) → (says_messages a || is_log a n) ≡ true → same_place b name a n ≡ false → f a n ≡ boot_file a n
 elsewhere b file f h a n see e = h a n see ∙ ap (λ (t : Bool). if t then Some file else boot_file a n) e
 
-taken_away : (b : Area) (file : List ℕ) (f : Files) → Boot ≢ b → IsSpool (holds b file) f → (a : Area) (n : List ℕ) → (is_looked_at a || is_log a n) ≡ true → without_file f b name a n ≡ boot_file a n
+taken_away : (b : Area) (file : List ℕ) (f : Files) → Boot ≢ b → IsSpool (holds b file) f → (a : Area) (n : List ℕ) → (says_messages a || is_log a n) ≡ true → without_file f b name a n ≡ boot_file a n
 taken_away b file f differ h a n see =
     put_at f b name None a n ∙ by_test (same_place b name a n) None (f a n) (boot_file a n) (λ e. sym (no_boot b a n differ e)) (λ e. elsewhere b file f h a n see e)
 

@@ -13,11 +13,11 @@ use Rattle.q_model.specs.Step.{after_all}
 use Rattle.q_host.specs.declared.error.HostError.{HostError}
 use Rattle.q_model.specs.SpoolFiles.{Files}
 use Rattle.q_host.specs.View.{View}
-use Rattle.q_top.specs.Books.{Follows}
+use Rattle.q_top.specs.Books.{FollowsSteps}
 use Rattle.q_top.specs.declared.life.Life.{Life}
 use Rattle.q_top.specs.declared.life.Stage.{Stage}
 use Rattle.q_top.specs.declared.life.Stage.TheVariants.{Awaited, InFlight, Gone}
-use Rattle.q_top.specs.OneMessage.{file_message, idle, flying}
+use Rattle.q_top.specs.OneMessage.{spool_message, idle, flying}
 use Rattle.q_top.specs.Spools.{Spool, empty, holds, IsSpool}
 use Rattle.q_top.specs.Steps.{Steps, entries_of, spool_after, Plays, Halts}
 use Rattle.q_model.specs.Settings.{World}
@@ -50,9 +50,9 @@ pub record IsFlying (world : World) (now at : ℕ) (timed : Bool) (l : Ledger)
   pub begun : is_begun past ≡ true
   pub arrived : (count_by is_arrive past == 0) ≡ false
   pub clock : timed ≡ true
-  pub message : IsFileMessage (file_message sender arrival address false)
-  pub spool : s ≡ holds Active (file_bytes (file_message sender arrival address false) (80 ∷ []))
-  pub mark : at ≡ mark_at (file_message sender arrival address false) 0
+  pub message : IsFileMessage (spool_message sender arrival address false)
+  pub spool : s ≡ holds Active (file_bytes (spool_message sender arrival address false) (80 ∷ []))
+  pub mark : at ≡ mark_at (spool_message sender arrival address false) 0
 
 -- the message was delivered
 pub record IsGone (world : World) (now : ℕ) (timed : Bool) (l : Ledger) (s : Spool) : Type 0 where
@@ -69,8 +69,8 @@ StageAgrees world (InFlight at) now timed l s = IsFlying world now at timed l s
 StageAgrees world Gone now timed l s = IsGone world now timed l s
 
 -- what the life holds is what the ledger and the spool say
-abbrev pub Agrees : (world : World) → Life → Ledger → Spool → Type 0
-Agrees world life l s = StageAgrees world life.stage life.clock life.timed l s
+abbrev pub LifeAgrees : (world : World) → Life → Ledger → Spool → Type 0
+LifeAgrees world life l s = StageAgrees world life.stage life.clock life.timed l s
 
 -- the files that the life needs are there
 abbrev pub HasFiles : Stage → Files → Type 0
@@ -81,14 +81,14 @@ HasFiles Gone files = IsSpool empty files
 
 -- From each ledger and spool with which the life agreed it carried out and told the turn of the
 -- item, and agrees with what they came to.
-abbrev pub Turns : (world : World) → Life → Life → LifeEvent → View → View → Type 0
-Turns world old new item before after = (l : Ledger) (s : Spool) → Agrees world old l s
-    → (steps : Steps) × (turn world l item ≡ entries_of steps) × Follows world l steps
-    × Agrees world new (after_all world l (entries_of steps)) (spool_after s steps)
+abbrev pub PlaysTurn : (world : World) → Life → Life → LifeEvent → View → View → Type 0
+PlaysTurn world old new item before after = (l : Ledger) (s : Spool) → LifeAgrees world old l s
+    → (steps : Steps) × (turn world l item ≡ entries_of steps) × FollowsSteps world l steps
+    × LifeAgrees world new (after_all world l (entries_of steps)) (spool_after s steps)
     × Plays world s steps before after
 
 -- from each of them it gave the turn up at some entry
 abbrev pub Breaks : (world : World) → Life → LifeEvent → HostError → View → View → Type 0
-Breaks world old item error before after = (l : Ledger) (s : Spool) → Agrees world old l s
-    → (steps : Steps) × (turn world l item ≡ entries_of steps) × Follows world l steps
+Breaks world old item error before after = (l : Ledger) (s : Spool) → LifeAgrees world old l s
+    → (steps : Steps) × (turn world l item ≡ entries_of steps) × FollowsSteps world l steps
     × Halts world s steps error before after

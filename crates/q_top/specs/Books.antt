@@ -17,7 +17,7 @@ pub record StandsFor (s : Spool) (b : Book) : Type 0 where
   pub crash : (f : Files) → MayBeLeft s f → (left : Book) × IsCrashOf b left × Stands f left
 
 -- each spool stands for the book after its entry, from this ledger on
-abbrev pub Follows : (world : World) → Ledger → Steps → Type 0
-Follows world l [] = Unit {0}
-Follows world l (p ∷ ps) = StandsFor p.1 (after world l p.0).book
-    × Follows world (after world l p.0) ps
+abbrev pub FollowsSteps : (world : World) → Ledger → Steps → Type 0
+FollowsSteps world l [] = Unit {0}
+FollowsSteps world l (p ∷ ps) = StandsFor p.1 (after world l p.0).book
+    × FollowsSteps world (after world l p.0) ps

@@ -4,7 +4,7 @@ use Rattle.q_model.specs.Settings.{Settings}
 use Rattle.q_params.specs.declared.error.ParamError.{ParamError}
 use Rattle.q_transport.specs.Contents.{Contents}
 use Rattle.q_transport.specs.declared.error.TableError.{TableError}
-use Rattle.q_top.specs.Confs.{line_of}
+use Rattle.q_top.specs.Confs.{conf_line_of}
 use Rattle.q_top.specs.declared.status.InputFile.TheVariants.{Parameters, Table}
 use Rattle.q_top.specs.declared.status.Status.{Status}
 use Rattle.q_top.specs.declared.status.Status.TheVariants.{Done, Usage, BadInput, Disk, Tell, Source, Damaged, Limit, NoMemory}
@@ -20,7 +20,7 @@ abbrev pub GivesTable : Result Contents Status → Result Contents TableError �
 GivesTable (Ok contents) read = read ≡ Ok contents
 GivesTable (Err NoMemory) read = Unit {0}
 GivesTable (Err (BadInput file line)) read = (e : TableError) × (read ≡ Err e) × (file ≡ Table)
-    × (line ≡ line_of e)
+    × (line ≡ conf_line_of e)
 GivesTable (Err Disk) read = ⊥
 GivesTable (Err Done) read = ⊥
 GivesTable (Err Usage) read = ⊥

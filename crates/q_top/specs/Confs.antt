@@ -26,17 +26,17 @@ pub data Sayings : Type 0 where
   at_fault : InputFile → ℕ → Sayings
 
 -- the line of a fault of the table
-abbrev pub line_of : TableError → ℕ
-line_of table_errors.NoMemory = 0
-line_of (table_errors.BadLine n) = n
-line_of (table_errors.Twice n) = n
-line_of (table_errors.TooMany n) = n
+abbrev pub conf_line_of : TableError → ℕ
+conf_line_of table_errors.NoMemory = 0
+conf_line_of (table_errors.BadLine n) = n
+conf_line_of (table_errors.Twice n) = n
+conf_line_of (table_errors.TooMany n) = n
 
 -- what the table says, beside these parameters
 abbrev pub with_table : Settings → Result Contents TableError → Sayings
 with_table settings (Ok contents) = goes_by
     (record { settings = settings; table = table_of contents })
-with_table settings (Err e) = at_fault files.Table (line_of e)
+with_table settings (Err e) = at_fault files.Table (conf_line_of e)
 
 -- the parameters come first, then the table
 abbrev pub with_params : Result Settings ParamError → List ℕ → Sayings

@@ -34,14 +34,14 @@ abbrev pub listing_of : List ℕ → Listing
 listing_of bytes = listing [] 1 (lines_of bytes)
 
 -- the items through `end`; what stands behind it is not looked at
-abbrev pub items_of : Listing → Option (List LifeEvent)
-items_of (gives (Step event line) n more) =
-    option_map (λ items. Heard event ∷ items) (items_of more)
-items_of (gives Restart n more) = option_map (λ items. Begin ∷ items) (items_of more)
-items_of (gives End n more) = Some (Finish ∷ [])
-items_of (bad n) = None
-items_of past_limit = None
+abbrev pub listed_items : Listing → Option (List LifeEvent)
+listed_items (gives (Step event line) n more) =
+    option_map (λ items. Heard event ∷ items) (listed_items more)
+listed_items (gives Restart n more) = option_map (λ items. Begin ∷ items) (listed_items more)
+listed_items (gives End n more) = Some (Finish ∷ [])
+listed_items (bad n) = None
+listed_items past_limit = None
 
 -- the items of a text, if it is an event list
 unfoldable pub event_list : List ℕ → Option (List LifeEvent)
-event_list bytes = items_of (listing_of bytes)
+event_list bytes = listed_items (listing_of bytes)

@@ -22,8 +22,8 @@ use Rattle.q_model.specs.Values.{Site}
 use Rattle.q_top.specs.Spools.{first_id}
 
 -- what the file of the message says
-abbrev pub file_message : Option (List ℕ) → ℕ → List ℕ → Bool → FileMessage
-file_message sender arrival address marked =
+abbrev pub spool_message : Option (List ℕ) → ℕ → List ℕ → Bool → FileMessage
+spool_message sender arrival address marked =
     record {
       sender = sender;
       arrival = arrival;

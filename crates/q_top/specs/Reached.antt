@@ -13,7 +13,7 @@ use Rattle.q_model.specs.Step.{after_all}
 use Rattle.q_model.specs.Text.{text}
 use Rattle.q_host.specs.View.{Remains, View}
 use Rattle.q_top.specs.Begins.{before_life}
-use Rattle.q_top.specs.Replays.{IsFront}
+use Rattle.q_top.specs.Replays.{IsFrontOfItems}
 use Rattle.q_model.specs.Settings.{World}
 
 -- Behind what was told before stand the lines of the first entries and some first part of the next
@@ -33,7 +33,7 @@ pub record Reached (world : World) (IsBook : Book
 -- a run of the items that a text begins with has come so far
 abbrev pub RunReached : (world : World) → (Book → Type 0) → Option (List ℕ) → List ℕ → List ℕ
     → Type 0
-RunReached world IsBook bytes before after = (items : List LifeEvent) × IsFront world bytes items
+RunReached world IsBook bytes before after = (items : List LifeEvent) × IsFrontOfItems world bytes items
     × Reached world IsBook before_life (run_of world Deliver empty_book items) before after
 
 -- at an exit the files stand for the book

@@ -18,10 +18,10 @@ use Rattle.q_top.specs.Listings.{Listing, gives, bad, past_limit}
 
 -- the items through `end`; those before the line that can't be taken, and its number; or those
 -- before the end of the bytes that a list may have
-pub data Reading : Type 0 where
-  ended : List LifeEvent → Reading
-  faulty : List LifeEvent → ℕ → Reading
-  limited : List LifeEvent → Reading
+pub data TakenItems : Type 0 where
+  ended : List LifeEvent → TakenItems
+  faulty : List LifeEvent → ℕ → TakenItems
+  limited : List LifeEvent → TakenItems
 
 -- the one outcome is a success
 abbrev pub is_one_ok : List Outcome → Bool
@@ -46,14 +46,14 @@ abbrev pub may_hear : World → Ledger → Event → Bool
 may_hear w l event = is_handled l event && allowed w l (entry_of l (Heard event))
 
 -- these items, and then what follows
-abbrev pub reading_behind : List LifeEvent → Reading → Reading
+abbrev pub reading_behind : List LifeEvent → TakenItems → TakenItems
 reading_behind items (ended more) = ended (items ++ more)
 reading_behind items (faulty more n) = faulty (items ++ more) n
 reading_behind items (limited more) = limited (items ++ more)
 
 -- which items of a list are taken, where the ledger is what the items before it led to; no life
 -- begins again so far
-unfoldable pub read_items : World → Ledger → Listing → Reading
+unfoldable pub read_items : World → Ledger → Listing → TakenItems
 read_items w l (gives (Step event line) n more) = if may_hear w l event
     then reading_behind (Heard event ∷ [])
     (read_items w (after_all w l (turn w l (Heard event))) more) else faulty [] n

@@ -11,7 +11,7 @@ use Rattle.q_top.specs.declared.life.Life.{Life}
 use Rattle.q_top.specs.declared.status.InputFile.TheVariants.{Events, Parameters, Table}
 use Rattle.q_top.specs.declared.status.Status.{Status}
 use Rattle.q_top.specs.declared.status.Status.TheVariants.{Done, Usage, BadInput, Disk, Tell, Source, Damaged, Limit, NoMemory}
-use Rattle.q_top.specs.Replays.{IsTold, IsToldInPart, IsWhole, IsFaulty, IsLimited, IsCutOff, IsFront}
+use Rattle.q_top.specs.Replays.{IsTold, IsToldInPart, IsWhole, IsFaulty, IsLimited, IsCutOff, IsFrontOfItems}
 use Rattle.q_model.specs.Settings.{World}
 
 -- what the status says of the text and of what was told
@@ -25,12 +25,12 @@ ReplayEnds world text left before after Source = (items : List LifeEvent)
     × IsCutOff world text left items × IsTold world items before after
 ReplayEnds world text left before after (Limit bound) = (items : List LifeEvent) × (bound ≡ Input)
     × IsLimited world text items × IsTold world items before after
-ReplayEnds world text left before after Disk = (items : List LifeEvent) × IsFront world text items
+ReplayEnds world text left before after Disk = (items : List LifeEvent) × IsFrontOfItems world text items
     × IsToldInPart world items errors.Disk before after
-ReplayEnds world text left before after Tell = (items : List LifeEvent) × IsFront world text items
+ReplayEnds world text left before after Tell = (items : List LifeEvent) × IsFrontOfItems world text items
     × IsToldInPart world items errors.Tell before after
 ReplayEnds world text left before after NoMemory = (items : List LifeEvent)
-    × IsFront world text items × (IsTold world items before after
+    × IsFrontOfItems world text items × (IsTold world items before after
     ⊎ IsToldInPart world items errors.NoMemory before after)
 ReplayEnds world text left before after (BadInput Parameters line) = ⊥
 ReplayEnds world text left before after (BadInput Table line) = ⊥

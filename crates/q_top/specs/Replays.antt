@@ -13,11 +13,11 @@ use Rattle.q_host.specs.declared.error.HostError.{HostError}
 use Rattle.q_model.specs.SpoolFiles.{Files}
 use Rattle.q_host.specs.View.{View}
 use Rattle.q_top.specs.Begins.{before_life}
-use Rattle.q_top.specs.Books.{Follows}
+use Rattle.q_top.specs.Books.{FollowsSteps}
 use Rattle.q_events.specs.Readings.{is_in_line}
 use Rattle.q_events.specs.TextLines.{lines_from, TextLine}
 use Rattle.q_top.specs.Listings.{lines_of, listing, listing_of}
-use Rattle.q_top.specs.Reading.{Reading, ended, faulty, limited, read_items}
+use Rattle.q_top.specs.Reading.{TakenItems, ended, faulty, limited, read_items}
 use Rattle.q_top.specs.Spools.{unopened, IsSpool}
 use Rattle.q_top.specs.Steps.{Steps, entries_of, Plays, Halts}
 use Rattle.q_model.specs.Settings.{World}
@@ -27,11 +27,11 @@ abbrev pub first_ledger : (world : World) → Ledger
 first_ledger world = after_all world before_life (turn world before_life Begin)
 
 -- which items of a text are taken
-abbrev pub read_text : (world : World) → List ℕ → Reading
+abbrev pub read_text : (world : World) → List ℕ → TakenItems
 read_text world bytes = read_items world (first_ledger world) (listing_of bytes)
 
 -- the items that are taken, as far as the text goes
-abbrev pub items_in : Reading → List LifeEvent
+abbrev pub items_in : TakenItems → List LifeEvent
 items_in (ended items) = items
 items_in (faulty items line) = items
 items_in (limited items) = items
@@ -44,7 +44,7 @@ StandsAfter world entries files = Stands files (after_all world before_life entr
 pub record IsTold (world : World) (items : List LifeEvent) (before after : View) : Type 0 where
   pub steps : Steps
   pub run : run_of world Deliver empty_book items ≡ entries_of steps
-  pub follows : Follows world before_life steps
+  pub follows : FollowsSteps world before_life steps
   pub plays : Plays world unopened steps before after
   pub book : IsSpool unopened before.files → StandsAfter world (entries_of steps) after.files
 
@@ -53,7 +53,7 @@ pub record IsToldInPart (world : World) (items : List LifeEvent) (error : HostEr
     (before after : View) : Type 0 where
   pub steps : Steps
   pub run : run_of world Deliver empty_book items ≡ entries_of steps
-  pub follows : Follows world before_life steps
+  pub follows : FollowsSteps world before_life steps
   pub halts : Halts world unopened steps error before after
   pub book : IsSpool unopened before.files → StandsAfter world (entries_of halts.done) after.files
       ⊎ StandsAfter world (entries_of halts.done ++ halts.e ∷ []) after.files
@@ -83,6 +83,6 @@ IsCutOff world text left items = IfSome text (λ bytes. (lines : List TextLine) 
     ≡ faulty items (length lines + 1)))
 
 -- these items are the first of those that are taken
-abbrev pub IsFront : (world : World) → Option (List ℕ) → List LifeEvent → Type 0
-IsFront world text items = IfSome text (λ bytes. (more : List LifeEvent)
+abbrev pub IsFrontOfItems : (world : World) → Option (List ℕ) → List LifeEvent → Type 0
+IsFrontOfItems world text items = IfSome text (λ bytes. (more : List LifeEvent)
     × (items_in (read_text world bytes) ≡ items ++ more))

@@ -26,29 +26,29 @@ pub data Spool : Type 0 where
 
 -- the areas that say which messages there are: not the logs, the files that aren't whole and those
 -- that an operator writes
-abbrev pub is_looked_at : Area → Bool
-is_looked_at Boot = true
-is_looked_at Conf = false
-is_looked_at Tmp = false
-is_looked_at Incoming = true
-is_looked_at Active = true
-is_looked_at Deferred = true
-is_looked_at Hold = true
-is_looked_at Corrupt = true
-is_looked_at Bounce = false
-is_looked_at Defer = false
+abbrev pub says_messages : Area → Bool
+says_messages Boot = true
+says_messages Conf = false
+says_messages Tmp = false
+says_messages Incoming = true
+says_messages Active = true
+says_messages Deferred = true
+says_messages Hold = true
+says_messages Corrupt = true
+says_messages Bounce = false
+says_messages Defer = false
 
 -- the generation of the first life
 abbrev pub boot_file : Area → List ℕ → Option (List ℕ)
 boot_file a n = if same_place Boot (codes "00000001") a n then Some [] else None
 
 -- what stands at a place
-abbrev pub file_at : Spool → Area → List ℕ → Option (List ℕ)
-file_at unopened a n = None
-file_at empty a n = boot_file a n
-file_at (holds area bytes) a n = if same_place area (id_text first_id) a n then Some bytes
+abbrev pub spool_file_at : Spool → Area → List ℕ → Option (List ℕ)
+spool_file_at unopened a n = None
+spool_file_at empty a n = boot_file a n
+spool_file_at (holds area bytes) a n = if same_place area (id_text first_id) a n then Some bytes
     else boot_file a n
-file_at (marking at bytes) a n = if same_place Active (id_text first_id) a n
+spool_file_at (marking at bytes) a n = if same_place Active (id_text first_id) a n
     then Some (marked at bytes) else boot_file a n
 
 -- the place of a failure log of the one message
@@ -57,14 +57,14 @@ is_log a n = same_place Bounce (id_text first_id) a n
 
 -- the places that a spool speaks of: the areas that are looked at, and once it is opened that log
 abbrev pub is_seen : Spool → Area → List ℕ → Bool
-is_seen unopened a n = is_looked_at a
-is_seen empty a n = is_looked_at a || is_log a n
-is_seen (holds area bytes) a n = is_looked_at a || is_log a n
-is_seen (marking at bytes) a n = is_looked_at a || is_log a n
+is_seen unopened a n = says_messages a
+is_seen empty a n = says_messages a || is_log a n
+is_seen (holds area bytes) a n = says_messages a || is_log a n
+is_seen (marking at bytes) a n = says_messages a || is_log a n
 
 -- the files at these places are those of the spool
 abbrev pub IsSpool : Spool → Files → Type 0
-IsSpool s files = (a : Area) (n : List ℕ) → is_seen s a n ≡ true → files a n ≡ file_at s a n
+IsSpool s files = (a : Area) (n : List ℕ) → is_seen s a n ≡ true → files a n ≡ spool_file_at s a n
 
 -- What a crash leaves of the spool: the same files, with any byte in place of a mark that isn't
 -- synced.

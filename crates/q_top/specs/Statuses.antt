@@ -9,16 +9,16 @@ use Rattle.q_top.specs.declared.status.Status.{Status}
 use Rattle.q_top.specs.declared.status.Status.TheVariants.{Done, Usage, BadInput, Disk, Tell, Source, Damaged, Limit, NoMemory}
 
 -- the exit status of a program
-abbrev pub number_of : Status → ℕ
-number_of Done = 0
-number_of Usage = 1
-number_of (BadInput file line) = 2
-number_of Disk = 3
-number_of Tell = 4
-number_of Source = 5
-number_of (Damaged area name) = 6
-number_of (Limit bound) = 8
-number_of NoMemory = 9
+abbrev pub status_number : Status → ℕ
+status_number Done = 0
+status_number Usage = 1
+status_number (BadInput file line) = 2
+status_number Disk = 3
+status_number Tell = 4
+status_number Source = 5
+status_number (Damaged area name) = 6
+status_number (Limit bound) = 8
+status_number NoMemory = 9
 
 -- how a command ends where the host refused a call
 abbrev pub status_of : HostError → Status

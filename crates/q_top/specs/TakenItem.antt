@@ -6,7 +6,7 @@ use Rattle.q_events.specs.declared.item.Item.{Item}
 use Rattle.q_events.specs.declared.item.Item.TheVariants.{Step, Restart, End}
 use Rattle.q_host.specs.Calls.{IsAsItWas}
 use Rattle.q_host.specs.View.{View}
-use Rattle.q_top.specs.Agrees.{Breaks, Turns}
+use Rattle.q_top.specs.Agrees.{Breaks, PlaysTurn}
 use Rattle.q_top.specs.declared.life.Life.{Life}
 use Rattle.q_top.specs.declared.replay.Refusal.{Refusal}
 use Rattle.q_top.specs.declared.replay.Refusal.TheVariants.{NotTaken, Host, Unreadable}
@@ -19,7 +19,7 @@ use Rattle.q_model.specs.Settings.{World}
 abbrev pub Takes : (world : World) → Bool → Life → Life → Item → View → View → Taken → Type 0
 Takes world tells old new item before after takens.Heard = (event : Event) × (line : ℕ)
     × (item ≡ Step event line) × (fits old event ≡ true)
-    × (IsTrue tells → Turns world old new (Heard event) before after)
+    × (IsTrue tells → PlaysTurn world old new (Heard event) before after)
 Takes world tells old new item before after takens.Ended = (item ≡ End) × (new ≡ old)
     × (IsTrue tells → IsAsItWas before after)
 

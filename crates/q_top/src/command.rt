@@ -14,7 +14,7 @@ ghost use Rattle.q_top.specs.Faultless.{NoFault, NoSourceFault};
 ghost use Rattle.q_top.specs.FirstFile.{IsFirstFile, IsSameHost, areas_in_order};
 ghost use Rattle.q_top.specs.ReplayEnds.{ReplayEnds};
 ghost use Rattle.q_top.specs.Reached.{IsAtExit, IsLeftBehind};
-ghost use Rattle.q_top.specs.Spools.{HoldsSpool, is_looked_at, unopened};
+ghost use Rattle.q_top.specs.Spools.{HoldsSpool, says_messages, unopened};
 
 use crate::conf::read_conf;
 use crate::replay::replay;
@@ -97,7 +97,7 @@ pub fn qmgr<H: Host, S: Source>(
     // A spool with a file in an area that is looked at is turned away.
     ensures in_the_way { (w : World) (a : Area) (n : List ℕ)
         → IsReplay H.tells w (map string_bytes words.now) (H.view host.old).files
-        → IsTrue (is_looked_at a) → IsSome ((H.view host.old).files a n)
+        → IsTrue (says_messages a) → IsSome ((H.view host.old).files a n)
         → IsTurnedAway result × (source.new ≡ source.old)
         × IsSameHost (now (H.view host.old)) (now (H.view host.new)) }
     ensures only_in_the_way { (spot : Spot)

@@ -7,9 +7,9 @@ ghost use Rattle.q_model.specs.declared.outcome.Outcome.TheVariants as outcomes;
 ghost use Rattle.q_model.specs.declared.outcome.SiteState.TheVariants as states;
 ghost use Rattle.q_model.specs.Lists.{has_none};
 ghost use Rattle.q_params.specs.Ranges.{IsInRange};
-ghost use Rattle.q_top.specs.Agrees.{Breaks, HasFiles, Turns};
+ghost use Rattle.q_top.specs.Agrees.{Breaks, HasFiles, PlaysTurn};
 ghost use Rattle.q_top.specs.Begins.{Begins, NeverBegins, Ends};
-ghost use Rattle.q_top.specs.Causes.{HasCause};
+ghost use Rattle.q_top.specs.Causes.{HasFaultCause};
 ghost use Rattle.q_events.specs.Forms.{IsInForm};
 ghost use Rattle.q_top.specs.Fits.{fits, is_awaited, is_in_flight};
 ghost use Rattle.q_top.specs.Reading.{is_one_ok};
@@ -115,7 +115,7 @@ impl Life {
             → HasFiles life.stage (H.view host.new).files) }
         ensures err { (error : HostError) → IsErrOf result error → IsTrue H.tells
             → NeverBegins (world_of conf.now) error (H.view host.old) (H.view host.new) }
-        ensures cause { HasCause (H.faults host.old) (H.faults host.new) result }
+        ensures cause { HasFaultCause (H.faults host.old) (H.faults host.new) result }
     {
         step::begin(alloc, host, conf, generation)?;
         Ok(Life {
@@ -138,7 +138,7 @@ impl Life {
         requires clock { self.old.clock ≤ 999990000000 }
         requires there { IsTrue H.tells → HasFiles self.old.stage (H.view host.old).files }
         ensures ok { OnOk result (IsTrue H.tells
-            → Turns (world_of conf.now) self.old self.new (life_events.Heard (events.At moment))
+            → PlaysTurn (world_of conf.now) self.old self.new (life_events.Heard (events.At moment))
             (H.view host.old) (H.view host.new)) }
         ensures files { OnOk result (IsTrue H.tells
             → HasFiles self.new.stage (H.view host.new).files) }
@@ -146,7 +146,7 @@ impl Life {
         ensures err { (error : HostError) → IsErrOf result error → IsTrue H.tells
             → Breaks (world_of conf.now) self.old (life_events.Heard (events.At moment)) error
             (H.view host.old) (H.view host.new) }
-        ensures cause { HasCause (H.faults host.old) (H.faults host.new) result }
+        ensures cause { HasFaultCause (H.faults host.old) (H.faults host.new) result }
     {
         let clock = self.clock.max(moment);
         tell(alloc, host, conf, &Entry::At { moment: clock })?;
@@ -171,7 +171,7 @@ impl Life {
         requires clock { self.old.clock ≤ 999990000000 }
         requires there { IsTrue H.tells → HasFiles self.old.stage (H.view host.old).files }
         ensures ok { IfOk result (λ stepped. IsTrue H.tells → (stepped ≡ Stepped.Done)
-            × Turns (world_of conf.now) self.old self.new (life_events.Heard
+            × PlaysTurn (world_of conf.now) self.old self.new (life_events.Heard
             (events.Mail sender to content)) (H.view host.old) (H.view host.new)) }
         ensures files { OnOk result (IsTrue H.tells
             → HasFiles self.new.stage (H.view host.new).files) }
@@ -179,7 +179,7 @@ impl Life {
         ensures err { (error : HostError) → IsErrOf result error → IsTrue H.tells
             → Breaks (world_of conf.now) self.old (life_events.Heard
             (events.Mail sender to content)) error (H.view host.old) (H.view host.new) }
-        ensures cause { HasCause (H.faults host.old) (H.faults host.new) result }
+        ensures cause { HasFaultCause (H.faults host.old) (H.faults host.new) result }
     {
         let site = conf.table.route(&to.get(0));
         let file = queue_file(alloc, &sender, self.clock, &to, content.as_slice())?;
@@ -210,7 +210,7 @@ impl Life {
         requires range { IsInRange (world_of conf.now).settings }
         requires there { IsTrue H.tells → HasFiles self.old.stage (H.view host.old).files }
         ensures ok { OnOk result (IsTrue H.tells
-            → Turns (world_of conf.now) self.old self.new (life_events.Heard
+            → PlaysTurn (world_of conf.now) self.old self.new (life_events.Heard
             (events.Reply number site outcomes)) (H.view host.old) (H.view host.new)) }
         ensures files { OnOk result (IsTrue H.tells
             → HasFiles self.new.stage (H.view host.new).files) }
@@ -218,7 +218,7 @@ impl Life {
         ensures err { (error : HostError) → IsErrOf result error → IsTrue H.tells
             → Breaks (world_of conf.now) self.old (life_events.Heard
             (events.Reply number site outcomes)) error (H.view host.old) (H.view host.new) }
-        ensures cause { HasCause (H.faults host.old) (H.faults host.new) result }
+        ensures cause { HasFaultCause (H.faults host.old) (H.faults host.new) result }
     {
         let Stage::InFlight { mark_at } = self.stage else {
             unreachable!()
@@ -250,7 +250,7 @@ impl Life {
         requires clock { self.old.clock ≤ 999990000000 }
         requires there { IsTrue H.tells → HasFiles self.old.stage (H.view host.old).files }
         ensures ok { IfOk result (λ stepped. IsTrue H.tells → (stepped ≡ Stepped.Done)
-            × Turns (world_of conf.now) self.old self.new (life_events.Heard event)
+            × PlaysTurn (world_of conf.now) self.old self.new (life_events.Heard event)
             (H.view host.old) (H.view host.new)) }
         ensures files { OnOk result (IsTrue H.tells
             → HasFiles self.new.stage (H.view host.new).files) }
@@ -258,7 +258,7 @@ impl Life {
         ensures err { (error : HostError) → IsErrOf result error → IsTrue H.tells
             → Breaks (world_of conf.now) self.old (life_events.Heard event) error
             (H.view host.old) (H.view host.new) }
-        ensures cause { HasCause (H.faults host.old) (H.faults host.new) result }
+        ensures cause { HasFaultCause (H.faults host.old) (H.faults host.new) result }
     {
         match event {
             Event::At { moment } => {
@@ -294,7 +294,7 @@ impl Life {
         ensures err { (error : HostError) → IsErrOf result error → IsTrue H.tells
             → Breaks (world_of conf.now) self life_events.Finish error
             (H.view host.old) (H.view host.new) }
-        ensures cause { HasCause (H.faults host.old) (H.faults host.new) result }
+        ensures cause { HasFaultCause (H.faults host.old) (H.faults host.new) result }
     {
         tell(alloc, host, conf, &Entry::End)
     }
@@ -313,7 +313,7 @@ fn send<H: Host>(
         → Plays (world_of conf.now) s (sent s site) (H.view host.old) (H.view host.new)) }
     ensures err { (error : HostError) → IsErrOf result error → IsTrue H.tells → (s : Spool)
         → Halts (world_of conf.now) s (sent s site) error (H.view host.old) (H.view host.new) }
-    ensures cause { HasCause (H.faults host.old) (H.faults host.new) result }
+    ensures cause { HasFaultCause (H.faults host.old) (H.faults host.new) result }
 {
     let load = Entry::Load {
         id: FIRST,

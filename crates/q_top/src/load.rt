@@ -6,7 +6,7 @@ ghost use Rattle.q_model.specs.QueueFile.{queue_file};
 ghost use Rattle.q_host.specs.Calls.{Stays};
 ghost use Rattle.q_host.specs.Faults.{DiskCause};
 ghost use Rattle.q_message.specs.Pending.{taken_at};
-ghost use Rattle.q_top.specs.OneMessage.{file_message};
+ghost use Rattle.q_top.specs.OneMessage.{spool_message};
 ghost use Rattle.q_top.specs.Spools.{first_id};
 ghost use Rattle.q_top.specs.Unread.{unread};
 
@@ -33,9 +33,9 @@ pub(crate) fn recipient<H: Host>(alloc: Global, host: &mut H) -> Result<Option<T
     requires { IsTrue H.tells → IsSome ((H.view host.old).files areas.Active (id_text first_id)) }
     ensures taken { (sender : Option (List ℕ)) (address file : List ℕ) (arrival : ℕ)
         → IsTrue H.tells → (H.view host.old).files areas.Active (id_text first_id) ≡ Some file
-        → queue_file file ≡ Some (file_message sender arrival address false)
+        → queue_file file ≡ Some (spool_message sender arrival address false)
         → IfOk result (λ taken. taken ≡ Some (taken_at
-        (file_message sender arrival address false) 0)) }
+        (spool_message sender arrival address false) 0)) }
     ensures stays { IsTrue H.tells → Stays (H.view host.old) (H.view host.new) }
     ensures cause { DiskCause (H.faults host.old) (H.faults host.new) result }
 {

@@ -1,6 +1,6 @@
 //! How a command ended.
 ghost use Rattle.std.specs.Prelude.{◌≡◌};
-ghost use Rattle.q_top.specs.Statuses.{number_of, status_of, unread};
+ghost use Rattle.q_top.specs.Statuses.{status_number, status_of, unread};
 
 use q_events::{Bound, EventError};
 use q_host::HostError;
@@ -43,7 +43,7 @@ pub enum Status {
 impl Status {
     /// The exit status of a program that ends so.
     pub fn number(&self) -> u8
-        ensures { result ≡ number_of self.now }
+        ensures { result ≡ status_number self.now }
     {
         match self {
             Status::Done => 0,

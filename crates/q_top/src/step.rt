@@ -5,7 +5,7 @@ ghost use Rattle.q_model.specs.declared.event.Mode.TheVariants as modes;
 ghost use Rattle.q_model.specs.declared.spot.Area.TheVariants as areas;
 ghost use Rattle.q_model.specs.IdTexts.{id_text};
 ghost use Rattle.q_host.specs.Faults.{DiskCause};
-ghost use Rattle.q_top.specs.Causes.{HasCause};
+ghost use Rattle.q_top.specs.Causes.{HasFaultCause};
 ghost use Rattle.q_top.specs.Forgets.{Forgets, LogGone};
 ghost use Rattle.q_top.specs.Spools.{unopened, empty, holds, marking, marked, first_id};
 ghost use Rattle.q_top.specs.Worlds.{world_of};
@@ -52,7 +52,7 @@ pub(crate) fn begin<H: Host>(
     ensures err { (error : HostError) → IsErrOf result error → IsTrue H.tells
         → Stops (world_of conf.now) unopened (entries.Life 1 modes.Deliver) empty error
         (H.view host.old) (H.view host.new) }
-    ensures cause { HasCause (H.faults host.old) (H.faults host.new) result }
+    ensures cause { HasFaultCause (H.faults host.old) (H.faults host.new) result }
 {
     forget_log(host)?;
     host.create(Area::Boot, generation)?;
@@ -79,7 +79,7 @@ pub(crate) fn arrive<H: Host>(
     ensures err { (error : HostError) → IsErrOf result error → IsTrue H.tells
         → Stops (world_of conf.now) empty (entries.Arrive first_id sender to content)
         (holds areas.Incoming file.now) error (H.view host.old) (H.view host.new) }
-    ensures cause { HasCause (H.faults host.old) (H.faults host.new) result }
+    ensures cause { HasFaultCause (H.faults host.old) (H.faults host.new) result }
 {
     let name = id_name(FIRST);
     let spot = Spot {
@@ -106,7 +106,7 @@ pub(crate) fn admit<H: Host>(alloc: Global, host: &mut H, conf: &Conf) -> Result
         → Stops (world_of conf.now) (holds areas.Incoming file)
         (entries.Admit first_id) (holds areas.Active file) error
         (H.view host.old) (H.view host.new) }
-    ensures cause { HasCause (H.faults host.old) (H.faults host.new) result }
+    ensures cause { HasFaultCause (H.faults host.old) (H.faults host.new) result }
 {
     let name = id_name(FIRST);
     host.rename(Area::Incoming, name, Area::Active, name)?;
@@ -128,7 +128,7 @@ pub(crate) fn mark<H: Host>(
     ensures err { (error : HostError) → IsErrOf result error → IsTrue H.tells → (file : List ℕ)
         → Stops (world_of conf.now) (holds areas.Active file)
         (entries.Mark first_id 0) (marking mark_at file) error (H.view host.old) (H.view host.new) }
-    ensures cause { HasCause (H.faults host.old) (H.faults host.new) result }
+    ensures cause { HasFaultCause (H.faults host.old) (H.faults host.new) result }
 {
     host.write_at(Area::Active, id_name(FIRST), mark_at, b"D")?;
     let entry = Entry::Mark {
@@ -149,7 +149,7 @@ pub(crate) fn sync<H: Host>(alloc: Global, host: &mut H, conf: &Conf) -> Result<
         → (at : ℕ) (file : List ℕ) → Stops (world_of conf.now) (marking at file)
         (entries.Sync first_id) (holds areas.Active (marked at file)) error
         (H.view host.old) (H.view host.new) }
-    ensures cause { HasCause (H.faults host.old) (H.faults host.new) result }
+    ensures cause { HasFaultCause (H.faults host.old) (H.faults host.new) result }
 {
     host.sync(Area::Active, id_name(FIRST))?;
     tell(alloc, host, conf, &Entry::Sync { id: FIRST })
@@ -164,7 +164,7 @@ pub(crate) fn remove<H: Host>(alloc: Global, host: &mut H, conf: &Conf) -> Resul
     ensures err { (error : HostError) → IsErrOf result error → IsTrue H.tells → (file : List ℕ)
         → Stops (world_of conf.now) (holds areas.Active file) (entries.Remove first_id) empty error
         (H.view host.old) (H.view host.new) }
-    ensures cause { HasCause (H.faults host.old) (H.faults host.new) result }
+    ensures cause { HasFaultCause (H.faults host.old) (H.faults host.new) result }
 {
     host.remove(Area::Active, id_name(FIRST))?;
     tell(alloc, host, conf, &Entry::Remove { id: FIRST })

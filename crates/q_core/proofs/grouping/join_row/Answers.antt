@@ -11,4 +11,4 @@ returns-in-Some c =
 pub returns : goal.returns
 returns c =
     let p = has_space c.args.limit c.args.site.now in
-    c.in_ok-begin_row.ensures ∙ join_None c.args.limit c.args.id c.args.site.now c.args.position c.args.rows.now.items (ap (position p) (sym c.deref.ensures.value) ∙ sym c.in_default.ensures)
+    c.in_ok-add_row.ensures ∙ join_None c.args.limit c.args.id c.args.site.now c.args.position c.args.rows.now.items (ap (position p) (sym c.deref.ensures.value) ∙ sym c.in_default.ensures)

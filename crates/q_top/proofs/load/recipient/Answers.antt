@@ -3,7 +3,7 @@ use Rattle.std.specs.Option.{IfSome}
 use Rattle.q_model.specs.declared.spot.Area.TheVariants as areas
 use Rattle.q_model.specs.QueueFile.{queue_file}
 use Rattle.q_message.specs.FileHeads.{fault_at}
-use Rattle.q_top.specs.OneMessage.{file_message}
+use Rattle.q_top.specs.OneMessage.{spool_message}
 use Rattle.q_message.specs.declared.error.MessageError.TheVariants.{NotAMessage}
 use Rattle.q_top.proofs.Loading.{err_same, no_queue_file, not_read, unread_cause}
 use Rattle.q_top.proofs.load.recipient.Goals as goal
@@ -14,7 +14,7 @@ returns-in-Err-clause-taken g c sender address file arrival t there reads =
     (λ place is.
     let files = (g.H.Host.view c.args.host.now).files in
     let none : IfSome (files areas.Active c.id_name.result) (λ x. (queue_file x ≡ None) × (place ≡ fault_at x)) = c.read_head.ensures.no_message place (err_same c.read_head.result c.in-Err.error (NotAMessage place) c.in-Err.is is) t in
-    no_queue_file (files areas.Active c.id_name.result) (λ x. place ≡ fault_at x) file (file_message sender arrival address false) queue_file none (ap (files areas.Active) c.id_name.ensures ∙ there) reads)
+    no_queue_file (files areas.Active c.id_name.result) (λ x. place ≡ fault_at x) file (spool_message sender arrival address false) queue_file none (ap (files areas.Active) c.id_name.ensures ∙ there) reads)
 
 pub returns-in-Err-clause-cause : goal.returns-in-Err-clause-cause
 returns-in-Err-clause-cause g c =

@@ -1,7 +1,7 @@
 use Rattle.std.proofs.Common.{ap, ◌∙◌, inl, refl, Some}
 use Rattle.q_model.specs.declared.entry.Entry.TheVariants as entries
 use Rattle.q_core.specs.declared.decision.Decision.TheVariants as decisions
-use Rattle.q_core.proofs.BeginningLaws.{next_is_start}
+use Rattle.q_core.proofs.LastRuleLaws.{next_is_start}
 use Rattle.q_core.proofs.state.Core.apply_preempt.Goals as goal
 
 pub returns : goal.returns

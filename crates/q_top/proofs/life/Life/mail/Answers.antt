@@ -9,7 +9,7 @@ use Rattle.q_model.specs.SpoolFiles.{Files}
 use Rattle.q_message.specs.Pending.{taken_at}
 use Rattle.q_top.specs.Agrees.{Breaks}
 use Rattle.q_top.specs.MailSteps.{sent}
-use Rattle.q_top.specs.OneMessage.{file_message}
+use Rattle.q_top.specs.OneMessage.{spool_message}
 use Rattle.q_top.specs.Spools.{empty, holds, first_id, IsSpool}
 use Rattle.q_top.specs.Steps.{Does, Halts, Plays, Stops}
 use Rattle.q_top.proofs.Agreeing.{address_form, awaited_files, file_read, mail_breaks, mail_first, mail_turns, few_recipients, one_file, one_taken, routed_by}
@@ -34,7 +34,7 @@ returns-in_err-file-clause-err g c error is t = let world = world_of c.args.conf
     let form = address_form c.args.to address first.only c.requires.form.1 in
     let (routed, there) = routed_by c.args.conf.now c.args.to address c.get.result c.route-site.result first.only c.get.ensures c.route-site.ensures.exact c.route-site.ensures.within in
     let v = g.H.Host.view c.args.host.now in
-    let file = file_bytes (file_message sender old.clock address false) (80 ∷ []) in
+    let file = file_bytes (spool_message sender old.clock address false) (80 ∷ []) in
     mail_breaks world range old sender c.args.to c.args.content address v v first c.requires.form.0 form routed file error refl
     (no_mail world sender address file error v (record { only = g.met.H.Host.only_now c.args.host.now; told = g.met.H.Host.told_stays c.args.host.now }))
 
@@ -46,7 +46,7 @@ returns-in_err-positions-clause-err g c error is t = let world = world_of c.args
     let form = address_form c.args.to address first.only c.requires.form.1 in
     let (routed, there) = routed_by c.args.conf.now c.args.to address c.get.result c.route-site.result first.only c.get.ensures c.route-site.ensures.exact c.route-site.ensures.within in
     let v = g.H.Host.view c.args.host.now in
-    let file = file_bytes (file_message sender old.clock address false) (80 ∷ []) in
+    let file = file_bytes (spool_message sender old.clock address false) (80 ∷ []) in
     mail_breaks world range old sender c.args.to c.args.content address v v first c.requires.form.0 form routed file error refl
     (no_mail world sender address file error v (record { only = g.met.H.Host.only_now c.args.host.now; told = g.met.H.Host.told_stays c.args.host.now }))
 
@@ -58,7 +58,7 @@ returns-in_err-arrive-clause-err g c error is-error t = let world = world_of c.a
     let form = address_form c.args.to address first.only c.requires.form.1 in
     let (routed, there) = routed_by c.args.conf.now c.args.to address c.get.result c.route-site.result first.only c.get.ensures c.route-site.ensures.exact c.route-site.ensures.within in
     let file = c.as_slice-2.result.now in
-    let is : file ≡ file_bytes (file_message sender old.clock address false) (80 ∷ []) = one_file sender old.clock c.args.to address c.args.content c.as_slice.result.now file first.only first.no_content c.as_slice.ensures (c.as_slice-2.ensures ∙ c.in_ok-file.ensures) in
+    let is : file ≡ file_bytes (spool_message sender old.clock address false) (80 ∷ []) = one_file sender old.clock c.args.to address c.args.content c.as_slice.result.now file first.only first.no_content c.as_slice.ensures (c.as_slice-2.ensures ∙ c.in_ok-file.ensures) in
     let before = g.H.Host.view c.args.host.now in
     let mid = g.H.Host.view c.arrive.new.host in
     let stop : Stops world empty (Arrive first_id sender (address ∷ []) []) (holds Incoming file) c.in_err-arrive.field-0.0 before mid = first_stops world sender c.args.to c.args.content address file before mid first.only first.no_content c.in_err-arrive.field-0.0 (c.in_err-arrive.ensures.err c.in_err-arrive.field-0.0 refl t) in
@@ -80,7 +80,7 @@ returns-in_err-admit-clause-err g c error is-error t = let world = world_of c.ar
     let form = address_form c.args.to address first.only c.requires.form.1 in
     let (routed, there) = routed_by c.args.conf.now c.args.to address c.get.result c.route-site.result first.only c.get.ensures c.route-site.ensures.exact c.route-site.ensures.within in
     let file = c.as_slice-2.result.now in
-    let is : file ≡ file_bytes (file_message sender old.clock address false) (80 ∷ []) = one_file sender old.clock c.args.to address c.args.content c.as_slice.result.now file first.only first.no_content c.as_slice.ensures (c.as_slice-2.ensures ∙ c.in_ok-file.ensures) in
+    let is : file ≡ file_bytes (spool_message sender old.clock address false) (80 ∷ []) = one_file sender old.clock c.args.to address c.args.content c.as_slice.result.now file first.only first.no_content c.as_slice.ensures (c.as_slice-2.ensures ∙ c.in_ok-file.ensures) in
     let before = g.H.Host.view c.args.host.now in
     let mid = g.H.Host.view c.arrive.new.host in
     let later = g.H.Host.view c.admit.new.host in
@@ -104,7 +104,7 @@ returns-in_err-taken-clause-err g c error is-error t = let world = world_of c.ar
     let form = address_form c.args.to address first.only c.requires.form.1 in
     let (routed, there) = routed_by c.args.conf.now c.args.to address c.get.result c.route-site.result first.only c.get.ensures c.route-site.ensures.exact c.route-site.ensures.within in
     let file = c.as_slice-2.result.now in
-    let is : file ≡ file_bytes (file_message sender old.clock address false) (80 ∷ []) = one_file sender old.clock c.args.to address c.args.content c.as_slice.result.now file first.only first.no_content c.as_slice.ensures (c.as_slice-2.ensures ∙ c.in_ok-file.ensures) in
+    let is : file ≡ file_bytes (spool_message sender old.clock address false) (80 ∷ []) = one_file sender old.clock c.args.to address c.args.content c.as_slice.result.now file first.only first.no_content c.as_slice.ensures (c.as_slice-2.ensures ∙ c.in_ok-file.ensures) in
     let before = g.H.Host.view c.args.host.now in
     let mid = g.H.Host.view c.arrive.new.host in
     let later = g.H.Host.view c.admit.new.host in
@@ -127,7 +127,7 @@ returns-in_default-clause-ok g c t = let world = world_of c.args.conf.now in
     let form = address_form c.args.to address first.only c.requires.form.1 in
     let (routed, there) = routed_by c.args.conf.now c.args.to address c.get.result c.route-site.result first.only c.get.ensures c.route-site.ensures.exact c.route-site.ensures.within in
     let file = c.as_slice-2.result.now in
-    let is : file ≡ file_bytes (file_message sender old.clock address false) (80 ∷ []) = one_file sender old.clock c.args.to address c.args.content c.as_slice.result.now file first.only first.no_content c.as_slice.ensures (c.as_slice-2.ensures ∙ c.in_ok-file.ensures) in
+    let is : file ≡ file_bytes (spool_message sender old.clock address false) (80 ∷ []) = one_file sender old.clock c.args.to address c.args.content c.as_slice.result.now file first.only first.no_content c.as_slice.ensures (c.as_slice-2.ensures ∙ c.in_ok-file.ensures) in
     let before = g.H.Host.view c.args.host.now in
     let mid = g.H.Host.view c.arrive.new.host in
     let later = g.H.Host.view c.admit.new.host in
@@ -135,7 +135,7 @@ returns-in_default-clause-ok g c t = let world = world_of c.args.conf.now in
     let admits = c.in_ok-admit.ensures.ok t file in
     let lawful : IsLawful later = record { only = g.met.H.Host.only_now c.admit.new.host; told = g.met.H.Host.told_stays c.admit.new.host } in
     let spool = admits.files (does.files (awaited_files old.stage before.files first.stage (c.requires.there t))) in
-    let taken : c.in_ok-taken.field-0 ≡ Some (taken_at (file_message sender old.clock address false) 0) = c.in_ok-taken.ensures.taken sender address file old.clock t (here Active file later.files refl spool) (file_read sender old.clock address file c.requires.form.0 form c.requires.clock is) in
+    let taken : c.in_ok-taken.field-0 ≡ Some (taken_at (spool_message sender old.clock address false) 0) = c.in_ok-taken.ensures.taken sender address file old.clock t (here Active file later.files refl spool) (file_read sender old.clock address file c.requires.form.0 form c.requires.clock is) in
     absurd (c.in_default.not-Some _ taken)
 
 pub returns-in_default-clause-files : goal.returns-in_default-clause-files
@@ -146,7 +146,7 @@ returns-in_default-clause-files g c t = let world = world_of c.args.conf.now in
     let form = address_form c.args.to address first.only c.requires.form.1 in
     let (routed, there) = routed_by c.args.conf.now c.args.to address c.get.result c.route-site.result first.only c.get.ensures c.route-site.ensures.exact c.route-site.ensures.within in
     let file = c.as_slice-2.result.now in
-    let is : file ≡ file_bytes (file_message sender old.clock address false) (80 ∷ []) = one_file sender old.clock c.args.to address c.args.content c.as_slice.result.now file first.only first.no_content c.as_slice.ensures (c.as_slice-2.ensures ∙ c.in_ok-file.ensures) in
+    let is : file ≡ file_bytes (spool_message sender old.clock address false) (80 ∷ []) = one_file sender old.clock c.args.to address c.args.content c.as_slice.result.now file first.only first.no_content c.as_slice.ensures (c.as_slice-2.ensures ∙ c.in_ok-file.ensures) in
     let before = g.H.Host.view c.args.host.now in
     let mid = g.H.Host.view c.arrive.new.host in
     let later = g.H.Host.view c.admit.new.host in
@@ -154,7 +154,7 @@ returns-in_default-clause-files g c t = let world = world_of c.args.conf.now in
     let admits = c.in_ok-admit.ensures.ok t file in
     let lawful : IsLawful later = record { only = g.met.H.Host.only_now c.admit.new.host; told = g.met.H.Host.told_stays c.admit.new.host } in
     let spool = admits.files (does.files (awaited_files old.stage before.files first.stage (c.requires.there t))) in
-    let taken : c.in_ok-taken.field-0 ≡ Some (taken_at (file_message sender old.clock address false) 0) = c.in_ok-taken.ensures.taken sender address file old.clock t (here Active file later.files refl spool) (file_read sender old.clock address file c.requires.form.0 form c.requires.clock is) in
+    let taken : c.in_ok-taken.field-0 ≡ Some (taken_at (spool_message sender old.clock address false) 0) = c.in_ok-taken.ensures.taken sender address file old.clock t (here Active file later.files refl spool) (file_read sender old.clock address file c.requires.form.0 form c.requires.clock is) in
     absurd (c.in_default.not-Some _ taken)
 
 pub returns-in_err-send-clause-err : goal.returns-in_err-send-clause-err
@@ -165,7 +165,7 @@ returns-in_err-send-clause-err g c error is-error t = let world = world_of c.arg
     let form = address_form c.args.to address first.only c.requires.form.1 in
     let (routed, there) = routed_by c.args.conf.now c.args.to address c.get.result c.route-site.result first.only c.get.ensures c.route-site.ensures.exact c.route-site.ensures.within in
     let file = c.as_slice-2.result.now in
-    let is : file ≡ file_bytes (file_message sender old.clock address false) (80 ∷ []) = one_file sender old.clock c.args.to address c.args.content c.as_slice.result.now file first.only first.no_content c.as_slice.ensures (c.as_slice-2.ensures ∙ c.in_ok-file.ensures) in
+    let is : file ≡ file_bytes (spool_message sender old.clock address false) (80 ∷ []) = one_file sender old.clock c.args.to address c.args.content c.as_slice.result.now file first.only first.no_content c.as_slice.ensures (c.as_slice-2.ensures ∙ c.in_ok-file.ensures) in
     let before = g.H.Host.view c.args.host.now in
     let mid = g.H.Host.view c.arrive.new.host in
     let later = g.H.Host.view c.admit.new.host in
@@ -175,7 +175,7 @@ returns-in_err-send-clause-err g c error is-error t = let world = world_of c.arg
     let spool = admits.files (does.files (awaited_files old.stage before.files first.stage (c.requires.there t))) in
     let read = g.H.Host.view c.recipient.new.host in
     let after = g.H.Host.view c.send.new.host in
-    let fact : Some c.in-Some.taken ≡ Some (taken_at (file_message sender old.clock address false) 0) = sym c.in-Some.is ∙ c.in_ok-taken.ensures.taken sender address file old.clock t (here Active file later.files refl spool) (file_read sender old.clock address file c.requires.form.0 form c.requires.clock is) in
+    let fact : Some c.in-Some.taken ≡ Some (taken_at (spool_message sender old.clock address false) 0) = sym c.in-Some.is ∙ c.in_ok-taken.ensures.taken sender address file old.clock t (here Active file later.files refl spool) (file_read sender old.clock address file c.requires.form.0 form c.requires.clock is) in
     let taken = one_taken sender old.clock address c.in-Some.taken fact in
     let inner = c.in_err-send.field-0.0 in
     subst (λ x. Breaks world old (life_events.Heard (events.Mail sender c.args.to c.args.content)) x before after) (same_error c.from_residual-in_err-send.result inner error c.from_residual-in_err-send.ensures.1 is-error)
@@ -190,7 +190,7 @@ returns-clause-ok g c t = let world = world_of c.args.conf.now in let range = c.
     let form = address_form c.args.to address first.only c.requires.form.1 in
     let (routed, there) = routed_by c.args.conf.now c.args.to address c.get.result c.route-site.result first.only c.get.ensures c.route-site.ensures.exact c.route-site.ensures.within in
     let file = c.as_slice-2.result.now in
-    let is : file ≡ file_bytes (file_message sender old.clock address false) (80 ∷ []) = one_file sender old.clock c.args.to address c.args.content c.as_slice.result.now file first.only first.no_content c.as_slice.ensures (c.as_slice-2.ensures ∙ c.in_ok-file.ensures) in
+    let is : file ≡ file_bytes (spool_message sender old.clock address false) (80 ∷ []) = one_file sender old.clock c.args.to address c.args.content c.as_slice.result.now file first.only first.no_content c.as_slice.ensures (c.as_slice-2.ensures ∙ c.in_ok-file.ensures) in
     let before = g.H.Host.view c.args.host.now in
     let mid = g.H.Host.view c.arrive.new.host in
     let later = g.H.Host.view c.admit.new.host in
@@ -200,7 +200,7 @@ returns-clause-ok g c t = let world = world_of c.args.conf.now in let range = c.
     let spool = admits.files (does.files (awaited_files old.stage before.files first.stage (c.requires.there t))) in
     let read = g.H.Host.view c.recipient.new.host in
     let after = g.H.Host.view c.send.new.host in
-    let fact : Some c.in-Some.taken ≡ Some (taken_at (file_message sender old.clock address false) 0) = sym c.in-Some.is ∙ c.in_ok-taken.ensures.taken sender address file old.clock t (here Active file later.files refl spool) (file_read sender old.clock address file c.requires.form.0 form c.requires.clock is) in
+    let fact : Some c.in-Some.taken ≡ Some (taken_at (spool_message sender old.clock address false) 0) = sym c.in-Some.is ∙ c.in_ok-taken.ensures.taken sender address file old.clock t (here Active file later.files refl spool) (file_read sender old.clock address file c.requires.form.0 form c.requires.clock is) in
     let taken = one_taken sender old.clock address c.in-Some.taken fact in
     let plays = subst (λ (x : Site). Plays world (holds Active file) (sent (holds Active file) x) read after) there (c.in_ok-send.ensures.ok t (holds Active file)) in
     (refl, mail_turns world range old sender c.args.to c.args.content address before after first c.requires.form.0 form routed file c.taken.inside.mark_at is (ap (λ (x : Taken). x.mark_at) c.taken.view_is ∙ taken.mark) (mail_play world sender address file before mid later read after does admits lawful (c.recipient.ensures.stays t) plays))
@@ -213,7 +213,7 @@ returns-clause-files g c t = let world = world_of c.args.conf.now in
     let form = address_form c.args.to address first.only c.requires.form.1 in
     let (routed, there) = routed_by c.args.conf.now c.args.to address c.get.result c.route-site.result first.only c.get.ensures c.route-site.ensures.exact c.route-site.ensures.within in
     let file = c.as_slice-2.result.now in
-    let is : file ≡ file_bytes (file_message sender old.clock address false) (80 ∷ []) = one_file sender old.clock c.args.to address c.args.content c.as_slice.result.now file first.only first.no_content c.as_slice.ensures (c.as_slice-2.ensures ∙ c.in_ok-file.ensures) in
+    let is : file ≡ file_bytes (spool_message sender old.clock address false) (80 ∷ []) = one_file sender old.clock c.args.to address c.args.content c.as_slice.result.now file first.only first.no_content c.as_slice.ensures (c.as_slice-2.ensures ∙ c.in_ok-file.ensures) in
     let before = g.H.Host.view c.args.host.now in
     let mid = g.H.Host.view c.arrive.new.host in
     let later = g.H.Host.view c.admit.new.host in
@@ -222,7 +222,7 @@ returns-clause-files g c t = let world = world_of c.args.conf.now in
     let lawful : IsLawful later = record { only = g.met.H.Host.only_now c.admit.new.host; told = g.met.H.Host.told_stays c.admit.new.host } in
     let spool = admits.files (does.files (awaited_files old.stage before.files first.stage (c.requires.there t))) in
     let read = g.H.Host.view c.recipient.new.host in
-    let fact : Some c.in-Some.taken ≡ Some (taken_at (file_message sender old.clock address false) 0) = sym c.in-Some.is ∙ c.in_ok-taken.ensures.taken sender address file old.clock t (here Active file later.files refl spool) (file_read sender old.clock address file c.requires.form.0 form c.requires.clock is) in
+    let fact : Some c.in-Some.taken ≡ Some (taken_at (spool_message sender old.clock address false) 0) = sym c.in-Some.is ∙ c.in_ok-taken.ensures.taken sender address file old.clock t (here Active file later.files refl spool) (file_read sender old.clock address file c.requires.form.0 form c.requires.clock is) in
     let taken = one_taken sender old.clock address c.in-Some.taken fact in (
       file,
       mark_in_file sender old.clock address file c.taken.inside.mark_at is (ap (λ (x : Taken). x.mark_at) c.taken.view_is ∙ taken.mark),

@@ -3,7 +3,7 @@ ghost use Rattle.std.specs.Prelude.{◌≡◌, ◌≤◌, ◌<◌, ◌&&◌, fil
 ghost use Rattle.std.specs.List.{enumerate_from};
 ghost use Rattle.q_core.specs.Agrees.{ForLedgers, Agrees, Matches, FollowsRule};
 ghost use Rattle.q_core.specs.Sending.{started_job, started_line, is_for, IsStarted, IsSent, served_now};
-ghost use Rattle.q_core.specs.Changes.{IsAsBefore, is_looked_at};
+ghost use Rattle.q_core.specs.Changes.{IsUnchanged, is_looked_at};
 ghost use Rattle.q_core.specs.Queries.{flight_in};
 ghost use Rattle.q_model.specs.Sites.{site_eq};
 ghost use Rattle.q_model.specs.Ids.{id_eq};
@@ -102,7 +102,7 @@ impl Core {
     fn send(&mut self, number: u64, id: Id, site: Site, entry: usize) -> Result<(), NoMemory>
         requires { entry < length self.old.waiting }
         ensures ok { OnOk result (IsSent self.old self.new number id site entry) }
-        ensures err { OnErr result (IsAsBefore self.old self.new) }
+        ensures err { OnErr result (IsUnchanged self.old self.new) }
     {
         self.flights.reserve(1)?;
         note_served(&mut self.served, id, site, number)?;
@@ -128,7 +128,7 @@ impl Core {
         requires seen { IsTrue (is_looked_at self.old) }
         ensures ok { OnOk result ((ps : List ℕ)
             → FollowsRule self.old self.new start_rule (Entry.Start number id site ps)) }
-        ensures err { OnErr result (IsAsBefore self.old self.new) }
+        ensures err { OnErr result (IsUnchanged self.old self.new) }
     {
         let Some(entry) = self.row_for(id, &site) else {
             return Ok(());

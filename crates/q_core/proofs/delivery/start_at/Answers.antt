@@ -1,7 +1,7 @@
 use Rattle.std.proofs.Common.{ap, ◌∙◌, sym, slice_set, slice_index_or, arith, add-one, ◌≡◌, ◌+◌}
 use Rattle.q_core.specs.Sending.{started_line}
 use Rattle.q_core.proofs.ListLaws.{numbered_front, numbered_more, numbered_all}
-use Rattle.q_core.proofs.starting.start_at.Goals as goal
+use Rattle.q_core.proofs.delivery.start_at.Goals as goal
 
 pub loop-at-preserved : goal.loop-at-preserved
 loop-at-preserved c =

@@ -2,7 +2,7 @@
 use Rattle.std.proofs.Common.{◌≡◌, ℕ, true, refl, sym, ap, ◌∙◌, subst, Option, Some, None, inl, inr}
 use Rattle.std.specs.Option.{option_or}
 use Rattle.std.specs.Prelude.{if◌then◌else◌}
-use Rattle.q_core.proofs.KindLaws.{IsBehind, begin_first, is_begin, read_first}
+use Rattle.q_core.proofs.KindLaws.{IsBehind, start_first, is_start_or_preempt, read_first}
 use Rattle.q_core.proofs.LeftLaws.{leftover_law}
 use Rattle.q_core.proofs.RuleLaws.{finishing_law, load_law, settling_law, skip_law, sync_law}
 use Rattle.q_core.proofs.StartLaws.{start_law}
@@ -53,9 +53,9 @@ next_behind {w = w} {c = c} {l = l} a d k =
     ∙ ap (λ o. option_or o last) n6
 
 -- a delivery begins or a job preempts: the ledger's next is that of the last rule
-pub next_is_start : {w : World} {c : Core} {l : Ledger} → Agrees w c l → (d : Decision) → is_begin d ≡ true → decide_in c ≡ Some d → (next w l ≡ start_rule w l) × IsRule c (Some d) (start_rule w l)
+pub next_is_start : {w : World} {c : Core} {l : Ledger} → Agrees w c l → (d : Decision) → is_start_or_preempt d ≡ true → decide_in c ≡ Some d → (next w l ≡ start_rule w l) × IsRule c (Some d) (start_rule w l)
 next_is_start {w = w} {c = c} {l = l} a d h e =
-    let k = begin_first c d h e in
+    let k = start_first c d h e in
     let present = a.consistent.memory.present in
     let none : load_rule w l ≡ None = subst (λ o. IsReadRule w l o (load_rule w l)) k.1 (load_law a.matches.parts present) in
     (next_behind a d k.0 ∙ ap (λ o. option_or o (start_rule w l)) none, subst (λ o. IsRule c o (start_rule w l)) k.2 (start_law a.matches.parts a.consistent.memory))

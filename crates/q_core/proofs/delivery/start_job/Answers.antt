@@ -3,7 +3,7 @@ use Rattle.std.proofs.lemmas.List.{get_or_default}
 use Rattle.std.proofs.lemmas.List.Edits.{map_over_more}
 use Rattle.q_core.specs.Sending.{started_job}
 use Rattle.q_core.specs.declared.line.Job.{Job}
-use Rattle.q_core.proofs.starting.start_job.Goals as goal
+use Rattle.q_core.proofs.delivery.start_job.Goals as goal
 
 -- what stands past a list's end
 abbrev no_job : Job
