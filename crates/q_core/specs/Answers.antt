@@ -1,9 +1,11 @@
 -- The true answers to looks.
-use Rattle.std.specs.Prelude.{◌≡◌, ◌&&◌, ◌||◌, Bool, Some}
+use Rattle.std.specs.Prelude.{◌≡◌, ◌&&◌, ◌||◌, Bool, Some, ℕ}
+use Rattle.q_model.specs.Settings.{World}
+use Rattle.q_model.specs.declared.id.Id.{Id}
 use Rattle.q_model.specs.declared.rows.Scan.{Scan}
 use Rattle.q_model.specs.Ledger.{Ledger}
 use Rattle.q_model.specs.Scans.{scan_next}
-use Rattle.q_core.specs.Agrees.{found_active, found_incoming, found_next}
+use Rattle.q_core.specs.Agrees.{found_active, found_incoming, found_next, Agrees}
 use Rattle.q_core.specs.Deciding.{is_look, is_reading}
 use Rattle.q_core.specs.Facts.{is_damaged}
 use Rattle.q_core.specs.declared.decision.Found.{Found}
@@ -26,3 +28,12 @@ is_fit question found = is_look question || (is_reading question && is_damaged f
 
 abbrev pub IsFound : Core → Found → Ledger → Type 0
 IsFound c found l = IsAnswer c c.question found l
+
+-- this holds of the message whose recipients were asked for, where a read was
+abbrev pub ForRead : Question → (Id → Type 0) → Type 0
+ForRead question P = (id : Id) → (from max : ℕ) → question ≡ Recipients id from max → P id
+
+-- what was found is the scan's next, so that the core agrees with the same ledger
+abbrev pub AgreesByScan : World → Core → Core → Found → Ledger → Type 0
+AgreesByScan w old new found l = (scan : Scan) → old.scan ≡ Some scan
+    → found ≡ found_next l (scan_next l.book scan) → Agrees w new l

@@ -1,5 +1,6 @@
 -- What a transport does next, by what the core holds.
 use Rattle.std.specs.List.{list_any}
+use Rattle.q_core.specs.Lists.{prefer}
 use Rattle.std.specs.Option.{option_map_or, option_or}
 use Rattle.std.specs.Prelude.{◌&&◌, ◌*◌, ◌+◌, ◌-◌, ◌==◌, [], ◌^◌, Bool, count_by, filter, find, if◌then◌else◌, List, min, nat_le, nat_lt, None, not, Option, option_and_then, slice_get, Some, suc, zero, ℕ, ◌∷◌}
 use Rattle.q_model.specs.declared.id.Id.{Id}
@@ -56,6 +57,10 @@ is_candidate_in c transport behind parent id = not (c.params.slot_cost == 0)
     && can_start_in c transport id
     && pays_in c.params parent (rest_in c transport parent.id) (rest_in c transport id)
 
+-- the same of its slot
+abbrev pub candidate_slot : Core → ℕ → List Job → Job → Slot → Bool
+candidate_slot c transport behind parent s = is_candidate_in c transport behind parent s.id
+
 -- (age + 1) / need is greater
 abbrev pub is_better_in : Core → ℕ → Slot → Slot → Bool
 is_better_in c transport a b = nat_lt ((c.clock.seconds - b.arrival + 1) * rest_in c transport a.id)
@@ -64,7 +69,12 @@ is_better_in c transport a b = nat_lt ((c.clock.seconds - b.arrival + 1) * rest_
 -- the best candidate; among equals the first admitted
 abbrev pub best_in : Core → ℕ → List Job → Job → Option Slot
 best_in c transport behind parent = least (is_better_in c transport)
-    (filter (λ s. is_candidate_in c transport behind parent s.id) c.admitted)
+    (filter (candidate_slot c transport behind parent) c.admitted)
+
+-- the better of a message and of the best behind it
+abbrev pub better_slot : Core → ℕ → List Job → Job → Slot → Option Slot → Option Slot
+better_slot c transport behind parent s best =
+    prefer (candidate_slot c transport behind parent) (is_better_in c transport) s best
 
 -- the best candidate preempts; else the current job starts its next row
 abbrev pub preempt_or : Core → ℕ → Job → Option Slot → Option Decision

@@ -10,7 +10,7 @@ use Rattle.q_model.specs.declared.entry.Entry.TheVariants as entries
 use Rattle.q_model.specs.Next.{next}
 use Rattle.q_model.specs.Settings.{World}
 use Rattle.q_model.specs.Step.{after}
-use Rattle.q_core.specs.Agrees.{Agrees, Matches}
+use Rattle.q_core.specs.Agrees.{Agrees, Matches, ForLedgers}
 use Rattle.q_core.specs.Choosing.{next_start_in}
 use Rattle.q_core.specs.Decisions.{IsOf, IsReadRule, IsRule}
 use Rattle.q_core.specs.Leaving.{IsSkipNoted}
@@ -138,3 +138,15 @@ is_asking decisions.LookActive = true
 is_asking decisions.LookIncoming = true
 is_asking (decisions.LookDeferred after until) = true
 is_asking _ = false
+
+-- Of every ledger with which the core agreed: the decision has its entry, and the core is applied to it.
+abbrev pub Applies : Core → Decision → Core → Type 0
+Applies old d new = ForLedgers old (λ w l. IsApplied w l old d new)
+
+-- this holds where the decision is a look
+abbrev pub AtLook : Option Decision → Type 0 → Type 0
+AtLook d P = is_look (question_for d) ≡ true → P
+
+-- this holds where it is a read
+abbrev pub AtRead : Option Decision → Type 0 → Type 0
+AtRead d P = is_reading (question_for d) ≡ true → P

@@ -72,6 +72,10 @@ IsReadRule w l (Some d) rule = WantsRead w l d rule
 abbrev pub IsRuleOrLook : Core → Decision → Seen → Option Decision → Option Entry → Type 0
 IsRuleOrLook c look seen d rule = IsRule c d rule ⊎ ((d ≡ Some look) × (seen ≡ Unknown))
 
+-- the same with the look at active
+abbrev pub IsRuleOrActiveLook : Core → Option Decision → Option Entry → Type 0
+IsRuleOrActiveLook c d rule = IsRuleOrLook c decisions.LookActive c.active d rule
+
 -- the same with the two looks of an admission
 abbrev pub IsRuleOrLooks : Core → Option Decision → Option Entry → Type 0
 IsRuleOrLooks c d rule = IsRule c d rule

@@ -17,7 +17,7 @@ use Rattle.q_model.specs.Values.{Site}
 use Rattle.q_model.specs.declared.outcome.Outcome.TheVariants as outcomes
 use Rattle.q_core.specs.UsedSites.{busy_in}
 use Rattle.q_core.specs.Held.{is_dead_in}
-use Rattle.q_core.specs.Needs.{needs_in}
+use Rattle.q_core.specs.Needs.{needs_in, needs_put_off}
 use Rattle.q_core.specs.Queries.{expired_in, flight_in}
 use Rattle.q_core.specs.Windows.{heard_at}
 use Rattle.q_core.specs.declared.state.Core.{Core}
@@ -28,8 +28,7 @@ IsFirstDead c entry = position (λ r. is_dead_in c r.site) c.waiting ≡ Some en
 
 -- what the recipients of a row need that are put off without a code
 abbrev pub put_off_in : Core → Row → List Unsettled
-put_off_in c r = needs_in (expired_in c r.id) r.id r.positions
-    (replicate (length r.positions) (outcomes.Later 0))
+put_off_in c r = needs_put_off (expired_in c r.id) r.id r.positions
 
 -- the row at this place waits no more, and what its recipients need is added
 pub record IsUnqueued (old new : Core) (entry : ℕ) (r : Row) : Type 0 where

@@ -1,5 +1,5 @@
 -- Words on lists.
-use Rattle.std.specs.Prelude.{◌++◌, [], Bool, find, if◌then◌else◌, List, Option, Some, ◌∷◌}
+use Rattle.std.specs.Prelude.{◌++◌, [], Bool, find, if◌then◌else◌, List, Option, Some, ◌∷◌, ◌≡◌, slice_get, ℕ}
 use Rattle.std.specs.Option.{option_map_or}
 use Rattle.q_model.specs.Lists.{drop_first}
 
@@ -14,3 +14,7 @@ prefer passes before x next = if passes x then Some (better_of before x next) el
 -- the first that passes goes to the end
 abbrev pub moved_back : {A : Type 0} → (A → Bool) → List A → List A
 moved_back test xs = option_map_or (λ x. drop_first test xs ++ x ∷ []) (find test xs) xs
+
+-- this holds of the element at a place, where there is one
+abbrev pub AtPlace : {A : Type 0} → List A → ℕ → (A → Type 0) → Type 0
+AtPlace {A = A} xs place P = (x : A) → slice_get xs place ≡ Some x → P x

@@ -1,5 +1,6 @@
 -- How recipients come into the core.
 use Rattle.q_core.specs.declared.state.Question.{Question}
+use Rattle.q_core.specs.Lists.{AtPlace}
 use Rattle.q_model.specs.Ledger.{Ledger}
 use Rattle.q_model.specs.Message.{Message, address_at}
 use Rattle.q_model.specs.Book.{message_of}
@@ -11,7 +12,7 @@ use Rattle.q_core.specs.Agrees.{Agrees, Matches}
 use Rattle.q_model.specs.Loads.{may_load}
 use Rattle.std.specs.List.{enumerate_from, list_any}
 use Rattle.std.specs.Option.{option_map_or}
-use Rattle.std.specs.Prelude.{◌&&◌, ◌+◌, ◌≡◌, false, Some, true, ◌++◌, ◌==◌, [], Bool, if◌then◌else◌, length, List, map, min, nat_lt, not, Option, ◌||◌, ℕ, ◌∷◌}
+use Rattle.std.specs.Prelude.{◌&&◌, ◌+◌, ◌≡◌, false, Some, true, ◌++◌, ◌==◌, [], Bool, if◌then◌else◌, length, List, map, min, nat_lt, not, Option, ◌||◌, ℕ, ◌∷◌, set}
 use Rattle.q_model.specs.declared.id.Id.{Id}
 use Rattle.q_model.specs.declared.rows.Row.{Row}
 use Rattle.q_model.specs.Batches.{join_rows}
@@ -30,6 +31,18 @@ use Rattle.q_core.specs.declared.state.Question.TheVariants.{Active, Deferred, I
 -- the row is of this site, and not full
 abbrev pub has_space : ℕ → Site → Row → Bool
 has_space limit site r = site_eq r.site site && nat_lt (length r.positions) limit
+
+-- a row of one position
+abbrev pub row_of_one : Id → Site → ℕ → Row
+row_of_one id site position = record { id = id; site = site; positions = position ∷ [] }
+
+-- the row with one more position
+abbrev pub with_position : ℕ → Row → Row
+with_position position r = record r { positions = r.positions ++ position ∷ [] }
+
+-- the row at this place has one more position
+abbrev pub HasJoined : ℕ → ℕ → List Row → List Row → Type 0
+HasJoined place position old new = AtPlace old place (λ r. new ≡ set old place (with_position position r))
 
 -- a position joins the row of its site, where it has one
 abbrev pub joined_at : ℕ → Id → List Row → ℕ → Option Site → List Row
@@ -90,6 +103,11 @@ pub record IsLoaded (old new : Core) (id : Id) (to : ℕ) (taken : List Taken)
   pub sites : new.sites ≡ old.sites ++ new_sites old.params old.sites [] rows
   pub memory : new.in_memory ≡ min (old.in_memory + length taken) old.params.recipient_limit
   pub named : new.named ≡ []
+
+-- it was read so, and its recipients wait in the rows that their sites make
+abbrev pub HasLoaded : Core → Core → Id → ℕ → List Taken → Type 0
+HasLoaded old new id to taken = (rows : List Row)
+    → rows ≡ rows_in old.params.entry_limit id [] taken old.named → IsLoaded old new id to taken rows
 
 -- these are the message's recipients to be read between two positions, and the sites are theirs
 pub record ReadsAre (w : World) (l : Ledger) (named : List Site) (id : Id) (from to : ℕ)

@@ -1,5 +1,5 @@
 -- How many looks may come in a row.
-use Rattle.std.specs.Prelude.{◌&&◌, ◌+◌, Bool, false, is_some, None, not, Option, Some, ℕ}
+use Rattle.std.specs.Prelude.{◌&&◌, ◌+◌, Bool, false, is_some, None, not, Option, Some, ℕ, ◌≡◌, ◌<◌, true}
 use Rattle.q_model.specs.declared.rows.Request.{Request}
 use Rattle.q_model.specs.declared.rows.Scan.{Scan}
 use Rattle.q_core.specs.Changes.{is_known}
@@ -32,3 +32,7 @@ is_unseen Active c = not (is_known c.active)
 is_unseen Incoming c = not (is_known c.incoming)
 is_unseen Deferred c = is_some c.scan && not (is_known c.deferred)
 is_unseen (Recipients id from max) c = false
+
+-- a look that was asked for is no more to come
+abbrev pub LeavesFewer : Core → Core → Type 0
+LeavesFewer old new = is_unseen old.question old ≡ true → looks_left new < looks_left old

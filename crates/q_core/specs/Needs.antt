@@ -1,6 +1,6 @@
 -- What the outcomes of recipients need, by whether their message is too old.
 use Rattle.std.specs.List.{cons_option}
-use Rattle.std.specs.Prelude.{[], Bool, if◌then◌else◌, List, None, Option, option_and_then, option_map, Some, ℕ, ◌∷◌}
+use Rattle.std.specs.Prelude.{[], Bool, if◌then◌else◌, List, None, Option, option_and_then, option_map, Some, ℕ, ◌∷◌, length, replicate}
 use Rattle.q_model.specs.declared.id.Id.{Id}
 use Rattle.q_model.specs.declared.outcome.Outcome.{Outcome}
 use Rattle.q_model.specs.declared.outcome.Why.TheVariants.{Expired, Refused}
@@ -28,3 +28,8 @@ needs_in expired id (p ∷ ps) (o ∷ os) = cons_option
 abbrev pub need_at : Bool → Id → ℕ → Option Outcome → List Unsettled
 need_at expired id position outcome = cons_option
     (option_map (unsettled_row id position) (option_and_then (need_in expired) outcome)) []
+
+-- what positions need that are put off without a code
+abbrev pub needs_put_off : Bool → Id → List ℕ → List Unsettled
+needs_put_off expired id positions =
+    needs_in expired id positions (replicate (length positions) (outcomes.Later 0))

@@ -1,5 +1,6 @@
 -- Which waiting rows may be sent now, by what the core holds.
 use Rattle.std.specs.List.{list_any}
+use Rattle.q_core.specs.Lists.{prefer}
 use Rattle.std.specs.Option.{option_map_or}
 use Rattle.std.specs.Prelude.{◌&&◌, ◌+◌, ◌==◌, Bool, count_by, false, filter, find, nat_lt, Option, option_map, ℕ}
 use Rattle.q_model.specs.declared.id.Id.{Id}
@@ -46,10 +47,17 @@ served_for c r = find (λ s. id_eq s.id r.id && site_eq s.site r.site) c.served
 abbrev pub last_start_in : Core → Row → ℕ
 last_start_in c r = option_map_or (λ s. s.last) (served_for c r) 0
 
+-- the row was sent to before another
+abbrev pub sent_before : Core → Row → Row → Bool
+sent_before c a b = nat_lt (last_start_in c a) (last_start_in c b)
+
 -- the row that starts next: the one sent to longest ago; among equals the first read
 abbrev pub next_row_in : Core → ℕ → Id → Option Row
-next_row_in c transport id = least (λ a b. nat_lt (last_start_in c a) (last_start_in c b))
-    (filter (rows_for c id transport) c.waiting)
+next_row_in c transport id = least (sent_before c) (filter (rows_for c id transport) c.waiting)
+
+-- the row or the one behind it, whichever starts first
+abbrev pub sooner_row : Core → ℕ → Id → Row → Option Row → Option Row
+sooner_row c transport id r next = prefer (rows_for c id transport) (sent_before c) r next
 
 -- the delivery of a row
 abbrev pub start_of_row : Core → Row → Decision

@@ -1,9 +1,8 @@
 //! The core takes a decision over: it becomes what the ledger is after the decision's entry. What
 //! concerns a message in memory and one that an earlier life left is told apart here.
 ghost use Rattle.std.specs.Prelude.{◌≡◌, IsTrue, OnErr, OnOk, Some};
-ghost use Rattle.q_core.specs.Agrees.{ForLedgers};
 ghost use Rattle.q_core.specs.Changes.{IsUnchanged, is_looked_at};
-ghost use Rattle.q_core.specs.Deciding.{IsApplied, decide_in};
+ghost use Rattle.q_core.specs.Deciding.{Applies, decide_in};
 ghost use Rattle.q_core.specs.Leaving.{IsSkipNoted};
 ghost use Rattle.q_model.specs.Lists.{has_none};
 
@@ -25,8 +24,7 @@ impl Core {
     pub(crate) fn apply_log(&mut self, id: Id, failure: Failure)
         requires seen { IsTrue (is_looked_at self.old) }
         requires decided { decide_in self.old ≡ Some (Decision.Log id failure) }
-        ensures { ForLedgers self.old (λ w l. IsApplied w l self.old
-            (Decision.Log id failure) self.new) }
+        ensures { Applies self.old (Decision.Log id failure) self.new }
     {
         self.log(id);
     }
@@ -35,8 +33,7 @@ impl Core {
     pub(crate) fn apply_mark(&mut self, id: Id, position: u32)
         requires seen { IsTrue (is_looked_at self.old) }
         requires decided { decide_in self.old ≡ Some (Decision.Mark id position) }
-        ensures { ForLedgers self.old (λ w l. IsApplied w l self.old
-            (Decision.Mark id position) self.new) }
+        ensures { Applies self.old (Decision.Mark id position) self.new }
     {
         if self.has_no_outcomes() {
             self.mark_left();
@@ -48,8 +45,7 @@ impl Core {
     pub(crate) fn apply_sync(&mut self, id: Id) -> Result<(), NoMemory>
         requires seen { IsTrue (is_looked_at self.old) }
         requires decided { decide_in self.old ≡ Some (Decision.Sync id) }
-        ensures ok { OnOk result (ForLedgers self.old
-            (λ w l. IsApplied w l self.old (Decision.Sync id) self.new)) }
+        ensures ok { OnOk result (Applies self.old (Decision.Sync id) self.new) }
         ensures err { OnErr result (IsUnchanged self.old self.new) }
     {
         if self.has_slot(id) {
@@ -69,8 +65,7 @@ impl Core {
     ) -> Result<(), NoMemory>
         requires seen { IsTrue (is_looked_at self.old) }
         requires decided { decide_in self.old ≡ Some (Decision.Skip id site entry) }
-        ensures ok { OnOk result (ForLedgers self.old
-            (λ w l. IsApplied w l self.old (Decision.Skip id site entry) self.new)) }
+        ensures ok { OnOk result (Applies self.old (Decision.Skip id site entry) self.new) }
         ensures noted { OnOk result (IsSkipNoted self.old id site entry self.new) }
         ensures err { OnErr result (IsUnchanged self.old self.new) }
     {
@@ -84,8 +79,7 @@ impl Core {
     pub(crate) fn apply_defer(&mut self, id: Id, due: Moment)
         requires seen { IsTrue (is_looked_at self.old) }
         requires decided { decide_in self.old ≡ Some (Decision.Defer id due) }
-        ensures { ForLedgers self.old (λ w l. IsApplied w l self.old
-            (Decision.Defer id due) self.new) }
+        ensures { Applies self.old (Decision.Defer id due) self.new }
     {
         self.defer(id);
     }
@@ -93,8 +87,7 @@ impl Core {
     pub(crate) fn apply_remove(&mut self, id: Id)
         requires seen { IsTrue (is_looked_at self.old) }
         requires decided { decide_in self.old ≡ Some (Decision.Remove id) }
-        ensures { ForLedgers self.old (λ w l. IsApplied w l self.old
-            (Decision.Remove id) self.new) }
+        ensures { Applies self.old (Decision.Remove id) self.new }
     {
         if self.has_slot(id) {
             self.remove(id);
@@ -106,8 +99,7 @@ impl Core {
     pub(crate) fn apply_bounce(&mut self, id: Id)
         requires seen { IsTrue (is_looked_at self.old) }
         requires decided { decide_in self.old ≡ Some (Decision.Bounce id) }
-        ensures { ForLedgers self.old (λ w l. IsApplied w l self.old
-            (Decision.Bounce id) self.new) }
+        ensures { Applies self.old (Decision.Bounce id) self.new }
     {
         if self.has_slot(id) {
             self.bounce(id);
@@ -119,7 +111,7 @@ impl Core {
     pub(crate) fn apply_back(&mut self, id: Id)
         requires seen { IsTrue (is_looked_at self.old) }
         requires decided { decide_in self.old ≡ Some (Decision.Back id) }
-        ensures { ForLedgers self.old (λ w l. IsApplied w l self.old (Decision.Back id) self.new) }
+        ensures { Applies self.old (Decision.Back id) self.new }
     {
         self.back();
     }
@@ -129,8 +121,7 @@ impl Core {
     pub(crate) fn apply_corrupt(&mut self, id: Id, place: Place)
         requires seen { IsTrue (is_looked_at self.old) }
         requires decided { decide_in self.old ≡ Some (Decision.Corrupt id place) }
-        ensures { ForLedgers self.old (λ w l. IsApplied w l self.old
-            (Decision.Corrupt id place) self.new) }
+        ensures { Applies self.old (Decision.Corrupt id place) self.new }
     {
         if self.has_damage(id) {
             self.corrupt_read(id);
@@ -144,8 +135,7 @@ impl Core {
     pub(crate) fn apply_admit(&mut self, id: Id, place: Place) -> Result<(), NoMemory>
         requires seen { IsTrue (is_looked_at self.old) }
         requires decided { decide_in self.old ≡ Some (Decision.Admit id place) }
-        ensures ok { OnOk result (ForLedgers self.old
-            (λ w l. IsApplied w l self.old (Decision.Admit id place) self.new)) }
+        ensures ok { OnOk result (Applies self.old (Decision.Admit id place) self.new) }
         ensures err { OnErr result (IsUnchanged self.old self.new) }
     {
         self.admit()?;
@@ -155,8 +145,7 @@ impl Core {
     pub(crate) fn apply_start(&mut self, number: u64, id: Id, site: Site) -> Result<(), NoMemory>
         requires seen { IsTrue (is_looked_at self.old) }
         requires decided { decide_in self.old ≡ Some (Decision.Start number id site) }
-        ensures ok { OnOk result (ForLedgers self.old
-            (λ w l. IsApplied w l self.old (Decision.Start number id site) self.new)) }
+        ensures ok { OnOk result (Applies self.old (Decision.Start number id site) self.new) }
         ensures err { OnErr result (IsUnchanged self.old self.new) }
     {
         self.start_delivery(number, id, site)?;
@@ -167,8 +156,7 @@ impl Core {
         requires seen { IsTrue (is_looked_at self.old) }
         requires decided { decide_in self.old ≡ Some
             (Decision.Preempt child parent transport need) }
-        ensures { ForLedgers self.old (λ w l. IsApplied w l self.old
-            (Decision.Preempt child parent transport need) self.new) }
+        ensures { Applies self.old (Decision.Preempt child parent transport need) self.new }
     {
         self.preempt(child, parent, transport, need);
     }

@@ -2,7 +2,7 @@
 //! (SCHEDULER_README, "Preemptive scheduling").
 ghost use Rattle.std.specs.Prelude.{◌≡◌, ◌≤◌, ◌<◌, ◌+◌, ◌^◌, ◌&&◌, ◌==◌, count_by, nat_lt};
 ghost use Rattle.std.specs.Option.{option_copied};
-ghost use Rattle.q_core.specs.Choosing.{behind_jobs, best_in, choice_in, choices_from, choose_in, current_in, is_better_in, is_candidate_in, is_fresh_among, jobs_at, need_in, next_start_in, pays_in, rest_in};
+ghost use Rattle.q_core.specs.Choosing.{behind_jobs, best_in, choice_in, choices_from, choose_in, current_in, is_better_in, is_candidate_in, is_fresh_among, jobs_at, need_in, next_start_in, pays_in, rest_in, better_slot};
 ghost use Rattle.q_core.specs.Lists.{prefer};
 ghost use Rattle.q_core.specs.Starting.{flights_at};
 ghost use Rattle.q_model.specs.Ids.{id_eq};
@@ -57,7 +57,8 @@ fn pays(params: &Params, parent: &Job, left: u64, need: u64) -> bool
 
 impl Core {
     fn waiting_for(&self, id: Id, transport: u8) -> usize
-        ensures count { result ≡ count_by (λ r. id_eq r.id id && (r.site.transport == transport)) self.now.waiting }
+        ensures count { result
+            ≡ count_by (λ r. id_eq r.id id && (r.site.transport == transport)) self.now.waiting }
         ensures few { result ≤ 2 ^ 63 }
     {
         self.waiting
@@ -160,7 +161,7 @@ impl Core {
         slot: &Slot,
         best: Option<Slot>,
     ) -> Option<Slot>
-        ensures { result ≡ prefer (λ s. is_candidate_in self.now transport behind.now parent.now s.id) (is_better_in self.now transport) slot.now best }
+        ensures { result ≡ better_slot self.now transport behind.now parent.now slot.now best }
     {
         if !self.is_candidate(behind, parent, transport, slot.id) {
             return best;
@@ -179,7 +180,8 @@ impl Core {
 
     /// Whether a job with the least need there is could preempt the parent.
     fn can_be_preempted(&self, parent: &Job, transport: u8) -> bool
-        ensures { result ≡ pays_in self.now.params parent.now (rest_in self.now transport parent.now.id) 1 }
+        ensures { result ≡ pays_in self.now.params parent.now
+            (rest_in self.now transport parent.now.id) 1 }
     {
         self.pays(parent, self.rest(parent.id, transport), 1)
     }

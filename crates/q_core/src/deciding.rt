@@ -2,7 +2,7 @@
 ghost use Rattle.std.specs.Prelude.{◌≡◌, IfOk, IsTrue, None, OnErr, OnOk, Some, true, [], ◌≤◌};
 ghost use Rattle.q_core.specs.Agrees.{ForLedgers, Agrees};
 ghost use Rattle.q_core.specs.Changes.{IsUnchanged, is_looked_at};
-ghost use Rattle.q_core.specs.Deciding.{IsDecided, IsApplied, decide_in, is_answered, is_look, is_reading, question_for, question_of, IsPlaced, IsSkipOf, IsStartOf, NotesSkip};
+ghost use Rattle.q_core.specs.Deciding.{IsDecided, IsApplied, decide_in, is_answered, is_look, is_reading, question_for, question_of, IsPlaced, IsSkipOf, IsStartOf, NotesSkip, Applies, AtLook, AtRead};
 ghost use Rattle.q_core.specs.Looking.{is_unseen, looks_left};
 ghost use Rattle.q_model.specs.Ledger.{Ledger};
 ghost use Rattle.q_model.specs.Settings.{World};
@@ -40,8 +40,7 @@ impl Core {
     fn apply(&mut self, alloc: Global, decision: &Decision) -> Result<(), NoMemory>
         requires seen { IsTrue (is_looked_at self.old) }
         requires decided { decide_in self.old ≡ Some decision.now }
-        ensures ok { OnOk result (ForLedgers self.old
-            (λ w l. IsApplied w l self.old decision.now self.new)) }
+        ensures ok { OnOk result (Applies self.old decision.now self.new) }
         ensures skipped { OnOk result (IsSkipOf self.old decision.now self.new) }
         ensures err { OnErr result (IsUnchanged self.old self.new) }
     {
@@ -123,15 +122,11 @@ impl Core {
         ensures started { IfOk result (λ d. ForLedgers self.old (λ w l. IsStartOf w l d self.new)) }
         ensures skipped { IfOk result (λ d. NotesSkip self.old d self.new) }
         ensures question { IfOk result (λ d. self.new.question ≡ question_for d) }
-        ensures unseen { IfOk result (λ d. is_look (question_for d) ≡ true
-            → is_unseen self.new.question self.new ≡ true) }
-        ensures looks { IfOk result (λ d. is_look (question_for d) ≡ true
-            → looks_left self.new ≡ looks_left self.old) }
+        ensures unseen { IfOk result (λ d. AtLook d (is_unseen self.new.question self.new ≡ true)) }
+        ensures looks { IfOk result (λ d. AtLook d (looks_left self.new ≡ looks_left self.old)) }
         ensures few { looks_left self.new ≤ 4 }
-        ensures reads { IfOk result (λ d. is_reading (question_for d) ≡ true
-            → IsTrue (is_looked_at self.new)) }
-        ensures unnamed { IfOk result (λ d. is_reading (question_for d) ≡ true
-            → self.new.named ≡ []) }
+        ensures reads { IfOk result (λ d. AtRead d (IsTrue (is_looked_at self.new))) }
+        ensures unnamed { IfOk result (λ d. AtRead d (self.new.named ≡ [])) }
         ensures quiet { IfOk result (λ d. d ≡ None → self.old.timed ≡ true
             → IsTrue (is_looked_at self.new)) }
         ensures err { OnErr result (self.new ≡ self.old) }

@@ -17,7 +17,8 @@ impl Core {
         due(self.clock.seconds, arrival, &self.params)
     }
 
-    /// One with a record that can't be read goes to corrupt. Else it is deferred, else its bounce is stored, else it is removed.
+    /// One with a record that can't be read goes to corrupt. Else it is deferred, else its bounce is
+    /// stored, else it is removed.
     fn finish(&self, slot: &Slot) -> Option<Decision>
         ensures { result ≡ finish_in self.now slot.now }
     {

@@ -1,10 +1,10 @@
 //! Answers to looks, and to reads that fail.
 ghost use Rattle.std.specs.Prelude.{◌≡◌, ◌<◌, map, true, ℕ};
 ghost use Rattle.q_core.specs.Agrees.{Agrees, ForLedgers};
-ghost use Rattle.q_core.specs.Answers.{IsFound, is_fit};
+ghost use Rattle.q_core.specs.Answers.{IsFound, is_fit, ForRead};
 ghost use Rattle.q_core.specs.Changes.{IsDamageNoted, IsSlotChange};
 ghost use Rattle.q_core.specs.Deciding.{is_answered};
-ghost use Rattle.q_core.specs.Looking.{is_unseen, looks_left};
+ghost use Rattle.q_core.specs.Looking.{is_unseen, looks_left, LeavesFewer};
 ghost use Rattle.q_core.specs.Slots.{changed_at, with_damage};
 ghost use Rattle.q_model.specs.declared.id.Id.{Id};
 
@@ -46,11 +46,9 @@ impl Core {
     fn note_found(&mut self, found: Found)
         ensures exact { ForLedgers self.old (λ w l. IsFound self.old found l
             → Agrees w self.new l) }
-        ensures fewer { is_unseen self.old.question self.old ≡ true
-            → looks_left self.new < looks_left self.old }
-        ensures damaged { (id : Id) → (from max : ℕ)
-            → self.old.question ≡ Question.Recipients id from max
-            → IsSlotChange self.old self.new id with_damage }
+        ensures fewer { LeavesFewer self.old self.new }
+        ensures damaged { ForRead self.old.question
+            (λ id. IsSlotChange self.old self.new id with_damage) }
     {
         match self.question {
             Question::Active => self.found_active(found),
@@ -72,11 +70,8 @@ impl Core {
         requires { is_fit self.old.question found ≡ true }
         ensures exact { ForLedgers self.old (λ w l. IsFound self.old found l
             → Agrees w self.new l) }
-        ensures fewer { is_unseen self.old.question self.old ≡ true
-            → looks_left self.new < looks_left self.old }
-        ensures damaged { (id : Id) → (from max : ℕ)
-            → self.old.question ≡ Question.Recipients id from max
-            → IsDamageNoted self.old self.new id }
+        ensures fewer { LeavesFewer self.old self.new }
+        ensures damaged { ForRead self.old.question (λ id. IsDamageNoted self.old self.new id) }
         ensures answered { is_answered self.new.question ≡ true }
     {
         self.note_found(found);

@@ -1,7 +1,7 @@
 //! Recipients that were read are grouped in rows, as many in one as a delivery may have.
 ghost use Rattle.std.specs.Prelude.{◌≡◌, ◌<◌, ◌&&◌, ◌++◌, [], ◌∷◌, IfOk, length, OnOk, position, set, slice_get, Some};
 ghost use Rattle.std.specs.Option.{option_copied};
-ghost use Rattle.q_core.specs.Loading.{joined_at, rows_in, has_space};
+ghost use Rattle.q_core.specs.Loading.{joined_at, rows_in, has_space, HasJoined, row_of_one};
 ghost use Rattle.q_model.specs.Batches.{join_rows};
 ghost use Rattle.q_model.specs.declared.rows.Row.{Row};
 ghost use Rattle.q_model.specs.Values.{Taken};
@@ -25,9 +25,7 @@ fn row_for(rows: &[Row], site: &Site, limit: u32) -> Option<usize>
 
 fn add_position(rows: &mut Vec<Row>, place: usize, position: u32) -> Result<(), NoMemory>
     requires { place < length rows.old.items }
-    ensures { OnOk result ((r : Row) → slice_get rows.old.items place ≡ Some r
-        → rows.new.items ≡ set rows.old.items place
-        (record r { positions = r.positions ++ position ∷ [] })) }
+    ensures { OnOk result (HasJoined place position rows.old.items rows.new.items) }
 {
     let row = &mut rows[place];
     row.positions.push(position)?;
@@ -36,7 +34,7 @@ fn add_position(rows: &mut Vec<Row>, place: usize, position: u32) -> Result<(), 
 
 /// A row of one position.
 fn row_of(alloc: Global, id: Id, site: Site, position: u32) -> Result<Row, NoMemory>
-    ensures { IfOk result (λ r. r ≡ record { id = id; site = site; positions = position ∷ [] }) }
+    ensures { IfOk result (λ r. r ≡ row_of_one id site position) }
 {
     let mut positions = Positions::new(alloc);
     positions.push(position)?;
@@ -54,11 +52,7 @@ fn add_row(
     site: &Site,
     position: u32,
 ) -> Result<(), NoMemory>
-    ensures { OnOk result (rows.new.items ≡ rows.old.items ++ record {
-      id = id;
-      site = site.now;
-      positions = position ∷ [];
-    } ∷ []) }
+    ensures { OnOk result (rows.new.items ≡ rows.old.items ++ row_of_one id site.now position ∷ []) }
 {
     let row = row_of(alloc, id, *site, position)?;
     rows.push(row)?;

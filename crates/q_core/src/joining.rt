@@ -1,5 +1,6 @@
 //! A message that has come to wait joins lines, and its sites get records.
 ghost use Rattle.std.specs.Prelude.{◌≡◌, ◌<◌, ◌||◌, ◌==◌, [], IfOk, length, List, map, OnOk, slice_get, Some};
+ghost use Rattle.q_core.specs.Lists.{AtPlace};
 ghost use Rattle.std.specs.List.{enumerate_from, list_any};
 ghost use Rattle.q_model.specs.Ids.{id_eq};
 ghost use Rattle.q_core.specs.Loading.{has_record, joined_line, joins_in, new_sites, with_site};
@@ -130,8 +131,8 @@ fn joined_at(
     at: usize,
 ) -> Result<Line, NoMemory>
     requires { at < length lines.now }
-    ensures { IfOk result (λ line. (jobs : List Job) → slice_get lines.now at ≡ Some jobs
-        → line ≡ joined_line id rows.now (at, jobs)) }
+    ensures { IfOk result (λ line. AtPlace lines.now at
+        (λ jobs. line ≡ joined_line id rows.now (at, jobs))) }
 {
     let line = &lines[at];
     let jobs = joined_jobs(alloc, line.jobs(), id, rows, at)?;

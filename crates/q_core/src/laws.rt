@@ -1,7 +1,7 @@
 //! The rules of the next decision, one function for each. Of the ledger of a life in which an
 //! `at` came, the first that answers is the next decision.
 ghost use Rattle.q_core.specs.Agrees.{ForLedgers, Agrees};
-ghost use Rattle.q_core.specs.Decisions.{IsReadRule, IsRule, IsRuleOrLook, IsRuleOrLooks};
+ghost use Rattle.q_core.specs.Decisions.{IsReadRule, IsRule, IsRuleOrLook, IsRuleOrLooks, IsRuleOrActiveLook};
 ghost use Rattle.q_model.specs.Ledger.{Ledger};
 ghost use Rattle.q_model.specs.Next.{admission_rule, finishing_rule, leftover_rule, load_rule, settling_rule, skip_rule, start_rule, sync_rule};
 ghost use Rattle.q_model.specs.Settings.{World};
@@ -41,8 +41,7 @@ pub fn n4(core: &Core) -> Option<Decision>
 /// The least message that an earlier life left in active is cleared; or the look at active that
 /// tells which that is.
 pub fn n5(core: &Core) -> Option<Decision>
-    ensures { ForLedgers core.now (λ w l. IsRuleOrLook core.now Decision.LookActive core.now.active
-        result (leftover_rule w l)) }
+    ensures { ForLedgers core.now (λ w l. IsRuleOrActiveLook core.now result (leftover_rule w l)) }
 {
     core.next_clearing()
 }

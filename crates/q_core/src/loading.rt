@@ -3,7 +3,7 @@ ghost use Rattle.std.specs.Prelude.{◌≡◌, ◌+◌, ◌++◌, ◌∷◌, [],
 ghost use Rattle.q_core.specs.Agrees.{Agrees, Matches, ForLedgers};
 ghost use Rattle.q_core.specs.Changes.{IsUnchanged, IsSlotChange, is_looked_at};
 ghost use Rattle.q_core.specs.Deciding.{is_answered, is_reading};
-ghost use Rattle.q_core.specs.Loading.{LoadsAs, ReadsAre, IsLoaded, AreRowsAdded, read_up, rows_in, may_name, ReadsAs};
+ghost use Rattle.q_core.specs.Loading.{LoadsAs, ReadsAre, IsLoaded, AreRowsAdded, read_up, rows_in, may_name, ReadsAs, HasLoaded};
 ghost use Rattle.q_core.specs.Slots.{changed_at};
 ghost use Rattle.q_model.specs.Batches.{load_positions};
 ghost use Rattle.q_model.specs.Book.{message_of};
@@ -130,9 +130,7 @@ impl Core {
     }
 
     fn load(&mut self, alloc: Global, id: Id, to: u32, taken: &Batch) -> Result<(), NoMemory>
-        ensures ok { OnOk result ((rows : List Row)
-            → rows ≡ rows_in self.old.params.entry_limit id [] taken.now.items self.old.named
-            → IsLoaded self.old self.new id to taken.now.items rows) }
+        ensures ok { OnOk result (HasLoaded self.old self.new id to taken.now.items) }
         ensures err { OnErr result (IsUnchanged self.old self.new) }
     {
         let rows = self.read_rows(alloc, id, taken)?;

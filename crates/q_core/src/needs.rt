@@ -1,7 +1,7 @@
 //! What the outcomes of recipients need before they are settled.
 ghost use Rattle.std.specs.Prelude.{◌≡◌, ◌++◌, IfOk, length, OnOk, replicate, slice_get};
 ghost use Rattle.std.specs.Option.{option_copied};
-ghost use Rattle.q_core.specs.Needs.{need_at, need_in, needs_in};
+ghost use Rattle.q_core.specs.Needs.{need_at, need_in, needs_in, needs_put_off};
 
 use q_model::{Id, Need, NoMemory, Outcome, Unsettled, Why};
 use std::alloc::Global;
@@ -85,8 +85,7 @@ pub(crate) fn put_off(
     expired: bool,
     positions: &[u32],
 ) -> Result<Vec<Unsettled>, NoMemory>
-    ensures { IfOk result (λ needs. needs.items
-        ≡ needs_in expired id positions.now (replicate (length positions.now) (Outcome.Later 0))) }
+    ensures { IfOk result (λ needs. needs.items ≡ needs_put_off expired id positions.now) }
 {
     let outcomes = vec![in alloc; Outcome::Later(0); positions.len()]?;
     needs(alloc, id, expired, positions, &outcomes)

@@ -112,7 +112,8 @@ impl Line {
 
 /// The child goes before the parent at the transport, and its need is charged to the parent.
 fn preempt_at(lines: &mut [Line], child: Id, parent: Id, transport: u8, need: u64, left: u64)
-    ensures { lines.new ≡ map (preempted_line child parent transport need left) (enumerate_from 0 lines.old) }
+    ensures { lines.new ≡ map (preempted_line child parent transport need left)
+        (enumerate_from 0 lines.old) }
 {
     for (at, line) in lines.iter_mut().enumerate() {
         line.preempt(child, parent, transport, need, left, at);

@@ -5,7 +5,7 @@ ghost use Rattle.q_core.specs.Agrees.{Agrees, ForLedgers};
 ghost use Rattle.q_model.specs.Memory.{is_admitted};
 ghost use Rattle.q_core.specs.Held.{is_admitted_in};
 ghost use Rattle.q_core.specs.Lists.{better_of};
-ghost use Rattle.q_core.specs.Queries.{expired_in, flight_in, flight_shown, slot_expired_in, skipped_in};
+ghost use Rattle.q_core.specs.Queries.{expired_in, flight_in, flight_shown, slot_expired_in, skipped_in, started_earlier};
 ghost use Rattle.q_model.specs.Book.{message_of};
 ghost use Rattle.q_model.specs.Deliveries.{flight_of};
 ghost use Rattle.q_model.specs.Ledger.{Ledger};
@@ -43,7 +43,7 @@ impl Model for Flight {
 
 /// Of two deliveries the one with the smaller number.
 fn smaller<'a>(flight: &'a Delivery, least: Option<&'a Delivery>) -> &'a Delivery
-    ensures { result.now ≡ better_of (λ a b. nat_lt a.number b.number) flight.now
+    ensures { result.now ≡ better_of started_earlier flight.now
         (option_copied least.entry) }
 {
     match least {
@@ -60,7 +60,7 @@ fn smaller<'a>(flight: &'a Delivery, least: Option<&'a Delivery>) -> &'a Deliver
 
 /// The delivery with the least number.
 fn first_flight(flights: &[Delivery]) -> Option<&Delivery>
-    ensures { option_copied result ≡ least (λ a b. nat_lt a.number b.number) flights.now }
+    ensures { option_copied result ≡ least started_earlier flights.now }
 {
     let mut first = None;
     let mut i = flights.len();
@@ -133,7 +133,7 @@ impl Core {
 
     fn first_number(&self) -> Option<u64>
         ensures { result ≡ option_map (λ f. f.number) (least
-            (λ a b. nat_lt a.number b.number) self.now.flights) }
+            started_earlier self.now.flights) }
     {
         match first_flight(&self.flights) {
             Some(flight) => Some(flight.number),

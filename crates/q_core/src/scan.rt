@@ -1,5 +1,6 @@
 //! Scans of the deferred queue: how they are asked for and end, and what looks have shown.
 ghost use Rattle.std.specs.Prelude.{◌≡◌, Some};
+ghost use Rattle.q_core.specs.Answers.{AgreesByScan};
 ghost use Rattle.q_core.specs.Agrees.{ForLedgers, Agrees, found_active, found_incoming, found_next};
 ghost use Rattle.q_core.specs.Changes.{asked_scan, looked_at, scan_ended};
 ghost use Rattle.q_model.specs.Ledger.{Ledger};
@@ -101,8 +102,7 @@ impl Core {
     /// What a look at deferred has shown.
     pub(crate) fn found_deferred(&mut self, found: Found)
         ensures change { self.new ≡ looked_at self.old found }
-        ensures agrees { ForLedgers self.old (λ w l. (scan : Scan) → self.old.scan ≡ Some scan
-            → found ≡ found_next l (scan_next l.book scan) → Agrees w self.new l) }
+        ensures agrees { ForLedgers self.old (λ w l. AgreesByScan w self.old self.new found l) }
     {
         self.look_at(found);
     }

@@ -1,7 +1,7 @@
 //! What the core knows of sites.
 ghost use Rattle.std.specs.Prelude.{◌≡◌, ◌<◌, ◌&&◌, ◌++◌, [], ◌∷◌, filter, length, map, nat_lt, not, position, slice_get, Some};
 ghost use Rattle.std.specs.List.{remove};
-ghost use Rattle.q_core.specs.Lists.{moved_back};
+ghost use Rattle.q_core.specs.Lists.{moved_back, AtPlace};
 ghost use Rattle.q_core.specs.UsedSites.{busy_in, forget_in, is_kept_dead_in, is_kept_in, is_left_in, is_unused_in, revive_dead_in, revive_due_in, used_in, waits_at_in};
 ghost use Rattle.q_model.specs.Lists.{drop_first};
 ghost use Rattle.q_model.specs.Revival.{is_due};
@@ -35,9 +35,17 @@ impl Model for WideSiteRecord {
     ghost use Rattle.std.specs.Prelude.{◌≡◌, ◌≤◌, ◌^◌, true};
     ghost use Rattle.q_model.specs.SiteRecords.{is_alive};
 
-    ghost view = { λ d. record { site = d.site; window = d.window; success = d.success; failure = d.failure; cohorts = d.cohorts; health = d.health } };
+    ghost view = { λ d. record {
+      site = d.site;
+      window = d.window;
+      success = d.success;
+      failure = d.failure;
+      cohorts = d.cohorts;
+      health = d.health;
+    } };
 
-    ghost invariant = { λ d. (d.success ≤ 2 ^ 64) × (d.failure ≤ 2 ^ 64) × (d.cohorts ≤ 2 ^ 64) × (is_alive d.health ≡ true → d.cohorts ≤ 2 ^ 63) };
+    ghost invariant = { λ d. (d.success ≤ 2 ^ 64) × (d.failure ≤ 2 ^ 64) × (d.cohorts ≤ 2 ^ 64)
+        × (is_alive d.health ≡ true → d.cohorts ≤ 2 ^ 63) };
 }
 
 impl WideSiteRecord {
@@ -241,8 +249,8 @@ fn first_left(
 
 fn move_to_end(sites: &mut Vec<WideSiteRecord>, place: usize)
     requires { place < length sites.old.items }
-    ensures { (r : SiteRecord) → slice_get sites.old.items place ≡ Some r
-        → sites.new.items ≡ remove sites.old.items place ++ r ∷ [] }
+    ensures { AtPlace sites.old.items place (λ r.
+        sites.new.items ≡ remove sites.old.items place ++ r ∷ []) }
 {
     let noted = sites.remove(place);
     let _ = sites.push(noted);

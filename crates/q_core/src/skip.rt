@@ -1,5 +1,6 @@
 //! Recipients whose site is dead are put off.
 ghost use Rattle.std.specs.Prelude.{◌≡◌, ◌<◌, IfOk, IsTrue, length, List, OnErr, OnOk, slice_get, Some, ℕ};
+ghost use Rattle.q_core.specs.Lists.{AtPlace};
 ghost use Rattle.q_core.specs.Agrees.{ForLedgers, Agrees, Matches};
 ghost use Rattle.q_core.specs.Changes.{IsUnchanged, is_looked_at};
 ghost use Rattle.q_core.specs.Decisions.{IsRowAt};
@@ -17,8 +18,8 @@ impl Core {
     /// What the recipients of the row at this place need that are put off.
     fn row_needs(&self, alloc: Global, entry: usize) -> Result<Vec<Unsettled>, NoMemory>
         requires { entry < length self.now.waiting }
-        ensures { IfOk result (λ needs. (r : Row) → slice_get self.now.waiting entry ≡ Some r
-            → needs.items ≡ put_off_in self.now r) }
+        ensures { IfOk result (λ needs. AtPlace self.now.waiting entry
+            (λ r. needs.items ≡ put_off_in self.now r)) }
     {
         let row = &self.waiting[entry];
         let expired = self.id_expired(row.id);
@@ -53,8 +54,8 @@ impl Core {
         requires within { entry < length self.old.waiting }
         requires seen { IsTrue (is_looked_at self.old) }
         ensures ok { OnOk result (IsFirstDead self.old entry → SkipsRowAt self.old entry self.new) }
-        ensures noted { OnOk result ((r : Row) → slice_get self.old.waiting entry ≡ Some r
-            → IsLastSkip self.old r.positions self.new) }
+        ensures noted { OnOk result (AtPlace self.old.waiting entry
+            (λ r. IsLastSkip self.old r.positions self.new)) }
         ensures err { OnErr result (IsUnchanged self.old self.new) }
     {
         let row = self.unqueue(alloc, entry)?;

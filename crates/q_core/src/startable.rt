@@ -2,7 +2,7 @@
 ghost use Rattle.std.specs.Prelude.{◌≡◌, ◌<◌, ◌^◌, nat_lt};
 ghost use Rattle.std.specs.Option.{option_copied};
 ghost use Rattle.q_core.specs.Lists.{prefer};
-ghost use Rattle.q_core.specs.Starting.{can_start_in, flights_at, has_room_in, is_startable_in, last_start_in, next_row_in, rows_for, served_for, start_in};
+ghost use Rattle.q_core.specs.Starting.{can_start_in, flights_at, has_room_in, is_startable_in, last_start_in, next_row_in, rows_for, served_for, start_in, sent_before, sooner_row};
 
 use crate::decision::Decision;
 use crate::names::{same_id, same_site};
@@ -74,8 +74,7 @@ impl Core {
         row: &'a Row,
         next: Option<&'a Row>,
     ) -> Option<&'a Row>
-        ensures { option_copied result ≡ prefer (rows_for self.now id transport)
-            (λ a b. nat_lt (last_start_in self.now a) (last_start_in self.now b)) row.now
+        ensures { option_copied result ≡ sooner_row self.now transport id row.now
             (option_copied next.entry) }
     {
         if !self.is_startable_for(id, transport, row) {

@@ -100,6 +100,6 @@ abbrev pub ReadsLine : EventsState → Option (List ℕ) → EventsState → Opt
 ReadsLine e old e' new result =
     GivesLine e (text_left e.buffered old) e' (text_left e'.buffered new) new result
 
--- the source stopped in a line, and its count rose
-abbrev pub FailsInLine : ReaderState → Option (List ℕ) → Option (List ℕ) → ℕ → ℕ → Type 0
-FailsInLine r old new before now = StopsInLine (text_left r.buffered old) new × Rose before now
+-- the source stopped in a line
+abbrev pub FailsInLine : ReaderState → Option (List ℕ) → Option (List ℕ) → Type 0
+FailsInLine r old new = StopsInLine (text_left r.buffered old) new

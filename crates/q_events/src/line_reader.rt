@@ -2,6 +2,7 @@
 ghost use Rattle.std.specs.Prelude.{◌≡◌, ◌≤◌, ◌<◌, length, IfOk, [], ◌∷◌};
 ghost use Rattle.q_stream.specs.Takes.{HasCause};
 ghost use Rattle.q_events.specs.LineReadings.{CountsFaults, FailsInLine, Fills, GivesNext, GivesNextLine, Spends};
+ghost use Rattle.q_model.specs.FaultCounts.{Rose};
 
 use q_stream::{Source, Take};
 use std::alloc::Global;
@@ -136,8 +137,9 @@ impl LineReader {
         ensures progress { IfOk result (λ line. Spends self.old self.new line) }
         ensures budget { self.new.budget ≤ self.old.budget }
         ensures source { result ≡ Err LineError.Source
-            → FailsInLine self.old (S.left source.old) (S.left source.new)
-            (S.faults source.old) (S.faults source.new) }
+            → FailsInLine self.old (S.left source.old) (S.left source.new) }
+        ensures cause { result ≡ Err LineError.Source
+            → Rose (S.faults source.old) (S.faults source.new) }
         ensures later { S.faults source.old ≤ S.faults source.new }
         ensures faultless { IfOk result (λ _. S.faults source.new ≡ S.faults source.old) }
     {

@@ -1,4 +1,5 @@
--- What fits together in the ledger of a life: the book, and what is known of messages and recipients in memory.
+-- What fits together in the ledger of a life: the book, and what is known of messages and recipients in
+-- memory.
 use Rattle.std.specs.List.{enumerate_from, flat_map, list_all, list_any}
 use Rattle.std.specs.Option.{option_map_or}
 use Rattle.std.specs.Prelude.{◌&&◌, ◌++◌, ◌==◌, ◌≡◌, ◌≤◌, [], Bool, false, if◌then◌else◌, length, List, map, nat_le, nat_lt, not, Option, slice_get, Some, true, ◌||◌, ℕ, ◌∷◌}
@@ -33,7 +34,8 @@ pub record IsUsable (w : World) : Type 0 where
 abbrev pub has_come : Ledger → Id → Bool
 has_come l id = nat_lt id.generation l.book.generation || nat_le id.serial (arrivals l)
 
--- The book is orderly and has no id twice, and no failure in it may be lost. The id of the next message isn't in it.
+-- The book is orderly and has no id twice, and no failure in it may be lost. The id of the next message
+-- isn't in it.
 pub record IsBookConsistent (l : Ledger) : Type 0 where
   pub distinct : are_distinct (all_ids l.book) ≡ true
   pub orderly : is_orderly l.book ≡ true
@@ -59,13 +61,16 @@ unsettled_positions id us = flat_map (λ u. if id_eq u.id id then u.position ∷
 
 -- those in memory
 abbrev pub held_positions : Ledger → Id → List ℕ
-held_positions l id = waiting_positions id l.waiting ++ flight_positions id l.flights ++ unsettled_positions id l.unsettled
+held_positions l id = waiting_positions id l.waiting ++ flight_positions id l.flights
+    ++ unsettled_positions id l.unsettled
 
 -- the position of an outcome that is logged and lacks its mark, where it is of this message
 abbrev pub logged_of : Message → Option Unsettled → List ℕ
-logged_of m o = option_map_or (λ u. if id_eq u.id m.id && needs_mark u.need && is_logged m u.position then u.position ∷ [] else []) o []
+logged_of m o = option_map_or (λ u. if id_eq u.id m.id && needs_mark u.need && is_logged m u.position
+    then u.position ∷ [] else []) o []
 
--- The recipients of a message in memory were read, are in memory once, and have no mark. Only that of the first unsettled outcome may be logged.
+-- The recipients of a message in memory were read, are in memory once, and have no mark. Only that of
+-- the first unsettled outcome may be logged.
 pub record IsHeld (l : Ledger) (a : Admitted) (m : Message) : Type 0 where
   pub read : list_all (λ p. nat_lt p a.unread) (held_positions l a.id) ≡ true
   pub once : are_once (held_positions l a.id) ≡ true
@@ -82,17 +87,21 @@ is_within l a = option_map_or (λ m. nat_le a.unread (length m.recipients)) (mes
 
 -- a leftover that was synced has each failure marked and each mark synced
 abbrev pub is_synced_well : Ledger → Id → Bool
-is_synced_well l id = not (is_leftover l id) || option_map_or (λ m. is_clean m && has_none (unmarked_logged m)) (message_of l.book id) true
+is_synced_well l id = not (is_leftover l id)
+    || option_map_or (λ m. is_clean m && has_none (unmarked_logged m)) (message_of l.book id) true
 
 -- an id that has something unread and isn't in the line has no account there
 abbrev pub IsFresh : Ledger → Id → ℕ → Type 0
-IsFresh l id transport = (unread_of l id == 0) ≡ false → list_any (id_eq id) (line_of l transport) ≡ false → (starts_of l id transport ≡ 0) × (charged l id transport ≡ 0)
+IsFresh l id transport = (unread_of l id == 0) ≡ false
+    → list_any (id_eq id) (line_of l transport) ≡ false
+    → (starts_of l id transport ≡ 0) × (charged l id transport ≡ 0)
 
 -- the row has a recipient
 abbrev pub is_filled : Row → Bool
 is_filled r = nat_lt 0 (length r.positions)
 
--- Messages in memory stand in active, once each; recipients in memory are theirs. Both are within their limits. No row that waits is empty. Deliveries have numbers of their own. No line has an id twice.
+-- Messages in memory stand in active, once each; recipients in memory are theirs. Both are within their
+-- limits. No row that waits is empty. Deliveries have numbers of their own. No line has an id twice.
 pub record IsMemoryConsistent (w : World) (l : Ledger) : Type 0 where
   pub admitted : are_distinct (map (λ a. a.id) l.admitted) ≡ true
   pub present : list_all (is_present l) l.admitted ≡ true
@@ -101,7 +110,8 @@ pub record IsMemoryConsistent (w : World) (l : Ledger) : Type 0 where
   pub filled : list_all is_filled l.waiting ≡ true
   pub flights : list_all (λ f. is_admitted l f.row.id) l.flights ≡ true
   pub unsettled : list_all (λ u. is_admitted l u.id) l.unsettled ≡ true
-  pub held : (a : Admitted) (m : Message) → admitted_of l a.id ≡ Some a → message_of l.book a.id ≡ Some m → IsHeld l a m
+  pub held : (a : Admitted) (m : Message) → admitted_of l a.id ≡ Some a
+      → message_of l.book a.id ≡ Some m → IsHeld l a m
   pub numbers : are_once (map (λ f. f.number) l.flights) ≡ true
   pub begun : list_all (λ f. nat_le f.number (starts l)) l.flights ≡ true
   pub single : list_all are_distinct l.lines ≡ true

@@ -1,5 +1,6 @@
 -- Of which ledgers the laws speak.
-use Rattle.std.specs.Prelude.{◌+◌, ◌++◌, ◌≡◌, Bool, List, true, ◌∷◌}
+use Rattle.std.specs.Prelude.{◌+◌, ◌++◌, ◌≡◌, Bool, List, true, ◌∷◌, ℕ}
+use Rattle.q_laws.specs.SitesConsistency.{IsOpen}
 use Rattle.q_laws.specs.Consistency.{IsConsistent, IsUsable}
 use Rattle.q_laws.specs.Traces.{AreAllowed, IsEntryOf}
 use Rattle.q_model.specs.declared.entry.Entry.{Entry}
@@ -26,6 +27,11 @@ next_life w l = after w l (entries.Life (l.book.generation + 1) l.mode)
 abbrev pub OnBooks : (Book → Bool) → (World → Mode → Book → Type 0) → Type 0
 OnBooks fits says = (w : World) → (mode : Mode) → (book : Book) → IsUsable w
     → are_distinct (all_ids book) ≡ true → fits book ≡ true → says w mode book
+
+-- so it is of each life's first entry, whatever the ledger was before
+abbrev pub OfBeginnings : (World → Ledger → Type 0) → Type 0
+OfBeginnings says = (w : World) → (l : Ledger) → (generation : ℕ) → (mode : Mode) → IsOpen w
+    → says w (after w l (entries.Life generation mode))
 
 -- so it is of each consistent ledger
 abbrev pub OfConsistent : (World → Ledger → Type 0) → Type 0

@@ -4,7 +4,7 @@
 
 ghost use Rattle.std.specs.Prelude.{◌≡◌, Some, true, ℕ};
 ghost use Rattle.q_laws.specs.Consistency.{IsBookConsistent, IsConsistent, IsUsable};
-ghost use Rattle.q_laws.specs.Laws.{AlongLife, AlongRun, next_life, OfConsistent, OfEntries, OnBooks, opened_ledger};
+ghost use Rattle.q_laws.specs.Laws.{AlongLife, AlongRun, next_life, OfConsistent, OfEntries, OnBooks, opened_ledger, OfBeginnings};
 ghost use Rattle.q_laws.specs.SitesConsistency.{IsOpen, IsSitesConsistent};
 ghost use Rattle.q_laws.specs.Traces.{IsWithinLimits};
 ghost use Rattle.q_model.specs.declared.entry.Entry.{Entry};
@@ -54,8 +54,7 @@ pub fn stays_lawful()
 /// A life begins with nothing known of sites, which is consistent where the settings let
 /// windows be open.
 pub fn sites_begin()
-    ensures { (w : World) → (l : Ledger) → (generation : ℕ) → (mode : Mode) → IsOpen w
-        → IsSitesConsistent w (after w l (entries.Life generation mode)) }
+    ensures { OfBeginnings IsSitesConsistent }
 {}
 
 /// Each entry of a consistent ledger keeps what fits together of its sites.

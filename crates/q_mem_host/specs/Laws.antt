@@ -6,7 +6,8 @@ use Rattle.q_mem_host.specs.Kept.{Kept}
 use Rattle.q_mem_host.specs.Event.{Event, host_state_of}
 use Rattle.q_mem_host.specs.Left.{MayLeave, LeftSince, IsLeft, read_of, view_of}
 
-pub mem_counts_now : (h : List Event) (t : ℕ) (c : Remains) → t ≤ length h → MayLeave (host_state_of h) c → LeftSince h t c
+pub mem_counts_now : (h : List Event) (t : ℕ) (c : Remains) → t ≤ length h
+    → MayLeave (host_state_of h) c → LeftSince h t c
 mem_counts_now h t c le left =
     let all = sym (take_all (length h) h (omega arith)) in
     (length h, le, omega arith, subst (λ (l : List Event). MayLeave (host_state_of l) c) all left)

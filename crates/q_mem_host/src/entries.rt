@@ -58,7 +58,8 @@ fn position(entries: &[Entry], area: Area, name: Name) -> Option<usize>
 }
 
 fn keep_others(entries: &mut Vec<Entry>, area: Area, name: Name)
-    ensures items { entries.new.items ≡ filter (λ e. not (same_place e.area e.name area name)) entries.old.items }
+    ensures items { entries.new.items ≡ filter
+        (λ e. not (same_place e.area e.name area name)) entries.old.items }
     ensures room { vec_capacity entries.new ≡ vec_capacity entries.old }
     ensures len { vec_len entries.new ≤ vec_len entries.old }
 {
@@ -101,7 +102,8 @@ pub(crate) fn overwrite_at(
     over: &[u8],
 ) -> Result<(), AllocError>
     requires { IsSomeAnd (table entries.old.items area name) (λ k. at ≤ length k.bytes) }
-    ensures ok { OnOk result (IsChanged area name (overwritten at over.now) entries.old.items entries.new.items) }
+    ensures ok { OnOk result (IsChanged area name
+        (overwritten at over.now) entries.old.items entries.new.items) }
     ensures err { OnErr result (table entries.new.items ≡ table entries.old.items) }
 {
     if let Some(i) = position(entries, area, name) {
@@ -134,7 +136,8 @@ pub(crate) fn move_file(entries: &mut Vec<Entry>, area: Area, name: Name, to: Ar
 
 /// What a crash makes of the files.
 pub(crate) fn fall_all(entries: &mut Vec<Entry>, choice: Rot)
-    ensures { table entries.new.items ≡ (λ a n. option_map (fallen choice) (table entries.old.items a n)) }
+    ensures { table entries.new.items ≡ (λ a n.
+        option_map (fallen choice) (table entries.old.items a n)) }
 {
     for i in 0..entries.len() {
         entries[i].file.fall(choice);

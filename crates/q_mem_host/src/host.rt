@@ -86,7 +86,8 @@ impl Host for MemHost {
     }
 
     fn has(&mut self, area: Area, name: Name) -> Result<bool, HostError>
-        ensures found { IfOk result (λ found. found ≡ is_some ((view_of self.old.history).files area name)) }
+        ensures found { IfOk result (λ found. found
+            ≡ is_some ((view_of self.old.history).files area name)) }
         ensures same { self.new.history ≡ self.old.history }
         ensures planned { IsPlanned HostError.Disk self.old self.new result }
         ensures cause { DiskCause self.old.faults self.new.faults result }

@@ -118,7 +118,8 @@ impl MemHost {
     }
 
     fn fall_down(&mut self, choice: Rot)
-        ensures left { host_state_of self.new.history ≡ host_state_after (crash choice) (host_state_of self.old.history) }
+        ensures left { host_state_of self.new.history ≡ host_state_after (crash choice)
+            (host_state_of self.old.history) }
         ensures faults { self.new.faults ≡ self.old.faults }
         ensures plan { self.new.plan ≡ no_plan }
     {
@@ -136,12 +137,14 @@ impl MemHost {
     /// The host after a crash, with the told bytes, the counts of faults, and no calls that are to
     /// fail. All that it has is on the disk.
     pub fn crash(self, choice: Rot) -> MemHost
-        ensures left { host_state_of result.history ≡ host_state_after (crash choice) (host_state_of self.history) }
+        ensures left { host_state_of result.history ≡ host_state_after (crash choice)
+            (host_state_of self.history) }
         ensures faults { result.faults ≡ self.faults }
         ensures plan { result.plan ≡ no_plan }
         // What is there now is among what a crash might have left, and from now on a crash leaves just that.
         ensures allowed { (view_of self.history).may_leave (now (view_of result.history)) }
-        ensures durable { (c : Remains) → (view_of result.history).may_leave c → c ≡ now (view_of result.history) }
+        ensures durable { (c : Remains) → (view_of result.history).may_leave c
+            → c ≡ now (view_of result.history) }
     {
         let mut host = self;
         host.fall_down(choice);

@@ -53,7 +53,8 @@ fn note_crash(calls: &mut Vec<Call>, crashed: &mut Option<Rot>)
 /// Notes a call, and before it a crash that isn't noted yet, in the room that is there.
 pub(crate) fn note(calls: &mut Vec<Call>, crashed: &mut Option<Rot>, call: Call)
     requires { vec_len calls.old + 2 ≤ vec_capacity calls.old }
-    ensures { history calls.new.items crashed.new ≡ history calls.old.items crashed.old ++ event_of call ∷ [] }
+    ensures { history calls.new.items crashed.new ≡ history calls.old.items crashed.old
+        ++ event_of call ∷ [] }
 {
     note_crash(calls, crashed);
     push_within(calls, call);

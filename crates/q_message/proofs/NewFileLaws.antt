@@ -9,15 +9,15 @@ use Rattle.q_model.specs.QueueFileBytes.{file_bytes, IsFileOf, recipients_bytes}
 use Rattle.q_model.specs.Records.{record_bytes}
 use Rattle.q_model.specs.Texts.{is_address}
 use Rattle.q_model.specs.Values.{Head}
-use Rattle.q_message.specs.NewFile.{head_text, new_message, new_record}
+use Rattle.q_message.specs.NewFile.{head_text, new_message, recipient_record}
 
 -- a recipient to whom nothing was delivered
 abbrev fresh : List ℕ → FileRecipient
 fresh a = record { address = a; marked = false }
 
-pub fresh_records : (to : List (List ℕ)) → flat_map new_record to ≡ recipients_bytes (replicate (length to) 80) (map fresh to)
+pub fresh_records : (to : List (List ℕ)) → flat_map recipient_record to ≡ recipients_bytes (replicate (length to) 80) (map fresh to)
 fresh_records [] = refl
-fresh_records (a ∷ to) = ap (λ (xs : List ℕ). new_record a ++ xs) (fresh_records to)
+fresh_records (a ∷ to) = ap (λ (xs : List ℕ). recipient_record a ++ xs) (fresh_records to)
 
 fresh_marks : (to : List (List ℕ)) → map (λ b. b == 68) (replicate (length to) 80) ≡ map (λ (r : FileRecipient). r.marked) (map fresh to)
 fresh_marks [] = refl
@@ -27,13 +27,13 @@ fresh_addresses : (to : List (List ℕ)) → list_all (λ (r : FileRecipient). i
 fresh_addresses [] = refl
 fresh_addresses (a ∷ to) = ap (λ (t : Bool). is_address a && t) (fresh_addresses to)
 
-pub file_written : (head : Head) (to : List (List ℕ)) (content out : List ℕ) → out ≡ head_text head (length to) (length content) ++ flat_map new_record to ++ record_bytes 78 content ++ record_bytes 69 [] → out ≡ file_bytes (new_message head to content) (replicate (length to) 80)
+pub file_written : (head : Head) (to : List (List ℕ)) (content out : List ℕ) → out ≡ head_text head (length to) (length content) ++ flat_map recipient_record to ++ record_bytes 78 content ++ record_bytes 69 [] → out ≡ file_bytes (new_message head to content) (replicate (length to) 80)
 unfolding file_bytes
 file_written head to content out e =
     let n = record_bytes 78 content in
     let end = record_bytes 69 [] in
     e
-    ∙ ap (λ (k : ℕ). head_text head k (length content) ++ flat_map new_record to ++ n ++ end) (sym (length-map to fresh))
+    ∙ ap (λ (k : ℕ). head_text head k (length content) ++ flat_map recipient_record to ++ n ++ end) (sym (length-map to fresh))
     ∙ ap (λ (r : List ℕ). head_text head (length (map fresh to)) (length content) ++ r ++ n ++ end) (fresh_records to)
 
 pub file_reads : (head : Head) (to : List (List ℕ)) (content out : List ℕ) → head.arrival ≤ 999990000000 → 1 ≤ length to → length to ≤ 50000 → length content ≤ 20000000
@@ -53,8 +53,8 @@ file_reads head to content out arrival some few short sender forms written = rec
 }
 
 -- the same of the steps in which it was written
-pub file_of : (head : Head) (to : List (List ℕ)) (content : List ℕ) (r n : ℕ) (o1 o2 o3 out : List ℕ) → r ≡ length to → n ≡ length content → o1 ≡ head_text head r n → o2 ≡ o1 ++ flat_map new_record to → o3 ≡ o2 ++ record_bytes 78 content ++ record_bytes 69 [] → out ≡ o3 → out ≡ file_bytes (new_message head to content) (replicate (length to) 80)
+pub file_of : (head : Head) (to : List (List ℕ)) (content : List ℕ) (r n : ℕ) (o1 o2 o3 out : List ℕ) → r ≡ length to → n ≡ length content → o1 ≡ head_text head r n → o2 ≡ o1 ++ flat_map recipient_record to → o3 ≡ o2 ++ record_bytes 78 content ++ record_bytes 69 [] → out ≡ o3 → out ≡ file_bytes (new_message head to content) (replicate (length to) 80)
 file_of head to content r n o1 o2 o3 out er en e1 e2 e3 e =
     let tail = λ (xs : List ℕ). xs ++ record_bytes 78 content ++ record_bytes 69 [] in
     let front : o1 ≡ head_text head (length to) (length content) = e1 ∙ ap (λ (k : ℕ). head_text head k n) er ∙ ap (head_text head (length to)) en in
-    file_written head to content out (e ∙ e3 ∙ ap tail (e2 ∙ ap (λ (xs : List ℕ). xs ++ flat_map new_record to) front))
+    file_written head to content out (e ∙ e3 ∙ ap tail (e2 ∙ ap (λ (xs : List ℕ). xs ++ flat_map recipient_record to) front))

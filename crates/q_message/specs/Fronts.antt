@@ -1,6 +1,6 @@
 -- The record at the front of bytes, of which those behind it may be missing.
 use Rattle.std.specs.Option.{option_and_then}
-use Rattle.std.specs.Prelude.{◌&&◌, ◌==◌, ◌≡◌, ◌≤◌, ◌⊎◌, [], Bool, false, if◌then◌else◌, length, List, nat_le, None, Option, Some, take, ℕ, ◌∷◌}
+use Rattle.std.specs.Prelude.{◌&&◌, ◌==◌, ◌≡◌, ◌≤◌, ◌⊎◌, [], Bool, false, if◌then◌else◌, length, List, nat_le, None, Option, Some, take, ℕ, ◌∷◌, drop}
 use Rattle.q_model.specs.Records.{number, take_record}
 use Rattle.q_record.specs.Kinds.{is_length}
 
@@ -19,3 +19,7 @@ begins_record kind n (b ∷ bytes) = (b == kind) && nat_le 4 (length bytes) && (
 pub record IsFront (front whole : List ℕ) : Type 0 where
   pub same : front ≡ take (length front) whole
   pub enough : (512 ≤ length front) ⊎ (length whole ≤ length front)
+
+-- what stands in the file from an offset on starts with these bytes
+abbrev pub StartsAt : ℕ → List ℕ → List ℕ → Type 0
+StartsAt at bytes file = IsFront bytes (drop at file)

@@ -1,12 +1,13 @@
 -- The addresses at positions of a message, as they are read from its file.
 use Rattle.std.specs.Option.{option_map_or}
-use Rattle.std.specs.Prelude.{◌≡◌, ◌≤◌, ◌<◌, ◌+◌, ◌-◌, [], Bool, IfSome, IsTrue, length, List, map, Option, slice_get, Some, ℕ}
+use Rattle.q_message.specs.declared.error.MessageError.{MessageError}
+use Rattle.std.specs.Prelude.{◌≡◌, ◌≤◌, ◌<◌, ◌+◌, ◌-◌, [], Bool, IfSome, IsTrue, length, List, map, Option, slice_get, Some, ℕ, IfOk, OnOk, Result}
 use Rattle.q_model.specs.QueueFile.{FileMessage, FileRecipient, queue_file}
 use Rattle.q_model.specs.QueueFileBytes.{recipient_at}
 use Rattle.q_model.specs.Values.{FileHead, Spot}
 use Rattle.q_host.specs.View.{View}
 use Rattle.q_message.specs.FileHeads.{head_of}
-use Rattle.q_message.specs.Told.{bytes_at}
+use Rattle.q_message.specs.Told.{bytes_at, OnNoMessage}
 use Rattle.q_message.specs.Windows.{Seen, Shows}
 
 -- the address of the recipient at a position
@@ -73,6 +74,21 @@ IsAddress position address found m = position < length m.recipients → address 
 -- the window stands behind the position now
 abbrev pub IsBehind : ℕ → Seen → Option (List ℕ) → FileMessage → Type 0
 IsBehind position w found m = position < length m.recipients → StandsAt found m (position + 1) w
+
+-- where the window stands at the recipient `from`, the answer is the address of the position
+abbrev pub GivesAddress : Bool → View → Spot → Seen → ℕ → ℕ → ℕ → Result (List ℕ) MessageError → Type 0
+GivesAddress tells v spot w from first_at position result =
+    IfOk result (λ address. TellsFrom tells v spot w from first_at (IsAddress position address))
+
+-- and behind the position the window stands then
+abbrev pub MovesBehind : Bool → View → Spot → Seen → ℕ → ℕ → ℕ → Seen → Result (List ℕ) MessageError → Type 0
+MovesBehind tells v spot w from first_at position after result =
+    OnOk result (TellsFrom tells v spot w from first_at (IsBehind position after))
+
+-- or there is no such position
+abbrev pub FindsNone : Bool → View → Spot → Seen → ℕ → ℕ → ℕ → Result (List ℕ) MessageError → Type 0
+FindsNone tells v spot w from first_at position result = OnNoMessage result
+    (λ place. TellsFrom tells v spot w from first_at (λ found m. IsPast found m position))
 
 -- the addresses are those of the message at these positions
 abbrev pub AreNames : List ℕ → List (List ℕ) → List ℕ → Type 0

@@ -27,8 +27,8 @@ head_text head recipients content =
     ++ record_bytes 83 (unwrap_or head.sender [])
 
 -- the record of a recipient
-abbrev pub new_record : List ℕ → List ℕ
-new_record address = record_bytes 82 (80 ∷ address)
+abbrev pub recipient_record : List ℕ → List ℕ
+recipient_record address = record_bytes 82 (80 ∷ address)
 
 -- the file of the new message, every mark byte of which is `P`
 abbrev pub new_file : Head → List (List ℕ) → List ℕ → List ℕ

@@ -92,12 +92,12 @@ abbrev pub StartRead : Result Start MessageError → List ℕ → Type 0
 StartRead result file = Gives (λ s. s) result (start_from file)
 
 -- from an offset on to another one
-abbrev pub MarksRead : ℕ → ℕ → ℕ → Result ℕ MessageError → List ℕ → Type 0
-MarksRead recipients at to result file =
+abbrev pub MarksRead : ℕ → Result ℕ MessageError → ℕ → ℕ → List ℕ → Type 0
+MarksRead recipients result at to file =
     Gives (λ marked. (marked, to)) result (marks_counted 0 (recipients_from recipients at (drop at file)))
 
-abbrev pub ContentRead : ℕ → ℕ → ℕ → Result (Unit {0}) MessageError → List ℕ → Type 0
-ContentRead content at to result file = Gives (λ x. to) result (content_from content at (drop at file))
+abbrev pub ContentRead : ℕ → Result (Unit {0}) MessageError → ℕ → ℕ → List ℕ → Type 0
+ContentRead content result at to file = Gives (λ x. to) result (content_from content at (drop at file))
 
 abbrev pub EndRead : ℕ → Result (Unit {0}) MessageError → List ℕ → Type 0
 EndRead at result file = Gives (λ x. tt) result (end_from at (drop at file))

@@ -26,6 +26,14 @@ TellsEach tells v spot P = IsTrue tells → (file : List ℕ) → bytes_at v spo
 abbrev pub TellsShown : Bool → View → Spot → Seen → (List ℕ → Type 0) → Type 0
 TellsShown tells v spot w P = TellsEach tells v spot (λ file. Shows file w → P file)
 
+-- the same, of what the window passed
+abbrev pub TellsPassed : Bool → View → Spot → Seen → Seen → (ℕ → ℕ → List ℕ → Type 0) → Type 0
+TellsPassed tells v spot before after P = TellsShown tells v spot before (P before.at after.at)
+
+-- where the window showed the file, it shows it still
+abbrev pub StaysShown : Bool → View → Spot → Seen → Seen → Type 0
+StaysShown tells v spot before after = TellsShown tells v spot before (λ file. Shows file after)
+
 -- where the call answers that the file is no queue file, and at which offset
 abbrev pub OnNoMessage : {T : Type 0} → Result T MessageError → (ℕ → Type 0) → Type 0
 OnNoMessage result P = (place : ℕ) → IsErrOf result (NotAMessage place) → P place

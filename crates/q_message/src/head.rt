@@ -7,7 +7,7 @@ ghost use Rattle.q_message.specs.Causes.{ReadCause};
 ghost use Rattle.q_message.specs.FileHeads.{IsFault, IsHead};
 ghost use Rattle.q_message.specs.Fronts.{front_body};
 ghost use Rattle.q_message.specs.Readings.{ContentRead, EndRead, HeadRead, MarksRead, start_from, start_size, StartRead};
-ghost use Rattle.q_message.specs.Told.{IsThere, OnNoMessage, TellsEach, TellsOf, TellsShown};
+ghost use Rattle.q_message.specs.Told.{IsThere, OnNoMessage, TellsEach, TellsOf, TellsShown, TellsPassed, StaysShown};
 ghost use Rattle.q_message.specs.Windows.{Shows};
 
 use crate::body::{Counts, VERSION, arrival_in, counts_in, sender_in};
@@ -100,8 +100,7 @@ fn read_start<H: Host>(host: &mut H, spot: Spot, window: &mut Window) -> Result<
     requires there { IsThere H.tells (H.view host.old) spot }
     requires front { window.old.at ≡ 0 }
     ensures reads { TellsShown H.tells (H.view host.old) spot window.old (StartRead result) }
-    ensures shows { OnOk result (TellsShown H.tells (H.view host.old) spot window.old
-        (λ file. Shows file window.new)) }
+    ensures shows { OnOk result (StaysShown H.tells (H.view host.old) spot window.old window.new) }
     ensures at { IfOk result (λ s. window.new.at ≡ start_size s.head) }
     ensures near { OnOk result (window.new.at ≤ 289) }
     ensures few { IfOk result (λ s. s.counts.recipients ≤ 50000) }
@@ -129,10 +128,9 @@ fn count_marked<H: Host>(
     requires there { IsThere H.tells (H.view host.old) spot }
     requires near { window.old.at ≤ 289 }
     requires few { recipients ≤ 50000 }
-    ensures reads { TellsShown H.tells (H.view host.old) spot window.old
-        (MarksRead recipients window.old.at window.new.at result) }
-    ensures shows { OnOk result (TellsShown H.tells (H.view host.old) spot window.old
-        (λ file. Shows file window.new)) }
+    ensures reads { TellsPassed H.tells (H.view host.old) spot window.old window.new
+        (MarksRead recipients result) }
+    ensures shows { OnOk result (StaysShown H.tells (H.view host.old) spot window.old window.new) }
     ensures near { window.new.at ≤ 289 + 260 * recipients }
     ensures stays { IsTrue H.tells → Stays (H.view host.old) (H.view host.new) }
     ensures cause { ReadCause (H.faults host.old) (H.faults host.new) result }
@@ -161,10 +159,9 @@ fn pass_content<H: Host>(
     requires there { IsThere H.tells (H.view host.old) spot }
     requires near { window.old.at ≤ 20000000 }
     requires short { content ≤ 20000000 }
-    ensures reads { TellsShown H.tells (H.view host.old) spot window.old
-        (ContentRead content window.old.at window.new.at result) }
-    ensures shows { OnOk result (TellsShown H.tells (H.view host.old) spot window.old
-        (λ file. Shows file window.new)) }
+    ensures reads { TellsPassed H.tells (H.view host.old) spot window.old window.new
+        (ContentRead content result) }
+    ensures shows { OnOk result (StaysShown H.tells (H.view host.old) spot window.old window.new) }
     ensures near { window.new.at ≤ 40000005 }
     ensures stays { IsTrue H.tells → Stays (H.view host.old) (H.view host.new) }
     ensures cause { ReadCause (H.faults host.old) (H.faults host.new) result }
@@ -183,7 +180,8 @@ fn pass_content<H: Host>(
 fn read_end<H: Host>(host: &mut H, spot: Spot, window: &mut Window) -> Result<(), MessageError>
     requires there { IsThere H.tells (H.view host.old) spot }
     requires near { window.old.at ≤ 40000005 }
-    ensures reads { TellsShown H.tells (H.view host.old) spot window.old (EndRead window.old.at result) }
+    ensures reads { TellsShown H.tells (H.view host.old) spot window.old
+        (EndRead window.old.at result) }
     ensures stays { IsTrue H.tells → Stays (H.view host.old) (H.view host.new) }
     ensures cause { ReadCause (H.faults host.old) (H.faults host.new) result }
 {
@@ -232,7 +230,8 @@ fn read_whole<H: Host>(host: &mut H, spot: Spot) -> Result<FileHead, MessageErro
 pub fn read_head<H: Host>(host: &mut H, spot: Spot) -> Result<FileHead, MessageError>
     requires { IsThere H.tells (H.view host.old) spot }
     ensures head { IfOk result (λ head. TellsOf H.tells (H.view host.old) spot (IsHead head)) }
-    ensures no_message { OnNoMessage result (λ place. TellsOf H.tells (H.view host.old) spot (IsFault place)) }
+    ensures no_message { OnNoMessage result (λ place. TellsOf H.tells (H.view host.old) spot
+        (IsFault place)) }
     // Nothing is changed.
     ensures stays { IsTrue H.tells → Stays (H.view host.old) (H.view host.new) }
     ensures cause { ReadCause (H.faults host.old) (H.faults host.new) result }

@@ -2,7 +2,7 @@
 ghost use Rattle.std.specs.Prelude.{◌≡◌, ◌≤◌, ◌<◌, All, IsTrue, IfOk, OnOk};
 ghost use Rattle.q_host.specs.Calls.{Stays};
 ghost use Rattle.q_message.specs.Causes.{ReadCause};
-ghost use Rattle.q_message.specs.Names.{AreNames, HasHead, IsAddress, IsBehind, IsNext, IsOnBy, IsPast, IsPastBy, IsRecipient, IsSought, TellsAt, TellsFrom};
+ghost use Rattle.q_message.specs.Names.{AreNames, HasHead, IsAddress, IsBehind, IsNext, IsOnBy, IsPast, IsPastBy, IsRecipient, IsSought, TellsAt, TellsFrom, GivesAddress, MovesBehind, FindsNone};
 ghost use Rattle.q_message.specs.Told.{IsThere, OnNoMessage, TellsOf};
 
 use crate::body::Recipient;
@@ -21,8 +21,10 @@ fn next_recipient<H: Host>(
 ) -> Result<Recipient, MessageError>
     requires { IsThere H.tells (H.view host.old) spot }
     ensures is { IfOk result (λ r. TellsAt H.tells (H.view host.old) spot window.old (IsRecipient r)) }
-    ensures stands { OnOk result (TellsAt H.tells (H.view host.old) spot window.old (IsNext window.new)) }
-    ensures no_message { OnNoMessage result (λ _. TellsAt H.tells (H.view host.old) spot window.old IsPast) }
+    ensures stands { OnOk result (TellsAt H.tells (H.view host.old) spot window.old
+        (IsNext window.new)) }
+    ensures no_message { OnNoMessage result (λ _. TellsAt H.tells
+        (H.view host.old) spot window.old IsPast) }
     ensures stays { IsTrue H.tells → Stays (H.view host.old) (H.view host.new) }
     ensures cause { ReadCause (H.faults host.old) (H.faults host.new) result }
 {
@@ -42,7 +44,8 @@ fn pass_recipients<H: Host>(
     count: u32,
 ) -> Result<(), MessageError>
     requires { IsThere H.tells (H.view host.old) spot }
-    ensures stands { OnOk result (TellsAt H.tells (H.view host.old) spot window.old (IsOnBy count window.new)) }
+    ensures stands { OnOk result (TellsAt H.tells (H.view host.old) spot window.old
+        (IsOnBy count window.new)) }
     ensures no_message { OnNoMessage result (λ _. TellsAt H.tells (H.view host.old) spot window.old
         (IsPastBy count)) }
     ensures stays { IsTrue H.tells → Stays (H.view host.old) (H.view host.new) }
@@ -78,12 +81,12 @@ fn read_address<H: Host>(
     position: u32,
 ) -> Result<Address, MessageError>
     requires { IsThere H.tells (H.view host.old) spot }
-    ensures address { IfOk result (λ a. TellsFrom H.tells (H.view host.old) spot window.old from first_at
-        (IsAddress position a)) }
-    ensures stands { OnOk result (TellsFrom H.tells (H.view host.old) spot window.old from first_at
-        (IsBehind position window.new)) }
-    ensures no_message { OnNoMessage result (λ _. TellsFrom H.tells (H.view host.old) spot window.old from first_at
-        (λ found m. IsPast found m position)) }
+    ensures address { GivesAddress H.tells
+        (H.view host.old) spot window.old from first_at position result }
+    ensures stands { MovesBehind H.tells (H.view host.old) spot window.old from first_at position
+        window.new result }
+    ensures no_message { FindsNone H.tells
+        (H.view host.old) spot window.old from first_at position result }
     ensures stays { IsTrue H.tells → Stays (H.view host.old) (H.view host.new) }
     ensures cause { ReadCause (H.faults host.old) (H.faults host.new) result }
 {
@@ -110,7 +113,8 @@ pub fn read_names<H: Host>(
     requires there { IsThere H.tells (H.view host.old) spot }
     requires reading { TellsOf H.tells (H.view host.old) spot (λ bytes. HasHead bytes file.now) }
     requires within { All (λ position. position < file.now.recipients) positions.now }
-    ensures names { IfOk result (λ names. TellsOf H.tells (H.view host.old) spot (AreNames positions.now names)) }
+    ensures names { IfOk result (λ names. TellsOf H.tells (H.view host.old) spot
+        (AreNames positions.now names)) }
     ensures no_message { OnNoMessage result (λ _. IsTrue H.tells → ⊥) }
     ensures stays { IsTrue H.tells → Stays (H.view host.old) (H.view host.new) }
     ensures cause { ReadCause (H.faults host.old) (H.faults host.new) result }

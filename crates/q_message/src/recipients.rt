@@ -1,5 +1,5 @@
 //! Reading recipients of a queue file.
-ghost use Rattle.std.specs.Prelude.{◌≡◌, ◌≤◌, [], IsTrue, IfOk};
+ghost use Rattle.std.specs.Prelude.{◌≡◌, ◌≤◌, [], IsTrue, IfOk, OnOk};
 ghost use Rattle.q_host.specs.Calls.{Stays};
 ghost use Rattle.q_message.specs.Causes.{ReadCause};
 ghost use Rattle.q_message.specs.Pending.{AreTaken, HasCursor, IsPlaceBehind};
@@ -51,8 +51,9 @@ pub fn read_recipients<H: Host>(
     requires some { 1 ≤ max }
     requires empty { out.old.items ≡ [] }
     requires room { max ≤ out.old.room }
-    requires reading { TellsOf H.tells (H.view host.old) spot (λ bytes. HasCursor bytes file.now cursor) }
-    ensures taken { IfOk result (λ next. TellsOf H.tells (H.view host.old) spot
+    requires reading { TellsOf H.tells (H.view host.old) spot
+        (λ bytes. HasCursor bytes file.now cursor) }
+    ensures taken { OnOk result (TellsOf H.tells (H.view host.old) spot
         (AreTaken cursor.position max out.new.items)) }
     ensures next { IfOk result (λ next. TellsOf H.tells (H.view host.old) spot
         (IsPlaceBehind cursor.position max next)) }

@@ -2,8 +2,8 @@
 ghost use Rattle.std.specs.Prelude.{◌≡◌, ◌+◌, ◌<◌, ◌^◌, [], false, drop, IsTrue, OnOk};
 ghost use Rattle.q_host.specs.Calls.{Stays};
 ghost use Rattle.q_message.specs.Causes.{ReadCause};
-ghost use Rattle.q_message.specs.Fronts.{IsFront};
-ghost use Rattle.q_message.specs.Told.{IsThere, OnNoMessage, TellsShown};
+ghost use Rattle.q_message.specs.Fronts.{IsFront, StartsAt};
+ghost use Rattle.q_message.specs.Told.{IsThere, OnNoMessage, TellsShown, StaysShown};
 ghost use Rattle.q_message.specs.Windows.{moved_on, Shows};
 
 use crate::error::MessageError;
@@ -89,10 +89,9 @@ impl Window {
     pub(crate) fn fill<H: Host>(&mut self, host: &mut H, spot: Spot) -> Result<(), MessageError>
         requires { IsThere H.tells (H.view host.old) spot }
         ensures at { self.new.at ≡ self.old.at }
-        ensures shows { OnOk result (TellsShown H.tells (H.view host.old) spot self.old
-            (λ file. Shows file self.new)) }
+        ensures shows { OnOk result (StaysShown H.tells (H.view host.old) spot self.old self.new) }
         ensures front { OnOk result (TellsShown H.tells (H.view host.old) spot self.old
-            (λ file. IsFront self.new.bytes (drop self.old.at file))) }
+            (StartsAt self.old.at self.new.bytes)) }
         ensures only { OnNoMessage result (λ _. ⊥) }
         ensures stays { IsTrue H.tells → Stays (H.view host.old) (H.view host.new) }
         ensures cause { ReadCause (H.faults host.old) (H.faults host.new) result }

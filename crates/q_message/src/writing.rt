@@ -6,7 +6,7 @@ ghost use Rattle.q_model.specs.QueueFileBytes.{IsFileOf};
 ghost use Rattle.q_model.specs.Records.{record_bytes};
 ghost use Rattle.q_model.specs.Texts.{is_address};
 ghost use Rattle.q_record.specs.Kinds.{is_length};
-ghost use Rattle.q_message.specs.NewFile.{counts_text, head_text, new_file, new_message, new_record};
+ghost use Rattle.q_message.specs.NewFile.{counts_text, head_text, new_file, new_message, recipient_record};
 
 use q_model::{Address, Addresses, Bytes, Head, NoMemory};
 use q_record::put;
@@ -25,7 +25,7 @@ fn push_record(out: &mut Vec<u8>, alloc: Global, kind: u8, body: &[u8]) -> Resul
 }
 
 fn push_recipient(out: &mut Vec<u8>, alloc: Global, address: &Address) -> Result<(), NoMemory>
-    ensures written { OnOk result (out.new.items ≡ out.old.items ++ new_record address.now) }
+    ensures written { OnOk result (out.new.items ≡ out.old.items ++ recipient_record address.now) }
     ensures form { OnOk result (is_address address.now ≡ true) }
 {
     let mut body = Vec::new(alloc);
@@ -36,7 +36,7 @@ fn push_recipient(out: &mut Vec<u8>, alloc: Global, address: &Address) -> Result
 }
 
 fn push_recipients(out: &mut Vec<u8>, alloc: Global, to: &Addresses) -> Result<(), NoMemory>
-    ensures written { OnOk result (out.new.items ≡ out.old.items ++ flat_map new_record to.now) }
+    ensures written { OnOk result (out.new.items ≡ out.old.items ++ flat_map recipient_record to.now) }
     ensures forms { OnOk result (list_all is_address to.now ≡ true) }
 {
     for address in to.as_slice() {
@@ -57,7 +57,8 @@ fn counts(alloc: Global, recipients: u32, content: u32) -> Result<Vec<u8>, NoMem
 }
 
 fn push_sender(out: &mut Vec<u8>, alloc: Global, sender: &Option<Address>) -> Result<(), NoMemory>
-    ensures written { OnOk result (out.new.items ≡ out.old.items ++ record_bytes 83 (unwrap_or sender.now [])) }
+    ensures written { OnOk result (out.new.items ≡ out.old.items ++ record_bytes 83
+        (unwrap_or sender.now [])) }
     ensures form { OnOk result (option_map_or is_address sender.now true ≡ true) }
 {
     match sender {
@@ -88,7 +89,8 @@ fn head_records(
 /// The records behind those of the recipients.
 fn push_content(out: &mut Vec<u8>, alloc: Global, content: &[u8]) -> Result<(), NoMemory>
     requires { length content.now ≤ 20000000 }
-    ensures { OnOk result (out.new.items ≡ out.old.items ++ record_bytes 78 content.now ++ record_bytes 69 []) }
+    ensures { OnOk result (out.new.items ≡ out.old.items ++ record_bytes 78 content.now
+        ++ record_bytes 69 []) }
 {
     push_record(out, alloc, b'N', content)?;
     push_record(out, alloc, b'E', &[])?;

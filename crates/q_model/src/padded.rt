@@ -25,7 +25,10 @@ impl<const N: usize> Model for Padded<N> {
 
     ghost inverse = { λ v. record { bytes = padded N v; len = length v } };
 
-    ghost inverse_ok = { λ p h i. record { bytes = bytes_back N p.len p.bytes h i; len = len_back N p.len p.bytes h i } };
+    ghost inverse_ok = { λ p h i. record {
+      bytes = bytes_back N p.len p.bytes h i;
+      len = len_back N p.len p.bytes h i;
+    } };
 }
 
 impl<const N: usize> PartialEq for Padded<N> {

@@ -1,5 +1,5 @@
 -- The values that an entry of a trace may have.
-use Rattle.std.specs.Prelude.{◌^◌, ◌≡◌, ◌<◌, ◌≤◌, length, List, replicate, true, ℕ}
+use Rattle.std.specs.Prelude.{◌^◌, ◌≡◌, ◌<◌, ◌≤◌, length, List, replicate, true, ℕ, ◌≢◌}
 use Rattle.q_model.specs.declared.entry.Entry.{Entry}
 use Rattle.q_model.specs.IdTexts.{IsId}
 use Rattle.q_model.specs.Settings.{Table}
@@ -58,3 +58,12 @@ abbrev pub with_zeros : Entry → Entry
 with_zeros (entries.Arrive id sender to content) =
     entries.Arrive id sender to (replicate (length content) 0)
 with_zeros e = e
+
+-- no entry within these bounds has this line
+abbrev pub IsNoLine : Table → List ℕ → Type 0
+IsNoLine table text = (e : Entry) → IsEntry table e → line table e ≢ text
+
+-- no other entry within them has its line, but for the bytes of an arrived content
+abbrev pub IsAloneInLine : Table → Entry → Type 0
+IsAloneInLine table entry = (e : Entry) → IsEntry table entry
+    → IsLineOf table (line table entry) e → with_zeros e ≡ with_zeros entry

@@ -4,3 +4,4 @@ pub mod Bounds
 pub mod Kinds
 pub mod PartTexts
 pub mod Parts
+pub mod Wording

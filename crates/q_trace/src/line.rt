@@ -1,5 +1,6 @@
 //! A line that is being written.
 ghost use Rattle.std.specs.Prelude.{◌≡◌, ◌++◌, decimal, flat_map, IfOk, map, OnOk};
+ghost use Rattle.q_trace.specs.Wording.{spaced_site};
 ghost use Rattle.q_model.specs.IdTexts.{id_text};
 ghost use Rattle.q_model.specs.TextParts.{text_line};
 ghost use Rattle.q_model.specs.Text.{coded, outcome_text, sender_text, spaced, transport_text};
@@ -87,8 +88,7 @@ impl Line {
     }
 
     pub(crate) fn site(&mut self, table: &Table, site: &Site) -> Result<(), NoMemory>
-        ensures { OnOk result (self.new ≡ self.old
-            ++ spaced (transport_text (table_of table.now) site.now.transport) ++ spaced site.now.hop) }
+        ensures { OnOk result (self.new ≡ self.old ++ spaced_site (table_of table.now) site.now) }
     {
         self.transport(table, site.transport)?;
         self.word(site.hop.bytes())

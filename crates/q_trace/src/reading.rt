@@ -3,7 +3,7 @@ ghost use Rattle.std.specs.Prelude.{◌≡◌, ◌≢◌, IfOk, IsErrOf, replica
 ghost use Rattle.q_model.specs.declared.entry.Entry.{Entry as EntryValue};
 ghost use Rattle.q_trace.specs.Answers.{AnswersText};
 ghost use Rattle.q_trace.specs.Bodies.{arrive_behind, entry_behind, entry_of_line, reply_behind, skip_behind, start_behind};
-ghost use Rattle.q_trace.specs.Bounds.{IsEntry, IsLineOf, with_zeros};
+ghost use Rattle.q_trace.specs.Bounds.{IsEntry, IsLineOf, with_zeros, IsNoLine};
 ghost use Rattle.q_model.specs.Text.{line as line_of};
 ghost use Rattle.q_transport.specs.Routing.{table_of};
 
@@ -151,7 +151,7 @@ fn entry(alloc: Global, text: &[u8], table: &Table) -> Result<Entry, EntryError>
 pub fn read_entry(alloc: Global, line: &[u8], table: &Table) -> Result<Entry, EntryError>
     ensures ok { IfOk result (λ e. IsLineOf (table_of table.now) line.now e × (with_zeros e ≡ e)) }
     ensures bad { IsErrOf result EntryError.BadEntry
-        → (e : EntryValue) → IsEntry (table_of table.now) e → line_of (table_of table.now) e ≢ line.now }
+        → IsNoLine (table_of table.now) line.now }
     ensures back { (e : EntryValue) → IsLineOf (table_of table.now) line.now e
         → IfOk result (λ r. r ≡ with_zeros e) }
 {

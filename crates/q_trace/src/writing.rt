@@ -1,10 +1,11 @@
 //! The line of an entry.
 ghost use Rattle.std.specs.Prelude.{◌≡◌, ◌∷◌, [], codes, decimal, IfOk, length, map};
+ghost use Rattle.q_trace.specs.Wording.{arrive_words, reply_words, log_words, Writes};
 ghost use Rattle.q_model.specs.IdTexts.{id_text};
 ghost use Rattle.q_model.specs.TextParts.{why_text};
 ghost use Rattle.q_model.specs.Text.{joined, line, mode_words, outcome_text, sender_text, state_text, trigger_text, words};
 ghost use Rattle.q_model.specs.declared.entry.Entry.{Entry as EntryValue};
-ghost use Rattle.q_trace.specs.Bounds.{IsEntry, IsLineOf, with_zeros};
+ghost use Rattle.q_trace.specs.Bounds.{IsEntry, IsLineOf, with_zeros, IsAloneInLine};
 ghost use Rattle.q_transport.specs.Routing.{table_of};
 
 use crate::line::Line;
@@ -57,8 +58,7 @@ fn arrive_line(
     to: &Addresses,
     content: &Bytes,
 ) -> Result<Line, NoMemory>
-    ensures { IfOk result (λ l. l ≡ joined (codes "arrive" ∷ id_text id.now
-        ∷ sender_text sender.now ∷ decimal (length content.now) ∷ to.now)) }
+    ensures { IfOk result (λ l. l ≡ joined (arrive_words id.now sender.now to.now content.now)) }
 {
     let mut line = id_line(alloc, b"arrive", id)?;
     line.sender(sender)?;
@@ -84,8 +84,8 @@ fn start_line(
     positions: &Positions,
     table: &Table,
 ) -> Result<Line, NoMemory>
-    ensures { IfOk result (λ l. l ≡ joined (words (table_of table.now)
-        (Entry.Start number id.now site.now positions.now))) }
+    ensures { IfOk result (Writes (table_of table.now)
+        (Entry.Start number id.now site.now positions.now)) }
 {
     let mut line = Line::new(alloc, b"start")?;
     line.number(alloc, number)?;
@@ -103,8 +103,8 @@ fn preempt_line(
     need: u32,
     table: &Table,
 ) -> Result<Line, NoMemory>
-    ensures { IfOk result (λ l. l ≡ joined (words (table_of table.now)
-        (Entry.Preempt child.now parent.now transport need))) }
+    ensures { IfOk result (Writes (table_of table.now)
+        (Entry.Preempt child.now parent.now transport need)) }
 {
     let mut line = id_line(alloc, b"preempt", child)?;
     line.id(parent)?;
@@ -119,8 +119,7 @@ fn reply_line(
     site: SiteState,
     outcomes: &Outcomes,
 ) -> Result<Line, NoMemory>
-    ensures { IfOk result (λ l. l ≡ joined (codes "reply" ∷ decimal number ∷ state_text site
-        ∷ map outcome_text outcomes.now)) }
+    ensures { IfOk result (λ l. l ≡ joined (reply_words number site outcomes.now)) }
 {
     let mut line = Line::new(alloc, b"reply")?;
     line.number(alloc, number)?;
@@ -139,8 +138,7 @@ fn skip_line(
     positions: &Positions,
     table: &Table,
 ) -> Result<Line, NoMemory>
-    ensures { IfOk result (λ l. l ≡ joined (words (table_of table.now)
-        (Entry.Skip id.now site.now positions.now))) }
+    ensures { IfOk result (Writes (table_of table.now) (Entry.Skip id.now site.now positions.now)) }
 {
     let mut line = id_line(alloc, b"skip", id)?;
     line.site(table, site)?;
@@ -150,8 +148,7 @@ fn skip_line(
 
 fn log_line(alloc: Global, id: &Id, failure: &Failure) -> Result<Line, NoMemory>
     ensures { IfOk result (λ l. l
-        ≡ joined (codes "log" ∷ id_text id.now ∷ decimal failure.now.position
-        ∷ why_text failure.now.why ∷ decimal failure.now.code ∷ [])) }
+        ≡ joined (log_words id.now failure.now)) }
 {
     let mut line = id_number_line(alloc, b"log", id, u64::from(failure.position))?;
     match failure.why {
@@ -175,7 +172,7 @@ fn trigger_line(alloc: Global, kind: Trigger) -> Result<Line, NoMemory>
 }
 
 fn entry_line(alloc: Global, entry: &Entry, table: &Table) -> Result<Line, NoMemory>
-    ensures { IfOk result (λ l. l ≡ joined (words (table_of table.now) entry.now)) }
+    ensures { IfOk result (Writes (table_of table.now) entry.now) }
 {
     match entry {
         Entry::Life { generation, mode } => life_line(alloc, *generation, *mode),
@@ -230,9 +227,7 @@ fn entry_line(alloc: Global, entry: &Entry, table: &Table) -> Result<Line, NoMem
 #[tactic(auto, unfolding(q_model::specs::Text::line))]
 pub fn entry_text(alloc: Global, entry: &Entry, table: &Table) -> Result<Bytes, NoMemory>
     ensures text { IfOk result (λ bytes. bytes ≡ line (table_of table.now) entry.now) }
-    ensures only { (e : EntryValue) → IsEntry (table_of table.now) entry.now
-        → IsLineOf (table_of table.now) (line (table_of table.now) entry.now) e
-        → with_zeros e ≡ with_zeros entry.now }
+    ensures only { IsAloneInLine (table_of table.now) entry.now }
 {
     entry_line(alloc, entry, table)?.ended()
 }

@@ -1,7 +1,7 @@
 -- What a transport table says (transport(5)).
 use Rattle.std.specs.List.{list_all}
 use Rattle.std.specs.Option.{option_map_or}
-use Rattle.std.specs.Prelude.{◌&&◌, ◌≡◌, ◌≤◌, [], Bool, bytes_eq, find, length, List, nat_lt, Option, true, ℕ}
+use Rattle.std.specs.Prelude.{◌&&◌, ◌≡◌, ◌≤◌, [], Bool, bytes_eq, find, length, List, nat_lt, Option, true, ℕ, ◌++◌, ◌∷◌}
 use Rattle.q_model.specs.Texts.{is_hop}
 use Rattle.q_transport.specs.Names.{AreTransportNames}
 
@@ -38,3 +38,7 @@ empty_contents = record { names = []; entries = [] }
 -- the entry of a pattern
 abbrev pub rule_of_pattern : List Rule → List ℕ → Option Rule
 rule_of_pattern entries pattern = find (λ entry. bytes_eq entry.pattern pattern) entries
+
+-- with one more entry
+abbrev pub with_rule : Rule → Contents → Contents
+with_rule rule c = record c { entries = c.entries ++ rule ∷ [] }

@@ -38,7 +38,8 @@ fn by_parent<'a>(entries: &'a Entries, domain: &[u8]) -> Option<&'a Target>
 
 /// By a domain or else its nearest parent that has an entry.
 fn by_domain<'a>(entries: &'a Entries, domain: &[u8]) -> Option<&'a Target>
-    ensures { option_copied result ≡ first_some (target_at entries.now) (domain.now ∷ parents domain.now) }
+    ensures { option_copied result ≡ first_some (target_at entries.now)
+        (domain.now ∷ parents domain.now) }
 {
     if let Some(found) = entries.get(domain) {
         return Some(found);

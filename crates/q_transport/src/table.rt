@@ -3,7 +3,7 @@ ghost use Rattle.std.specs.Prelude.{◌≡◌, ◌<◌, ◌≤◌, ◌++◌, ◌
 ghost use Rattle.std.specs.Option.{option_map_or};
 ghost use Rattle.q_model.specs.Routes.{no_table};
 ghost use Rattle.q_model.specs.Texts.{is_hop};
-ghost use Rattle.q_transport.specs.Contents.{rule_of_pattern, empty_contents, rule_from};
+ghost use Rattle.q_transport.specs.Contents.{rule_of_pattern, empty_contents, rule_from, with_rule};
 ghost use Rattle.q_transport.specs.Lawful.{IsLawful};
 ghost use Rattle.q_transport.specs.Names.{number_of, smtp};
 ghost use Rattle.q_transport.specs.Parts.{seen};
@@ -106,9 +106,8 @@ impl Table {
         requires named { target.transport < length self.old.names }
         requires hop { option_map_or is_hop target.hop true ≡ true }
         requires new { rule_of_pattern self.old.entries pattern.items ≡ None }
-        ensures ok { OnOk result (self.new ≡ record self.old {
-          entries = self.old.entries ++ rule_from pattern.items target.transport target.hop ∷ [];
-        }) }
+        ensures ok { OnOk result (self.new ≡ with_rule
+            (rule_from pattern.items target.transport target.hop) self.old) }
         ensures err { IfErr result (λ e. e ≡ TableError.NoMemory) }
     {
         self.entries.push(pattern, target)

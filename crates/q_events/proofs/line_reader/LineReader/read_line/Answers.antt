@@ -8,10 +8,11 @@ use Rattle.q_events.proofs.line_reader.LineReader.read_line.Goals as goal
 
 pub returns-in-Failed-clause-source : goal.returns-in-Failed-clause-source
 returns-in-Failed-clause-source g c is =
-    let left = g.S.Source.left in (
-      stops c.args.self.now.budget c.loop-byte.self.budget (text_left c.args.self.now.buffered (left c.args.source.now)) (text_left c.loop-byte.self.buffered (left c.loop-byte.source)) (left c.next_byte.new.source) c.loop-byte.line.items c.in-Failed.ensures.next.1 c.loop-byte.invariant.part,
-      rose_later _ _ _ c.loop-byte.invariant.later c.in-Failed.ensures.counts.1,
-    )
+    let left = g.S.Source.left in
+    stops c.args.self.now.budget c.loop-byte.self.budget (text_left c.args.self.now.buffered (left c.args.source.now)) (text_left c.loop-byte.self.buffered (left c.loop-byte.source)) (left c.next_byte.new.source) c.loop-byte.line.items c.in-Failed.ensures.next.1 c.loop-byte.invariant.part
+
+pub returns-in-Failed-clause-cause : goal.returns-in-Failed-clause-cause
+returns-in-Failed-clause-cause g c is = rose_later _ _ _ c.loop-byte.invariant.later c.in-Failed.ensures.counts.1
 
 pub returns-then-self-eq0-clause-line : goal.returns-then-self-eq0-clause-line
 returns-then-self-eq0-clause-line g c =
