@@ -1,5 +1,10 @@
-//! Streams of bytes that come in pieces: from memory, or from a reader of std. A stream's
-//! contract says which bytes are left, so that a reader above it can be proved to read them all.
+//! Streams of bytes that come in pieces: from memory, or from a reader of std.
+//!
+//! A stream's contract says which bytes are left, so that a reader above it can be proved to read them
+//! all, whichever way they are cut. It counts its faults, so that an answer that blames the source is
+//! given only where the source failed. Memory tells its bytes; a reader of the system can't, and then
+//! contracts speak of the count alone. It is an error to take into an empty buffer, since no answer of
+//! it would tell the end from bytes, and to make a stream in memory of pieces of no byte.
 #![tactic(auto)]
 
 mod memory;

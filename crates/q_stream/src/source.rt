@@ -1,4 +1,6 @@
-//! What a stream of bytes is.
+//! What a stream of bytes is: each call takes the next bytes, meets the end, or fails. What a call took
+//! is gone from the stream; an end and a fault take nothing. After a fault the stream may be asked
+//! again, and goes on where it stood. It is an error to take into an empty buffer.
 ghost use Rattle.std.specs.Prelude.{◌<◌, List, ℕ, Option, length};
 ghost use Rattle.q_stream.specs.Takes.{TakesFront, HasCause};
 

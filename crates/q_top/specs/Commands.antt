@@ -1,5 +1,5 @@
 -- The words of a command, and how `replay` answers a spool that isn't empty, and one that is.
-use Rattle.std.specs.Prelude.{◌≡◌, ℕ, Bool, false, List, [], ◌∷◌, ◌++◌, Option, Some, IfSome, IsTrue, codes, bytes_eq}
+use Rattle.std.specs.Prelude.{◌≡◌, ℕ, Bool, false, List, [], ◌∷◌, ◌++◌, Option, Some, IfSome, IsTrue, codes, bytes_eq, String, map, string_bytes}
 use Rattle.q_model.specs.declared.event.LifeEvent.{LifeEvent}
 use Rattle.q_model.specs.declared.event.Mode.TheVariants.{Deliver}
 use Rattle.q_model.specs.Book.{empty_book}
@@ -14,6 +14,10 @@ use Rattle.q_model.specs.SpoolFiles.{Files}
 use Rattle.q_top.specs.Confs.{at_fault, conf_of, goes_by}
 use Rattle.q_top.specs.declared.status.InputFile.{InputFile}
 use Rattle.q_top.specs.Spools.{IsSpool, unopened}
+
+-- the words as texts
+abbrev pub texts : {A : Type 0} → List (String A) → List (List ℕ)
+texts words = map string_bytes words
 
 -- the words are `replay` alone
 abbrev pub is_replay : List (List ℕ) → Bool

@@ -1,20 +1,8 @@
 //! The words of a command, and what each does.
-ghost use Rattle.std.specs.Prelude.{◌≡◌, ◌⊎◌, ℕ, List, Some, IsSome, IsTrue, IsFalse, map, string_bytes};
-ghost use Rattle.q_host.specs.Calls.{Stays};
+ghost use Rattle.std.specs.Prelude.{◌≡◌, IsFalse, IsTrue};
 ghost use Rattle.q_model.specs.FaultCounts.{Rose};
-ghost use Rattle.q_model.specs.Settings.{World};
-ghost use Rattle.q_host.specs.View.{LeavesOnly, now};
-ghost use Rattle.q_model.specs.Values.{Spot};
-ghost use Rattle.q_model.specs.declared.spot.Area.{Area};
-ghost use Rattle.q_top.specs.Answers.{answer_of};
-ghost use Rattle.q_top.specs.Commands.{is_replay, IsFaultyConf, IsFreshReplay, IsReplay, IsTurnedAway, IsRun};
-ghost use Rattle.q_top.specs.Confs.{NamesFault};
-ghost use Rattle.q_top.specs.declared.status.InputFile.{InputFile};
-ghost use Rattle.q_top.specs.Faultless.{NoFault, NoSourceFault};
-ghost use Rattle.q_top.specs.FirstFile.{IsFirstFile, IsSameHost, areas_in_order};
-ghost use Rattle.q_top.specs.ReplayEnds.{ReplayEnds};
-ghost use Rattle.q_top.specs.Reached.{IsAtExit, IsLeftBehind};
-ghost use Rattle.q_top.specs.Spools.{HoldsSpool, says_messages, unopened};
+ghost use Rattle.q_top.specs.Commands.{is_replay, texts};
+ghost use Rattle.q_top.specs.Qmgr.{AnswersByText, EndsAsSaid, EndsOnBook, IsRunWhenDone, IsUsage, LeavesBook, NamesFaultyConf, NamesFirstFile, TurnsAway};
 
 use crate::conf::read_conf;
 use crate::replay::replay;
@@ -57,52 +45,33 @@ pub fn qmgr<H: Host, S: Source>(
 ) -> Status
     // Where the parameters or the table are at fault, their first faulty line is named, and nothing
     // else is read, told or changed.
-    ensures conf { (file : InputFile) (line : ℕ)
-        → IsFaultyConf H.tells (map string_bytes words.now) (H.view host.old).files file line
-        → NamesFault file line result × (source.new ≡ source.old)
-        × Stays (H.view host.old) (H.view host.new) }
+    ensures conf { NamesFaultyConf H.tells H.view host.old host.new
+        (texts words.now) source.old source.new result }
     // Else all that follows goes by them. With `Done` the source's bytes are an event list, and its
     // run was told.
-    ensures done { (w : World)
-        → IsFreshReplay H.tells w (map string_bytes words.now) (H.view host.old).files
-        → result ≡ Status.Done
-        → IsRun w (S.left source.old) (H.view host.old) (H.view host.new) }
+    ensures done { IsRunWhenDone H.tells H.view host.old host.new
+        (texts words.now) (S.left source.old) result }
     // How far each other status says that the run went.
-    ensures ends { (w : World)
-        → IsFreshReplay H.tells w (map string_bytes words.now) (H.view host.old).files
-        → ReplayEnds w (S.left source.old) (S.left source.new)
-        (H.view host.old) (H.view host.new) result }
+    ensures ends { EndsAsSaid H.tells H.view host.old host.new (texts words.now)
+        S.left source.old source.new result }
     // At its end the files stand for the book after the entries that were told, or after these and
     // the next one.
-    ensures book { (w : World)
-        → IsFreshReplay H.tells w (map string_bytes words.now) (H.view host.old).files
-        → IsAtExit w (S.left source.old) (H.view host.old) (H.view host.new) }
+    ensures book { EndsOnBook H.tells H.view host.old host.new
+        (texts words.now) (S.left source.old) }
     // A crash at any moment leaves such files too, but for marks that weren't synced, and no part
     // of a line whose entry the files don't have.
-    ensures any_moment { (w : World)
-        → IsReplay H.tells w (map string_bytes words.now) (H.view host.old).files
-        → HoldsSpool unopened (H.view host.old)
-        → LeavesOnly (H.view host.old) (H.view host.new)
-        (IsLeftBehind w (S.left source.old) (H.view host.old).told) }
+    ensures any_moment { LeavesBook H.tells H.view host.old host.new
+        (texts words.now) (S.left source.old) }
     // Where nothing fails, the text alone says how the replay ends, if memory suffices.
-    ensures answers { (w : World) (bytes : List ℕ)
-        → IsFreshReplay H.tells w (map string_bytes words.now) (H.view host.old).files
-        → S.left source.old ≡ Some bytes
-        → NoFault (H.faults host.old) (H.faults host.new)
-        → NoSourceFault (S.faults source.old) (S.faults source.new)
-        → (result ≡ answer_of w bytes) ⊎ (result ≡ Status.NoMemory) }
-    ensures usage { IsFalse (is_replay (map string_bytes words.now))
-        → (result ≡ Status.Usage) × (source.new ≡ source.old) × (host.new ≡ host.old) }
-    ensures only_usage { result ≡ Status.Usage → IsFalse (is_replay (map string_bytes words.now)) }
+    ensures answers { AnswersByText H.tells (H.view host.old).files (texts words.now)
+        (S.left source.old) result }
+    ensures usage { IsFalse (is_replay (texts words.now))
+        → IsUsage host.old host.new source.old source.new result }
+    ensures only_usage { result ≡ Status.Usage → IsFalse (is_replay (texts words.now)) }
     // A spool with a file in an area that is looked at is turned away.
-    ensures in_the_way { (w : World) (a : Area) (n : List ℕ)
-        → IsReplay H.tells w (map string_bytes words.now) (H.view host.old).files
-        → IsTrue (says_messages a) → IsSome ((H.view host.old).files a n)
-        → IsTurnedAway result × (source.new ≡ source.old)
-        × IsSameHost (now (H.view host.old)) (now (H.view host.new)) }
-    ensures only_in_the_way { (spot : Spot)
-        → IsTrue H.tells → result ≡ Status.Damaged spot.area spot.name
-        → IsFirstFile areas_in_order (H.view host.old).files (Some spot) }
+    ensures in_the_way { TurnsAway H.tells H.view host.old host.new
+        (texts words.now) source.old source.new result }
+    ensures only_in_the_way { NamesFirstFile H.tells (H.view host.old).files result }
     ensures disk { result ≡ Status.Disk → Rose (H.faults host.old).disk (H.faults host.new).disk }
     ensures tell { result ≡ Status.Tell → Rose (H.faults host.old).tell (H.faults host.new).tell }
     ensures source { result ≡ Status.Source → Rose (S.faults source.old) (S.faults source.new) }

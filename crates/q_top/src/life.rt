@@ -1,5 +1,6 @@
 //! One life of the queue manager, in which at most one message comes, to one recipient.
 ghost use Rattle.std.specs.Prelude.{◌≡◌, ◌<◌, ◌≤◌, ◌∷◌, ◌==◌, [], IfOk, IsErrOf, IsTrue, OnOk, codes, length, true};
+ghost use Rattle.q_top.specs.Hearing.{BeginsTold, BeginsThere, BeginsNot, Hears, HearsDone, Unhears, BreaksTold, Sends, SendsNot, mail, reply};
 ghost use Rattle.q_model.specs.declared.entry.Entry.TheVariants as entries;
 ghost use Rattle.q_model.specs.declared.event.Event.TheVariants as events;
 ghost use Rattle.q_model.specs.declared.event.LifeEvent.TheVariants as life_events;
@@ -107,14 +108,10 @@ impl Life {
         generation: Name,
     ) -> Result<Life, HostError>
         requires { generation ≡ codes "00000001" }
-        ensures ok { IfOk result (λ life. IsTrue H.tells
-            → Begins (world_of conf.now) life (H.view host.old) (H.view host.new)) }
+        ensures ok { BeginsTold H.tells conf.now (H.view host.old) (H.view host.new) result }
         ensures clock { IfOk result (λ life. life.clock ≤ 999990000000) }
-        ensures files { IfOk result (λ life. IsTrue H.tells
-            → IsSpool unopened (H.view host.old).files
-            → HasFiles life.stage (H.view host.new).files) }
-        ensures err { (error : HostError) → IsErrOf result error → IsTrue H.tells
-            → NeverBegins (world_of conf.now) error (H.view host.old) (H.view host.new) }
+        ensures files { BeginsThere H.tells (H.view host.old) (H.view host.new) result }
+        ensures err { BeginsNot H.tells conf.now (H.view host.old) (H.view host.new) result }
         ensures cause { HasFaultCause (H.faults host.old) (H.faults host.new) result }
     {
         step::begin(alloc, host, conf, generation)?;
@@ -137,15 +134,13 @@ impl Life {
         requires range { IsInRange (world_of conf.now).settings }
         requires clock { self.old.clock ≤ 999990000000 }
         requires there { IsTrue H.tells → HasFiles self.old.stage (H.view host.old).files }
-        ensures ok { OnOk result (IsTrue H.tells
-            → PlaysTurn (world_of conf.now) self.old self.new (life_events.Heard (events.At moment))
-            (H.view host.old) (H.view host.new)) }
+        ensures ok { Hears H.tells H.view host.old host.new conf.now
+            self.old (events.At moment) self.new result }
         ensures files { OnOk result (IsTrue H.tells
             → HasFiles self.new.stage (H.view host.new).files) }
         ensures clock { self.new.clock ≤ 999990000000 }
-        ensures err { (error : HostError) → IsErrOf result error → IsTrue H.tells
-            → Breaks (world_of conf.now) self.old (life_events.Heard (events.At moment)) error
-            (H.view host.old) (H.view host.new) }
+        ensures err { Unhears H.tells H.view host.old host.new conf.now
+            self.old (events.At moment) result }
         ensures cause { HasFaultCause (H.faults host.old) (H.faults host.new) result }
     {
         let clock = self.clock.max(moment);
@@ -170,15 +165,13 @@ impl Life {
         requires form { IsInForm (events.Mail sender to content) }
         requires clock { self.old.clock ≤ 999990000000 }
         requires there { IsTrue H.tells → HasFiles self.old.stage (H.view host.old).files }
-        ensures ok { IfOk result (λ stepped. IsTrue H.tells → (stepped ≡ Stepped.Done)
-            × PlaysTurn (world_of conf.now) self.old self.new (life_events.Heard
-            (events.Mail sender to content)) (H.view host.old) (H.view host.new)) }
+        ensures ok { HearsDone H.tells H.view host.old host.new conf.now
+            self.old (mail sender to content) self.new result }
         ensures files { OnOk result (IsTrue H.tells
             → HasFiles self.new.stage (H.view host.new).files) }
         ensures clock { self.new.clock ≡ self.old.clock }
-        ensures err { (error : HostError) → IsErrOf result error → IsTrue H.tells
-            → Breaks (world_of conf.now) self.old (life_events.Heard
-            (events.Mail sender to content)) error (H.view host.old) (H.view host.new) }
+        ensures err { Unhears H.tells H.view host.old host.new conf.now
+            self.old (mail sender to content) result }
         ensures cause { HasFaultCause (H.faults host.old) (H.faults host.new) result }
     {
         let site = conf.table.route(&to.get(0));
@@ -209,15 +202,13 @@ impl Life {
         requires fits { fits self.old (events.Reply number site outcomes) ≡ true }
         requires range { IsInRange (world_of conf.now).settings }
         requires there { IsTrue H.tells → HasFiles self.old.stage (H.view host.old).files }
-        ensures ok { OnOk result (IsTrue H.tells
-            → PlaysTurn (world_of conf.now) self.old self.new (life_events.Heard
-            (events.Reply number site outcomes)) (H.view host.old) (H.view host.new)) }
+        ensures ok { Hears H.tells H.view host.old host.new conf.now
+            self.old (reply number site outcomes) self.new result }
         ensures files { OnOk result (IsTrue H.tells
             → HasFiles self.new.stage (H.view host.new).files) }
         ensures clock { self.new.clock ≡ self.old.clock }
-        ensures err { (error : HostError) → IsErrOf result error → IsTrue H.tells
-            → Breaks (world_of conf.now) self.old (life_events.Heard
-            (events.Reply number site outcomes)) error (H.view host.old) (H.view host.new) }
+        ensures err { Unhears H.tells H.view host.old host.new conf.now
+            self.old (reply number site outcomes) result }
         ensures cause { HasFaultCause (H.faults host.old) (H.faults host.new) result }
     {
         let Stage::InFlight { mark_at } = self.stage else {
@@ -249,15 +240,13 @@ impl Life {
         requires form { IsInForm event }
         requires clock { self.old.clock ≤ 999990000000 }
         requires there { IsTrue H.tells → HasFiles self.old.stage (H.view host.old).files }
-        ensures ok { IfOk result (λ stepped. IsTrue H.tells → (stepped ≡ Stepped.Done)
-            × PlaysTurn (world_of conf.now) self.old self.new (life_events.Heard event)
-            (H.view host.old) (H.view host.new)) }
+        ensures ok { HearsDone H.tells H.view host.old host.new conf.now
+            self.old event self.new result }
         ensures files { OnOk result (IsTrue H.tells
             → HasFiles self.new.stage (H.view host.new).files) }
         ensures clock { self.new.clock ≤ 999990000000 }
-        ensures err { (error : HostError) → IsErrOf result error → IsTrue H.tells
-            → Breaks (world_of conf.now) self.old (life_events.Heard event) error
-            (H.view host.old) (H.view host.new) }
+        ensures err { Unhears H.tells H.view host.old host.new conf.now
+            self.old event result }
         ensures cause { HasFaultCause (H.faults host.old) (H.faults host.new) result }
     {
         match event {
@@ -291,9 +280,7 @@ impl Life {
     ) -> Result<(), HostError>
         ensures ok { OnOk result (IsTrue H.tells
             → Ends (world_of conf.now) self (H.view host.old) (H.view host.new)) }
-        ensures err { (error : HostError) → IsErrOf result error → IsTrue H.tells
-            → Breaks (world_of conf.now) self life_events.Finish error
-            (H.view host.old) (H.view host.new) }
+        ensures err { BreaksTold H.tells conf.now self life_events.Finish (H.view host.old) (H.view host.new) result }
         ensures cause { HasFaultCause (H.faults host.old) (H.faults host.new) result }
     {
         tell(alloc, host, conf, &Entry::End)
@@ -309,10 +296,8 @@ fn send<H: Host>(
     positions: Positions,
 ) -> Result<(), HostError>
     requires { positions ≡ 0 ∷ [] }
-    ensures ok { OnOk result (IsTrue H.tells → (s : Spool)
-        → Plays (world_of conf.now) s (sent s site) (H.view host.old) (H.view host.new)) }
-    ensures err { (error : HostError) → IsErrOf result error → IsTrue H.tells → (s : Spool)
-        → Halts (world_of conf.now) s (sent s site) error (H.view host.old) (H.view host.new) }
+    ensures ok { Sends H.tells conf.now site (H.view host.old) (H.view host.new) result }
+    ensures err { SendsNot H.tells conf.now site (H.view host.old) (H.view host.new) result }
     ensures cause { HasFaultCause (H.faults host.old) (H.faults host.new) result }
 {
     let load = Entry::Load {

@@ -1,5 +1,6 @@
 //! Reading the recipient of the one message from its queue file.
 ghost use Rattle.std.specs.Prelude.{◌≡◌, [], ◌∷◌, ℕ, List, Option, Some, IfOk, IsSome, IsTrue, false};
+ghost use Rattle.q_top.specs.Taking.{TakesFirst};
 ghost use Rattle.q_model.specs.declared.spot.Area.TheVariants as areas;
 ghost use Rattle.q_model.specs.IdTexts.{id_text};
 ghost use Rattle.q_model.specs.QueueFile.{queue_file};
@@ -31,11 +32,7 @@ fn unread(error: MessageError) -> Result<Option<Taken>, HostError>
 /// or has no recipient pending, which a host that tells its files never shows.
 pub(crate) fn recipient<H: Host>(alloc: Global, host: &mut H) -> Result<Option<Taken>, HostError>
     requires { IsTrue H.tells → IsSome ((H.view host.old).files areas.Active (id_text first_id)) }
-    ensures taken { (sender : Option (List ℕ)) (address file : List ℕ) (arrival : ℕ)
-        → IsTrue H.tells → (H.view host.old).files areas.Active (id_text first_id) ≡ Some file
-        → queue_file file ≡ Some (spool_message sender arrival address false)
-        → IfOk result (λ taken. taken ≡ Some (taken_at
-        (spool_message sender arrival address false) 0)) }
+    ensures taken { TakesFirst H.tells (H.view host.old).files result }
     ensures stays { IsTrue H.tells → Stays (H.view host.old) (H.view host.new) }
     ensures cause { DiskCause (H.faults host.old) (H.faults host.new) result }
 {

@@ -1,5 +1,6 @@
 //! The queue file of the one message.
 ghost use Rattle.std.specs.Prelude.{◌≡◌, ◌≤◌, length, replicate, IfOk};
+ghost use Rattle.q_top.specs.Taking.{arrived_file};
 ghost use Rattle.q_model.specs.QueueFileBytes.{file_bytes};
 ghost use Rattle.q_message.specs.NewFile.{new_message};
 
@@ -19,9 +20,7 @@ pub(crate) fn queue_file(
     requires some { 1 ≤ length to.now }
     requires few { length to.now ≤ 50000 }
     requires short { length content.now ≤ 20000000 }
-    ensures { IfOk result (λ bytes. bytes ≡ file_bytes (new_message
-        (record { sender = sender.now; arrival = arrival }) to.now content.now) (replicate
-        (length to.now) 80)) }
+    ensures { IfOk result (λ bytes. bytes ≡ arrived_file sender.now arrival to.now content.now) }
 {
     let head = Head {
         sender: *sender,

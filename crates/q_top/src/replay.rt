@@ -1,5 +1,6 @@
 //! Replaying an event list.
 ghost use Rattle.std.specs.Prelude.{◌≡◌, ◌≢◌, ◌≤◌, IfErr, IfOk, IsTrue, codes};
+ghost use Rattle.q_top.specs.Replaying.{TakesItem, GivesItemUp, OnRefusal, EndsTold};
 ghost use Rattle.q_events.specs.Forms.{IsItemInForm};
 ghost use Rattle.q_model.specs.declared.spot.Area.TheVariants as areas;
 ghost use Rattle.q_model.specs.IdTexts.{id_text};
@@ -54,18 +55,16 @@ fn take<H: Host>(
     requires range { IsInRange (world_of conf.now).settings }
     requires form { IsItemInForm item }
     ensures clock { life.new.clock ≤ 999990000000 }
-    ensures ok { IfOk result (λ taken. Takes (world_of conf.now) H.tells life.old life.new item
-        (H.view host.old) (H.view host.new) taken) }
+    ensures ok { TakesItem H.tells H.view host.old host.new conf.now life.old item life.new result }
     ensures files { IfOk result (λ taken. IsTrue H.tells
         → HasFiles life.new.stage (H.view host.new).files) }
-    ensures err { IfErr result (λ refusal. GivesUp (world_of conf.now) H.tells life.old item
-        (H.view host.old) (H.view host.new) refusal) }
+    ensures err { GivesItemUp H.tells H.view host.old host.new conf.now life.old item result }
     ensures disk_later { (H.faults host.old).disk ≤ (H.faults host.new).disk }
     ensures tell_later { (H.faults host.old).tell ≤ (H.faults host.new).tell }
-    ensures disk { IfErr result (λ refusal. refusal ≡ Refusal.Host HostError.Disk
-        → Rose (H.faults host.old).disk (H.faults host.new).disk) }
-    ensures tell { IfErr result (λ refusal. refusal ≡ Refusal.Host HostError.Tell
-        → Rose (H.faults host.old).tell (H.faults host.new).tell) }
+    ensures disk { OnRefusal result HostError.Disk
+        (Rose (H.faults host.old).disk (H.faults host.new).disk) }
+    ensures tell { OnRefusal result HostError.Tell
+        (Rose (H.faults host.old).tell (H.faults host.new).tell) }
 {
     match item {
         Item::Restart => Err(Refusal::NotTaken),
@@ -136,8 +135,8 @@ pub(crate) fn replay<H: Host, S: Source>(
 ) -> Status
     requires range { IsInRange (world_of conf.now).settings }
     requires unopened { IsTrue H.tells → IsSpool unopened (H.view host.old).files }
-    ensures ends { IsTrue H.tells → ReplayEnds (world_of conf.now) (S.left source.old)
-        (S.left source.new) (H.view host.old) (H.view host.new) result }
+    ensures ends { EndsTold H.tells H.view host.old host.new conf.now
+        (S.left source.old) (S.left source.new) result }
     ensures disk { result ≡ Status.Disk → Rose (H.faults host.old).disk (H.faults host.new).disk }
     ensures tell { result ≡ Status.Tell → Rose (H.faults host.old).tell (H.faults host.new).tell }
     ensures source { result ≡ Status.Source → Rose (S.faults source.old) (S.faults source.new) }

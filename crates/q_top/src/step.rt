@@ -1,5 +1,6 @@
 //! The entries that change the disk: first the disk, then the line.
 ghost use Rattle.std.specs.Prelude.{◌≡◌, ◌<◌, ◌∷◌, [], List, ℕ, length, IsErrOf, IsSome, IsSomeAnd, IsTrue, OnOk, codes};
+ghost use Rattle.q_top.specs.Passages.{Passes, Aborts, PassesEach, AbortsEach, PassesSync, AbortsSync, ReachesPast, admitting, arriving, beginning, marking_at, removing};
 ghost use Rattle.q_model.specs.declared.entry.Entry.TheVariants as entries;
 ghost use Rattle.q_model.specs.declared.event.Mode.TheVariants as modes;
 ghost use Rattle.q_model.specs.declared.spot.Area.TheVariants as areas;
@@ -47,11 +48,8 @@ pub(crate) fn begin<H: Host>(
     generation: Name,
 ) -> Result<(), HostError>
     requires { generation ≡ codes "00000001" }
-    ensures ok { OnOk result (IsTrue H.tells → Does (world_of conf.now) unopened
-        (entries.Life 1 modes.Deliver) empty (H.view host.old) (H.view host.new)) }
-    ensures err { (error : HostError) → IsErrOf result error → IsTrue H.tells
-        → Stops (world_of conf.now) unopened (entries.Life 1 modes.Deliver) empty error
-        (H.view host.old) (H.view host.new) }
+    ensures ok { Passes H.tells conf.now beginning (H.view host.old) (H.view host.new) result }
+    ensures err { Aborts H.tells conf.now beginning (H.view host.old) (H.view host.new) result }
     ensures cause { HasFaultCause (H.faults host.old) (H.faults host.new) result }
 {
     forget_log(host)?;
@@ -73,12 +71,10 @@ pub(crate) fn arrive<H: Host>(
     to: Addresses,
     content: Bytes,
 ) -> Result<(), HostError>
-    ensures ok { OnOk result (IsTrue H.tells → Does (world_of conf.now) empty
-        (entries.Arrive first_id sender to content) (holds areas.Incoming file.now)
-        (H.view host.old) (H.view host.new)) }
-    ensures err { (error : HostError) → IsErrOf result error → IsTrue H.tells
-        → Stops (world_of conf.now) empty (entries.Arrive first_id sender to content)
-        (holds areas.Incoming file.now) error (H.view host.old) (H.view host.new) }
+    ensures ok { Passes H.tells conf.now (arriving sender to content file.now)
+        (H.view host.old) (H.view host.new) result }
+    ensures err { Aborts H.tells conf.now (arriving sender to content file.now)
+        (H.view host.old) (H.view host.new) result }
     ensures cause { HasFaultCause (H.faults host.old) (H.faults host.new) result }
 {
     let name = id_name(FIRST);
@@ -99,13 +95,8 @@ pub(crate) fn arrive<H: Host>(
 /// The message moves to active.
 pub(crate) fn admit<H: Host>(alloc: Global, host: &mut H, conf: &Conf) -> Result<(), HostError>
     requires { IsTrue H.tells → IsSome ((H.view host.old).files areas.Incoming (id_text first_id)) }
-    ensures ok { OnOk result (IsTrue H.tells → (file : List ℕ)
-        → Does (world_of conf.now) (holds areas.Incoming file)
-        (entries.Admit first_id) (holds areas.Active file) (H.view host.old) (H.view host.new)) }
-    ensures err { (error : HostError) → IsErrOf result error → IsTrue H.tells → (file : List ℕ)
-        → Stops (world_of conf.now) (holds areas.Incoming file)
-        (entries.Admit first_id) (holds areas.Active file) error
-        (H.view host.old) (H.view host.new) }
+    ensures ok { PassesEach H.tells conf.now admitting (H.view host.old) (H.view host.new) result }
+    ensures err { AbortsEach H.tells conf.now admitting (H.view host.old) (H.view host.new) result }
     ensures cause { HasFaultCause (H.faults host.old) (H.faults host.new) result }
 {
     let name = id_name(FIRST);
@@ -120,14 +111,9 @@ pub(crate) fn mark<H: Host>(
     conf: &Conf,
     mark_at: u64,
 ) -> Result<(), HostError>
-    requires { IsTrue H.tells → IsSomeAnd ((H.view host.old).files areas.Active (id_text first_id))
-        (λ file. mark_at < length file) }
-    ensures ok { OnOk result (IsTrue H.tells → (file : List ℕ)
-        → Does (world_of conf.now) (holds areas.Active file)
-        (entries.Mark first_id 0) (marking mark_at file) (H.view host.old) (H.view host.new)) }
-    ensures err { (error : HostError) → IsErrOf result error → IsTrue H.tells → (file : List ℕ)
-        → Stops (world_of conf.now) (holds areas.Active file)
-        (entries.Mark first_id 0) (marking mark_at file) error (H.view host.old) (H.view host.new) }
+    requires { ReachesPast H.tells (H.view host.old).files mark_at }
+    ensures ok { PassesEach H.tells conf.now (marking_at mark_at) (H.view host.old) (H.view host.new) result }
+    ensures err { AbortsEach H.tells conf.now (marking_at mark_at) (H.view host.old) (H.view host.new) result }
     ensures cause { HasFaultCause (H.faults host.old) (H.faults host.new) result }
 {
     host.write_at(Area::Active, id_name(FIRST), mark_at, b"D")?;
@@ -141,14 +127,8 @@ pub(crate) fn mark<H: Host>(
 /// The mark at this offset of the file outlives a crash from now on.
 pub(crate) fn sync<H: Host>(alloc: Global, host: &mut H, conf: &Conf) -> Result<(), HostError>
     requires { IsTrue H.tells → IsSome ((H.view host.old).files areas.Active (id_text first_id)) }
-    ensures ok { OnOk result (IsTrue H.tells → (at : ℕ) (file : List ℕ)
-        → Does (world_of conf.now) (marking at file)
-        (entries.Sync first_id) (holds areas.Active (marked at file))
-        (H.view host.old) (H.view host.new)) }
-    ensures err { (error : HostError) → IsErrOf result error → IsTrue H.tells
-        → (at : ℕ) (file : List ℕ) → Stops (world_of conf.now) (marking at file)
-        (entries.Sync first_id) (holds areas.Active (marked at file)) error
-        (H.view host.old) (H.view host.new) }
+    ensures ok { PassesSync H.tells conf.now (H.view host.old) (H.view host.new) result }
+    ensures err { AbortsSync H.tells conf.now (H.view host.old) (H.view host.new) result }
     ensures cause { HasFaultCause (H.faults host.old) (H.faults host.new) result }
 {
     host.sync(Area::Active, id_name(FIRST))?;
@@ -158,12 +138,8 @@ pub(crate) fn sync<H: Host>(alloc: Global, host: &mut H, conf: &Conf) -> Result<
 /// The message is gone.
 pub(crate) fn remove<H: Host>(alloc: Global, host: &mut H, conf: &Conf) -> Result<(), HostError>
     requires { IsTrue H.tells → IsSome ((H.view host.old).files areas.Active (id_text first_id)) }
-    ensures ok { OnOk result (IsTrue H.tells → (file : List ℕ)
-        → Does (world_of conf.now) (holds areas.Active file) (entries.Remove first_id) empty
-        (H.view host.old) (H.view host.new)) }
-    ensures err { (error : HostError) → IsErrOf result error → IsTrue H.tells → (file : List ℕ)
-        → Stops (world_of conf.now) (holds areas.Active file) (entries.Remove first_id) empty error
-        (H.view host.old) (H.view host.new) }
+    ensures ok { PassesEach H.tells conf.now removing (H.view host.old) (H.view host.new) result }
+    ensures err { AbortsEach H.tells conf.now removing (H.view host.old) (H.view host.new) result }
     ensures cause { HasFaultCause (H.faults host.old) (H.faults host.new) result }
 {
     host.remove(Area::Active, id_name(FIRST))?;

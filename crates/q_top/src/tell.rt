@@ -1,5 +1,6 @@
 //! Telling the line of an entry.
 ghost use Rattle.std.specs.Prelude.{◌≡◌, OnOk, IsErrOf, IsTrue};
+ghost use Rattle.q_top.specs.Passages.{PassesEach, AbortsEach, telling};
 ghost use Rattle.q_host.specs.Faults.{TellCause};
 ghost use Rattle.q_top.specs.Spools.{Spool};
 ghost use Rattle.q_top.specs.Worlds.{world_of};
@@ -18,10 +19,8 @@ pub(crate) fn tell<H: Host>(
     conf: &Conf,
     entry: &Entry,
 ) -> Result<(), HostError>
-    ensures ok { OnOk result (IsTrue H.tells → (s : Spool)
-        → Does (world_of conf.now) s entry.now s (H.view host.old) (H.view host.new)) }
-    ensures err { (error : HostError) → IsErrOf result error → IsTrue H.tells → (s : Spool)
-        → Stops (world_of conf.now) s entry.now s error (H.view host.old) (H.view host.new) }
+    ensures ok { PassesEach H.tells conf.now (telling entry.now) (H.view host.old) (H.view host.new) result }
+    ensures err { AbortsEach H.tells conf.now (telling entry.now) (H.view host.old) (H.view host.new) result }
     ensures cause { TellCause (H.faults host.old) (H.faults host.new) result }
 {
     let Ok(text) = entry_text(alloc, entry, &conf.table) else {

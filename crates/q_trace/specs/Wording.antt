@@ -1,5 +1,5 @@
 -- The words of the lines that have many.
-use Rattle.std.specs.Prelude.{◌++◌, [], codes, decimal, length, List, map, Option, ℕ, ◌∷◌}
+use Rattle.std.specs.Prelude.{◌++◌, [], codes, decimal, length, List, map, Option, ℕ, ◌∷◌, ◌≡◌}
 use Rattle.q_model.specs.declared.entry.Entry.{Entry}
 use Rattle.q_model.specs.declared.id.Id.{Id}
 use Rattle.q_model.specs.declared.outcome.Failure.{Failure}

@@ -1,11 +1,14 @@
-use Rattle.std.proofs.Common.{◌≤◌, subst, Option, Some, Err, ap, refl, arith}
+use Rattle.std.proofs.Common.{◌≤◌, subst, Option, Some, Err, ap, refl, arith, ◌≡◌, ◌∙◌, sym, true, false}
 use Rattle.q_model.specs.Values.{Spot}
 use Rattle.q_top.specs.Confs.{conf_of}
 use Rattle.q_top.specs.FirstFile.{IsFirstFile, areas_in_order}
+use Rattle.q_top.specs.Qmgr.{is_fault}
 use Rattle.q_top.specs.Statuses.{status_of}
+use Rattle.q_top.specs.declared.status.Status.{Status}
+use Rattle.q_top.specs.declared.status.Status.TheVariants as status
 use Rattle.q_top.specs.Worlds.{world_of}
 use Rattle.q_top.proofs.ConfEnds.{first_before, names_fault, not_both, refused_answers, refused_ends, replay_ends, turned_away}
-use Rattle.q_top.proofs.EventLists.{answers, done_told, rose_before}
+use Rattle.q_top.proofs.EventLists.{answers, done_told}
 use Rattle.q_top.proofs.FirstFiles.{not_unopened, same_host, stays_both}
 use Rattle.q_top.proofs.Reaching.{exit_reached, moments_reached}
 use Rattle.q_top.proofs.Replaying.{never_opens}
@@ -222,15 +225,18 @@ returns-clause-any_moment g c w p held =
     let ends = never_opens w text text before looked c.in-Err-first_file.error lawful last_lawful (stays_both before mid looked (c.in-Ok.ensures.stays t) (c.in-Err-first_file.ensures.stays t)) in
     moments_reached w text text before looked held (status_of c.in-Err-first_file.error) ends
 
+no_fault : (result fault : Status) → result ≡ fault → is_fault fault ≡ true → is_fault result ≡ false → ⊥
+no_fault result fault is yes no = let same : true ≡ false = sym yes ∙ sym (ap is_fault is) ∙ no in absurd cc
+
 pub returns-in-Err-clause-answers : goal.returns-in-Err-clause-answers
-returns-in-Err-clause-answers g c w bytes p there quiet calm =
+returns-in-Err-clause-answers g c w bytes p there quiet =
     let t = p.replay.told in
     let is = p.replay.conf in
     let empty_one = p.spool in
-    refused_answers g.H.Host.tells t (conf_of (g.H.Host.view c.args.host.now).files) w is bytes c.in-Err.status c.in-Err.ensures.fault (λ d. quiet.disk (c.in-Err.ensures.disk (ap Err d)))
+    refused_answers g.H.Host.tells t (conf_of (g.H.Host.view c.args.host.now).files) w is bytes c.in-Err.status c.in-Err.ensures.fault (λ d. no_fault c.in-Err.status status.Disk d refl quiet)
 
 pub returns-in-Ok-None-clause-answers : goal.returns-in-Ok-None-clause-answers
-returns-in-Ok-None-clause-answers g c w bytes p there quiet calm =
+returns-in-Ok-None-clause-answers g c w bytes p there quiet =
     let t = p.replay.told in
     let is = p.replay.conf in
     let empty_one = p.spool in
@@ -243,15 +249,13 @@ returns-in-Ok-None-clause-answers g c w bytes p there quiet calm =
     let left = g.S.Source.left c.replay.new.source in
     let after = view c.replay.new.host in
     let ends = replay_ends (conf_of before.files) (world_of c.in-Ok.conf) w text left before mid looked after c.replay.result (c.in-Ok.ensures.exact t) is lawful (c.in-Ok.ensures.stays t) (c.in-Ok-None.ensures.stays t) (c.replay.ensures.ends t) in
-    let disk_later : (g.H.Host.faults c.args.host.now).disk ≤ (g.H.Host.faults c.first_file.new.host).disk = omega (arith, c.read_conf.ensures.disk_later, c.in-Ok-None.ensures.cause.disk_later) in
-    let tell_later : (g.H.Host.faults c.args.host.now).tell ≤ (g.H.Host.faults c.first_file.new.host).tell = omega (arith, c.read_conf.ensures.tell_later, c.in-Ok-None.ensures.cause.tell_later) in
     answers w left before after text bytes c.replay.result ends there
-    (λ d. quiet.disk (rose_before _ _ _ disk_later (c.replay.ensures.disk d)))
-    (λ d. quiet.tell (rose_before _ _ _ tell_later (c.replay.ensures.tell d)))
-    (λ d. calm (c.replay.ensures.source d))
+    (λ d. no_fault c.replay.result status.Disk d refl quiet)
+    (λ d. no_fault c.replay.result status.Tell d refl quiet)
+    (λ d. no_fault c.replay.result status.Source d refl quiet)
 
 pub returns-in-Ok-Some-clause-answers : goal.returns-in-Ok-Some-clause-answers
-returns-in-Ok-Some-clause-answers g c w bytes p there quiet calm =
+returns-in-Ok-Some-clause-answers g c w bytes p there quiet =
     let t = p.replay.told in
     let is = p.replay.conf in
     let empty_one = p.spool in
