@@ -34,15 +34,15 @@ BeginsNot tells conf v w result = (error : HostError) → IsErrOf result error �
     → NeverBegins (world_of conf) error v w
 
 -- the turn of the event was carried out
-abbrev pub Hears : {H : Type 0} → Bool → (H → View) → H → H → Conf → Life → Event → Life
+abbrev pub HearsTurn : {H : Type 0} → Bool → (H → View) → H → H → Conf → Life → Event → Life
     → Result (Unit {0}) HostError → Type 0
-Hears tells view before after conf old event new result = OnOk result (IsTrue tells
+HearsTurn tells view before after conf old event new result = OnOk result (IsTrue tells
     → PlaysTurn (world_of conf) old new (life_events.Heard event) (view before) (view after))
 
 -- the same, and what came could be read
-abbrev pub HearsDone : {H : Type 0} → Bool → (H → View) → H → H → Conf → Life → Event → Life
+abbrev pub HearsTurnDone : {H : Type 0} → Bool → (H → View) → H → H → Conf → Life → Event → Life
     → Result Stepped HostError → Type 0
-HearsDone tells view before after conf old event new result = IfOk result (λ done. IsTrue tells
+HearsTurnDone tells view before after conf old event new result = IfOk result (λ done. IsTrue tells
     → (done ≡ stepped.Done)
     × PlaysTurn (world_of conf) old new (life_events.Heard event) (view before) (view after))
 
@@ -53,9 +53,9 @@ BreaksTold tells conf old item v w result = (error : HostError) → IsErrOf resu
     → Breaks (world_of conf) old item error v w
 
 -- that of an event was
-abbrev pub Unhears : {H T : Type 0} → Bool → (H → View) → H → H → Conf → Life → Event
+abbrev pub BreaksTurn : {H T : Type 0} → Bool → (H → View) → H → H → Conf → Life → Event
     → Result T HostError → Type 0
-Unhears tells view before after conf old event result =
+BreaksTurn tells view before after conf old event result =
     BreaksTold tells conf old (life_events.Heard event) (view before) (view after) result
 
 -- the one message was read and sent, in whatever spool; or that was given up

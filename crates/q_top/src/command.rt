@@ -14,7 +14,7 @@ use std::alloc::Global;
 
 /// Whether the words are `replay` alone.
 fn is_replay(words: &[String]) -> bool
-    ensures { result ≡ is_replay (map string_bytes words.now) }
+    ensures { result ≡ is_replay (texts words.now) }
 {
     let [word] = words else {
         return false;

@@ -1,6 +1,6 @@
 //! One life of the queue manager, in which at most one message comes, to one recipient.
 ghost use Rattle.std.specs.Prelude.{◌≡◌, ◌<◌, ◌≤◌, ◌∷◌, ◌==◌, [], IfOk, IsErrOf, IsTrue, OnOk, codes, length, true};
-ghost use Rattle.q_top.specs.Hearing.{BeginsTold, BeginsThere, BeginsNot, Hears, HearsDone, Unhears, BreaksTold, Sends, SendsNot, mail, reply};
+ghost use Rattle.q_top.specs.Hearing.{BeginsTold, BeginsThere, BeginsNot, HearsTurn, HearsTurnDone, BreaksTurn, BreaksTold, Sends, SendsNot, mail, reply};
 ghost use Rattle.q_model.specs.declared.entry.Entry.TheVariants as entries;
 ghost use Rattle.q_model.specs.declared.event.Event.TheVariants as events;
 ghost use Rattle.q_model.specs.declared.event.LifeEvent.TheVariants as life_events;
@@ -134,12 +134,12 @@ impl Life {
         requires range { IsInRange (world_of conf.now).settings }
         requires clock { self.old.clock ≤ 999990000000 }
         requires there { IsTrue H.tells → HasFiles self.old.stage (H.view host.old).files }
-        ensures ok { Hears H.tells H.view host.old host.new conf.now
+        ensures ok { HearsTurn H.tells H.view host.old host.new conf.now
             self.old (events.At moment) self.new result }
         ensures files { OnOk result (IsTrue H.tells
             → HasFiles self.new.stage (H.view host.new).files) }
         ensures clock { self.new.clock ≤ 999990000000 }
-        ensures err { Unhears H.tells H.view host.old host.new conf.now
+        ensures err { BreaksTurn H.tells H.view host.old host.new conf.now
             self.old (events.At moment) result }
         ensures cause { HasFaultCause (H.faults host.old) (H.faults host.new) result }
     {
@@ -165,12 +165,12 @@ impl Life {
         requires form { IsInForm (events.Mail sender to content) }
         requires clock { self.old.clock ≤ 999990000000 }
         requires there { IsTrue H.tells → HasFiles self.old.stage (H.view host.old).files }
-        ensures ok { HearsDone H.tells H.view host.old host.new conf.now
+        ensures ok { HearsTurnDone H.tells H.view host.old host.new conf.now
             self.old (mail sender to content) self.new result }
         ensures files { OnOk result (IsTrue H.tells
             → HasFiles self.new.stage (H.view host.new).files) }
         ensures clock { self.new.clock ≡ self.old.clock }
-        ensures err { Unhears H.tells H.view host.old host.new conf.now
+        ensures err { BreaksTurn H.tells H.view host.old host.new conf.now
             self.old (mail sender to content) result }
         ensures cause { HasFaultCause (H.faults host.old) (H.faults host.new) result }
     {
@@ -202,12 +202,12 @@ impl Life {
         requires fits { fits self.old (events.Reply number site outcomes) ≡ true }
         requires range { IsInRange (world_of conf.now).settings }
         requires there { IsTrue H.tells → HasFiles self.old.stage (H.view host.old).files }
-        ensures ok { Hears H.tells H.view host.old host.new conf.now
+        ensures ok { HearsTurn H.tells H.view host.old host.new conf.now
             self.old (reply number site outcomes) self.new result }
         ensures files { OnOk result (IsTrue H.tells
             → HasFiles self.new.stage (H.view host.new).files) }
         ensures clock { self.new.clock ≡ self.old.clock }
-        ensures err { Unhears H.tells H.view host.old host.new conf.now
+        ensures err { BreaksTurn H.tells H.view host.old host.new conf.now
             self.old (reply number site outcomes) result }
         ensures cause { HasFaultCause (H.faults host.old) (H.faults host.new) result }
     {
@@ -240,12 +240,12 @@ impl Life {
         requires form { IsInForm event }
         requires clock { self.old.clock ≤ 999990000000 }
         requires there { IsTrue H.tells → HasFiles self.old.stage (H.view host.old).files }
-        ensures ok { HearsDone H.tells H.view host.old host.new conf.now
+        ensures ok { HearsTurnDone H.tells H.view host.old host.new conf.now
             self.old event self.new result }
         ensures files { OnOk result (IsTrue H.tells
             → HasFiles self.new.stage (H.view host.new).files) }
         ensures clock { self.new.clock ≤ 999990000000 }
-        ensures err { Unhears H.tells H.view host.old host.new conf.now
+        ensures err { BreaksTurn H.tells H.view host.old host.new conf.now
             self.old event result }
         ensures cause { HasFaultCause (H.faults host.old) (H.faults host.new) result }
     {

@@ -28,5 +28,5 @@ abbrev pub spaced_site : Table → Site → List ℕ
 spaced_site table site = spaced (transport_text table site.transport) ++ spaced site.hop
 
 -- this is the entry's line without its end
-abbrev pub Writes : Table → Entry → List ℕ → Type 0
-Writes table entry text = text ≡ joined (words table entry)
+abbrev pub WritesEntry : Table → Entry → List ℕ → Type 0
+WritesEntry table entry text = text ≡ joined (words table entry)

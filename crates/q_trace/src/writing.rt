@@ -1,6 +1,6 @@
 //! The line of an entry.
 ghost use Rattle.std.specs.Prelude.{◌≡◌, ◌∷◌, [], codes, decimal, IfOk, length, map};
-ghost use Rattle.q_trace.specs.Wording.{arrive_words, reply_words, log_words, Writes};
+ghost use Rattle.q_trace.specs.Wording.{arrive_words, reply_words, log_words, WritesEntry};
 ghost use Rattle.q_model.specs.IdTexts.{id_text};
 ghost use Rattle.q_model.specs.TextParts.{why_text};
 ghost use Rattle.q_model.specs.Text.{joined, line, mode_words, outcome_text, sender_text, state_text, trigger_text, words};
@@ -84,7 +84,7 @@ fn start_line(
     positions: &Positions,
     table: &Table,
 ) -> Result<Line, NoMemory>
-    ensures { IfOk result (Writes (table_of table.now)
+    ensures { IfOk result (WritesEntry (table_of table.now)
         (Entry.Start number id.now site.now positions.now)) }
 {
     let mut line = Line::new(alloc, b"start")?;
@@ -103,7 +103,7 @@ fn preempt_line(
     need: u32,
     table: &Table,
 ) -> Result<Line, NoMemory>
-    ensures { IfOk result (Writes (table_of table.now)
+    ensures { IfOk result (WritesEntry (table_of table.now)
         (Entry.Preempt child.now parent.now transport need)) }
 {
     let mut line = id_line(alloc, b"preempt", child)?;
@@ -138,7 +138,7 @@ fn skip_line(
     positions: &Positions,
     table: &Table,
 ) -> Result<Line, NoMemory>
-    ensures { IfOk result (Writes (table_of table.now) (Entry.Skip id.now site.now positions.now)) }
+    ensures { IfOk result (WritesEntry (table_of table.now) (Entry.Skip id.now site.now positions.now)) }
 {
     let mut line = id_line(alloc, b"skip", id)?;
     line.site(table, site)?;
@@ -172,7 +172,7 @@ fn trigger_line(alloc: Global, kind: Trigger) -> Result<Line, NoMemory>
 }
 
 fn entry_line(alloc: Global, entry: &Entry, table: &Table) -> Result<Line, NoMemory>
-    ensures { IfOk result (Writes (table_of table.now) entry.now) }
+    ensures { IfOk result (WritesEntry (table_of table.now) entry.now) }
 {
     match entry {
         Entry::Life { generation, mode } => life_line(alloc, *generation, *mode),
