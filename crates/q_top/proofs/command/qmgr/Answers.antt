@@ -226,7 +226,7 @@ returns-clause-any_moment g c w p held =
     moments_reached w text text before looked held (status_of c.in-Err-first_file.error) ends
 
 no_fault : (result fault : Status) → result ≡ fault → is_fault fault ≡ true → is_fault result ≡ false → ⊥
-no_fault result fault is yes no = let same : true ≡ false = sym yes ∙ sym (ap is_fault is) ∙ no in absurd cc
+no_fault result fault is fails calm = let same : true ≡ false = sym fails ∙ sym (ap is_fault is) ∙ calm in cc
 
 pub returns-in-Err-clause-answers : goal.returns-in-Err-clause-answers
 returns-in-Err-clause-answers g c w bytes p there quiet =
