@@ -7,14 +7,13 @@ use Rattle.q_model.specs.Step.{after}
 use Rattle.q_model.specs.declared.entry.Entry.TheVariants as entries
 use Rattle.q_model.specs.declared.id.Id.{Id}
 use Rattle.std.specs.List.{remove}
-use Rattle.std.specs.Prelude.{◌++◌, ◌-◌, ◌==◌, ◌≡◌, filter, length, List, map, None, not, Option, position, replicate, slice_get, Some, ℕ}
+use Rattle.std.specs.Prelude.{◌++◌, ◌-◌, ◌==◌, ◌≡◌, filter, length, List, map, None, not, Option, position, slice_get, Some, ℕ}
 use Rattle.q_model.specs.declared.outcome.Outcome.{Outcome}
 use Rattle.q_model.specs.declared.outcome.SiteState.{SiteState}
 use Rattle.q_model.specs.declared.rows.Delivery.{Delivery}
 use Rattle.q_model.specs.declared.rows.Row.{Row}
 use Rattle.q_model.specs.declared.rows.Unsettled.{Unsettled}
 use Rattle.q_model.specs.Values.{Site}
-use Rattle.q_model.specs.declared.outcome.Outcome.TheVariants as outcomes
 use Rattle.q_core.specs.UsedSites.{busy_in}
 use Rattle.q_core.specs.Held.{is_dead_in}
 use Rattle.q_core.specs.Needs.{needs_in, needs_put_off}

@@ -1,5 +1,5 @@
 -- What `qmgr` says of a host and a source before and after a command.
-use Rattle.std.specs.Prelude.{◌≡◌, ◌⊎◌, Bool, IsSome, IsTrue, List, Option, Some, String, map, string_bytes, ℕ, false, true}
+use Rattle.std.specs.Prelude.{◌≡◌, ◌⊎◌, Bool, IsSome, IsTrue, List, Option, Some, ℕ, false, true}
 use Rattle.q_host.specs.Calls.{Stays}
 use Rattle.q_host.specs.View.{LeavesOnly, View, now}
 use Rattle.q_model.specs.declared.spot.Area.{Area}

@@ -1,4 +1,4 @@
-use Rattle.std.proofs.Common.{◌≤◌, subst, Option, Some, Err, ap, refl, arith, ◌≡◌, ◌∙◌, sym, true, false}
+use Rattle.std.proofs.Common.{subst, Option, Some, ap, refl, ◌≡◌, ◌∙◌, sym, true, false}
 use Rattle.q_model.specs.Values.{Spot}
 use Rattle.q_top.specs.Confs.{conf_of}
 use Rattle.q_top.specs.FirstFile.{IsFirstFile, areas_in_order}

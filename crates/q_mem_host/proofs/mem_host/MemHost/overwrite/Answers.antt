@@ -1,9 +1,8 @@
-use Rattle.std.proofs.Common.{◌≡◌, ◌++◌, ◌∷◌, List, ℕ, rules, if◌then◌else◌, refl, [], ◌∙◌, ap}
+use Rattle.std.proofs.Common.{◌≡◌, ◌++◌, ◌∷◌, List, ℕ, rules, refl, [], ◌∙◌, ap}
 use Rattle.q_host.specs.Files.{Placed, put}
 use Rattle.q_mem_host.specs.Kept.{Kept, overwritten}
 use Rattle.q_mem_host.specs.Event.{write}
 use Rattle.std.specs.Option.{option_map}
-use Rattle.q_mem_host.specs.Data.{table}
 use Rattle.q_mem_host.specs.Record.{history}
 use Rattle.q_mem_host.proofs.Keeping.{keeps_by}
 use Rattle.q_mem_host.proofs.mem_host.MemHost.overwrite.Goals as goal
