@@ -1,6 +1,6 @@
 //! Which file comes into memory next.
 ghost use Rattle.std.specs.Prelude.{◌≡◌};
-ghost use Rattle.q_core.specs.Facts.{picked, picked_decision, picked_next};
+ghost use Rattle.q_core.specs.Facts.{picked, picked_next};
 ghost use Rattle.q_core.specs.Rules.{admission_in, has_message_room_in, next_admission_in};
 
 use crate::decision::{Decision, Found};

@@ -3,7 +3,6 @@
 ghost use Rattle.std.specs.Prelude.{◌≡◌, ◌≤◌, ◌<◌, ◌+◌, ◌^◌, ◌&&◌, ◌==◌, count_by, nat_lt};
 ghost use Rattle.std.specs.Option.{option_copied};
 ghost use Rattle.q_core.specs.Choosing.{behind_jobs, best_in, choice_in, choices_from, choose_in, current_in, is_better_in, is_candidate_in, is_fresh_among, jobs_at, need_in, next_start_in, pays_in, rest_in, better_slot};
-ghost use Rattle.q_core.specs.Lists.{prefer};
 ghost use Rattle.q_core.specs.Starting.{flights_at};
 ghost use Rattle.q_model.specs.Ids.{id_eq};
 

@@ -1,13 +1,8 @@
 //! Messages that an earlier life left in active: a failure is marked, and marks are synced.
-ghost use Rattle.std.specs.Prelude.{◌≡◌, IsTrue, OnErr, OnOk, [], false, true, ℕ};
-ghost use Rattle.q_core.specs.Agrees.{ForLedgers, Agrees, Matches, Follows, MarksLeftovers};
+ghost use Rattle.std.specs.Prelude.{◌≡◌, IsTrue, OnErr, OnOk, [], false};
+ghost use Rattle.q_core.specs.Agrees.{ForLedgers, Follows, MarksLeftovers};
 ghost use Rattle.q_core.specs.Held.{is_admitted_in};
 ghost use Rattle.q_core.specs.Changes.{IsUnchanged, IsNoted, is_looked_at};
-ghost use Rattle.q_model.specs.Ledger.{Ledger};
-ghost use Rattle.q_model.specs.Marking.{marks_leftover};
-ghost use Rattle.q_model.specs.Settings.{World};
-ghost use Rattle.q_model.specs.Step.{after};
-ghost use Rattle.q_model.specs.Syncs.{may_sync};
 
 use crate::state::{Core, Seen};
 use q_model::{Entry, Id, NoMemory};

@@ -1,13 +1,9 @@
 //! Damaged files go to corrupt.
 ghost use Rattle.std.specs.Prelude.{◌≡◌, IsTrue, true};
-ghost use Rattle.q_core.specs.Agrees.{ForLedgers, Agrees, Matches, Follows};
+ghost use Rattle.q_core.specs.Agrees.{Follows};
 ghost use Rattle.q_core.specs.Changes.{is_looked_at};
 ghost use Rattle.q_core.specs.Facts.{shows_damaged};
 ghost use Rattle.q_core.specs.Held.{is_damaged_in};
-ghost use Rattle.q_model.specs.Leaving.{may_corrupt};
-ghost use Rattle.q_model.specs.Ledger.{Ledger};
-ghost use Rattle.q_model.specs.Settings.{World};
-ghost use Rattle.q_model.specs.Step.{after};
 
 use crate::decision::Found;
 use crate::names::same_id;

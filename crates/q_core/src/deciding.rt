@@ -1,11 +1,9 @@
 //! The next decision, and what it changes.
 ghost use Rattle.std.specs.Prelude.{◌≡◌, IfOk, IsTrue, None, OnErr, OnOk, Some, true, [], ◌≤◌};
-ghost use Rattle.q_core.specs.Agrees.{ForLedgers, Agrees};
+ghost use Rattle.q_core.specs.Agrees.{ForLedgers};
 ghost use Rattle.q_core.specs.Changes.{IsUnchanged, is_looked_at};
-ghost use Rattle.q_core.specs.Deciding.{IsDecided, IsApplied, decide_in, is_answered, is_look, is_reading, question_for, question_of, IsPlaced, IsSkipOf, IsStartOf, NotesSkip, Applies, AtLook, AtRead};
+ghost use Rattle.q_core.specs.Deciding.{IsDecided, decide_in, is_answered, is_look, is_reading, question_for, question_of, IsPlaced, IsSkipOf, IsStartOf, NotesSkip, Applies, AtLook, AtRead};
 ghost use Rattle.q_core.specs.Looking.{is_unseen, looks_left};
-ghost use Rattle.q_model.specs.Ledger.{Ledger};
-ghost use Rattle.q_model.specs.Settings.{World};
 
 use crate::decision::Decision;
 use crate::state::{Core, Question, Seen};

@@ -1,16 +1,12 @@
 //! A delivery starts.
 ghost use Rattle.std.specs.Prelude.{◌≡◌, ◌≤◌, ◌<◌, ◌&&◌, filter, IsTrue, length, List, map, not, OnErr, OnOk, position, Some, ℕ, vec_capacity, vec_len};
 ghost use Rattle.std.specs.List.{enumerate_from};
-ghost use Rattle.q_core.specs.Agrees.{ForLedgers, Agrees, Matches, FollowsRule};
+ghost use Rattle.q_core.specs.Agrees.{FollowsRule};
 ghost use Rattle.q_core.specs.Sending.{started_job, started_line, is_for, IsStarted, IsSent, served_now};
 ghost use Rattle.q_core.specs.Changes.{IsUnchanged, is_looked_at};
-ghost use Rattle.q_core.specs.Queries.{flight_in};
 ghost use Rattle.q_model.specs.Sites.{site_eq};
 ghost use Rattle.q_model.specs.Ids.{id_eq};
-ghost use Rattle.q_model.specs.Ledger.{Ledger};
 ghost use Rattle.q_model.specs.Next.{start_rule};
-ghost use Rattle.q_model.specs.Settings.{World};
-ghost use Rattle.q_model.specs.Step.{after};
 
 use crate::flying::add_flight;
 use crate::line::{Job, Line};

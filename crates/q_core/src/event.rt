@@ -1,13 +1,10 @@
 //! Events: what comes to the core from outside.
 ghost use Rattle.std.specs.Prelude.{◌≡◌, IsTrue, OnErr, OnOk, true};
-ghost use Rattle.q_core.specs.Agrees.{Agrees, Matches, ForLedgers, FollowsAllowed};
+ghost use Rattle.q_core.specs.Agrees.{ForLedgers, FollowsAllowed};
 ghost use Rattle.q_core.specs.Changes.{IsUnchanged, is_looked_at};
 ghost use Rattle.q_core.specs.Deciding.{is_answered};
 ghost use Rattle.q_core.specs.Hearing.{Hears, IsHeard, IsInTime};
 ghost use Rattle.q_model.specs.declared.entry.Entry.{Entry};
-ghost use Rattle.q_model.specs.Ledger.{Ledger};
-ghost use Rattle.q_model.specs.Settings.{World};
-ghost use Rattle.q_model.specs.Step.{after, allowed};
 
 use crate::state::{Core, Question, Seen};
 use q_model::{Id, Moment, NoMemory, Outcomes, SiteState, Trigger};

@@ -1,10 +1,10 @@
 //! Answers to looks, and to reads that fail.
-ghost use Rattle.std.specs.Prelude.{◌≡◌, ◌<◌, map, true, ℕ};
+ghost use Rattle.std.specs.Prelude.{◌≡◌, map, true};
 ghost use Rattle.q_core.specs.Agrees.{Agrees, ForLedgers};
 ghost use Rattle.q_core.specs.Answers.{IsFound, is_fit, ForRead};
 ghost use Rattle.q_core.specs.Changes.{IsDamageNoted, IsSlotChange};
 ghost use Rattle.q_core.specs.Deciding.{is_answered};
-ghost use Rattle.q_core.specs.Looking.{is_unseen, looks_left, LeavesFewer};
+ghost use Rattle.q_core.specs.Looking.{LeavesFewer};
 ghost use Rattle.q_core.specs.Slots.{changed_at, with_damage};
 ghost use Rattle.q_model.specs.declared.id.Id.{Id};
 

@@ -1,5 +1,5 @@
 //! Recipients that were read are grouped in rows, as many in one as a delivery may have.
-ghost use Rattle.std.specs.Prelude.{◌≡◌, ◌<◌, ◌&&◌, ◌++◌, [], ◌∷◌, IfOk, length, OnOk, position, set, slice_get, Some};
+ghost use Rattle.std.specs.Prelude.{◌≡◌, ◌<◌, ◌&&◌, ◌++◌, [], ◌∷◌, IfOk, length, OnOk, position, slice_get, Some};
 ghost use Rattle.std.specs.Option.{option_copied};
 ghost use Rattle.q_core.specs.Loading.{joined_at, rows_in, has_space, HasJoined, row_of_one};
 ghost use Rattle.q_model.specs.Batches.{join_rows};

@@ -1,9 +1,7 @@
 //! Events without a row: the clock and the triggers (qmgr(8)).
 ghost use Rattle.std.specs.Prelude.{◌≡◌, ◌≤◌, IsTrue};
-ghost use Rattle.q_core.specs.Agrees.{ForLedgers, Agrees, Matches};
+ghost use Rattle.q_core.specs.Agrees.{ForLedgers, Matches};
 ghost use Rattle.q_core.specs.Changes.{IsRevived, IsWoken, asked_when_due, is_looked_at};
-ghost use Rattle.q_model.specs.Ledger.{Ledger};
-ghost use Rattle.q_model.specs.Settings.{World};
 ghost use Rattle.q_model.specs.Step.{after};
 
 use crate::clock::Clock;

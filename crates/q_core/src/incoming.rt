@@ -1,17 +1,11 @@
 //! Messages come to incoming: they arrive, bounces are stored, and messages that an earlier life
 //! left in active go back.
 ghost use Rattle.q_core.specs.Hearing.{IsHeard};
-ghost use Rattle.std.specs.Prelude.{◌≡◌, IsTrue, List, Option, false, map, true, ℕ};
-ghost use Rattle.q_core.specs.Agrees.{ForLedgers, Agrees, Matches, Follows};
+ghost use Rattle.std.specs.Prelude.{◌≡◌, IsTrue, false, map, true};
+ghost use Rattle.q_core.specs.Agrees.{Follows};
 ghost use Rattle.q_core.specs.Changes.{IsBounced, is_looked_at};
 ghost use Rattle.q_core.specs.Held.{is_admitted_in};
 ghost use Rattle.q_core.specs.Slots.{changed_at, with_bounce};
-ghost use Rattle.q_model.specs.Arrivals.{may_arrive};
-ghost use Rattle.q_model.specs.Bounces.{may_bounce};
-ghost use Rattle.q_model.specs.Leaving.{may_back};
-ghost use Rattle.q_model.specs.Ledger.{Ledger};
-ghost use Rattle.q_model.specs.Settings.{World};
-ghost use Rattle.q_model.specs.Step.{after};
 
 use crate::event::Heard;
 use crate::names::same_id;

@@ -1,5 +1,5 @@
 //! A message that has come to wait joins lines, and its sites get records.
-ghost use Rattle.std.specs.Prelude.{◌≡◌, ◌<◌, ◌||◌, ◌==◌, [], IfOk, length, List, map, OnOk, slice_get, Some};
+ghost use Rattle.std.specs.Prelude.{◌≡◌, ◌<◌, ◌||◌, ◌==◌, [], IfOk, length, map, OnOk, slice_get, Some};
 ghost use Rattle.q_core.specs.Lists.{AtPlace};
 ghost use Rattle.std.specs.List.{enumerate_from, list_any};
 ghost use Rattle.q_model.specs.Ids.{id_eq};

@@ -1,10 +1,8 @@
 //! The rules of the next decision, one function for each. Of the ledger of a life in which an
 //! `at` came, the first that answers is the next decision.
-ghost use Rattle.q_core.specs.Agrees.{ForLedgers, Agrees};
-ghost use Rattle.q_core.specs.Decisions.{IsReadRule, IsRule, IsRuleOrLook, IsRuleOrLooks, IsRuleOrActiveLook};
-ghost use Rattle.q_model.specs.Ledger.{Ledger};
+ghost use Rattle.q_core.specs.Agrees.{ForLedgers};
+ghost use Rattle.q_core.specs.Decisions.{IsReadRule, IsRule, IsRuleOrLooks, IsRuleOrActiveLook};
 ghost use Rattle.q_model.specs.Next.{admission_rule, finishing_rule, leftover_rule, load_rule, settling_rule, skip_rule, start_rule, sync_rule};
-ghost use Rattle.q_model.specs.Settings.{World};
 
 use crate::decision::Decision;
 use crate::state::Core;

@@ -1,13 +1,9 @@
 //! Idle messages leave memory: they are deferred or removed.
 ghost use Rattle.std.specs.Prelude.{◌≡◌, IsTrue, false, not, true, ℕ};
-ghost use Rattle.q_core.specs.Agrees.{ForLedgers, Agrees, Matches, Follows};
+ghost use Rattle.q_core.specs.Agrees.{Follows};
 ghost use Rattle.q_core.specs.Changes.{IsPutOff, IsSlotRemoved, is_looked_at, slots_without};
 ghost use Rattle.q_core.specs.Held.{is_admitted_in};
 ghost use Rattle.q_model.specs.Ids.{id_eq};
-ghost use Rattle.q_model.specs.Leaving.{may_defer, may_remove};
-ghost use Rattle.q_model.specs.Ledger.{Ledger};
-ghost use Rattle.q_model.specs.Settings.{World};
-ghost use Rattle.q_model.specs.Step.{after};
 
 use crate::names::same_id;
 use crate::slot::Slot;

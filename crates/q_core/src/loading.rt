@@ -1,18 +1,10 @@
 //! Recipients come into memory.
-ghost use Rattle.std.specs.Prelude.{◌≡◌, ◌+◌, ◌++◌, ◌∷◌, [], IfOk, IsTrue, true, length, List, map, min, OnErr, OnOk, Some, ℕ};
-ghost use Rattle.q_core.specs.Agrees.{Agrees, Matches, ForLedgers};
+ghost use Rattle.std.specs.Prelude.{◌≡◌, ◌+◌, ◌++◌, ◌∷◌, [], IfOk, IsTrue, true, length, map, min, OnErr, OnOk};
+ghost use Rattle.q_core.specs.Agrees.{ForLedgers};
 ghost use Rattle.q_core.specs.Changes.{IsUnchanged, IsSlotChange, is_looked_at};
 ghost use Rattle.q_core.specs.Deciding.{is_answered, is_reading};
-ghost use Rattle.q_core.specs.Loading.{LoadsAs, ReadsAre, IsLoaded, AreRowsAdded, read_up, rows_in, may_name, ReadsAs, HasLoaded};
+ghost use Rattle.q_core.specs.Loading.{LoadsAs, AreRowsAdded, read_up, rows_in, may_name, ReadsAs, HasLoaded};
 ghost use Rattle.q_core.specs.Slots.{changed_at};
-ghost use Rattle.q_model.specs.Batches.{load_positions};
-ghost use Rattle.q_model.specs.Book.{message_of};
-ghost use Rattle.q_model.specs.Ledger.{Ledger};
-ghost use Rattle.q_model.specs.Loads.{may_load};
-ghost use Rattle.q_model.specs.Message.{Message, address_at};
-ghost use Rattle.q_model.specs.Next.{next};
-ghost use Rattle.q_model.specs.Settings.{World};
-ghost use Rattle.q_model.specs.Step.{after};
 
 use crate::grouping::rows_of;
 use crate::joining::{joined_lines, new_sites};

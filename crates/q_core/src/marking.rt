@@ -1,13 +1,10 @@
 //! Outcomes come to disk: a failure is logged, a recipient is marked.
-ghost use Rattle.std.specs.Prelude.{◌≡◌, ◌<◌, ◌-◌, IsTrue, Some, drop, length, map, ℕ};
-ghost use Rattle.q_core.specs.Agrees.{ForLedgers, Agrees, Matches, FollowsRule};
+ghost use Rattle.std.specs.Prelude.{◌≡◌, ◌<◌, ◌-◌, IsTrue, drop, length, map, ℕ};
+ghost use Rattle.q_core.specs.Agrees.{FollowsRule};
 ghost use Rattle.q_core.specs.Changes.{IsSlotChange, IsUnsettledChange, is_looked_at};
 ghost use Rattle.q_core.specs.Slots.{changed_at, with_log, with_slot_mark};
-ghost use Rattle.q_model.specs.Ledger.{Ledger};
 ghost use Rattle.q_model.specs.Logs.{first_logged};
 ghost use Rattle.q_model.specs.Next.{settling_rule};
-ghost use Rattle.q_model.specs.Settings.{World};
-ghost use Rattle.q_model.specs.Step.{after};
 ghost use Rattle.q_model.specs.declared.outcome.Failure.{Failure};
 
 use crate::names::same_id;

@@ -1,5 +1,5 @@
 //! What the outcomes of recipients need before they are settled.
-ghost use Rattle.std.specs.Prelude.{◌≡◌, ◌++◌, IfOk, length, OnOk, replicate, slice_get};
+ghost use Rattle.std.specs.Prelude.{◌≡◌, ◌++◌, IfOk, OnOk, slice_get};
 ghost use Rattle.std.specs.Option.{option_copied};
 ghost use Rattle.q_core.specs.Needs.{need_at, need_in, needs_in, needs_put_off};
 

@@ -1,10 +1,8 @@
 //! The next decision: the first of eight rules that applies.
 ghost use Rattle.std.specs.Prelude.{◌≡◌};
-ghost use Rattle.q_core.specs.Agrees.{Agrees, ForLedgers};
+ghost use Rattle.q_core.specs.Agrees.{ForLedgers};
 ghost use Rattle.q_core.specs.Deciding.{IsNextDecision, IsPlaced, clearing_on, decide_in, first_rule_in, scan_look_in};
-ghost use Rattle.q_model.specs.Ledger.{Ledger};
 ghost use Rattle.q_model.specs.Next.{next};
-ghost use Rattle.q_model.specs.Settings.{World};
 
 use crate::decision::Decision;
 use crate::state::{Core, Seen};

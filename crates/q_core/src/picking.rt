@@ -1,14 +1,8 @@
 //! The next file is picked from incoming or deferred, by turns.
 ghost use Rattle.std.specs.Prelude.{◌≡◌, IsTrue, OnErr, OnOk, false, true};
-ghost use Rattle.q_core.specs.Agrees.{ForLedgers, Agrees, Matches, Follows};
+ghost use Rattle.q_core.specs.Agrees.{Follows};
 ghost use Rattle.q_core.specs.Changes.{IsUnchanged, is_known, is_looked_at};
-ghost use Rattle.q_core.specs.Facts.{shows_damaged};
 ghost use Rattle.q_core.specs.Picking.{IsEntered, found_name, found_slot, from_deferred_in, scan_moved_on, passed_in, picked_in, scanned_in, shown, IsHidden};
-ghost use Rattle.q_model.specs.Admissions.{may_admit};
-ghost use Rattle.q_model.specs.Leaving.{may_corrupt};
-ghost use Rattle.q_model.specs.Ledger.{Ledger};
-ghost use Rattle.q_model.specs.Settings.{World};
-ghost use Rattle.q_model.specs.Step.{after};
 
 use crate::decision::Found;
 use crate::slot::Slot;

@@ -1,15 +1,11 @@
 //! A job goes before the current one (SCHEDULER_README, "Preemptive scheduling").
 ghost use Rattle.std.specs.Prelude.{◌≡◌, ◌≤◌, ◌<◌, IsTrue, length, map, position, slice_get, Some, vec_capacity, vec_len};
 ghost use Rattle.std.specs.List.{enumerate_from, insert, remove};
-ghost use Rattle.q_core.specs.Agrees.{ForLedgers, Agrees, Matches, FollowsRule};
+ghost use Rattle.q_core.specs.Agrees.{FollowsRule};
 ghost use Rattle.q_core.specs.Sending.{charged_job, IsPreempted, moved_job, moved_line, preempted_line, put_job, with_charge};
 ghost use Rattle.q_core.specs.Changes.{is_looked_at};
-ghost use Rattle.q_core.specs.Choosing.{rest_in};
 ghost use Rattle.q_model.specs.Ids.{id_eq};
-ghost use Rattle.q_model.specs.Ledger.{Ledger};
 ghost use Rattle.q_model.specs.Next.{start_rule};
-ghost use Rattle.q_model.specs.Settings.{World};
-ghost use Rattle.q_model.specs.Step.{after};
 
 use crate::line::{Job, Line};
 use crate::names::same_id;

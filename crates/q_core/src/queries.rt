@@ -1,18 +1,16 @@
 //! What the core tells of the life: its clock, and the deliveries in flight.
 ghost use Rattle.std.specs.Prelude.{◌≡◌, ◌≤◌, find, IsTrue, map, nat_lt, option_map, Some};
 ghost use Rattle.std.specs.Option.{option_copied};
-ghost use Rattle.q_core.specs.Agrees.{Agrees, ForLedgers};
+ghost use Rattle.q_core.specs.Agrees.{ForLedgers};
 ghost use Rattle.q_model.specs.Memory.{is_admitted};
 ghost use Rattle.q_core.specs.Held.{is_admitted_in};
 ghost use Rattle.q_core.specs.Lists.{better_of};
 ghost use Rattle.q_core.specs.Queries.{expired_in, flight_in, flight_shown, slot_expired_in, skipped_in, started_earlier};
 ghost use Rattle.q_model.specs.Book.{message_of};
 ghost use Rattle.q_model.specs.Deliveries.{flight_of};
-ghost use Rattle.q_model.specs.Ledger.{Ledger};
 ghost use Rattle.q_model.specs.Lists.{least};
 ghost use Rattle.q_model.specs.Message.{Message};
 ghost use Rattle.q_model.specs.Past.{starts};
-ghost use Rattle.q_model.specs.Settings.{World};
 ghost use Rattle.q_model.specs.Times.{is_expired};
 
 use crate::names::{same_id, same_site};

@@ -1,11 +1,8 @@
 //! A delivery in flight ends.
-ghost use Rattle.std.specs.Prelude.{◌≡◌, ◌==◌, filter, IfOk, IsTrue, not, OnErr, OnOk, true};
-ghost use Rattle.q_core.specs.Agrees.{ForLedgers, Agrees, Matches, FollowsAllowed};
+ghost use Rattle.std.specs.Prelude.{◌≡◌, ◌==◌, filter, IfOk, IsTrue, not, OnErr, OnOk};
+ghost use Rattle.q_core.specs.Agrees.{FollowsAllowed};
 ghost use Rattle.q_core.specs.Changes.{IsUnchanged, is_looked_at};
 ghost use Rattle.q_core.specs.Leaving.{AreAdded, IsSiteHeard, IsLanded, replied_in};
-ghost use Rattle.q_model.specs.Ledger.{Ledger};
-ghost use Rattle.q_model.specs.Settings.{World};
-ghost use Rattle.q_model.specs.Step.{after, allowed};
 
 use crate::flying::recount;
 use crate::needs::needs;

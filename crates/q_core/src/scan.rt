@@ -1,11 +1,9 @@
 //! Scans of the deferred queue: how they are asked for and end, and what looks have shown.
 ghost use Rattle.std.specs.Prelude.{◌≡◌, Some};
 ghost use Rattle.q_core.specs.Answers.{AgreesByScan};
-ghost use Rattle.q_core.specs.Agrees.{ForLedgers, Agrees, found_active, found_incoming, found_next};
+ghost use Rattle.q_core.specs.Agrees.{ForLedgers, Agrees, found_active, found_incoming};
 ghost use Rattle.q_core.specs.Changes.{asked_scan, looked_at, scan_ended};
-ghost use Rattle.q_model.specs.Ledger.{Ledger};
-ghost use Rattle.q_model.specs.Scans.{joined_request, new_scan, scan_next};
-ghost use Rattle.q_model.specs.Settings.{World};
+ghost use Rattle.q_model.specs.Scans.{joined_request, new_scan};
 ghost use Rattle.q_model.specs.declared.rows.Scan.{Scan};
 
 use crate::clock::Clock;

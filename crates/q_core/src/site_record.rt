@@ -1,5 +1,5 @@
 //! What the core knows of sites.
-ghost use Rattle.std.specs.Prelude.{◌≡◌, ◌<◌, ◌&&◌, ◌++◌, [], ◌∷◌, filter, length, map, nat_lt, not, position, slice_get, Some};
+ghost use Rattle.std.specs.Prelude.{◌≡◌, ◌<◌, ◌&&◌, ◌++◌, [], ◌∷◌, filter, length, map, nat_lt, not, position, Some};
 ghost use Rattle.std.specs.List.{remove};
 ghost use Rattle.q_core.specs.Lists.{moved_back, AtPlace};
 ghost use Rattle.q_core.specs.UsedSites.{busy_in, forget_in, is_kept_dead_in, is_kept_in, is_left_in, is_unused_in, revive_dead_in, revive_due_in, used_in, waits_at_in};

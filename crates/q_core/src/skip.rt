@@ -1,13 +1,8 @@
 //! Recipients whose site is dead are put off.
-ghost use Rattle.std.specs.Prelude.{◌≡◌, ◌<◌, IfOk, IsTrue, length, List, OnErr, OnOk, slice_get, Some, ℕ};
+ghost use Rattle.std.specs.Prelude.{◌≡◌, ◌<◌, IfOk, IsTrue, length, OnErr, OnOk};
 ghost use Rattle.q_core.specs.Lists.{AtPlace};
-ghost use Rattle.q_core.specs.Agrees.{ForLedgers, Agrees, Matches};
 ghost use Rattle.q_core.specs.Changes.{IsUnchanged, is_looked_at};
-ghost use Rattle.q_core.specs.Decisions.{IsRowAt};
 ghost use Rattle.q_core.specs.Leaving.{IsFirstDead, IsLastSkip, IsUnqueued, put_off_in, SkipsRowAt};
-ghost use Rattle.q_model.specs.Ledger.{Ledger};
-ghost use Rattle.q_model.specs.Settings.{World};
-ghost use Rattle.q_model.specs.Step.{after};
 
 use crate::needs::put_off;
 use crate::state::Core;

@@ -1,8 +1,7 @@
 //! Which waiting row of a message is sent next at a transport.
-ghost use Rattle.std.specs.Prelude.{◌≡◌, ◌<◌, ◌^◌, nat_lt};
+ghost use Rattle.std.specs.Prelude.{◌≡◌, ◌<◌, ◌^◌};
 ghost use Rattle.std.specs.Option.{option_copied};
-ghost use Rattle.q_core.specs.Lists.{prefer};
-ghost use Rattle.q_core.specs.Starting.{can_start_in, flights_at, has_room_in, is_startable_in, last_start_in, next_row_in, rows_for, served_for, start_in, sent_before, sooner_row};
+ghost use Rattle.q_core.specs.Starting.{can_start_in, flights_at, has_room_in, is_startable_in, last_start_in, next_row_in, rows_for, served_for, start_in, sooner_row};
 
 use crate::decision::Decision;
 use crate::names::{same_id, same_site};

@@ -1,19 +1,11 @@
 //! The state of the core.
-ghost use Rattle.std.specs.Prelude.{◌≡◌, ◌+◌, find, length, IfOk, true};
+ghost use Rattle.std.specs.Prelude.{◌≡◌, find, IfOk, true};
 ghost use Rattle.std.specs.Option.{option_copied};
 ghost use Rattle.q_core.specs.Agrees.{AgreesIfConsistent, AgreesIfOrderly, ForFirst};
 ghost use Rattle.q_core.specs.Changes.{is_looked_at};
 ghost use Rattle.q_core.specs.Deciding.{is_answered};
-ghost use Rattle.q_laws.specs.Consistency.{IsConsistent};
-ghost use Rattle.q_laws.specs.SitesConsistency.{IsSitesConsistent};
 ghost use Rattle.q_core.specs.Held.{record_in, is_dead_in, slot_in};
 ghost use Rattle.q_params.specs.Ranges.{IsInRange};
-ghost use Rattle.q_model.specs.Book.{Book, all_ids};
-ghost use Rattle.q_model.specs.Ids.{are_distinct};
-ghost use Rattle.q_model.specs.Ledger.{opening};
-ghost use Rattle.q_model.specs.Orderly.{is_orderly};
-ghost use Rattle.q_model.specs.Settings.{World};
-ghost use Rattle.q_model.specs.Step.{after};
 
 use crate::clock::Clock;
 use crate::decision::Found;

@@ -1,11 +1,9 @@
 //! The marks of a message in memory are synced.
 ghost use Rattle.std.specs.Prelude.{◌≡◌, IsTrue, map};
-ghost use Rattle.q_core.specs.Agrees.{ForLedgers, Agrees, Matches};
+ghost use Rattle.q_core.specs.Agrees.{ForLedgers, Matches};
 ghost use Rattle.q_core.specs.Changes.{IsSlotChange, is_looked_at};
 ghost use Rattle.q_core.specs.Held.{is_admitted_in};
 ghost use Rattle.q_core.specs.Slots.{changed_at, cleared};
-ghost use Rattle.q_model.specs.Ledger.{Ledger};
-ghost use Rattle.q_model.specs.Settings.{World};
 ghost use Rattle.q_model.specs.Step.{after};
 
 use crate::names::same_id;

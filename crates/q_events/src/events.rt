@@ -1,5 +1,5 @@
 //! A reader of event lists.
-ghost use Rattle.std.specs.Prelude.{◌≡◌, ◌≤◌, ◌<◌, ◌+◌, ◌++◌, ◌∷◌, [], ◌==◌, IfOk, OnOk, drop, false, IfErr, Some, true};
+ghost use Rattle.std.specs.Prelude.{◌≡◌, ◌≤◌, ◌<◌, ◌+◌, ◌++◌, IfOk, OnOk, drop, false, IfErr, Some, true};
 ghost use Rattle.q_model.specs.FaultCounts.{Rose};
 ghost use Rattle.q_model.specs.TextParts.{text_line};
 ghost use Rattle.q_events.specs.EventList.{command_in, content_by, item_of};

@@ -1,5 +1,5 @@
 //! A disk of many files in areas, and told output, with one clock.
-ghost use Rattle.std.specs.Prelude.{◌≡◌, ◌≤◌, ℕ, Bool, length, IsTrue, IsSome, IfOk, OnOk, OnErr, IsSomeAnd, is_some, false};
+ghost use Rattle.std.specs.Prelude.{◌≡◌, ◌≤◌, Bool, length, IsTrue, IsSome, IfOk, OnOk, OnErr, IsSomeAnd, is_some, false};
 ghost use Rattle.q_host.specs.Files.{SameNames, same_place};
 ghost use Rattle.q_host.specs.Reads.{IsListing, IsPart, IsSize, Rise};
 ghost use Rattle.q_host.specs.View.{CountsNow, now, Remains, Told, View};

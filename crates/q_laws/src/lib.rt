@@ -2,20 +2,18 @@
 //! function with nothing to do.
 #![tactic(auto)]
 
-ghost use Rattle.std.specs.Prelude.{◌≡◌, Some, true, ℕ};
+ghost use Rattle.std.specs.Prelude.{◌≡◌, Some, true};
 ghost use Rattle.q_laws.specs.Consistency.{IsBookConsistent, IsConsistent, IsUsable};
 ghost use Rattle.q_laws.specs.Laws.{AlongLife, AlongRun, next_life, OfConsistent, OfEntries, OnBooks, opened_ledger, OfBeginnings};
-ghost use Rattle.q_laws.specs.SitesConsistency.{IsOpen, IsSitesConsistent};
+ghost use Rattle.q_laws.specs.SitesConsistency.{IsSitesConsistent};
 ghost use Rattle.q_laws.specs.Traces.{IsWithinLimits};
 ghost use Rattle.q_model.specs.declared.entry.Entry.{Entry};
-ghost use Rattle.q_model.specs.declared.event.Mode.{Mode};
 ghost use Rattle.q_model.specs.Ledger.{Ledger};
 ghost use Rattle.q_model.specs.Next.{next};
 ghost use Rattle.q_model.specs.Orderly.{is_lawful, is_orderly};
 ghost use Rattle.q_model.specs.Past.{is_living};
 ghost use Rattle.q_model.specs.Settings.{World};
 ghost use Rattle.q_model.specs.Step.{after, allowed};
-ghost use Rattle.q_model.specs.declared.entry.Entry.TheVariants as entries;
 
 /// A life begins consistently on each orderly book whose ids are distinct, where the settings let
 /// messages be read and marks be synced.

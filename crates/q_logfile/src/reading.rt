@@ -1,5 +1,5 @@
 //! Reading the records of a log.
-ghost use Rattle.std.specs.Prelude.{◌≡◌, length, true, IfOk};
+ghost use Rattle.std.specs.Prelude.{◌≡◌, true, IfOk};
 ghost use Rattle.q_model.specs.FailureLog.{log_notes, log_records};
 ghost use Rattle.q_logfile.specs.Codes.{are_log_codes};
 

@@ -1,5 +1,5 @@
 //! A record of a log.
-ghost use Rattle.std.specs.Prelude.{◌≡◌, ◌≤◌, ◌<◌, ◌^◌, ◌++◌, length, true, OnOk, if◌then◌else◌, Some, None};
+ghost use Rattle.std.specs.Prelude.{◌≡◌, ◌<◌, ◌^◌, ◌++◌, length, OnOk, Some, None};
 ghost use Rattle.q_model.specs.FailureLog.{failure_bytes, failure_in, is_log_code, note_in, why_byte, why_of};
 ghost use Rattle.q_logfile.specs.OpenRecords.{open_record};
 

@@ -1,5 +1,5 @@
 //! The calls of a host in memory that may change it, by what they add to its record.
-ghost use Rattle.std.specs.Prelude.{◌≡◌, ◌≤◌, IsErrOf, IsSome, IsSomeAnd, length, OnOk};
+ghost use Rattle.std.specs.Prelude.{◌≡◌, ◌≤◌, IsSome, IsSomeAnd, length, OnOk};
 ghost use Rattle.q_host.specs.Faults.{DiskCause, TellCause};
 ghost use Rattle.q_model.specs.FaultCounts.{Rose};
 ghost use Rattle.q_mem_host.specs.Event.{create, write, sync, rename, remove, tell};

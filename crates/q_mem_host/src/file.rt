@@ -1,5 +1,5 @@
 //! A file in memory, with what isn't synced.
-ghost use Rattle.std.specs.Prelude.{◌≡◌, ◌≤◌, [], ◌∷◌, ◌++◌, length, IfOk, OnOk, OnErr, IsSome, vec_len, vec_capacity, max, ◌+◌};
+ghost use Rattle.std.specs.Prelude.{◌≡◌, ◌≤◌, length, OnOk, OnErr, IsSome, ◌+◌};
 ghost use Rattle.q_host.specs.Files.{written};
 ghost use Rattle.q_mem_host.specs.Kept.{firm, overwritten, is_soft, rotten, fallen};
 ghost use Rattle.q_mem_host.specs.Data.{kept};

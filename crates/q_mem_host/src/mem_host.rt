@@ -3,7 +3,7 @@ ghost use Rattle.std.specs.Prelude.{◌≡◌, OnOk, OnErr, option_copied};
 ghost use Rattle.q_model.specs.declared.spot.Area.{Area};
 ghost use Rattle.q_host.specs.View.{Remains, now};
 ghost use Rattle.q_mem_host.specs.Event.{place, crash, host_state_of, host_state_after};
-ghost use Rattle.q_mem_host.specs.Left.{MayLeave, nothing, view_of};
+ghost use Rattle.q_mem_host.specs.Left.{nothing, view_of};
 ghost use Rattle.q_mem_host.specs.Memo.{new_memo, with_event, with_plan};
 ghost use Rattle.q_mem_host.specs.Plans.{no_plan, stopping, failing_at};
 

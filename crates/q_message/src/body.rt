@@ -1,5 +1,5 @@
 //! What the bodies of a queue file's records say.
-ghost use Rattle.std.specs.Prelude.{◌≡◌, IfSome, length};
+ghost use Rattle.std.specs.Prelude.{◌≡◌};
 ghost use Rattle.q_model.specs.QueueFile.{arrival_of, counts_of, recipient_of, sender_of};
 
 use q_model::{Address, Moment};

@@ -8,7 +8,6 @@ ghost use Rattle.q_message.specs.FileHeads.{IsFault, IsHead};
 ghost use Rattle.q_message.specs.Fronts.{front_body};
 ghost use Rattle.q_message.specs.Readings.{ContentRead, EndRead, HeadRead, MarksRead, start_from, start_size, StartRead};
 ghost use Rattle.q_message.specs.Told.{IsThere, OnNoMessage, TellsEach, TellsOf, TellsShown, TellsPassed, StaysShown};
-ghost use Rattle.q_message.specs.Windows.{Shows};
 
 use crate::body::{Counts, VERSION, arrival_in, counts_in, sender_in};
 use crate::error::MessageError;

@@ -1,8 +1,8 @@
 //! Reading the addresses at positions of a queue file.
-ghost use Rattle.std.specs.Prelude.{◌≡◌, ◌≤◌, ◌<◌, All, IsTrue, IfOk, OnOk};
+ghost use Rattle.std.specs.Prelude.{◌≤◌, ◌<◌, All, IsTrue, IfOk, OnOk};
 ghost use Rattle.q_host.specs.Calls.{Stays};
 ghost use Rattle.q_message.specs.Causes.{ReadCause};
-ghost use Rattle.q_message.specs.Names.{AreNames, HasHead, IsAddress, IsBehind, IsNext, IsOnBy, IsPast, IsPastBy, IsRecipient, IsSought, TellsAt, TellsFrom, GivesAddress, MovesBehind, FindsNone};
+ghost use Rattle.q_message.specs.Names.{AreNames, HasHead, IsNext, IsOnBy, IsPast, IsPastBy, IsRecipient, IsSought, TellsAt, GivesAddress, MovesBehind, FindsNone};
 ghost use Rattle.q_message.specs.Told.{IsThere, OnNoMessage, TellsOf};
 
 use crate::body::Recipient;

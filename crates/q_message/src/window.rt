@@ -2,9 +2,9 @@
 ghost use Rattle.std.specs.Prelude.{◌≡◌, ◌+◌, ◌<◌, ◌^◌, [], false, drop, IsTrue, OnOk};
 ghost use Rattle.q_host.specs.Calls.{Stays};
 ghost use Rattle.q_message.specs.Causes.{ReadCause};
-ghost use Rattle.q_message.specs.Fronts.{IsFront, StartsAt};
+ghost use Rattle.q_message.specs.Fronts.{StartsAt};
 ghost use Rattle.q_message.specs.Told.{IsThere, OnNoMessage, TellsShown, StaysShown};
-ghost use Rattle.q_message.specs.Windows.{moved_on, Shows};
+ghost use Rattle.q_message.specs.Windows.{moved_on};
 
 use crate::error::MessageError;
 use q_host::Host;

@@ -1,5 +1,5 @@
 //! Storing a file by way of tmp.
-ghost use Rattle.std.specs.Prelude.{◌≡◌, ◌≢◌, ◌≤◌, [], length, Some, IsTrue, OnOk, OnErr};
+ghost use Rattle.std.specs.Prelude.{◌≡◌, ◌≢◌, [], Some, IsTrue, OnOk, OnErr};
 ghost use Rattle.q_host.specs.View.{Goes, now, Told};
 ghost use Rattle.q_host.specs.Faults.{DiskCause};
 ghost use Rattle.q_model.specs.declared.spot.Area.TheVariants.{Tmp};

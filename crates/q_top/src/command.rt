@@ -1,5 +1,5 @@
 //! The words of a command, and what each does.
-ghost use Rattle.std.specs.Prelude.{◌≡◌, IsFalse, IsTrue};
+ghost use Rattle.std.specs.Prelude.{◌≡◌, IsFalse};
 ghost use Rattle.q_model.specs.FaultCounts.{Rose};
 ghost use Rattle.q_top.specs.Commands.{is_replay, texts};
 ghost use Rattle.q_top.specs.Qmgr.{AnswersByText, EndsAsSaid, EndsOnBook, IsRunWhenDone, IsUsage, LeavesBook, NamesFaultyConf, NamesFirstFile, TurnsAway};

@@ -1,23 +1,17 @@
 //! One life of the queue manager, in which at most one message comes, to one recipient.
-ghost use Rattle.std.specs.Prelude.{◌≡◌, ◌<◌, ◌≤◌, ◌∷◌, ◌==◌, [], IfOk, IsErrOf, IsTrue, OnOk, codes, length, true};
+ghost use Rattle.std.specs.Prelude.{◌≡◌, ◌<◌, ◌≤◌, ◌∷◌, ◌==◌, [], IfOk, IsTrue, OnOk, codes, true};
 ghost use Rattle.q_top.specs.Hearing.{BeginsTold, BeginsThere, BeginsNot, HearsTurn, HearsTurnDone, BreaksTurn, BreaksTold, Sends, SendsNot, mail, reply};
-ghost use Rattle.q_model.specs.declared.entry.Entry.TheVariants as entries;
 ghost use Rattle.q_model.specs.declared.event.Event.TheVariants as events;
 ghost use Rattle.q_model.specs.declared.event.LifeEvent.TheVariants as life_events;
 ghost use Rattle.q_model.specs.declared.outcome.Outcome.TheVariants as outcomes;
-ghost use Rattle.q_model.specs.declared.outcome.SiteState.TheVariants as states;
-ghost use Rattle.q_model.specs.Lists.{has_none};
 ghost use Rattle.q_params.specs.Ranges.{IsInRange};
-ghost use Rattle.q_top.specs.Agrees.{Breaks, HasFiles, PlaysTurn};
-ghost use Rattle.q_top.specs.Begins.{Begins, NeverBegins, Ends};
+ghost use Rattle.q_top.specs.Agrees.{HasFiles};
+ghost use Rattle.q_top.specs.Begins.{Ends};
 ghost use Rattle.q_top.specs.Causes.{HasFaultCause};
 ghost use Rattle.q_events.specs.Forms.{IsInForm};
-ghost use Rattle.q_top.specs.Fits.{fits, is_awaited, is_in_flight};
+ghost use Rattle.q_top.specs.Fits.{fits};
 ghost use Rattle.q_top.specs.Reading.{is_one_ok};
-ghost use Rattle.q_top.specs.MailSteps.{sent};
-ghost use Rattle.q_top.specs.Spools.{IsSpool, Spool, unopened};
 ghost use Rattle.q_top.specs.Worlds.{world_of};
-ghost use Rattle.q_top.specs.Steps.{Halts, Plays};
 
 use crate::conf::Conf;
 use crate::load;

@@ -1,13 +1,10 @@
 //! Reading the recipient of the one message from its queue file.
-ghost use Rattle.std.specs.Prelude.{◌≡◌, [], ◌∷◌, ℕ, List, Option, Some, IfOk, IsSome, IsTrue, false};
+ghost use Rattle.std.specs.Prelude.{◌≡◌, Option, Some, IsSome, IsTrue};
 ghost use Rattle.q_top.specs.Taking.{TakesFirst};
 ghost use Rattle.q_model.specs.declared.spot.Area.TheVariants as areas;
 ghost use Rattle.q_model.specs.IdTexts.{id_text};
-ghost use Rattle.q_model.specs.QueueFile.{queue_file};
 ghost use Rattle.q_host.specs.Calls.{Stays};
 ghost use Rattle.q_host.specs.Faults.{DiskCause};
-ghost use Rattle.q_message.specs.Pending.{taken_at};
-ghost use Rattle.q_top.specs.OneMessage.{spool_message};
 ghost use Rattle.q_top.specs.Spools.{first_id};
 ghost use Rattle.q_top.specs.Unread.{unread};
 

@@ -1,8 +1,6 @@
 //! The queue file of the one message.
-ghost use Rattle.std.specs.Prelude.{◌≡◌, ◌≤◌, length, replicate, IfOk};
+ghost use Rattle.std.specs.Prelude.{◌≡◌, ◌≤◌, length, IfOk};
 ghost use Rattle.q_top.specs.Taking.{arrived_file};
-ghost use Rattle.q_model.specs.QueueFileBytes.{file_bytes};
-ghost use Rattle.q_message.specs.NewFile.{new_message};
 
 use q_message::write_message;
 use q_model::{Address, Addresses, Bytes, Head, Moment, NoMemory};

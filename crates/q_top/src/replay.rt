@@ -1,5 +1,5 @@
 //! Replaying an event list.
-ghost use Rattle.std.specs.Prelude.{◌≡◌, ◌≢◌, ◌≤◌, IfErr, IfOk, IsTrue, codes};
+ghost use Rattle.std.specs.Prelude.{◌≡◌, ◌≢◌, ◌≤◌, IfOk, IsTrue, codes};
 ghost use Rattle.q_top.specs.Replaying.{TakesItem, GivesItemUp, OnRefusal, EndsTold};
 ghost use Rattle.q_events.specs.Forms.{IsItemInForm};
 ghost use Rattle.q_model.specs.declared.spot.Area.TheVariants as areas;
@@ -7,10 +7,9 @@ ghost use Rattle.q_model.specs.IdTexts.{id_text};
 ghost use Rattle.q_model.specs.FaultCounts.{Rose};
 ghost use Rattle.q_params.specs.Ranges.{IsInRange};
 ghost use Rattle.q_top.specs.Agrees.{HasFiles};
-ghost use Rattle.q_top.specs.ReplayEnds.{Finishes, ReplayEnds};
+ghost use Rattle.q_top.specs.ReplayEnds.{Finishes};
 ghost use Rattle.q_top.specs.Spools.{IsSpool, first_id, unopened};
 ghost use Rattle.q_top.specs.Worlds.{world_of};
-ghost use Rattle.q_top.specs.TakenItem.{GivesUp, Takes};
 
 use crate::conf::Conf;
 use crate::life::{Life, Stepped};

@@ -1,5 +1,5 @@
 //! Whether a spool is empty.
-ghost use Rattle.std.specs.Prelude.{◌≡◌, [], ◌∷◌, Some, None, OnOk, IfOk, IsTrue, drop};
+ghost use Rattle.std.specs.Prelude.{Some, None, IfOk, IsTrue};
 ghost use Rattle.q_host.specs.Faults.{DiskCause};
 ghost use Rattle.q_host.specs.Calls.{Stays};
 ghost use Rattle.q_top.specs.FirstFile.{IsFirstName, IsFirstFile, areas_in_order};

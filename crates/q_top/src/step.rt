@@ -1,16 +1,12 @@
 //! The entries that change the disk: first the disk, then the line.
-ghost use Rattle.std.specs.Prelude.{◌≡◌, ◌<◌, ◌∷◌, [], List, ℕ, length, IsErrOf, IsSome, IsSomeAnd, IsTrue, OnOk, codes};
+ghost use Rattle.std.specs.Prelude.{◌≡◌, ◌<◌, IsSome, IsTrue, OnOk, codes};
 ghost use Rattle.q_top.specs.Passages.{Passes, Aborts, PassesEach, AbortsEach, PassesSync, AbortsSync, ReachesPast, admitting, arriving, beginning, marking_at, removing};
-ghost use Rattle.q_model.specs.declared.entry.Entry.TheVariants as entries;
-ghost use Rattle.q_model.specs.declared.event.Mode.TheVariants as modes;
 ghost use Rattle.q_model.specs.declared.spot.Area.TheVariants as areas;
 ghost use Rattle.q_model.specs.IdTexts.{id_text};
 ghost use Rattle.q_host.specs.Faults.{DiskCause};
 ghost use Rattle.q_top.specs.Causes.{HasFaultCause};
 ghost use Rattle.q_top.specs.Forgets.{Forgets, LogGone};
-ghost use Rattle.q_top.specs.Spools.{unopened, empty, holds, marking, marked, first_id};
-ghost use Rattle.q_top.specs.Worlds.{world_of};
-ghost use Rattle.q_top.specs.Steps.{Does, Stops};
+ghost use Rattle.q_top.specs.Spools.{first_id};
 
 use crate::conf::Conf;
 use crate::tell::tell;

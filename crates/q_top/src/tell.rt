@@ -1,10 +1,6 @@
 //! Telling the line of an entry.
-ghost use Rattle.std.specs.Prelude.{◌≡◌, OnOk, IsErrOf, IsTrue};
 ghost use Rattle.q_top.specs.Passages.{PassesEach, AbortsEach, telling};
 ghost use Rattle.q_host.specs.Faults.{TellCause};
-ghost use Rattle.q_top.specs.Spools.{Spool};
-ghost use Rattle.q_top.specs.Worlds.{world_of};
-ghost use Rattle.q_top.specs.Steps.{Does, Stops};
 
 use crate::conf::Conf;
 use q_host::{Host, HostError};

@@ -1,7 +1,6 @@
 //! What stands behind the first word of a line whose entry has no list.
-ghost use Rattle.std.specs.Prelude.{◌≡◌, option_map};
+ghost use Rattle.std.specs.Prelude.{◌≡◌};
 ghost use Rattle.q_trace.specs.Bodies.{at_behind, defer_behind, life_in, life_behind, load_behind, log_behind, mark_behind, plain_behind, preempt_behind};
-ghost use Rattle.q_trace.specs.PartTexts.{id_of};
 ghost use Rattle.q_transport.specs.Routing.{table_of};
 
 use crate::fields::{id_field, number32_field, transport_field, why_field};

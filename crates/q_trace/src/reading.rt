@@ -1,10 +1,9 @@
 //! The entry of a line.
-ghost use Rattle.std.specs.Prelude.{◌≡◌, ◌≢◌, IfOk, IsErrOf, replicate};
+ghost use Rattle.std.specs.Prelude.{◌≡◌, IfOk, IsErrOf, replicate};
 ghost use Rattle.q_model.specs.declared.entry.Entry.{Entry as EntryValue};
 ghost use Rattle.q_trace.specs.Answers.{AnswersText};
 ghost use Rattle.q_trace.specs.Bodies.{arrive_behind, entry_behind, entry_of_line, reply_behind, skip_behind, start_behind};
-ghost use Rattle.q_trace.specs.Bounds.{IsEntry, IsLineOf, with_zeros, IsNoLine};
-ghost use Rattle.q_model.specs.Text.{line as line_of};
+ghost use Rattle.q_trace.specs.Bounds.{IsLineOf, with_zeros, IsNoLine};
 ghost use Rattle.q_transport.specs.Routing.{table_of};
 
 use crate::bodies::plain;

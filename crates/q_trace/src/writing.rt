@@ -1,11 +1,9 @@
 //! The line of an entry.
-ghost use Rattle.std.specs.Prelude.{◌≡◌, ◌∷◌, [], codes, decimal, IfOk, length, map};
+ghost use Rattle.std.specs.Prelude.{◌≡◌, ◌∷◌, [], codes, decimal, IfOk};
 ghost use Rattle.q_trace.specs.Wording.{arrive_words, reply_words, log_words, WritesEntry};
 ghost use Rattle.q_model.specs.IdTexts.{id_text};
-ghost use Rattle.q_model.specs.TextParts.{why_text};
-ghost use Rattle.q_model.specs.Text.{joined, line, mode_words, outcome_text, sender_text, state_text, trigger_text, words};
-ghost use Rattle.q_model.specs.declared.entry.Entry.{Entry as EntryValue};
-ghost use Rattle.q_trace.specs.Bounds.{IsEntry, IsLineOf, with_zeros, IsAloneInLine};
+ghost use Rattle.q_model.specs.Text.{joined, line, mode_words, trigger_text};
+ghost use Rattle.q_trace.specs.Bounds.{IsAloneInLine};
 ghost use Rattle.q_transport.specs.Routing.{table_of};
 
 use crate::line::Line;

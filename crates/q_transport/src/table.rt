@@ -1,5 +1,5 @@
 //! The transport table.
-ghost use Rattle.std.specs.Prelude.{◌≡◌, ◌<◌, ◌≤◌, ◌++◌, ◌∷◌, ◌==◌, ◌&&◌, ◌||◌, [], bytes_eq, IfErr, length, nat_le, None, OnOk, position, slice_get, Some, true};
+ghost use Rattle.std.specs.Prelude.{◌≡◌, ◌<◌, ◌≤◌, ◌++◌, ◌∷◌, ◌==◌, ◌&&◌, ◌||◌, [], bytes_eq, IfErr, length, None, OnOk, position, slice_get, Some, true};
 ghost use Rattle.std.specs.Option.{option_map_or};
 ghost use Rattle.q_model.specs.Routes.{no_table};
 ghost use Rattle.q_model.specs.Texts.{is_hop};
