@@ -10,14 +10,14 @@ use Rattle.q_top.specs.declared.replay.Refusal.TheVariants as refusals
 use Rattle.q_top.specs.declared.replay.Taken.{Taken}
 use Rattle.q_top.specs.declared.status.Status.{Status}
 use Rattle.q_top.specs.ReplayEnds.{ReplayEnds}
-use Rattle.q_top.specs.TakenItem.{GivesUp, Takes}
+use Rattle.q_top.specs.TakenItem.{GivesUp, HearsItem}
 use Rattle.q_top.specs.Worlds.{world_of}
 
 -- the item was taken
 abbrev pub TakesItem : {H : Type 0} → Bool → (H → View) → H → H → Conf → Life → Item → Life
     → Result Taken Refusal → Type 0
 TakesItem tells view before after conf old item new result = IfOk result
-    (λ taken. Takes (world_of conf) tells old new item (view before) (view after) taken)
+    (λ taken. HearsItem (world_of conf) tells old new item (view before) (view after) taken)
 
 -- it wasn't
 abbrev pub GivesItemUp : {H : Type 0} → Bool → (H → View) → H → H → Conf → Life → Item

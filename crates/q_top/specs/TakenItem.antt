@@ -16,11 +16,11 @@ use Rattle.q_top.specs.Fits.{fits}
 use Rattle.q_model.specs.Settings.{World}
 
 -- its event is heard, or it is the end, which is left to the caller
-abbrev pub Takes : (world : World) → Bool → Life → Life → Item → View → View → Taken → Type 0
-Takes world tells old new item before after takens.Heard = (event : Event) × (line : ℕ)
+abbrev pub HearsItem : (world : World) → Bool → Life → Life → Item → View → View → Taken → Type 0
+HearsItem world tells old new item before after takens.Heard = (event : Event) × (line : ℕ)
     × (item ≡ Step event line) × (fits old event ≡ true)
     × (IsTrue tells → PlaysTurn world old new (Heard event) before after)
-Takes world tells old new item before after takens.Ended = (item ≡ End) × (new ≡ old)
+HearsItem world tells old new item before after takens.Ended = (item ≡ End) × (new ≡ old)
     × (IsTrue tells → IsAsItWas before after)
 
 -- a life begins again, or the event doesn't fit
