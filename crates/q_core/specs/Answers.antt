@@ -29,11 +29,11 @@ is_fit question found = is_look question || (is_reading question && is_damaged f
 abbrev pub IsFound : Core → Found → Ledger → Type 0
 IsFound c found l = IsAnswer c c.question found l
 
--- this holds of the message whose recipients were asked for, where a read was
+-- this holds of a message where its recipients were asked for
 abbrev pub ForRead : Question → (Id → Type 0) → Type 0
 ForRead question P = (id : Id) → (from max : ℕ) → question ≡ Recipients id from max → P id
 
--- what was found is the scan's next, so that the core agrees with the same ledger
+-- where what was found is the scan's next, the core agrees with the same ledger
 abbrev pub AgreesByScan : World → Core → Core → Found → Ledger → Type 0
 AgreesByScan w old new found l = (scan : Scan) → old.scan ≡ Some scan
     → found ≡ found_next l (scan_next l.book scan) → Agrees w new l

@@ -33,6 +33,6 @@ is_unseen Incoming c = not (is_known c.incoming)
 is_unseen Deferred c = is_some c.scan && not (is_known c.deferred)
 is_unseen (Recipients id from max) c = false
 
--- a look that was asked for is no more to come
+-- where what was asked for was unseen, fewer looks are to come
 abbrev pub LeavesFewer : Core → Core → Type 0
 LeavesFewer old new = is_unseen old.question old ≡ true → looks_left new < looks_left old
