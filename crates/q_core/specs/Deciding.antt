@@ -1,6 +1,6 @@
 -- The next decision, by what the core holds.
 use Rattle.std.specs.Option.{option_or}
-use Rattle.std.specs.Prelude.{◌≡◌, ◌⊎◌, Bool, false, true, if◌then◌else◌, List, None, not, Option, option_map, Some, ℕ}
+use Rattle.std.specs.Prelude.{◌≡◌, ◌⊎◌, [], Bool, false, true, if◌then◌else◌, List, None, not, Option, option_map, Some, ℕ}
 use Rattle.q_model.specs.declared.entry.Entry.{Entry}
 use Rattle.q_model.specs.declared.rows.Scan.{Scan}
 use Rattle.q_model.specs.Book.{damaged_of, message_of}
@@ -150,3 +150,9 @@ AtLook d P = is_look (question_for d) ≡ true → P
 -- this holds where it is a read
 abbrev pub AtRead : Option Decision → Type 0 → Type 0
 AtRead d P = is_reading (question_for d) ≡ true → P
+
+-- by a look or a read nothing changes but what is asked
+abbrev pub AsksOnly : Core → Option Decision → Core → Type 0
+AsksOnly old None new = Unit {0}
+AsksOnly old (Some d) new = is_asking d ≡ true
+    → new ≡ record old { question = question_of d; named = [] }

@@ -2,7 +2,7 @@
 ghost use Rattle.std.specs.Prelude.{◌≡◌, IfOk, IsTrue, None, OnErr, OnOk, Some, true, [], ◌≤◌};
 ghost use Rattle.q_core.specs.Agrees.{ForLedgers};
 ghost use Rattle.q_core.specs.Changes.{IsUnchanged, is_looked_at};
-ghost use Rattle.q_core.specs.Deciding.{IsDecided, decide_in, is_answered, is_look, is_reading, question_for, question_of, IsPlaced, IsSkipOf, IsStartOf, NotesSkip, Applies, AtLook, AtRead};
+ghost use Rattle.q_core.specs.Deciding.{AsksOnly, IsDecided, decide_in, is_answered, is_look, is_reading, question_for, question_of, IsPlaced, IsSkipOf, IsStartOf, NotesSkip, Applies, AtLook, AtRead};
 ghost use Rattle.q_core.specs.Looking.{is_unseen, looks_left};
 
 use crate::decision::Decision;
@@ -120,6 +120,7 @@ impl Core {
         ensures started { IfOk result (λ d. ForLedgers self.old (λ w l. IsStartOf w l d self.new)) }
         ensures skipped { IfOk result (λ d. NotesSkip self.old d self.new) }
         ensures question { IfOk result (λ d. self.new.question ≡ question_for d) }
+        ensures asked { IfOk result (λ d. AsksOnly self.old d self.new) }
         ensures unseen { IfOk result (λ d. AtLook d (is_unseen self.new.question self.new ≡ true)) }
         ensures looks { IfOk result (λ d. AtLook d (looks_left self.new ≡ looks_left self.old)) }
         ensures few { looks_left self.new ≤ 4 }
