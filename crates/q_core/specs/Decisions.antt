@@ -28,7 +28,7 @@ abbrev pub IsRowAt : Core → ℕ → Id → Site → List ℕ → Type 0
 IsRowAt c entry id site positions = slice_get c.waiting entry ≡ Some
     (record { id = id; site = site; positions = positions })
 
--- The entry is that of the decision. A look has none.
+-- The entry is that of the decision. A look and a read have none.
 abbrev pub IsOf : Core → Decision → Entry → Type 0
 IsOf c (decisions.Log id failure) e = e ≡ entries.Log id failure
 IsOf c (decisions.Mark id position) e = e ≡ entries.Mark id position
@@ -45,7 +45,7 @@ IsOf c (decisions.Preempt child parent transport need) e =
     e ≡ entries.Preempt child parent transport need
 IsOf c (decisions.Start number id site) e = (positions : List ℕ)
     × (e ≡ entries.Start number id site positions)
-IsOf c (decisions.Read id from max) e = (to : ℕ) × (e ≡ entries.Load id from to)
+IsOf c (decisions.Read id from max) e = ⊥
 IsOf c decisions.LookActive e = ⊥
 IsOf c decisions.LookIncoming e = ⊥
 IsOf c (decisions.LookDeferred after until) e = ⊥
