@@ -151,8 +151,8 @@ AtLook d P = is_look (question_for d) ≡ true → P
 abbrev pub AtRead : Option Decision → Type 0 → Type 0
 AtRead d P = is_reading (question_for d) ≡ true → P
 
--- by a look or a read nothing changes but what is asked
+-- by a look or a read nothing changes but what is asked, and nothing at all where there is no decision
 abbrev pub AsksOnly : Core → Option Decision → Core → Type 0
-AsksOnly old None new = Unit {0}
+AsksOnly old None new = new ≡ old
 AsksOnly old (Some d) new = is_asking d ≡ true
     → new ≡ record old { question = question_of d; named = [] }
