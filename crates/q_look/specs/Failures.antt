@@ -1,0 +1,36 @@
+-- What a failure log says of the recipients of a message.
+use Rattle.std.specs.List.{list_any}
+use Rattle.std.specs.Prelude.{◌&&◌, ◌<◌, ◌==◌, ◌≡◌, Bool, false, length, List, not, Option, slice_get, Some, unwrap_or, ℕ}
+use Rattle.q_look.specs.declared.failed.Failed.{Failed}
+use Rattle.q_model.specs.declared.outcome.Failure.{Failure}
+use Rattle.q_model.specs.FailureLog.{failures_of}
+use Rattle.q_model.specs.Lists.{places_from}
+use Rattle.q_model.specs.QueueFile.{FileMessage, FileRecipient}
+
+-- the position failed
+abbrev pub has_failed : List Failure → ℕ → Bool
+has_failed fs position = list_any (λ f. f.position == position) fs
+
+-- the positions that failed and aren't marked
+abbrev pub unmarked_failed : List Failure → List FileRecipient → List ℕ
+unmarked_failed fs rs = places_from 0 (λ i r. not r.marked && has_failed fs i) rs
+
+-- how many recipients failed, and the least position of those that aren't marked
+abbrev pub failed_in : List Failure → FileMessage → Failed
+failed_in fs m = record {
+  count = length (failures_of (length m.recipients) fs);
+  unmarked = slice_get (unmarked_failed fs m.recipients) 0;
+}
+
+-- the flag of a position
+abbrev pub flag_at : List Bool → ℕ → Bool
+flag_at flags position = unwrap_or (slice_get flags position) false
+
+-- so many positions have a flag each, which is set where the position failed
+pub record AreFlags (n : ℕ) (fs : List Failure) (flags : List Bool) : Type 0 where
+  pub count : length flags ≡ n
+  pub each : (position : ℕ) → position < n → flag_at flags position ≡ has_failed fs position
+
+-- the least position whose flag is set and whose recipient isn't marked
+abbrev pub first_flagged : List Bool → FileMessage → Option ℕ
+first_flagged flags m = slice_get (places_from 0 (λ i r. not r.marked && flag_at flags i) m.recipients) 0

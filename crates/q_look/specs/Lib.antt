@@ -1,0 +1,5 @@
+pub mod Failures
+pub mod FileFacts
+pub mod FirstNames
+pub mod Forms
+pub mod Unread
