@@ -1,6 +1,6 @@
 -- What a failure log says of the recipients of a message.
 use Rattle.std.specs.List.{list_any}
-use Rattle.std.specs.Prelude.{◌&&◌, ◌<◌, ◌==◌, ◌≡◌, Bool, false, length, List, not, Option, slice_get, Some, unwrap_or, ℕ}
+use Rattle.std.specs.Prelude.{◌&&◌, ◌<◌, ◌==◌, ◌≡◌, Bool, count_by, false, length, List, not, Option, slice_get, slice_index_or, ℕ}
 use Rattle.q_look.specs.declared.failed.Failed.{Failed}
 use Rattle.q_model.specs.declared.outcome.Failure.{Failure}
 use Rattle.q_model.specs.FailureLog.{failures_of}
@@ -24,12 +24,16 @@ failed_in fs m = record {
 
 -- the flag of a position
 abbrev pub flag_at : List Bool → ℕ → Bool
-flag_at flags position = unwrap_or (slice_get flags position) false
+flag_at flags position = slice_index_or flags position false
 
 -- so many positions have a flag each, which is set where the position failed
 pub record AreFlags (n : ℕ) (fs : List Failure) (flags : List Bool) : Type 0 where
   pub count : length flags ≡ n
   pub each : (position : ℕ) → position < n → flag_at flags position ≡ has_failed fs position
+
+-- so many flags are set
+abbrev pub set_count : List Bool → ℕ
+set_count flags = count_by (λ t. t) flags
 
 -- the least position whose flag is set and whose recipient isn't marked
 abbrev pub first_flagged : List Bool → FileMessage → Option ℕ

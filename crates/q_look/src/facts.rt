@@ -104,9 +104,7 @@ pub(crate) fn found_at<H: Host>(
     let Some(head) = head_at(host, spot)? else {
         return Ok(Found::Damaged { id, due, alone });
     };
-    let Some(failed) = failed_at(alloc, host, spot, id, &head)? else {
-        return Ok(Found::Damaged { id, due, alone });
-    };
+    let failed = failed_at(alloc, host, spot, id, &head)?;
     let bounced = has_bounce(host, id)?;
     let file = FileFacts {
         arrival: head.head.arrival,

@@ -1,10 +1,9 @@
 //! What the failure log of a message says: how many of its recipients failed, and which of them
 //! lacks its mark.
-ghost use Rattle.std.specs.Option.{option_map};
-ghost use Rattle.std.specs.Prelude.{◌≡◌, find, IfOk, IsTrue, length, map};
+ghost use Rattle.std.specs.Prelude.{◌<◌, ◌^◌, ◌≡◌, find, IfOk, IfSome, IsTrue, length, map, slice_set, true};
 ghost use Rattle.q_host.specs.Calls.{Stays};
 ghost use Rattle.q_host.specs.Faults.{DiskCause};
-ghost use Rattle.q_look.specs.Failures.{AreFlags, failed_in, first_flagged, flag_at};
+ghost use Rattle.q_look.specs.Failures.{AreFlags, failed_in, first_flagged, flag_at, set_count};
 ghost use Rattle.q_message.specs.FileHeads.{IsHead};
 ghost use Rattle.q_message.specs.Told.{IsThere, TellsOf};
 ghost use Rattle.q_model.specs.FailureLog.{failures_of};
@@ -33,6 +32,26 @@ struct Flags {
     count: u32,
 }
 
+impl Flags {
+    /// Notes that the position failed, where it has a flag.
+    fn note(&mut self, position: u32)
+        requires few { length self.old.set.items < 2 ^ 32 }
+        requires counted { self.old.count ≡ set_count self.old.set.items }
+        ensures set { self.new.set.items ≡ slice_set self.old.set.items position true }
+        ensures counted { self.new.count ≡ set_count self.new.set.items }
+    {
+        let position = position as usize;
+        if position >= self.set.len() {
+            return;
+        }
+        if self.set[position] {
+            return;
+        }
+        self.set[position] = true;
+        self.count += 1;
+    }
+}
+
 /// The records of the failure log of an id; none, where there is no log.
 fn log_of<H: Host>(alloc: Global, host: &mut H, id: Id) -> Result<Records, HostError>
     ensures records { IfOk result (λ records. IsTrue H.tells
@@ -51,18 +70,12 @@ fn flags_of(alloc: Global, failures: &[Failure], recipients: u32) -> Result<Flag
     ensures count { IfOk result (λ flags. flags.count
         ≡ length (failures_of recipients failures.now)) }
 {
-    let mut set = vec![in alloc; false; recipients as usize]?;
-    let mut count = 0;
+    let set = vec![in alloc; false; recipients as usize]?;
+    let mut flags = Flags { set, count: 0 };
     for failure in failures {
-        let position = failure.position as usize;
-        if position < set.len() {
-            if !set[position] {
-                set[position] = true;
-                count += 1;
-            }
-        }
+        flags.note(failure.position);
     }
-    Ok(Flags { set, count })
+    Ok(flags)
 }
 
 /// Whether the position has its flag.
@@ -88,25 +101,25 @@ fn first_set(batch: &Batch, set: &[bool]) -> Option<u32>
     None
 }
 
-/// The first recipient of the file whose mark isn't set and whose position has its flag. `None` comes
-/// for a file that is no queue file, which a host that tells its files never shows here.
+/// The first recipient of the file whose mark isn't set and whose position has its flag. The head is
+/// that of the file.
 fn first_unmarked<H: Host>(
     alloc: Global,
     host: &mut H,
     spot: Spot,
     head: &FileHead,
     set: &[bool],
-) -> Result<Option<Option<u32>>, HostError>
+) -> Result<Option<u32>, HostError>
     requires there { IsThere H.tells (H.view host.old) spot }
     requires reading { TellsOf H.tells (H.view host.old) spot (IsHead head.now) }
     ensures first { IfOk result (λ first. TellsOf H.tells (H.view host.old) spot
-        (λ bytes. first ≡ option_map (first_flagged set.now) (queue_file bytes))) }
+        (λ bytes. IfSome (queue_file bytes) (λ m. first ≡ first_flagged set.now m))) }
     ensures stays { IsTrue H.tells → Stays (H.view host.old) (H.view host.new) }
     ensures cause { DiskCause (H.faults host.old) (H.faults host.new) result }
 {
     let unmarked = head.recipients.saturating_sub(head.marked);
     if unmarked == 0 {
-        return Ok(Some(None));
+        return Ok(None);
     }
     let mut batch = Batch::new(alloc, unmarked)?;
     let first = Cursor {
@@ -114,42 +127,40 @@ fn first_unmarked<H: Host>(
         at: head.first_at,
     };
     match read_recipients(host, spot, head, first, unmarked, &mut batch) {
-        Ok(_) => Ok(Some(first_set(&batch, set))),
-        Err(error) => unread(error),
+        Ok(_) => {}
+        Err(error) => return unread(error),
     }
+    Ok(first_set(&batch, set))
 }
 
-/// What the failure log of an id says of the message whose queue file stands at the spot. Where there
-/// is no log the file isn't read. `None` comes for a file that is no queue file, which a host that
-/// tells its files never shows here.
+/// What the failure log of an id says of the message whose queue file, with this head, stands at the
+/// spot. Where there is no record the file isn't read.
 pub(crate) fn failed_at<H: Host>(
     alloc: Global,
     host: &mut H,
     spot: Spot,
     id: Id,
     head: &FileHead,
-) -> Result<Option<Failed>, HostError>
+) -> Result<Failed, HostError>
     requires there { IsThere H.tells (H.view host.old) spot }
     requires reading { TellsOf H.tells (H.view host.old) spot (IsHead head.now) }
     ensures failed { IfOk result (λ failed. TellsOf H.tells (H.view host.old) spot
-        (λ bytes. failed ≡ option_map (failed_in (logged_in (H.view host.old).files id))
-        (queue_file bytes))) }
+        (λ bytes. IfSome (queue_file bytes)
+        (λ m. failed ≡ failed_in (logged_in (H.view host.old).files id) m))) }
     ensures stays { IsTrue H.tells → Stays (H.view host.old) (H.view host.new) }
     ensures cause { DiskCause (H.faults host.old) (H.faults host.new) result }
 {
     let records = log_of(alloc, host, id)?;
     if records.len() == 0 {
-        return Ok(Some(Failed {
+        return Ok(Failed {
             count: 0,
             unmarked: None,
-        }));
+        });
     }
     let flags = flags_of(alloc, records.as_slice(), head.recipients)?;
-    match first_unmarked(alloc, host, spot, head, flags.set.as_slice())? {
-        Some(unmarked) => Ok(Some(Failed {
-            count: flags.count,
-            unmarked,
-        })),
-        None => Ok(None),
-    }
+    let unmarked = first_unmarked(alloc, host, spot, head, flags.set.as_slice())?;
+    Ok(Failed {
+        count: flags.count,
+        unmarked,
+    })
 }

@@ -1,0 +1,46 @@
+use Rattle.std.proofs.Common.{◌≡◌, ◌<◌, List, ℕ, Some, ap, arith, length, subst, sym, ◌∙◌}
+use Rattle.q_host.specs.Reads.{IsListing}
+use Rattle.q_message.proofs.WindowLaws.{stays_here, stays_on}
+use Rattle.q_model.specs.SpoolFiles.{Files}
+use Rattle.q_look.specs.FirstNames.{HasNone, IsFirstIn}
+use Rattle.q_look.proofs.Listings.{first_is, first_none, passed_last, passed_none, there_at}
+use Rattle.q_look.proofs.names.first_name.Goals as goal
+
+pub loop-init : goal.loop-init
+loop-init g c = record {
+  passed = λ t. passed_none (g.W.Wanted.names c.args.wanted.now) ((g.H.Host.view c.args.host.now).files c.args.area) c.args.after;
+  stays = λ t. stays_here (g.H.Host.view c.args.host.now);
+  disk_later = omega arith;
+  tell_later = omega arith;
+}
+
+pub loop-preserved : goal.loop-preserved
+loop-preserved g c =
+    let view = g.H.Host.view in
+    let so_far = c.loop.invariant in
+    let names = g.W.Wanted.names c.args.wanted.now in
+    let listed = c.list_after.new.out in
+    record {
+      passed = λ t.
+          let listing = subst (λ (fs : Files). IsListing (fs c.args.area) c.loop.behind listed) (so_far.stays t).files (c.in_ok-list_after.ensures.names t) in
+          passed_last names ((view c.args.host.now).files c.args.area) c.args.after c.loop.behind listed listing (so_far.passed t) (subst (HasNone names) c.as_slice.ensures c.in_default.ensures.none) c.get.result (there_at listed 63 c.get.result c.get.ensures);
+      stays = λ t. stays_on (view c.args.host.now) (view c.loop.host) (view c.list_after.new.self) (so_far.stays t) (c.list_after.ensures.stays t);
+      disk_later = omega (arith, so_far.disk_later, c.list_after.ensures.cause.disk_later);
+      tell_later = omega (arith, so_far.tell_later, c.list_after.ensures.cause.tell_later);
+    }
+
+pub returns-in-Some-clause-first : goal.returns-in-Some-clause-first
+returns-in-Some-clause-first g c t =
+    let so_far = c.loop.invariant in
+    let names = g.W.Wanted.names c.args.wanted.now in
+    let listed = c.list_after.new.out in
+    let listing = subst (λ (fs : Files). IsListing (fs c.args.area) c.loop.behind listed) (so_far.stays t).files (c.in_ok-list_after.ensures.names t) in
+    first_is names ((g.H.Host.view c.args.host.now).files c.args.area) c.args.after c.loop.behind listed listing (so_far.passed t) c.in-Some.file (subst (λ (ns : List (List ℕ)). IsFirstIn names ns c.in-Some.file) c.as_slice.ensures c.in-Some.ensures.some)
+
+pub returns-then-len-lt-ROOM-clause-first : goal.returns-then-len-lt-ROOM-clause-first
+returns-then-len-lt-ROOM-clause-first g c t =
+    let so_far = c.loop.invariant in
+    let names = g.W.Wanted.names c.args.wanted.now in
+    let listed = c.list_after.new.out in
+    let listing = subst (λ (fs : Files). IsListing (fs c.args.area) c.loop.behind listed) (so_far.stays t).files (c.in_ok-list_after.ensures.names t) in
+    first_none names ((g.H.Host.view c.args.host.now).files c.args.area) c.args.after c.loop.behind listed listing (so_far.passed t) (subst (HasNone names) c.as_slice.ensures c.in_default.ensures.none) (omega arith)
