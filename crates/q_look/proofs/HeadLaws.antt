@@ -7,7 +7,7 @@ use Rattle.q_message.specs.FileHeads.{head_of, IsFault, IsHead}
 use Rattle.q_message.proofs.PendingLaws.{recipients_few}
 use Rattle.q_message.proofs.RecordReads.{read_leaves}
 use Rattle.q_model.specs.Lists.{has_none}
-use Rattle.q_model.specs.QueueFile.{◌>>=◌, Counts, counts_in, counts_of, FileMessage, FileRecipient, queue_file, recipient_of, recipients_at, within_limits}
+use Rattle.q_model.specs.QueueFile.{◌>>=◌, arrival_of, body_of, sender_of, Counts, counts_in, counts_of, FileMessage, FileRecipient, queue_file, recipient_of, recipients_at, within_limits}
 use Rattle.q_model.specs.Records.{number, read_record}
 use Rattle.q_model.specs.Values.{FileHead}
 use Rattle.q_model.proofs.RecordLaws.{bind_some, found, map_some}
@@ -36,14 +36,18 @@ some_recipients (suc n) bytes rs rest some e =
 recipients_some : (bytes : List ℕ) (m : FileMessage) → queue_file bytes ≡ Some m → 1 ≤ length m.recipients
 unfolding queue_file
 recipients_some bytes m given =
-    let c = bind_some {A = Counts × List ℕ} _ _ m given in
-    let t = bind_some {A = ℕ × List ℕ} _ _ m c.2 in
-    let s = bind_some {A = Option (List ℕ) × List ℕ} _ _ m t.2 in
-    let r = bind_some {A = List FileRecipient × List ℕ} _ _ m s.2 in
-    let n = bind_some {A = List ℕ × List ℕ} _ _ m r.2 in
-    let e = bind_some {A = List ℕ × List ℕ} _ _ m n.2 in
+    let c = bind_some _ _ m given in
+    let t = bind_some _ _ m c.2 in
+    let s = bind_some _ _ m t.2 in
+    let r = bind_some _ _ m s.2 in
+    let n = bind_some _ _ m r.2 in
+    let e = bind_some _ _ m n.2 in
     let g = cond_some {A = FileMessage} (has_none e.0.1) (record { sender = s.0.0; arrival = t.0.0; content = n.0.0; recipients = r.0.0 }) m e.2 in
     let lc = read_leaves 67 counts_of bytes c.0.0 c.0.1 c.1 in
+    let lt = read_leaves 84 arrival_of c.0.1 t.0.0 t.0.1 t.1 in
+    let ls = read_leaves 83 sender_of t.0.1 s.0.0 s.0.1 s.1 in
+    let ln = read_leaves 78 (body_of c.0.0.content) r.0.1 n.0.0 n.0.1 n.1 in
+    let le = read_leaves 69 (body_of 0) n.0.1 e.0.0 e.0.1 e.1 in
     subst (λ (x : FileMessage). 1 ≤ length x.recipients) g.1 (some_recipients c.0.0.recipients s.0.1 r.0.0 r.0.1 (counts_some lc.body c.0.0 lc.means) r.1)
 
 -- a head with another number of recipients is none of a queue file

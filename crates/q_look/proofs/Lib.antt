@@ -1,7 +1,10 @@
+pub mod BookFacts
 pub mod FlagLaws
 pub mod HeadLaws
+pub mod Leasts
 pub mod Listings
 pub mod Naming
+pub mod NumberedOrder
 pub mod ReadPieces
 pub mod UnmarkedLaws
 pub mod Unreads

@@ -34,7 +34,7 @@ first_filtered : (q : ℕ → Bool) (xs : List ℕ) → slice_get (filter q xs) 
 first_filtered q [] = refl
 first_filtered q (x ∷ xs) = find_by q x xs (first_filtered q xs) (q x)
 
-places_within : {A : Type 0} (p q : ℕ → A → Bool) (n : ℕ) (xs : List A) → ((i : ℕ) (x : A) → i < n + length xs → p i x ≡ q i x) → places_from n p xs ≡ places_from n q xs
+pub places_within : {A : Type 0} (p q : ℕ → A → Bool) (n : ℕ) (xs : List A) → ((i : ℕ) (x : A) → i < n + length xs → p i x ≡ q i x) → places_from n p xs ≡ places_from n q xs
 places_within p q n [] same = refl
 places_within {A = A} p q n (x ∷ xs) same =
     let here : p n x ≡ q n x = same n x (omega arith) in
