@@ -69,10 +69,10 @@ module _ {A : Type 0} (before : A → A → Bool) (connected : (a b : A) → bef
   module _ (xs : List A) (names : Naming) (f : List ℕ → Option (List ℕ)) (after : Option (List ℕ)) (text : A → List ℕ) (file : A → DeferredName)
       (into : (y : A) → IsIn y xs → IsAhead names f after (text y) (file y))
       (order : (y x : A) → IsIn y xs → IsIn x xs → before y x ≡ true → slice_cmp nat_cmp (text y) (text x) ≡ Less) where
-    least_none : IsFirst names f after None → least before xs ≡ None
+    pub least_none : IsFirst names f after None → least before xs ≡ None
     least_none none = ap (least before) (nothing_in xs (λ y there. none (text y) (file y) (into y there)))
 
-    least_first : (d : DeferredName) → (first : IsFirstAt names f after d) → (x : A) → IsIn x xs → text x ≡ first.name → least before xs ≡ Some x
+    pub least_first : (d : DeferredName) → (first : IsFirstAt names f after d) → (x : A) → IsIn x xs → text x ≡ first.name → least before xs ≡ Some x
     least_first d first x inside same = least_is x xs inside (λ y there. by y there (before y x) refl)
       where
         by : (y : A) → IsIn y xs → (t : Bool) → before y x ≡ t → t ≡ false
@@ -84,10 +84,10 @@ module _ {A : Type 0} (before : A → A → Bool) (connected : (a b : A) → bef
 pub numbered : (id : Id) → IsId id → IsNumbered id
 numbered id h = record { generation = h.generation_fits; serial = h.serial_fits }
 
-ids_connected : (a b : Id) → id_before a b ≡ false → id_before b a ≡ false → a ≡ b
+pub ids_connected : (a b : Id) → id_before a b ≡ false → id_before b a ≡ false → a ≡ b
 ids_connected a b h k = same_id a b (grind (arith, nat_tests)) (grind (arith, nat_tests)) (grind (arith, nat_tests))
 
-less_is : (o : Ordering) → is_less o ≡ true → o ≡ Less
+pub less_is : (o : Ordering) → is_less o ≡ true → o ≡ Less
 less_is Less h = refl
 less_is Equal h = absurd cc
 less_is Greater h = absurd cc
@@ -97,10 +97,10 @@ ids_order y x hy hx e = less_is (slice_cmp nat_cmp (id_text y) (id_text x)) (num
 
 -- ---- incoming and active
 
-some_is : (o : Option (List ℕ)) → is_some o ≡ true → IsSome o
+pub some_is : (o : Option (List ℕ)) → is_some o ≡ true → IsSome o
 some_is o h = h
 
-is_true : (o : Option (List ℕ)) → IsSome o → is_some o ≡ true
+pub is_true : (o : Option (List ℕ)) → IsSome o → is_some o ≡ true
 is_true o h = h
 
 module _ (f : Files) (b : Book) (h : Stands f b) (p : Place) (test : Place → Bool) (passes : test p ≡ true) (only : (q : Place) → test q ≡ true → q ≡ p) where

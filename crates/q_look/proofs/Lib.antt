@@ -1,9 +1,11 @@
 pub mod BookFacts
+pub mod DeferredLeasts
 pub mod FlagLaws
 pub mod HeadLaws
 pub mod Leasts
 pub mod Listings
 pub mod Naming
+pub mod LookLaws
 pub mod NumberedOrder
 pub mod ReadPieces
 pub mod UnmarkedLaws

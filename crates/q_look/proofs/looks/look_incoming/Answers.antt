@@ -1,6 +1,13 @@
-use Rattle.q_look.proofs.BookFacts.{found_same}
-use Rattle.q_look.proofs.Leasts.{incoming_first}
+use Rattle.std.proofs.Common.{◌∙◌}
+use Rattle.q_books.proofs.Results.{if_ok}
+use Rattle.q_look.proofs.LookLaws.{nothing_incoming, said_incoming}
 use Rattle.q_look.proofs.looks.look_incoming.Goals as goal
 
+pub returns-in_default-clause-found : goal.returns-in_default-clause-found
+returns-in_default-clause-found g c t l h orderly = nothing_incoming (g.H.Host.view c.args.host.now).files l h c.in_ok-file.field-0 c.in_default.is (c.in_ok-file.ensures.first t)
+
 pub returns-clause-found : goal.returns-clause-found
-returns-clause-found g c = ?
+returns-clause-found g c =
+    let before = g.H.Host.view c.args.host.now in
+    let mid = g.H.Host.view c.first_name.new.host in
+    if_ok c.found_at.result (λ found reads t l h orderly. said_incoming before.files mid.files l (c.in_ok-file.ensures.stays t).files h orderly c.in_ok-file.field-0 c.in-Some.file c.file_spot.result found c.in-Some.is (c.in_ok-file.ensures.first t) c.file_spot.ensures (reads t)) c.found_at.ensures.found
