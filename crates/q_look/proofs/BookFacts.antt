@@ -1,18 +1,17 @@
 -- What the files say of an id is what the book says, where the files stand for it.
-use Rattle.std.proofs.Common.{◌≡◌, ℕ, ◌<◌, ◌+◌, ◌^◌, Bool, true, false, cond, not, ◌&&◌, ◌||◌, eqb, List, [], ◌∷◌, ◌++◌, length, map, is_some, Option, Some, None, refl, sym, ap, subst, ◌∙◌, ◌⊎◌, ⊎_elim, inl, inr, arith}
+use Rattle.std.proofs.Common.{◌≡◌, ℕ, ◌<◌, ◌+◌, Bool, true, false, cond, not, ◌&&◌, ◌||◌, eqb, List, [], ◌∷◌, length, map, is_some, Option, Some, None, refl, sym, ap, subst, ◌∙◌, ◌⊎◌, inl, inr, arith}
 use Rattle.std.specs.List.{AllByRecursion, list_all, list_any}
 use Rattle.std.specs.Option.{option_map_or}
-use Rattle.std.specs.Prelude.{count_by, find, is_none, slice_get}
+use Rattle.std.specs.Prelude.{count_by, is_none, slice_get}
 use Rattle.std.proofs.lemmas.Bool.{and_parts, or_cases}
 use Rattle.std.proofs.lemmas.List.{length-map}
 use Rattle.std.proofs.lemmas.List.Sums.{sum_by-cons}
 use Rattle.q_core.specs.Agrees.{file_of, found_at, marks_of}
 use Rattle.q_core.specs.declared.decision.FileFacts.{FileFacts}
-use Rattle.q_core.specs.declared.decision.Found.{Found}
 use Rattle.q_core.specs.declared.decision.Found.TheVariants.{Damaged as DamagedFile, Whole}
 use Rattle.q_laws.proofs.Books.{damaged_listed, message_in, message_listed, not_damaged, only_message}
 use Rattle.q_laws.proofs.Distinct.{id_same}
-use Rattle.q_laws.proofs.Members.{IsIn, all_at, any_from, any_in, find_in, find_one}
+use Rattle.q_laws.proofs.Members.{IsIn, all_at, any_from, any_in, find_one}
 use Rattle.q_laws.proofs.Places.{places_mapped}
 use Rattle.q_model.specs.declared.id.Id.{Id}
 use Rattle.q_model.specs.declared.outcome.Failure.{Failure}
@@ -24,10 +23,9 @@ use Rattle.q_model.specs.Book.{Book, Damaged, all_ids, damaged_of, message_of, s
 use Rattle.q_model.specs.FailureLog.{failures_of}
 use Rattle.q_model.specs.FilesStand.{DamagedStands, file_message, MessageStands, Stands}
 use Rattle.q_model.specs.Finishing.{has_bounce}
-use Rattle.q_model.specs.Ids.{are_distinct, bounce_of, cause_of, id_eq}
+use Rattle.q_model.specs.Ids.{bounce_of, cause_of, id_eq}
 use Rattle.q_model.specs.IdTexts.{id_text, IsId}
 use Rattle.q_model.specs.Ledger.{Ledger}
-use Rattle.q_model.specs.Lists.{places_from}
 use Rattle.q_model.specs.Marks.{is_marked}
 use Rattle.q_model.specs.Message.{Logged, Message, Recipient, is_logged, unmarked_logged}
 use Rattle.q_model.specs.Orderly.{is_orderly, is_paired, is_sealed, is_sound}

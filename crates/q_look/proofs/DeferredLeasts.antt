@@ -1,11 +1,10 @@
 -- The first name in deferred that is looked for is the scan's next name.
-use Rattle.std.proofs.Common.{◌≡◌, ℕ, ◌<◌, ◌≤◌, ◌^◌, Bool, true, false, not, eqb, ltb, leb, ◌&&◌, ◌||◌, List, [], ◌∷◌, ◌++◌, filter, filter_map, is_some, Option, Some, None, refl, sym, ap, subst, ◌∙◌, ◌⊎◌, ⊎_elim, inl, inr, arith}
+use Rattle.std.proofs.Common.{◌≡◌, ℕ, ◌<◌, ◌≤◌, ◌^◌, Bool, true, false, eqb, ltb, leb, ◌&&◌, ◌||◌, List, [], ◌∷◌, filter, filter_map, is_some, Option, Some, None, refl, sym, ap, subst, ◌∙◌, inl, inr, arith}
 use Rattle.std.specs.List.{cons_option}
 use Rattle.std.specs.Option.{option_map_or}
 use Rattle.std.specs.Prelude.{IsSome}
 use Rattle.std.specs.Ordering.{nat_cmp}
-use Rattle.std.specs.declared.cmp.Ordering.{Ordering}
-use Rattle.std.specs.declared.cmp.Ordering.TheVariants.{Equal, Greater, Less}
+use Rattle.std.specs.declared.cmp.Ordering.TheVariants.{Less}
 use Rattle.std.specs.Cmp.Lexicographic.{slice_cmp}
 use Rattle.std.proofs.lemmas.Bool.{and_from, and_parts, le-leb, leb-true, or_parts}
 use Rattle.std.proofs.lemmas.Bool.Decides.{nat_tests}
@@ -28,10 +27,10 @@ use Rattle.q_model.specs.Message.{Message}
 use Rattle.q_model.specs.Scans.{deferred_name, deferred_names, is_ahead, name_before, scan_next}
 use Rattle.q_model.specs.SpoolFiles.{file_at, Files, IsPlace}
 use Rattle.q_model.proofs.NameOrder.{is_less}
-use Rattle.q_look.specs.FirstNames.{IsAhead, IsFirst, IsFirstAt, NamesDue}
+use Rattle.q_look.specs.FirstNames.{IsAfterPlace, IsAhead, IsFirst, IsFirstAt, NamesDue}
 use Rattle.q_look.proofs.BookFacts.{each_at, file_stands, who_stands}
 use Rattle.q_look.proofs.Leasts.{ids_connected, is_true, least_first, least_none, less_is, numbered, some_is}
-use Rattle.q_look.proofs.NumberedOrder.{due-order, IsNumbered}
+use Rattle.q_look.proofs.NumberedOrder.{due-order}
 
 -- ---- names in order
 
@@ -125,11 +124,6 @@ module _ (f : Files) (b : Book) (h : Stands f b) where
         where
           by : (s t u : Bool) → s ≡ false → t ≡ false → (s || (t && u)) ≡ true → ⊥
           by s t u hs ht h = cc
-
--- the name of the place behind which a scan goes on
-abbrev pub IsAfterPlace : Option DeferredName → Option (List ℕ) → Type 0
-IsAfterPlace None after = after ≡ None
-IsAfterPlace (Some a) after = (after ≡ Some (due_text a.due a.id)) × (a.due < 10 ^ 12) × IsNumbered a.id
 
 module _ (f : Files) (b : Book) (h : Stands f b) (until : ℕ) where
   ahead_text : (place : Option DeferredName) (after : Option (List ℕ)) → IsAfterPlace place after → (n : DeferredName) → HasName f n → option_map_or (λ p. name_before p n) place true ≡ true → IsAfter after (due_text n.due n.id)

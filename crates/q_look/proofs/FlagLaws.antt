@@ -1,8 +1,7 @@
 -- Which positions failed, as flags; and the failures of a message, record by record.
-use Rattle.std.proofs.Common.{◌≡◌, ℕ, ◌<◌, ◌≤◌, ◌+◌, ◌*◌, Bool, true, false, cond, not, eqb, ltb, ◌&&◌, ◌||◌, List, [], ◌∷◌, ◌++◌, length, filter, take, if◌then◌else◌, refl, sym, ap, subst, ◌∙◌, arith, append-nil, length-append, zero, suc}
-use Rattle.std.specs.List.{list_any}
-use Rattle.std.specs.Prelude.{count_by, replicate, slice_get, slice_index_or, slice_set, Option, Some, None}
-use Rattle.std.proofs.lemmas.Bool.{or_from, or_parts, eqb-true, lt-ltb}
+use Rattle.std.proofs.Common.{◌≡◌, ℕ, ◌<◌, ◌≤◌, ◌+◌, ◌*◌, Bool, true, false, cond, not, eqb, ltb, ◌||◌, List, [], ◌∷◌, ◌++◌, length, filter, if◌then◌else◌, refl, sym, ap, subst, ◌∙◌, arith, append-nil, length-append, zero, suc}
+use Rattle.std.specs.Prelude.{replicate, slice_index_or, slice_set}
+use Rattle.std.proofs.lemmas.Bool.{eqb-true, lt-ltb}
 use Rattle.std.proofs.lemmas.Bool.Decides.{nat_tests}
 use Rattle.std.proofs.lemmas.List.{get_or-replicate, get_or-set_other, get_or-set_same, length-replicate, length-set, set-get_or}
 use Rattle.std.proofs.lemmas.List.Elements.{filter-append}
@@ -12,7 +11,7 @@ use Rattle.std.proofs.lemmas.Map.Views.{any-filter_same}
 use Rattle.q_model.specs.declared.outcome.Failure.{Failure}
 use Rattle.q_model.specs.FailureLog.{failures_of, first_of_each}
 use Rattle.q_model.proofs.FailuresLaws.{failures_of-push, has_position}
-use Rattle.q_look.specs.Failures.{AreFlags, flag_at, has_failed, set_count}
+use Rattle.q_look.specs.Failures.{AreFlags, has_failed, set_count}
 
 -- ---- the failures of a message
 

@@ -1,42 +1,35 @@
 -- The first name of an area that is looked for is that of the least id, or of the least name, of the book.
-use Rattle.std.proofs.Common.{◌≡◌, ℕ, ◌<◌, ◌≤◌, ◌^◌, Bool, true, false, not, nat_le, nat_lt, eqb, ◌&&◌, ◌||◌, List, [], ◌∷◌, ◌++◌, map, filter, filter_map, is_some, if◌then◌else◌, Option, Some, None, refl, sym, ap, subst, ◌∙◌, ◌⊎◌, ⊎_elim, inl, inr, arith}
-use Rattle.std.specs.List.{cons_option}
-use Rattle.std.specs.Option.{option_map_or, option_map}
-use Rattle.std.specs.Prelude.{IsSome, ◌==◌}
+use Rattle.std.proofs.Common.{◌≡◌, ℕ, Bool, true, false, not, List, [], ◌∷◌, filter, is_some, if◌then◌else◌, Option, Some, None, refl, sym, ap, subst, ◌∙◌, inl, inr, arith}
+use Rattle.std.specs.Option.{option_map_or}
+use Rattle.std.specs.Prelude.{IsSome}
 use Rattle.std.specs.Ordering.{nat_cmp}
 use Rattle.std.specs.declared.cmp.Ordering.{Ordering}
 use Rattle.std.specs.declared.cmp.Ordering.TheVariants.{Equal, Greater, Less}
 use Rattle.std.specs.Cmp.Lexicographic.{slice_cmp}
-use Rattle.std.proofs.lemmas.Bool.{and_from, and_parts, leb-true, or_parts}
 use Rattle.std.proofs.lemmas.Bool.Decides.{nat_tests}
 use Rattle.q_core.specs.declared.state.Core.{Core}
 use Rattle.q_core.specs.Held.{is_admitted_in}
-use Rattle.q_host.specs.Reads.{IsAfter}
 use Rattle.q_laws.proofs.Books.{at_place, damaged_at, in_ids_at}
-use Rattle.q_laws.proofs.Members.{IsIn, in_either, in_filter, in_filtered, in_left, in_right, least_in}
-use Rattle.q_laws.proofs.Picked.{in_given}
+use Rattle.q_laws.proofs.Members.{IsIn, in_filter, in_filtered, least_in}
 use Rattle.q_laws.proofs.Places.{nothing_in}
 use Rattle.q_model.specs.declared.id.Id.{Id}
 use Rattle.q_model.specs.declared.rows.DeferredName.{DeferredName}
 use Rattle.q_model.specs.declared.rows.Place.{Place}
 use Rattle.q_model.specs.declared.rows.Place.TheVariants as places
-use Rattle.q_model.specs.declared.rows.Scan.{Scan}
 use Rattle.q_model.specs.declared.spot.Area.TheVariants as areas
-use Rattle.q_model.specs.Book.{Book, Damaged, ids_at, stands_in}
+use Rattle.q_model.specs.Book.{Book, ids_at}
 use Rattle.q_model.specs.FilesStand.{DamagedStands, MessageStands, Stands}
 use Rattle.q_model.specs.Ids.{id_before}
-use Rattle.q_model.specs.IdTexts.{due_text, id_text, IsId}
+use Rattle.q_model.specs.IdTexts.{id_text, IsId}
 use Rattle.q_model.specs.Lists.{least}
-use Rattle.q_model.specs.Message.{Message}
-use Rattle.q_model.specs.Places.{is_active, is_incoming, place_eq}
-use Rattle.q_model.specs.Scans.{deferred_name, deferred_names, is_ahead, name_before}
+use Rattle.q_model.specs.Places.{is_active, is_incoming}
 use Rattle.q_model.specs.SpoolFiles.{file_at, Files, IsPlace}
 use Rattle.q_model.proofs.IdLaws.{same_id}
 use Rattle.q_model.proofs.NameOrder.{is_less}
 use Rattle.q_model.proofs.StandLaws.{true_false}
-use Rattle.q_look.specs.FirstNames.{IsAhead, IsFirst, IsFirstAt, NamesDue, NamesId, NamesLeftover, Naming}
+use Rattle.q_look.specs.FirstNames.{IsAhead, IsFirst, IsFirstAt, IsNumbered, NamesId, NamesLeftover, Naming}
 use Rattle.q_look.proofs.BookFacts.{each_at, file_stands, who_stands}
-use Rattle.q_look.proofs.NumberedOrder.{due-order, IsNumbered, numbered-order}
+use Rattle.q_look.proofs.NumberedOrder.{numbered-order}
 
 -- ---- the least of a list
 

@@ -1,5 +1,5 @@
 -- What a look finds is the true answer to it.
-use Rattle.std.proofs.Common.{◌≡◌, ℕ, ◌<◌, ◌≤◌, ◌^◌, Bool, true, false, List, is_some, Option, Some, None, refl, sym, ap, subst, ◌∙◌}
+use Rattle.std.proofs.Common.{◌≡◌, ℕ, ◌≤◌, ◌^◌, true, false, List, Option, Some, None, refl, sym, ap, subst, ◌∙◌}
 use Rattle.std.specs.Option.{IfSome, option_map_or}
 use Rattle.std.specs.Prelude.{IsSome}
 use Rattle.q_books.specs.Spots.{spot_of}
@@ -14,7 +14,7 @@ use Rattle.q_model.specs.declared.rows.Place.{Place}
 use Rattle.q_model.specs.declared.rows.Place.TheVariants as places
 use Rattle.q_model.specs.declared.spot.Area.TheVariants as areas
 use Rattle.q_model.specs.FilesStand.{Stands}
-use Rattle.q_model.specs.IdTexts.{due_text, id_text, IsId}
+use Rattle.q_model.specs.IdTexts.{IsId}
 use Rattle.q_model.specs.Ledger.{Ledger}
 use Rattle.q_model.specs.Memory.{is_admitted}
 use Rattle.q_model.specs.Orderly.{is_orderly}
@@ -24,9 +24,9 @@ use Rattle.q_model.specs.Settings.{World}
 use Rattle.q_model.specs.SpoolFiles.{file_at, Files, IsPlace}
 use Rattle.q_model.specs.Values.{Spot}
 use Rattle.q_look.specs.FileFacts.{found_in}
-use Rattle.q_look.specs.FirstNames.{IsFirst, NamesDue, NamesId, NamesLeftover}
+use Rattle.q_look.specs.FirstNames.{IsAfterPlace, IsFirst, NamesDue, NamesId, NamesLeftover}
 use Rattle.q_look.proofs.BookFacts.{found_same}
-use Rattle.q_look.proofs.DeferredLeasts.{deferred_first, deferred_none, IsAfterPlace, none_later}
+use Rattle.q_look.proofs.DeferredLeasts.{deferred_first, deferred_none, none_later}
 use Rattle.q_look.proofs.Leasts.{active_first, active_none, incoming_first, incoming_none}
 
 -- what was read of a file at its spot

@@ -1,5 +1,5 @@
 -- A name says one file.
-use Rattle.std.proofs.Common.{◌≡◌, ◌<◌, ◌≤◌, ◌^◌, Bool, false, true, ℕ, List, Option, refl, sym, ap, subst, ◌∙◌, arith}
+use Rattle.std.proofs.Common.{◌≡◌, ◌<◌, ◌^◌, true, ℕ, List, sym, ap, ◌∙◌, arith}
 use Rattle.q_core.specs.declared.state.Core.{Core}
 use Rattle.q_core.specs.Held.{is_admitted_in}
 use Rattle.q_model.specs.declared.id.Id.{Id}
@@ -7,7 +7,7 @@ use Rattle.q_model.specs.declared.rows.DeferredName.{DeferredName}
 use Rattle.q_model.specs.IdTexts.{due_text, id_text, IsId}
 use Rattle.q_model.proofs.IdLaws.{due_text-injective, id_text-injective}
 use Rattle.q_model.proofs.StandLaws.{true_false}
-use Rattle.q_look.specs.FirstNames.{NamesDue, NamesId, NamesLeftover}
+use Rattle.q_look.specs.FirstNames.{NamesDue, NamesLeftover}
 
 -- the id of the name is in memory
 pub no_leftover : (core : Core) (id : Id) (name : List ℕ) → IsId id → id_text id ≡ name → is_admitted_in core id ≡ true → (d : DeferredName) → NamesLeftover core name d → ⊥

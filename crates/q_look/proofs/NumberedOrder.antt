@@ -1,14 +1,11 @@
 -- Names are in the order of ids, and in deferred in that of due times and ids; also those of ids
 -- that no file has, whose numbers may be 0.
-use Rattle.std.proofs.Common.{◌≡◌, ◌<◌, ◌+◌, ◌/◌, ◌%◌, ◌^◌, ◌&&◌, ◌||◌, ◌++◌, ℕ, zero, suc, Bool, true, false, not, nat_lt, List, [], ◌∷◌, length, if◌then◌else◌, refl, sym, ap, ◌∙◌, arith, append_assoc}
+use Rattle.std.proofs.Common.{◌≡◌, ◌<◌, ◌+◌, ◌/◌, ◌%◌, ◌^◌, ◌&&◌, ◌||◌, ◌++◌, ℕ, Bool, true, false, not, nat_lt, List, [], ◌∷◌, length, if◌then◌else◌, refl, sym, ap, ◌∙◌, arith, append_assoc}
 use Rattle.std.specs.Prelude.{◌==◌}
-use Rattle.std.proofs.Math.Nat.{pow-suc, pow-zero}
 use Rattle.std.proofs.lemmas.Bool.Decides.{nat_tests}
-use Rattle.std.proofs.lemmas.Nat.{div_below, mod_below}
 use Rattle.std.specs.Ordering.{MatchOrdering, nat_cmp, ordering_then}
 use Rattle.std.specs.declared.cmp.Ordering.{Ordering}
 use Rattle.std.specs.declared.cmp.Ordering.TheVariants.{Equal, Greater, Less}
-use Rattle.std.specs.Cmp.{nat_cmp_is, ranks}
 use Rattle.std.specs.Cmp.Lexicographic.{slice_cmp}
 use Rattle.q_model.specs.declared.id.Id.{Id}
 use Rattle.q_model.specs.declared.rows.DeferredName.{DeferredName}
@@ -16,6 +13,7 @@ use Rattle.q_model.specs.Ids.{id_before}
 use Rattle.q_model.specs.IdTexts.{decimals, due_text, hex, hex_digit, id_text}
 use Rattle.q_model.specs.Scans.{name_before}
 use Rattle.q_model.proofs.IdLaws.{tail_of}
+use Rattle.q_look.specs.FirstNames.{IsNumbered}
 use Rattle.q_model.proofs.NameOrder.{Counts, is_less, spell-cmp}
 use Rattle.q_model.proofs.NumberTexts.{decimals-Spells, hex-Spells, length-spell}
 
@@ -57,11 +55,6 @@ decimals-Counts = record { rises = λ u v h k. omega (arith, h); step = step }
     step x y Equal Greater h k = omega (arith, h, k)
 
 -- ---- ids
-
--- both numbers have at most 32 bits
-pub record IsNumbered (id : Id) : Type 0 where
-  pub generation : id.generation < 2 ^ 32
-  pub serial : id.serial < 2 ^ 32
 
 less-then : (x y : ℕ) (p : Ordering) → is_less (ordering_then (nat_cmp x y) p) ≡ (nat_lt x y || ((x == y) && is_less p))
 less-then x y p = by (nat_lt x y) (x == y)

@@ -1,10 +1,10 @@
 -- Which failed recipient comes first of those that aren't marked, by the recipients that are taken.
-use Rattle.std.proofs.Common.{◌≡◌, ℕ, ◌<◌, ◌≤◌, ◌+◌, ◌-◌, Bool, true, false, cond, not, ◌&&◌, List, [], ◌∷◌, ◌++◌, length, filter, map, take, drop, if◌then◌else◌, Option, Some, None, refl, sym, ap, subst, ◌∙◌, arith, take_all, suc, zero}
-use Rattle.std.specs.Option.{IfSome, option_map, option_map_or}
+use Rattle.std.proofs.Common.{◌≡◌, ℕ, ◌<◌, ◌≤◌, ◌+◌, ◌-◌, Bool, true, false, cond, not, ◌&&◌, List, [], ◌∷◌, length, filter, map, take, if◌then◌else◌, Option, Some, None, refl, sym, ap, subst, ◌∙◌, arith, take_all, suc, zero}
+use Rattle.std.specs.Option.{IfSome, option_map_or}
 use Rattle.std.specs.Prelude.{count_by, find, slice_get, unwrap_or}
 use Rattle.std.proofs.lemmas.List.Sums.{sum_by-cons}
 use Rattle.q_message.specs.FileHeads.{head_of, IsHead}
-use Rattle.q_message.specs.Pending.{taken_at, taken_from, unmarked_from}
+use Rattle.q_message.specs.Pending.{taken_at, taken_from}
 use Rattle.q_model.specs.declared.outcome.Failure.{Failure}
 use Rattle.q_model.specs.FailureLog.{failures_of, log_records}
 use Rattle.q_model.specs.Lists.{places_from}
@@ -12,7 +12,6 @@ use Rattle.q_model.specs.QueueFile.{FileMessage, FileRecipient, queue_file}
 use Rattle.q_model.specs.Values.{FileHead, Taken}
 use Rattle.q_model.proofs.FailureLogLaws.{log_records-nil}
 use Rattle.q_model.proofs.RecordLaws.{map_some}
-use Rattle.q_look.specs.declared.failed.Failed.{Failed}
 use Rattle.q_look.specs.Failures.{AreFlags, failed_in, first_flagged, flag_at, has_failed, unmarked_failed}
 
 -- ---- places in lists

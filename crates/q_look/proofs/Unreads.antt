@@ -1,5 +1,5 @@
 -- A queue file that can't be read.
-use Rattle.std.proofs.Common.{◌≡◌, ℕ, Option, Some, None, refl, sym, subst}
+use Rattle.std.proofs.Common.{◌≡◌, ℕ, Option, None, refl, sym, subst}
 use Rattle.std.specs.Prelude.{IfOk, IsErrOf, IsTrue, Bool, Result}
 use Rattle.q_host.specs.declared.error.HostError.{HostError}
 use Rattle.q_message.specs.declared.error.MessageError.{MessageError}

@@ -6,6 +6,7 @@ use Rattle.std.specs.Prelude.{◌++◌, ◌<◌, ◌^◌, ◌≡◌, ◌≤◌, 
 use Rattle.q_core.specs.declared.state.Core.{Core}
 use Rattle.q_core.specs.Held.{is_admitted_in}
 use Rattle.q_host.specs.Reads.{IsAfter}
+use Rattle.q_model.specs.declared.id.Id.{Id}
 use Rattle.q_model.specs.declared.rows.DeferredName.{DeferredName}
 use Rattle.q_model.specs.IdTexts.{due_text, id_text, IsId}
 
@@ -68,3 +69,14 @@ pub record IsFirstIn (names : Naming) (listed : List (List ℕ)) (d : DeferredNa
   pub all : listed ≡ front ++ name ∷ back
   pub named : names name d
   pub none : HasNone names front
+
+-- an id whose numbers have 32 bits each, as every id of the code; either may be 0
+pub record IsNumbered (id : Id) : Type 0 where
+  pub generation : id.generation < 2 ^ 32
+  pub serial : id.serial < 2 ^ 32
+
+-- the name in deferred of the place behind which a scan goes on
+abbrev pub IsAfterPlace : Option DeferredName → Option (List ℕ) → Type 0
+IsAfterPlace None after = after ≡ None
+IsAfterPlace (Some a) after = (after ≡ Some (due_text a.due a.id)) × (a.due < 10 ^ 12)
+    × IsNumbered a.id

@@ -1,4 +1,4 @@
-use Rattle.std.proofs.Common.{arith, ap, ◌≡◌, ℕ, None}
+use Rattle.std.proofs.Common.{arith, ap, ◌≡◌, None}
 use Rattle.std.specs.Option.{option_map}
 use Rattle.q_message.specs.declared.error.MessageError.TheVariants.{NotAMessage}
 use Rattle.q_message.specs.FileHeads.{head_of}

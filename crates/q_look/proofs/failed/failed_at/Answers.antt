@@ -1,4 +1,4 @@
-use Rattle.std.proofs.Common.{arith, ap, subst, ◌≡◌, ℕ, ◌∙◌, sym, length, List, Bool}
+use Rattle.std.proofs.Common.{ap, subst, ◌≡◌, ℕ, ◌∙◌, sym, length, List, Bool}
 use Rattle.std.specs.Option.{IfSome}
 use Rattle.q_model.specs.declared.outcome.Failure.{Failure}
 use Rattle.q_model.specs.FailureLog.{failures_of}

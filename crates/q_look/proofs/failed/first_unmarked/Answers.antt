@@ -1,4 +1,4 @@
-use Rattle.std.proofs.Common.{arith, ap, ◌≡◌, ◌-◌, ℕ, ◌∙◌}
+use Rattle.std.proofs.Common.{arith, ap, ◌≡◌}
 use Rattle.q_message.specs.declared.error.MessageError.TheVariants.{NotAMessage}
 use Rattle.q_message.specs.Told.{bytes_at}
 use Rattle.q_model.specs.Values.{FileHead}

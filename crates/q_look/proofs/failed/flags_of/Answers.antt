@@ -1,4 +1,4 @@
-use Rattle.std.proofs.Common.{ap, sym, subst, arith, ◌≡◌, ◌<◌, ◌+◌, ◌++◌, ◌∷◌, [], ℕ, List, Bool, length, take, true, ◌∙◌}
+use Rattle.std.proofs.Common.{ap, sym, subst, arith, ◌≡◌, ◌+◌, ◌++◌, ◌∷◌, [], List, Bool, length, take, true, ◌∙◌}
 use Rattle.std.proofs.lemmas.List.{take_more}
 use Rattle.std.specs.Prelude.{slice_index_or, slice_set}
 use Rattle.q_model.specs.declared.outcome.Failure.{Failure}

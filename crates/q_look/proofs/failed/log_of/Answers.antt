@@ -1,4 +1,4 @@
-use Rattle.std.proofs.Common.{ap, sym, [], List, ℕ, ◌∙◌}
+use Rattle.std.proofs.Common.{ap, [], List, ℕ, ◌∙◌}
 use Rattle.std.specs.Prelude.{unwrap_or}
 use Rattle.q_model.specs.declared.spot.Area.TheVariants as areas
 use Rattle.q_model.specs.FailureLog.{log_records}

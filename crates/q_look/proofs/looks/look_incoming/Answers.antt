@@ -1,4 +1,3 @@
-use Rattle.std.proofs.Common.{◌∙◌}
 use Rattle.q_books.proofs.Results.{if_ok}
 use Rattle.q_look.proofs.LookLaws.{nothing_incoming, said_incoming}
 use Rattle.q_look.proofs.looks.look_incoming.Goals as goal

@@ -1,4 +1,4 @@
-use Rattle.std.proofs.Common.{◌≡◌, ◌<◌, List, ℕ, Some, ap, arith, length, subst, sym, ◌∙◌}
+use Rattle.std.proofs.Common.{List, ℕ, arith, subst}
 use Rattle.q_host.specs.Reads.{IsListing}
 use Rattle.q_message.proofs.WindowLaws.{stays_here, stays_on}
 use Rattle.q_model.specs.SpoolFiles.{Files}

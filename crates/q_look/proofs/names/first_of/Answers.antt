@@ -1,4 +1,4 @@
-use Rattle.std.proofs.Common.{◌≡◌, ◌≤◌, List, ℕ, Some, ap, arith, length, subst, sym, take, take_all, ◌∙◌}
+use Rattle.std.proofs.Common.{◌≤◌, arith, length, subst, take_all}
 use Rattle.q_look.specs.FirstNames.{HasNone}
 use Rattle.q_look.proofs.Listings.{first_at, item_at, none_more}
 use Rattle.q_look.proofs.names.first_of.Goals as goal

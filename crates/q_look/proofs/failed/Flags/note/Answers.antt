@@ -1,4 +1,4 @@
-use Rattle.std.proofs.Common.{◌≡◌, ◌+◌, ◌<◌, ◌≤◌, ℕ, Bool, false, true, length, arith, sym, ap, subst, ◌∙◌, length-set}
+use Rattle.std.proofs.Common.{◌≡◌, ◌<◌, ◌≤◌, ℕ, false, true, length, arith, subst, length-set}
 use Rattle.std.specs.Prelude.{slice_index_or, slice_set}
 use Rattle.q_look.specs.Failures.{set_count}
 use Rattle.q_look.proofs.FlagLaws.{flag_read, set_few, set_more}
