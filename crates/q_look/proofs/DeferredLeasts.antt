@@ -27,7 +27,7 @@ use Rattle.q_model.specs.Message.{Message}
 use Rattle.q_model.specs.Scans.{deferred_name, deferred_names, is_ahead, name_before, scan_next}
 use Rattle.q_model.specs.SpoolFiles.{file_at, Files, IsPlace}
 use Rattle.q_model.proofs.NameOrder.{is_less}
-use Rattle.q_look.specs.FirstNames.{IsAfterPlace, IsAhead, IsFirst, IsFirstAt, NamesDue}
+use Rattle.q_look.specs.FirstNames.{IsAfterPlace, IsAhead, IsFirstWanted, IsFirstAt, NamesDue}
 use Rattle.q_look.proofs.BookFacts.{each_at, file_stands, who_stands}
 use Rattle.q_look.proofs.Leasts.{ids_connected, is_true, least_first, least_none, less_is, numbered, some_is}
 use Rattle.q_look.proofs.NumberedOrder.{due-order}
@@ -159,7 +159,7 @@ module _ (f : Files) (b : Book) (h : Stands f b) (until : ℕ) where
         let nx = (deferred_into x hx).named in
         less_is (slice_cmp nat_cmp (due_text y.due y.id) (due_text x.due x.id)) (due-order y x ny.digits nx.digits (numbered y.id ny.form) (numbered x.id nx.form) ∙ e)
 
-    pub deferred_none : IsFirst (NamesDue until) (f areas.Deferred) after None → scan_next b (record { place = place; until = until }) ≡ None
+    pub deferred_none : IsFirstWanted (NamesDue until) (f areas.Deferred) after None → scan_next b (record { place = place; until = until }) ≡ None
     deferred_none none = least_none name_before names_connected (filter (is_ahead (record { place = place; until = until })) (deferred_names b)) (NamesDue until) (f areas.Deferred) after (λ n. due_text n.due n.id) (λ n. n) deferred_into deferred_order none
 
     pub deferred_first : (d : DeferredName) → IsFirstAt (NamesDue until) (f areas.Deferred) after d → scan_next b (record { place = place; until = until }) ≡ Some d

@@ -27,7 +27,7 @@ use Rattle.q_model.specs.SpoolFiles.{file_at, Files, IsPlace}
 use Rattle.q_model.proofs.IdLaws.{same_id}
 use Rattle.q_model.proofs.NameOrder.{is_less}
 use Rattle.q_model.proofs.StandLaws.{true_false}
-use Rattle.q_look.specs.FirstNames.{IsAhead, IsFirst, IsFirstAt, IsNumbered, NamesId, NamesLeftover, Naming}
+use Rattle.q_look.specs.FirstNames.{IsAhead, IsFirstWanted, IsFirstAt, IsNumbered, NamesId, NamesLeftover, Naming}
 use Rattle.q_look.proofs.BookFacts.{each_at, file_stands, who_stands}
 use Rattle.q_look.proofs.NumberedOrder.{numbered-order}
 
@@ -62,7 +62,7 @@ module _ {A : Type 0} (before : A → A → Bool) (connected : (a b : A) → bef
   module _ (xs : List A) (names : Naming) (f : List ℕ → Option (List ℕ)) (after : Option (List ℕ)) (text : A → List ℕ) (file : A → DeferredName)
       (into : (y : A) → IsIn y xs → IsAhead names f after (text y) (file y))
       (order : (y x : A) → IsIn y xs → IsIn x xs → before y x ≡ true → slice_cmp nat_cmp (text y) (text x) ≡ Less) where
-    pub least_none : IsFirst names f after None → least before xs ≡ None
+    pub least_none : IsFirstWanted names f after None → least before xs ≡ None
     least_none none = ap (least before) (nothing_in xs (λ y there. none (text y) (file y) (into y there)))
 
     pub least_first : (d : DeferredName) → (first : IsFirstAt names f after d) → (x : A) → IsIn x xs → text x ≡ first.name → least before xs ≡ Some x
@@ -142,7 +142,7 @@ module _ (f : Files) (b : Book) (h : Stands f b) where
   incoming_order : (y x : Id) → IsIn y (ids_at is_incoming b) → IsIn x (ids_at is_incoming b) → id_before y x ≡ true → slice_cmp nat_cmp (id_text y) (id_text x) ≡ Less
   incoming_order y x hy hx e = ids_order y x (listed_there f b h places.Incoming is_incoming refl only_incoming y hy).0 (listed_there f b h places.Incoming is_incoming refl only_incoming x hx).0 e
 
-  pub incoming_none : IsFirst NamesId (f areas.Incoming) None None → least id_before (ids_at is_incoming b) ≡ None
+  pub incoming_none : IsFirstWanted NamesId (f areas.Incoming) None None → least id_before (ids_at is_incoming b) ≡ None
   incoming_none none = least_none id_before ids_connected (ids_at is_incoming b) NamesId (f areas.Incoming) None id_text (λ id. record { due = 0; id = id }) incoming_into incoming_order none
 
   pub incoming_first : (d : DeferredName) → IsFirstAt NamesId (f areas.Incoming) None d → least id_before (ids_at is_incoming b) ≡ Some d.id
@@ -168,7 +168,7 @@ module _ (f : Files) (b : Book) (h : Stands f b) (core : Core) (held : Id → Bo
   active_order : (y x : Id) → IsIn y (filter (λ i. not (held i)) (ids_at is_active b)) → IsIn x (filter (λ i. not (held i)) (ids_at is_active b)) → id_before y x ≡ true → slice_cmp nat_cmp (id_text y) (id_text x) ≡ Less
   active_order y x hy hx e = ids_order y x (active_into y hy).named.named.form (active_into x hx).named.named.form e
 
-  pub active_none : IsFirst (NamesLeftover core) (f areas.Active) None None → least id_before (filter (λ i. not (held i)) (ids_at is_active b)) ≡ None
+  pub active_none : IsFirstWanted (NamesLeftover core) (f areas.Active) None None → least id_before (filter (λ i. not (held i)) (ids_at is_active b)) ≡ None
   active_none none = least_none id_before ids_connected (filter (λ i. not (held i)) (ids_at is_active b)) (NamesLeftover core) (f areas.Active) None id_text (λ id. record { due = 0; id = id }) active_into active_order none
 
   pub active_first : (d : DeferredName) → IsFirstAt (NamesLeftover core) (f areas.Active) None d → least id_before (filter (λ i. not (held i)) (ids_at is_active b)) ≡ Some d.id

@@ -9,4 +9,4 @@ pub mod LookLaws
 pub mod NumberedOrder
 pub mod ReadPieces
 pub mod UnmarkedLaws
-pub mod Unreads
+pub mod UnreadableFiles

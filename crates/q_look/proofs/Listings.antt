@@ -9,7 +9,7 @@ use Rattle.std.proofs.lemmas.Cmp.{nat_list_cmp_total}
 use Rattle.std.proofs.lemmas.List.Elements.{Contains-append_cases, Contains-append_right}
 use Rattle.q_host.specs.Reads.{IsAfter, IsListing, Rise}
 use Rattle.q_model.specs.declared.rows.DeferredName.{DeferredName}
-use Rattle.q_look.specs.FirstNames.{HasNone, IsAhead, IsFirst, IsFirstIn, Naming}
+use Rattle.q_look.specs.FirstNames.{HasNone, IsAhead, IsFirstWanted, IsFirstIn, Naming}
 
 -- ---- names in order
 
@@ -65,7 +65,7 @@ module _ (names : Naming) (f : List ℕ → Option (List ℕ)) (after behind : O
   first_there : (d : DeferredName) → (first : IsFirstIn names listed d) → Contains listed first.name
   first_there d first = subst (λ (xs : List (List ℕ)). Contains xs first.name) (sym first.all) (Contains-append_right first.front (first.name ∷ first.back) first.name (0, omega arith, refl))
 
-  pub first_is : (d : DeferredName) → IsFirstIn names listed d → IsFirst names f after (Some d)
+  pub first_is : (d : DeferredName) → IsFirstIn names listed d → IsFirstWanted names f after (Some d)
   first_is d first = record {
     name = first.name;
     ahead = record {
@@ -83,7 +83,7 @@ module _ (names : Naming) (f : List ℕ → Option (List ℕ)) (after behind : O
         (listing.none_left_out n ahead.there (passed.left n e ahead));
   }
 
-  pub first_none : HasNone names listed → length listed < 64 → IsFirst names f after None
+  pub first_none : HasNone names listed → length listed < 64 → IsFirstWanted names f after None
   first_none none few n e ahead = ⊎_elim (λ inside. none n e inside ahead.named) (λ past. absurd (omega (arith, few, past.0))) (listing.none_left_out n ahead.there (passed.left n e ahead))
 
   pub passed_last : HasNone names listed → (last : List ℕ) → Contains listed last → HasPassed names f after (Some last)

@@ -2,4 +2,4 @@ pub mod Failures
 pub mod FileFacts
 pub mod FirstNames
 pub mod Forms
-pub mod Unread
+pub mod Unreadable

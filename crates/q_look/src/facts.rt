@@ -5,7 +5,7 @@ ghost use Rattle.q_host.specs.Calls.{Stays};
 ghost use Rattle.q_host.specs.Faults.{DiskCause};
 ghost use Rattle.q_look.specs.FileFacts.{found_in, has_bounce_in, stands_alone_in};
 ghost use Rattle.q_look.specs.Forms.{HasRecipients, IsFileName, IsLookedAt};
-ghost use Rattle.q_look.specs.Unread.{unread};
+ghost use Rattle.q_look.specs.Unreadable.{unreadable};
 ghost use Rattle.q_message.specs.FileHeads.{head_of};
 ghost use Rattle.q_message.specs.Told.{IsThere, TellsOf};
 ghost use Rattle.q_model.specs.QueueFile.{queue_file};
@@ -21,8 +21,8 @@ use std::alloc::Global;
 const MOST_RECIPIENTS: u32 = 50_000;
 
 /// What the reader of a queue file answers: nothing, where the file is none.
-pub(crate) fn unread<T: Drop>(error: MessageError) -> Result<Option<T>, HostError>
-    ensures { result ≡ unread error }
+pub(crate) fn unreadable<T: Drop>(error: MessageError) -> Result<Option<T>, HostError>
+    ensures { result ≡ unreadable error }
 {
     match error {
         MessageError::Disk => Err(HostError::Disk),
@@ -72,7 +72,7 @@ fn head_at<H: Host>(host: &mut H, spot: Spot) -> Result<Option<FileHead>, HostEr
 {
     let head = match read_head(host, spot) {
         Ok(head) => head,
-        Err(error) => return unread(error),
+        Err(error) => return unreadable(error),
     };
     if head.recipients == 0 {
         return Ok(None);

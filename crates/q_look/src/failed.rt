@@ -10,7 +10,7 @@ ghost use Rattle.q_model.specs.FailureLog.{failures_of};
 ghost use Rattle.q_model.specs.QueueFile.{queue_file};
 ghost use Rattle.q_model.specs.SpoolFiles.{logged_in};
 
-use crate::facts::unread;
+use crate::facts::unreadable;
 use crate::whole::whole;
 use q_host::{Host, HostError};
 use q_logfile::records;
@@ -128,7 +128,7 @@ fn first_unmarked<H: Host>(
     };
     match read_recipients(host, spot, head, first, unmarked, &mut batch) {
         Ok(_) => {}
-        Err(error) => return unread(error),
+        Err(error) => return unreadable(error),
     }
     Ok(first_set(&batch, set))
 }

@@ -2,7 +2,7 @@
 ghost use Rattle.std.specs.Prelude.{◌≡◌, IfOk, IfNone, IfSome, IsTrue};
 ghost use Rattle.q_host.specs.Calls.{Stays};
 ghost use Rattle.q_host.specs.Faults.{DiskCause};
-ghost use Rattle.q_look.specs.FirstNames.{HasNone, IsFirst, IsFirstIn, IsNamed};
+ghost use Rattle.q_look.specs.FirstNames.{HasNone, IsFirstWanted, IsFirstIn, IsNamed};
 
 use crate::wanted::Wanted;
 use q_host::{Host, HostError};
@@ -32,7 +32,7 @@ pub(crate) fn first_name<H: Host, W: Wanted>(
     wanted: &W,
 ) -> Result<Option<DeferredName>, HostError>
     ensures first { IfOk result (λ found. IsTrue H.tells
-        → IsFirst (W.names wanted.now) ((H.view host.old).files area) after found) }
+        → IsFirstWanted (W.names wanted.now) ((H.view host.old).files area) after found) }
     ensures named { IfOk result (λ found. IfSome found (IsNamed (W.names wanted.now))) }
     ensures stays { IsTrue H.tells → Stays (H.view host.old) (H.view host.new) }
     ensures cause { DiskCause (H.faults host.old) (H.faults host.new) result }

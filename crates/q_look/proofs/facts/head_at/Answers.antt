@@ -6,12 +6,12 @@ use Rattle.q_message.specs.Told.{bytes_at}
 use Rattle.q_model.specs.QueueFile.{queue_file}
 use Rattle.q_model.specs.Values.{FileHead}
 use Rattle.q_look.proofs.HeadLaws.{no_count, no_head}
-use Rattle.q_look.proofs.Unreads.{err_same, not_read}
+use Rattle.q_look.proofs.UnreadableFiles.{err_same, not_read}
 use Rattle.q_look.proofs.facts.head_at.Goals as goal
 
 pub returns-in-Err-clause-head : goal.returns-in-Err-clause-head
 returns-in-Err-clause-head g c =
-    not_read g.H.Host.tells c.unread.result c.in-Err.error _ c.unread.ensures
+    not_read g.H.Host.tells c.unreadable.result c.in-Err.error _ c.unreadable.ensures
     (λ place is t. no_head (bytes_at (g.H.Host.view c.args.host.now) c.args.spot) place (c.read_head.ensures.no_message place (err_same c.read_head.result c.in-Err.error (NotAMessage place) c.in-Err.is is) t))
 
 pub returns-then-head-eq0-clause-head : goal.returns-then-head-eq0-clause-head

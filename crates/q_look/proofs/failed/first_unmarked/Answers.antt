@@ -2,7 +2,7 @@ use Rattle.std.proofs.Common.{arith, ap, ◌≡◌}
 use Rattle.q_message.specs.declared.error.MessageError.TheVariants.{NotAMessage}
 use Rattle.q_message.specs.Told.{bytes_at}
 use Rattle.q_model.specs.Values.{FileHead}
-use Rattle.q_look.proofs.Unreads.{err_same, not_read}
+use Rattle.q_look.proofs.UnreadableFiles.{err_same, not_read}
 use Rattle.q_look.proofs.UnmarkedLaws.{all_marked, first_read}
 use Rattle.q_look.proofs.failed.first_unmarked.Goals as goal
 
@@ -14,7 +14,7 @@ returns-then-unmarked-eq0-clause-first g c t =
 
 pub returns-in-Err-clause-first : goal.returns-in-Err-clause-first
 returns-in-Err-clause-first g c =
-    not_read g.H.Host.tells c.unread.result c.in-Err.error _ c.unread.ensures
+    not_read g.H.Host.tells c.unreadable.result c.in-Err.error _ c.unreadable.ensures
     (λ place is t. absurd (c.read_recipients.ensures.no_message place (err_same c.read_recipients.result c.in-Err.error (NotAMessage place) c.in-Err.is is) t))
 
 pub returns-clause-first : goal.returns-clause-first

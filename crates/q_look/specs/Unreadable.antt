@@ -6,7 +6,7 @@ use Rattle.q_message.specs.declared.error.MessageError.{MessageError}
 use Rattle.q_message.specs.declared.error.MessageError.TheVariants as errors
 
 -- nothing, where the file is no queue file
-abbrev pub unread : {T : Type 0} → MessageError → Result (Option T) HostError
-unread errors.Disk = Err host_errors.Disk
-unread errors.NoMemory = Err host_errors.NoMemory
-unread (errors.NotAMessage place) = Ok None
+abbrev pub unreadable : {T : Type 0} → MessageError → Result (Option T) HostError
+unreadable errors.Disk = Err host_errors.Disk
+unreadable errors.NoMemory = Err host_errors.NoMemory
+unreadable (errors.NotAMessage place) = Ok None
