@@ -1,27 +1,24 @@
 -- To which names a walk comes.
-use Rattle.std.proofs.Common.{◌≡◌, ◌≢◌, ◌≤◌, ◌<◌, ◌+◌, ◌^◌, zero, suc, ◌⊎◌, ⊎_elim, ℕ, Bool, true, false, List, [], ◌∷◌, length, Option, Some, None, refl, sym, ap, subst, ◌∙◌, inl, inr, arith, eqb, ltb, ◌&&◌, ◌||◌}
+use Rattle.std.proofs.Common.{◌≡◌, ◌≢◌, ◌≤◌, ◌<◌, ◌+◌, zero, suc, ◌⊎◌, ⊎_elim, ℕ, Bool, true, List, [], ◌∷◌, length, Option, Some, None, refl, sym, ap, subst, ◌∙◌, inl, inr, arith, eqb, ◌&&◌, ◌||◌}
 use Rattle.std.specs.Prelude.{Contains, drop, IsSome, slice_get}
-use Rattle.std.specs.Option.{IfSome}
 use Rattle.std.specs.Ordering.{nat_cmp}
 use Rattle.std.specs.declared.cmp.Ordering.{Ordering}
 use Rattle.std.specs.declared.cmp.Ordering.TheVariants.{Equal, Greater, Less}
 use Rattle.std.specs.Cmp.Lexicographic.{slice_cmp}
 use Rattle.std.proofs.lemmas.Bool.{lt-ltb}
 use Rattle.std.proofs.lemmas.List.{length-drop}
-use Rattle.q_host.specs.Reads.{IsAfter, IsListing, Rise}
+use Rattle.q_host.specs.Reads.{IsAfter, Rise}
 use Rattle.q_model.specs.declared.id.Id.{Id}
 use Rattle.q_model.specs.declared.rows.DeferredName.{DeferredName}
 use Rattle.q_model.specs.declared.spot.Area.{Area}
 use Rattle.q_model.specs.declared.spot.Area.TheVariants as areas
 use Rattle.q_model.specs.Ids.{id_before}
-use Rattle.q_model.specs.IdTexts.{due_text, IsId}
-use Rattle.q_model.specs.Scans.{name_before}
+use Rattle.q_model.specs.IdTexts.{due_text}
 use Rattle.q_model.specs.SpoolFiles.{Files}
-use Rattle.q_model.proofs.IdLaws.{due_text-injective}
 use Rattle.q_model.proofs.NameOrder.{due_text-order, is_less}
 use Rattle.q_scan.specs.Filled.{IsFilled, IsStepped}
 use Rattle.q_scan.specs.Fits.{IsLater}
-use Rattle.q_scan.specs.Walks.{AllStand, IsDueAhead, IsDueName, IsFirstDue, IsNextOf, IsStillAhead, IsUpToDate, IsWalked, IsWithin, LeavesAhead, Walk}
+use Rattle.q_scan.specs.Walks.{AllStand, IsDueName, IsNextOf, IsStillAhead, IsUpToDate, IsWalked, IsWithin, LeavesAhead, Walk}
 use Rattle.q_scan.proofs.NamesInOrder.{after_on, either_order, head_or_behind, in_behind, in_none, not_both, not_itself, rise_less}
 
 -- ---- listing

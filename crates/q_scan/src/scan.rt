@@ -143,8 +143,7 @@ impl Scan {
         ensures place { self.new.place ≡ after }
         ensures up_to_date { (f : Files) → IsUpToDate f self.new }
     {
-        self.names.clear();
-        self.next = 0;
+        self.next = self.names.len();
         self.place = after;
     }
 }

@@ -1,4 +1,4 @@
-use Rattle.std.proofs.Common.{◌≡◌, ◌∙◌, ap, arith, inl, refl}
+use Rattle.std.proofs.Common.{◌∙◌, ap, arith, inl, refl}
 use Rattle.q_scan.specs.Walks.{Walk}
 use Rattle.q_scan.proofs.WalkLaws.{some_left}
 use Rattle.q_scan.proofs.scan.Scan.fill.Goals as goal

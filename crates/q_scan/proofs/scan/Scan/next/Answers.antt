@@ -1,5 +1,4 @@
-use Rattle.std.proofs.Common.{◌≡◌, ◌∙◌, ap, sym, subst, arith, drop, refl, List, [], ℕ, Option, Some, None}
-use Rattle.std.specs.Prelude.{slice_get, IsTrue}
+use Rattle.std.proofs.Common.{◌≡◌, ◌∙◌, ap, sym, subst, arith, drop, refl, List, [], ℕ, Option, Some}
 use Rattle.q_host.specs.Reads.{IsAfter}
 use Rattle.q_model.specs.declared.spot.Area.{Area}
 use Rattle.q_model.specs.SpoolFiles.{Files}
@@ -7,7 +6,7 @@ use Rattle.q_scan.specs.Filled.{IsFilled}
 use Rattle.q_scan.specs.Fits.{IsFitOf, IsLater}
 use Rattle.q_scan.specs.Walks.{IsWalked, IsWithin, Walk}
 use Rattle.q_scan.proofs.Calls.{stays_here, stays_on}
-use Rattle.q_scan.proofs.WalkLaws.{behind_some, ended_empty, ended_later, exact_none, exact_some, first_of, HasWalked, left_none, left_some, none_first, same_first, stepped_behind, stepped_first, up_none, up_some, walked_filled, walked_nowhere, walked_over}
+use Rattle.q_scan.proofs.WalkLaws.{ended_empty, ended_later, exact_none, exact_some, first_of, HasWalked, left_none, left_some, none_first, same_first, stepped_behind, stepped_first, up_none, up_some, walked_filled, walked_nowhere, walked_over}
 use Rattle.q_scan.proofs.scan.Scan.next.Goals as goal
 
 pub loop-init : goal.loop-init

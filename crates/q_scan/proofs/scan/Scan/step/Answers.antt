@@ -1,6 +1,4 @@
-use Rattle.std.proofs.Common.{◌≡◌, ◌∙◌, ap, sym, subst, arith, drop, refl, Option, List, ℕ}
-use Rattle.q_host.specs.Reads.{Rise}
-use Rattle.q_model.specs.declared.spot.Area.{Area}
+use Rattle.std.proofs.Common.{◌∙◌, ap, sym, arith, refl}
 use Rattle.q_scan.specs.Walks.{Walk}
 use Rattle.q_scan.proofs.WalkLaws.{drop_step, rise_step, within_buffer}
 use Rattle.q_scan.proofs.scan.Scan.step.Goals as goal
