@@ -48,6 +48,10 @@ pub record IsUpToDate (f : Files) (w : Walk) : Type 0 where
   pub none_left_out : (n : List ℕ) → IsSome (f w.area n) → IsWalked w.area n → IsAfter w.place n
       → IsStillAhead w n
 
+-- what stands behind the new place stands behind the old one
+abbrev pub GoesForward : Walk → Walk → Type 0
+GoesForward old new = (n : List ℕ) → IsAfter new.place n → IsAfter old.place n
+
 -- the walk gave this name
 pub record IsGiven (until : ℕ) (old new : Walk) (x : List ℕ) : Type 0 where
   pub within : IsWithin old.area until x

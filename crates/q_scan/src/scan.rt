@@ -3,7 +3,7 @@ ghost use Rattle.std.specs.Prelude.{◌≡◌, [], IfOk, IfSome, IsSome, IsTrue,
 ghost use Rattle.q_host.specs.Calls.{Stays};
 ghost use Rattle.q_host.specs.Faults.{DiskCause};
 ghost use Rattle.q_model.specs.SpoolFiles.{Files};
-ghost use Rattle.q_scan.specs.Walks.{IsGiven, IsNextOf, IsStillAhead, IsUpToDate, IsWalked, LeavesAhead};
+ghost use Rattle.q_scan.specs.Walks.{GoesForward, IsGiven, IsNextOf, IsStillAhead, IsUpToDate, IsWalked, LeavesAhead};
 ghost use Rattle.q_scan.specs.Filled.{IsFilled, IsStepped};
 
 use crate::fit::{Fit, fit_of};
@@ -43,7 +43,7 @@ impl Scan {
     pub fn new(alloc: Global, area: Area) -> Result<Scan, NoMemory>
         ensures area { IfOk result (λ scan. scan.area ≡ area) }
         ensures place { IfOk result (λ scan. scan.place ≡ None) }
-        ensures ahead { IfOk result (λ scan. scan.ahead ≡ []) }
+        ensures up_to_date { IfOk result (λ scan. (f : Files) → IsUpToDate f scan) }
     {
         let names = Names::new(alloc)?;
         Ok(Scan {
@@ -107,6 +107,7 @@ impl Scan {
         ensures area { self.new.area ≡ self.old.area }
         // Names rise, so that none comes twice.
         ensures given { IfOk result (λ o. IfSome o (IsGiven until self.old self.new)) }
+        ensures forward { OnOk result (GoesForward self.old self.new) }
         // No name that stands there is left out.
         ensures left { IfOk result (λ o. IsTrue H.tells → (n : List ℕ)
             → IsSome ((H.view host.old).files self.old.area n) → IsWalked self.old.area n

@@ -176,3 +176,15 @@ loop-preserved g c =
       disk_later = omega (arith, c.loop.invariant.disk_later, c.fill.ensures.cause.disk_later);
       tell_later = omega (arith, c.loop.invariant.tell_later, c.fill.ensures.cause.tell_later);
     }
+
+pub returns-in_default-clause-forward : goal.returns-in_default-clause-forward
+returns-in_default-clause-forward g c n h = c.loop.invariant.behind n (subst (λ (p : Option (List ℕ)). IsAfter p n) c.fill.ensures.place h)
+
+pub returns-in-Later-clause-forward : goal.returns-in-Later-clause-forward
+returns-in-Later-clause-forward g c n h = c.loop.invariant.behind n (subst (λ (p : Option (List ℕ)). IsAfter p n) c.fill.ensures.place h)
+
+pub returns-in-Given-clause-forward : goal.returns-in-Given-clause-forward
+returns-in-Given-clause-forward g c n h =
+    let new = c.fill.new.self in
+    let last = c.step-in-Given.new.self in
+    c.loop.invariant.behind n (subst (λ (p : Option (List ℕ)). IsAfter p n) c.fill.ensures.place (stepped_behind new last n c.step-in-Given.ensures c.fill.ensures.rises h))
