@@ -6,7 +6,7 @@ use Rattle.std.specs.Prelude.{count_by, is_none, slice_get}
 use Rattle.std.proofs.lemmas.Bool.{and_parts, or_cases}
 use Rattle.std.proofs.lemmas.List.{length-map}
 use Rattle.std.proofs.lemmas.List.Sums.{sum_by-cons}
-use Rattle.q_core.specs.Agrees.{file_of, found_at, marks_of}
+use Rattle.q_core.specs.Agrees.{file_of, found_at, count_of_marked}
 use Rattle.q_core.specs.declared.decision.FileFacts.{FileFacts}
 use Rattle.q_core.specs.declared.decision.Found.TheVariants.{Damaged as DamagedFile, Whole}
 use Rattle.q_laws.proofs.Books.{damaged_listed, message_in, message_listed, not_damaged, only_message}
@@ -247,7 +247,7 @@ module _ (f : Files) (l : Ledger) (h : Stands f l.book) (orderly : is_orderly l.
 
   facts_same : (m : Message) → IsIn m l.book.messages → MessageStands f m → facts_in f m.id (file_message m) ≡ file_of l m.id m
   facts_same m inside s =
-      same_facts m.arrival (is_none m.sender) _ (length m.recipients) _ (marks_of m) _ (length m.failures) _ (slice_get (unmarked_logged m) 0) _ (has_bounce l m.id) _ (cause_gone l.book m.id)
+      same_facts m.arrival (is_none m.sender) _ (length m.recipients) _ (count_of_marked m) _ (length m.failures) _ (slice_get (unmarked_logged m) 0) _ (has_bounce l m.id) _ (cause_gone l.book m.id)
       (length-map m.recipients read_as) (marks_read m.recipients) (failed_read f m s) (unmarked_read f m s) (bounced f l.book h l refl m.id s.id) (alone m.id s.id (message_listed l.book m inside))
 
   -- a file outside corrupt is what a look tells of its id
