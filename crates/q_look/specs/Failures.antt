@@ -37,4 +37,5 @@ set_count flags = count_by (λ t. t) flags
 
 -- the least position whose flag is set and whose recipient isn't marked
 abbrev pub first_flagged : List Bool → FileMessage → Option ℕ
-first_flagged flags m = slice_get (places_from 0 (λ i r. not r.marked && flag_at flags i) m.recipients) 0
+first_flagged flags m =
+    slice_get (places_from 0 (λ i r. not r.marked && flag_at flags i) m.recipients) 0

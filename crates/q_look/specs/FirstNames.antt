@@ -48,8 +48,8 @@ pub record IsFirstAt (names : Naming) (f : List ℕ → Option (List ℕ)) (afte
       → slice_cmp nat_cmp n name ≡ Less → ⊥
 
 -- the file of the first such name, or none where there is no such name
-abbrev pub IsFirstWanted : Naming → (List ℕ → Option (List ℕ)) → Option (List ℕ) → Option DeferredName
-    → Type 0
+abbrev pub IsFirstWanted : Naming → (List ℕ → Option (List ℕ)) → Option (List ℕ)
+    → Option DeferredName → Type 0
 IsFirstWanted names f after None = (n : List ℕ) (e : DeferredName) → IsAhead names f after n e → ⊥
 IsFirstWanted names f after (Some d) = IsFirstAt names f after d
 

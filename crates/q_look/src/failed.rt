@@ -101,8 +101,8 @@ fn first_set(batch: &Batch, set: &[bool]) -> Option<u32>
     None
 }
 
-/// The first recipient of the file whose mark isn't set and whose position has its flag. The head is
-/// that of the file.
+/// The first recipient of the file whose mark isn't set and whose position has its flag. The head
+/// is that of the file. The recipients that aren't marked are in memory while it is looked for.
 fn first_unmarked<H: Host>(
     alloc: Global,
     host: &mut H,
@@ -133,8 +133,8 @@ fn first_unmarked<H: Host>(
     Ok(first_set(&batch, set))
 }
 
-/// What the failure log of an id says of the message whose queue file, with this head, stands at the
-/// spot. Where there is no record the file isn't read.
+/// What the failure log of an id says of the message whose queue file, with this head, stands at
+/// the spot. Where there is no record the file isn't read.
 pub(crate) fn failed_at<H: Host>(
     alloc: Global,
     host: &mut H,

@@ -3,9 +3,10 @@
 //! that `wanted` picks out, 64 at a time; `facts` reads what the file says, and `failed` what its
 //! failure log adds. `looks` has the three public calls.
 //!
-//! No call changes anything. Names of another form are passed over, and a file that is no queue file
-//! is answered as `Damaged`. On a host that doesn't tell its files any answer has a lawful form, and
-//! an error comes only as the host's own call or want of memory brings it.
+//! No call changes anything, and none is an error to call. Names of another form are passed over,
+//! and a file that is no queue file is answered as `Damaged`. On a host that doesn't tell its files
+//! each answer has a lawful form too. An error comes only as the host's own call or want of memory
+//! brings it.
 #![tactic(auto)]
 
 mod facts;

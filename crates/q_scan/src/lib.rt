@@ -1,5 +1,6 @@
-//! Walks over the names of an area, in the order of their bytes: each name once, 64 at a time. A walk
-//! reads no file. It is an error to go on with a walk after an error of its own.
+//! Walks over the names of an area, in the order of their bytes: each name once, 64 listed at a
+//! time. A walk reads no file and changes nothing. It is an error to go on with a walk after an
+//! error of its own.
 #![tactic(auto)]
 
 mod fit;

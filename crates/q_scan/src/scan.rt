@@ -138,7 +138,8 @@ impl Scan {
         Err(HostError::NoMemory)
     }
 
-    /// Goes on behind this name, or from the first name on where it is None. The next call reads anew.
+    /// Goes on behind this name, or from the first name on where it is None. The next call lists
+    /// anew, so that no name is left out that was added before. It takes no memory.
     pub fn seek(&mut self, after: Option<Name>)
         ensures area { self.new.area ≡ self.old.area }
         ensures place { self.new.place ≡ after }
