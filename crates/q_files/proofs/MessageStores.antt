@@ -69,7 +69,7 @@ missing o (Some x) same none = absurd (no (same ∙ ap is_some none))
     no : true ≡ false → ⊥
     no e = cc
 
-kept_stands : (t : List ℕ) (f g : Files) (b : Book) → IsAsBefore t f g → Stands f b → Stands g b
+pub kept_stands : (t : List ℕ) (f g : Files) (b : Book) → IsAsBefore t f g → Stands f b → Stands g b
 kept_stands t f g b same h = Stands-kept f g b (λ a n differ. same a n (other_area areas.Tmp t a n differ)) h
 
 no_bounce : areas.Bounce ≢ areas.Tmp

@@ -8,3 +8,7 @@ either (Err e) f g p q = g q
 pub always_err : {T E : Type 0} {P : Type 0} (r : Result T E) → P → OnErr r P
 always_err (Ok v) p = tt
 always_err (Err e) p = p
+
+pub always_ok : {T E : Type 0} {P : Type 0} (r : Result T E) → P → OnOk r P
+always_ok (Ok v) p = p
+always_ok (Err e) p = tt

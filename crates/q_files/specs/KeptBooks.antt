@@ -5,6 +5,7 @@ use Rattle.q_model.specs.declared.id.Id.{Id}
 use Rattle.q_model.specs.declared.spot.Area.{Area}
 use Rattle.q_model.specs.declared.spot.Area.TheVariants as areas
 use Rattle.q_model.specs.Book.{Book, message_of}
+use Rattle.q_model.specs.IdTexts.{IsId}
 use Rattle.q_model.specs.SpoolFiles.{Files}
 use Rattle.q_host.specs.Files.{same_place}
 use Rattle.q_host.specs.View.{View}
@@ -17,7 +18,7 @@ KeepsBook tells view before after =
 
 -- the same for a book without a message of this id
 abbrev pub KeepsBookWithout : {H : Type 0} → Id → Bool → (H → View) → H → H → Type 0
-KeepsBookWithout id tells view before after = IsTrue tells → (b : Book) → message_of b id ≡ None
+KeepsBookWithout id tells view before after = IsTrue tells → (b : Book) → IsId id → message_of b id ≡ None
     → HostStands (view before) b → Takes b b (view before) (view after)
 
 -- no file changed but the two logs of this name

@@ -1,7 +1,7 @@
 //! The deferral log of a message: who was put off since the message came into memory.
 //!
 //! The log is advice for lists of queues. It is never synced, since a crash may lose it whole.
-ghost use Rattle.std.specs.Prelude.{◌≡◌, ◌-◌, ◌∷◌, ◌++◌, [], length, List, None, Some, true, unwrap_or, IfOk, IsTrue, OnOk};
+ghost use Rattle.std.specs.Prelude.{◌≡◌, ◌<◌, ◌^◌, ◌-◌, ◌∷◌, ◌++◌, [], length, List, None, Some, true, unwrap_or, IfOk, IsTrue, OnOk};
 ghost use Rattle.q_host.specs.Faults.{DiskCause};
 ghost use Rattle.q_host.specs.Files.{written};
 ghost use Rattle.q_host.specs.Steps.{SameBut};
@@ -29,7 +29,8 @@ const LATER: u8 = b'L';
 
 /// The open record of a note, and a closed gate behind it.
 fn gated(alloc: Global, note: Note) -> Result<Vec<u8>, NoMemory>
-    ensures { IfOk result (λ bytes. bytes.items ≡ note_bytes note ++ 0 ∷ []) }
+    ensures written { IfOk result (λ bytes. bytes.items ≡ note_bytes note ++ 0 ∷ []) }
+    ensures fits { note.position < 2 ^ 32 }
 {
     let mut bytes = Vec::new(alloc);
     bytes.push(OPEN)?;
