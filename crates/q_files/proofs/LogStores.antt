@@ -1,5 +1,5 @@
 -- A failure log is written anew with one failure more: what the files stand for, and what a crash leaves.
-use Rattle.std.proofs.Common.{◌≡◌, ◌≢◌, ◌⊎◌, ⊎_elim, ◌<◌, ◌++◌, ◌∙◌, ℕ, Bool, true, false, List, [], ◌∷◌, length, map, Option, Some, None, refl, sym, ap, subst, inl, inr}
+use Rattle.std.proofs.Common.{◌≡◌, ◌≢◌, ◌⊎◌, ⊎_elim, ◌<◌, ◌++◌, ◌∙◌, ℕ, Bool, true, false, ◌||◌, is_some, List, [], ◌∷◌, length, map, Option, Some, None, refl, sym, ap, subst, inl, inr}
 use Rattle.std.specs.List.{AllByRecursion, list_any}
 use Rattle.std.specs.Option.{option_map, option_map_or}
 use Rattle.std.specs.Prelude.{◌==◌, unwrap_or}
@@ -8,7 +8,7 @@ use Rattle.q_model.specs.declared.id.Id.{Id}
 use Rattle.q_model.specs.declared.outcome.Failure.{Failure}
 use Rattle.q_model.specs.declared.spot.Area.{Area}
 use Rattle.q_model.specs.declared.spot.Area.TheVariants as areas
-use Rattle.q_model.specs.Book.{Book, message_of, stands}
+use Rattle.q_model.specs.Book.{Book, damaged_of, message_of, stands}
 use Rattle.q_model.specs.BookChanges.{change_message}
 use Rattle.q_model.specs.FailureLog.{failures_of, IsFailure, log_bytes, log_records}
 use Rattle.q_model.specs.FilesStand.{Stands}
@@ -20,6 +20,7 @@ use Rattle.q_model.proofs.CrashChanges.{crash-log}
 use Rattle.q_model.proofs.EachLaws.{any-map}
 use Rattle.q_model.proofs.FailureLogLaws.{log_records-log_bytes, log_records-nil}
 use Rattle.q_model.proofs.FailuresLaws.{failures_of-push, has_position}
+use Rattle.q_model.proofs.IdLaws.{id_text-injective}
 use Rattle.q_model.proofs.StandChanges.{Stands-message}
 use Rattle.q_model.proofs.StandLaws.{IsSameBut, true_false}
 use Rattle.q_model.proofs.StandLogs.{IsSaid, Stands-logged, Stands-logged_crash}
@@ -90,7 +91,7 @@ module _ (t : List ℕ) (id : Id) (failure : Failure) (log : List ℕ) (b k : Bo
     own_logged f g hid s own i hi absent =
         let before : stands b i ≡ false = sym (stands-changed b id (with_failure failure) (λ x. refl) i) ∙ absent in
         s.others areas.Bounce (id_text i) (other_area areas.Tmp t areas.Bounce (id_text i) (λ e. absurd cc))
-        (other_place areas.Bounce (id_text id) areas.Bounce (id_text i) (λ e. ?))
+        (other_place areas.Bounce (id_text id) areas.Bounce (id_text i) (λ e. true_false (stands b i) (subst (λ (j : Id). stands b j ≡ true) (id_text-injective id i hid hi e.1) (ap (λ (o : Option Message). is_some o || is_some (damaged_of b id)) ch.found)) before))
         ∙ own i hi before
 
     module _ (v w : View) (lawful : TellsCrashes v) (h : HostStands v b) where
@@ -126,3 +127,18 @@ module _ (t : List ℕ) (id : Id) (failure : Failure) (log : List ℕ) (b k : Bo
       pub may_log_failure : MayHold t areas.Bounce (id_text id) log v w → Tries b k v w
       may_log_failure (inl s) = subst (λ (x : Book). Tries b x v w) (sym ch.changed) (left_out s)
       may_log_failure (inr s) = tried b k v w lawful (logs_failure s)
+
+-- ---- the call: the log is read, and written anew
+
+module _ (t name : List ℕ) (id : Id) (failure : Failure) (fs : List Failure) (b k : Book) (ch : AddsFailure id failure b k) (u v w : View) (lawful : TellsCrashes u) (then_lawful : TellsCrashes v) (is : name ≡ id_text id) (read : fs ≡ logged_in u.files id ++ failure ∷ []) (fit : AllByRecursion IsFailure fs) (st : Stays u v) (h : HostStands u b) where
+  first : Takes b b u v
+  first = reads_keep b b u v lawful st h
+
+  says : IsSaid (with_failure failure ch.message) (log_bytes fs)
+  says = said u.files b id ch.message failure (log_bytes fs) ch.found ch.here ch.fresh (log_records-log_bytes fs fit ∙ read) h.reads
+
+  pub fails : Holds t areas.Bounce name (log_bytes fs) v w → Takes b k u w
+  fails d = kept_takes b k u v w first (logs_failure t id failure (log_bytes fs) b k ch says v w then_lawful first.stands (subst (λ (n : List ℕ). Holds t areas.Bounce n (log_bytes fs) v w) is d))
+
+  pub may_fail : MayHold t areas.Bounce name (log_bytes fs) v w → Tries b k u w
+  may_fail d = kept_tries b k u v w first (may_log_failure t id failure (log_bytes fs) b k ch says v w then_lawful first.stands (subst (λ (n : List ℕ). MayHold t areas.Bounce n (log_bytes fs) v w) is d))

@@ -64,6 +64,8 @@ fn one_more(alloc: Global, log: &[u8], failure: Failure) -> Result<Records, NoMe
     ensures codes { IfOk result (λ records. are_log_codes records ≡ true) }
     ensures lawful { IfOk result (λ records. AllByRecursion IsFailure records) }
 {
+    // It fits in the four bytes that a record has for it.
+    let _position = failure.position;
     let mut records = records(alloc, log)?;
     records.push(failure)?;
     Ok(records)
