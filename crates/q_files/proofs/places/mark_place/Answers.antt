@@ -1,0 +1,23 @@
+use Rattle.std.proofs.Common.{◌∙◌, subst, sym, None, Some}
+use Rattle.std.specs.Option.{IfSome}
+use Rattle.q_model.specs.SpoolFiles.{Files}
+use Rattle.q_message.specs.Pending.{AreTaken, IsPlaceBehind}
+use Rattle.q_files.proofs.PlaceReads.{cursor-first, cursor-on, place-found, place-none, place-passed}
+use Rattle.q_files.proofs.places.mark_place.Goals as goal
+
+pub returns-in-Some-clause-place : goal.returns-in-Some-clause-place
+returns-in-Some-clause-place g c t =
+    let loop = c.loop in
+    let v = g.H.Host.view c.args.host.now in
+    let items = c.read_recipients.new.out.items in
+    let taken = subst (λ (f : Files). IfSome (f c.args.spot.area c.args.spot.name) (AreTaken loop.cursor.position 256 items)) (loop.invariant.stays t).files (c.in_ok-next.ensures.taken t) in
+    place-found (v.files c.args.spot.area c.args.spot.name) c.args.file.now loop.cursor c.args.position c.in-Some.at items (loop.invariant.reading t) taken (sym c.offset_in.ensures ∙ c.in-Some.is)
+
+pub returns-then-next-position-clause-place : goal.returns-then-next-position-clause-place
+returns-then-next-position-clause-place g c t =
+    let loop = c.loop in
+    let v = g.H.Host.view c.args.host.now in
+    let items = c.read_recipients.new.out.items in
+    let taken = subst (λ (f : Files). IfSome (f c.args.spot.area c.args.spot.name) (AreTaken loop.cursor.position 256 items)) (loop.invariant.stays t).files (c.in_ok-next.ensures.taken t) in
+    let behind = subst (λ (f : Files). IfSome (f c.args.spot.area c.args.spot.name) (IsPlaceBehind loop.cursor.position 256 c.in_ok-next.next)) (loop.invariant.stays t).files (c.in_ok-next.ensures.next t) in
+    place-passed (v.files c.args.spot.area c.args.spot.name) c.args.file.now loop.cursor c.in_ok-next.next c.args.position items (loop.invariant.reading t) taken behind (sym c.offset_in.ensures ∙ c.in_default.is) (loop.invariant.before t) c.if-next-position.true
