@@ -3,20 +3,30 @@ use Rattle.std.proofs.Common.{◌≡◌, ◌∙◌, ◌+◌, ◌-◌, ◌⊎◌,
 use Rattle.std.specs.List.{AllByRecursion, list_any}
 use Rattle.std.specs.Option.{IfSome, option_map, option_map_or}
 use Rattle.std.specs.Prelude.{◌==◌, find}
-use Rattle.std.proofs.lemmas.Bool.{eq-eqb, eqb-true, or_cases, or_left, or_parts, or_right}
-use Rattle.std.proofs.lemmas.List.{length-drop}
-use Rattle.std.proofs.lemmas.Option.{slice_get_past}
+use Rattle.std.proofs.lemmas.Bool.{eq-eqb, eqb-true, not-true, or_cases, or_left, or_parts, or_right}
+use Rattle.std.proofs.lemmas.List.{length-drop, length-map}
+use Rattle.std.proofs.lemmas.Option.{slice_get-map, slice_get_past, slice_get_within}
 use Rattle.q_model.specs.declared.file_head.Cursor.{Cursor}
+use Rattle.q_model.specs.declared.id.Id.{Id}
+use Rattle.q_model.specs.Book.{Book}
+use Rattle.q_model.specs.FilesStand.{file_message, Stands}
 use Rattle.q_model.specs.Lists.{places_from}
+use Rattle.q_model.specs.Marking.{is_unmarked_at}
+use Rattle.q_model.specs.Marks.{is_marked}
+use Rattle.q_model.specs.Message.{Message, Recipient}
 use Rattle.q_model.specs.QueueFile.{FileMessage, FileRecipient, queue_file}
 use Rattle.q_model.specs.QueueFileBytes.{first_at, mark_at, recipient_at}
-use Rattle.q_model.specs.Values.{FileHead, Taken}
+use Rattle.q_model.specs.SpoolFiles.{file_at, Files}
+use Rattle.q_model.specs.Values.{FileHead, Spot, Taken}
 use Rattle.q_model.proofs.EachLaws.{any-map, find-any, find-has, find-passes}
+use Rattle.q_model.proofs.QueueFileLaws.{queue_file_again}
+use Rattle.q_model.proofs.StandChanges.{Stands-message}
 use Rattle.q_model.proofs.StandLaws.{true_false}
 use Rattle.q_message.specs.FileHeads.{head_of}
 use Rattle.q_message.specs.Names.{HasHead}
 use Rattle.q_message.specs.Pending.{AreTaken, cursor_at, HasCursor, IsPlaceBehind, position_behind, taken_at, taken_from, unmarked_from}
-use Rattle.q_files.specs.MarkPlaces.{IsMarkPlace, mark_place}
+use Rattle.q_books.specs.Spots.{IsFileAt, IsMarkAt}
+use Rattle.q_files.specs.MarkPlaces.{FindsMark, IsMarkPlace, mark_place}
 
 -- ---- the positions of a list at which no mark is set
 
@@ -247,3 +257,44 @@ found-now p (x ∷ xs) (suc i) t none here same = by x xs i (x.position == p) no
     by : (a : Taken) (ys : List Taken) (n : ℕ) (u : Bool) → (if u then Some a else has p (take n ys)) ≡ None → (has p (take n ys) ≡ None → has p ys ≡ Some t) → (if u then Some a else has p ys) ≡ Some t
     by a ys n true e rest = absurd cc
     by a ys n false e rest = rest e
+
+-- ---- in the words of a book
+
+abbrev to_file : Recipient → FileRecipient
+to_file r = record { address = r.address; marked = is_marked r.mark }
+
+-- the file of a message of the book reads as the message
+pub finds-mark : (f : Files) (spot : Spot) (p : ℕ) (found : Option ℕ) → IfSome (f spot.area spot.name) (IsMarkPlace p found) → FindsMark f spot p found
+finds-mark f spot p found is b id m h file =
+    let old = Stands-message f b id m h file.found in
+    let there : f spot.area spot.name ≡ Some old.0.bytes = ap (λ (s : Spot). f s.area s.name) file.spot ∙ sym (ap (file_at f m.place) old.1) ∙ old.0.there in
+    let read : queue_file old.0.bytes ≡ Some (file_message m) = ap queue_file old.0.reads.written ∙ queue_file_again (file_message m) old.0.reads.marks old.0.reads.lawful old.0.reads.agree in
+    subst (λ (x : Option FileMessage). IfSome x (λ k. found ≡ mark_place k p)) read (subst (λ (o : Option (List ℕ)). IfSome o (IsMarkPlace p found)) there is)
+
+-- what is found is the place of the mark
+pub mark-found : (m : Message) (p at : ℕ) → mark_place (file_message m) p ≡ Some at → IsMarkAt m p at
+mark-found m p at e = by (slice_get (file_message m).recipients p) refl
+  where
+    some_none : {A : Type 0} (x : A) → None ≡ Some x → ⊥
+    some_none x k = cc
+
+    inside : (r : FileRecipient) (t : Bool) → slice_get (file_message m).recipients p ≡ Some r → r.marked ≡ t → IsMarkAt m p at
+    inside r true here k = absurd (some_none at (sym (place_if (file_message m) p r true here k) ∙ e))
+    inside r false here k = record {
+      here = omega (arith, slice_get_within (file_message m).recipients p r here, length-map m.recipients to_file);
+      offset = some_same at (mark_at (file_message m) p) (sym e ∙ place_if (file_message m) p r false here k);
+    }
+
+    by : (o : Option FileRecipient) → slice_get (file_message m).recipients p ≡ o → IsMarkAt m p at
+    by None here = absurd (some_none at (sym (none_by (file_message m) p None here (λ r k. absurd cc)) ∙ e))
+    by (Some r) here = inside r r.marked here refl
+
+-- and a recipient without a mark is found
+pub unmarked-found : (m : Message) (p : ℕ) → is_unmarked_at m p ≡ true → mark_place (file_message m) p ≡ Some (mark_at (file_message m) p)
+unmarked-found m p h = by (slice_get m.recipients p) refl
+  where
+    by : (o : Option Recipient) → slice_get m.recipients p ≡ o → mark_place (file_message m) p ≡ Some (mark_at (file_message m) p)
+    by None here = absurd (true_false (is_unmarked_at m p) h (ap (λ (o : Option Recipient). option_map_or (λ (r : Recipient). not (is_marked r.mark)) o false) here))
+    by (Some r) here =
+        let open_mark : is_marked r.mark ≡ false = not-true (is_marked r.mark) (sym (ap (λ (o : Option Recipient). option_map_or (λ (x : Recipient). not (is_marked x.mark)) o false) here) ∙ h) in
+        place_if (file_message m) p (to_file r) false (slice_get-map to_file m.recipients p ∙ ap (option_map to_file) here) open_mark

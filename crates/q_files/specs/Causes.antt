@@ -14,7 +14,8 @@ file_error_of host_errors.Tell = errors.Disk
 file_error_of host_errors.NoMemory = errors.NoMemory
 
 -- no count of faults fell, and `Disk` comes only where that of disk faults rose
-pub record SubmitCause {T : Type 0} (before after : Faults) (result : Result T FileError) : Type 0 where
+pub record SubmitCause {T : Type 0} (before after : Faults) (result : Result T FileError)
+    : Type 0 where
   pub disk_later : before.disk ≤ after.disk
   pub tell_later : before.tell ≤ after.tell
   pub disk : IsErrOf result errors.Disk → Rose before.disk after.disk

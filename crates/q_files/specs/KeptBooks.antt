@@ -1,5 +1,5 @@
--- Calls that change only files of which a book says nothing: deferral logs, and the failure log of an
--- id that stands nowhere.
+-- Calls that change only files of which a book says nothing: deferral logs, and the failure log of
+-- an id that stands nowhere.
 use Rattle.std.specs.Prelude.{◌≡◌, Bool, false, IsTrue, List, None, ℕ}
 use Rattle.q_model.specs.declared.id.Id.{Id}
 use Rattle.q_model.specs.declared.spot.Area.{Area}
@@ -18,8 +18,9 @@ KeepsBook tells view before after =
 
 -- the same for a book without a message of this id
 abbrev pub KeepsBookWithout : {H : Type 0} → Id → Bool → (H → View) → H → H → Type 0
-KeepsBookWithout id tells view before after = IsTrue tells → (b : Book) → IsId id → message_of b id ≡ None
-    → HostStands (view before) b → Takes b b (view before) (view after)
+KeepsBookWithout id tells view before after =
+    IsTrue tells → (b : Book) → IsId id → message_of b id ≡ None → HostStands (view before) b
+    → Takes b b (view before) (view after)
 
 -- no file changed but the two logs of this name
 abbrev pub SameButLogs : List ℕ → Files → Files → Type 0

@@ -24,8 +24,8 @@ submitted id head to content = record {
 }
 
 -- The book has the message more. Its id is new, and no failure log of this id is left in the files.
-pub record AddsMessage (files : Files) (id : Id) (head : Head) (to : List (List ℕ)) (content : List ℕ) (b k : Book)
-    : Type 0 where
+pub record AddsMessage (files : Files) (id : Id) (head : Head) (to : List (List ℕ))
+    (content : List ℕ) (b k : Book) : Type 0 where
   pub form : IsId id
   pub fresh : stands b id ≡ false
   pub no_log : files areas.Bounce (id_text id) ≡ None

@@ -28,7 +28,8 @@ fn read_file<H: Host>(
     name: Name,
 ) -> Result<Vec<u8>, HostError>
     requires { IsTrue H.tells → IsSome ((H.view host.old).files area name) }
-    ensures bytes { IfOk result (λ bytes. IsTrue H.tells → (H.view host.old).files area name ≡ Some bytes.items) }
+    ensures bytes { IfOk result (λ bytes. IsTrue H.tells
+        → (H.view host.old).files area name ≡ Some bytes.items) }
     ensures stays { IsTrue H.tells → Stays (H.view host.old) (H.view host.new) }
     ensures cause { DiskCause (H.faults host.old) (H.faults host.new) result }
 {
@@ -71,11 +72,11 @@ fn one_more(alloc: Global, log: &[u8], failure: Failure) -> Result<Records, NoMe
     Ok(records)
 }
 
-/// Stores that a recipient of a message failed: the failure log of the id is written anew, with this
-/// record behind those that it has, foreign and repeated positions among them.
+/// Stores that a recipient of a message failed: the failure log of the id is written anew, with
+/// this record behind those that it has, foreign and repeated positions among them.
 ///
-/// The message stands in active, and the recipient is pending. It is an error to call it with a code
-/// that is neither 0 nor 400 to 599. The log is held in memory.
+/// The message stands in active, and the recipient is pending. It is an error to call it with a
+/// code that is neither 0 nor 400 to 599. The log is held in memory whole.
 pub fn store_failure<H: Host>(
     alloc: Global,
     host: &mut H,
@@ -87,7 +88,8 @@ pub fn store_failure<H: Host>(
     ensures err { OnErr result (TriesBy (AddsFailure id failure) H.tells H.view host.old host.new) }
 
     // Every record that was read stays.
-    ensures records { OnOk result (IsTrue H.tells → HasRecords (H.view host.new).files areas.Bounce (id_text id)
+    ensures records { OnOk result (IsTrue H.tells
+        → HasRecords (H.view host.new).files areas.Bounce (id_text id)
         (logged_in (H.view host.old).files id ++ failure ∷ [])) }
     ensures notes { IsTrue H.tells → KeepsNotes (H.view host.old) (H.view host.new) }
     ensures cause { DiskCause (H.faults host.old) (H.faults host.new) result }

@@ -12,13 +12,15 @@ use q_model::Spot;
 /// The mark byte of a recipient that is done.
 const DONE: &[u8] = b"D";
 
-/// Marks a recipient as done, by one byte at this offset of its message's file. A crash may lose the
-/// mark until it is synced, and nothing else.
+/// Marks a recipient as done, by one byte at this offset of its message's file. A crash may lose
+/// the mark until it is synced, and nothing else.
 pub fn mark<H: Host>(host: &mut H, spot: Spot, mark_at: u64) -> Result<(), HostError>
     requires { IsTrue H.tells → IsSomeAnd ((H.view host.old).files spot.area spot.name)
         (λ file. mark_at ≤ length file) }
-    ensures ok { OnOk result (TakesBy (MarksRecipient spot mark_at) H.tells H.view host.old host.new) }
-    ensures err { OnErr result (TriesBy (MarksRecipient spot mark_at) H.tells H.view host.old host.new) }
+    ensures ok { OnOk result
+        (TakesBy (MarksRecipient spot mark_at) H.tells H.view host.old host.new) }
+    ensures err { OnErr result
+        (TriesBy (MarksRecipient spot mark_at) H.tells H.view host.old host.new) }
     ensures notes { IsTrue H.tells → spot.area ≢ areas.Defer
         → KeepsNotes (H.view host.old) (H.view host.new) }
     ensures cause { DiskCause (H.faults host.old) (H.faults host.new) result }

@@ -47,8 +47,10 @@ fn gate_at<H: Host>(host: &mut H, name: Name) -> Result<u64, HostError>
         → at ≡ length (unwrap_or ((H.view host.old).files areas.Defer name) []) - 1) }
     ensures there { OnOk result (IsTrue H.tells → (H.view host.new).files areas.Defer name
         ≡ Some (unwrap_or ((H.view host.old).files areas.Defer name) [])) }
-    ensures reads { IsTrue H.tells → OneFile areas.Defer name (now (H.view host.old)) (now (H.view host.new)) }
-    ensures goes { Told H.tells H.view host.old host.new (Goes (OneFile areas.Defer name) (OneFile areas.Defer name)) }
+    ensures reads { IsTrue H.tells
+        → OneFile areas.Defer name (now (H.view host.old)) (now (H.view host.new)) }
+    ensures goes { Told H.tells H.view host.old host.new
+        (Goes (OneFile areas.Defer name) (OneFile areas.Defer name)) }
     ensures cause { DiskCause (H.faults host.old) (H.faults host.new) result }
 {
     if host.has(Area::Defer, name)? {
@@ -64,8 +66,10 @@ fn append<H: Host>(host: &mut H, name: Name, bytes: &[u8]) -> Result<(), HostErr
     ensures written { OnOk result (IsTrue H.tells
         → let log = unwrap_or ((H.view host.old).files areas.Defer name) [] in
         (H.view host.new).files areas.Defer name ≡ Some (written (length log - 1) bytes.now log)) }
-    ensures reads { IsTrue H.tells → OneFile areas.Defer name (now (H.view host.old)) (now (H.view host.new)) }
-    ensures goes { Told H.tells H.view host.old host.new (Goes (OneFile areas.Defer name) (OneFile areas.Defer name)) }
+    ensures reads { IsTrue H.tells
+        → OneFile areas.Defer name (now (H.view host.old)) (now (H.view host.new)) }
+    ensures goes { Told H.tells H.view host.old host.new
+        (Goes (OneFile areas.Defer name) (OneFile areas.Defer name)) }
     ensures cause { DiskCause (H.faults host.old) (H.faults host.new) result }
 {
     let at = gate_at(host, name)?;
@@ -91,7 +95,8 @@ pub fn store_note<H: Host>(
     ensures book { KeepsBook H.tells H.view host.old host.new }
     ensures others { IsTrue H.tells
         → SameBut areas.Defer (id_text id) (H.view host.old).files (H.view host.new).files }
-    ensures notes { IsTrue H.tells → KeepsOtherNotes (id_text id) (H.view host.old) (H.view host.new) }
+    ensures notes { IsTrue H.tells
+        → KeepsOtherNotes (id_text id) (H.view host.old) (H.view host.new) }
     ensures cause { DiskCause (H.faults host.old) (H.faults host.new) result }
 {
     let bytes = gated(alloc, note)?;
@@ -100,13 +105,15 @@ pub fn store_note<H: Host>(
 
 /// Takes the deferral log of an id away, where there is one.
 pub fn drop_notes<H: Host>(host: &mut H, id: Id) -> Result<(), HostError>
-    ensures gone { OnOk result (IsTrue H.tells → (H.view host.new).files areas.Defer (id_text id) ≡ None) }
+    ensures gone { OnOk result (IsTrue H.tells
+        → (H.view host.new).files areas.Defer (id_text id) ≡ None) }
 
     // Whatever it answers, nothing else changed.
     ensures book { KeepsBook H.tells H.view host.old host.new }
     ensures others { IsTrue H.tells
         → SameBut areas.Defer (id_text id) (H.view host.old).files (H.view host.new).files }
-    ensures notes { IsTrue H.tells → KeepsOtherNotes (id_text id) (H.view host.old) (H.view host.new) }
+    ensures notes { IsTrue H.tells
+        → KeepsOtherNotes (id_text id) (H.view host.old) (H.view host.new) }
     ensures cause { DiskCause (H.faults host.old) (H.faults host.new) result }
 {
     drop_file(host, Area::Defer, id_name(id))

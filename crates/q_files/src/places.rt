@@ -5,7 +5,7 @@ ghost use Rattle.q_host.specs.Calls.{Stays};
 ghost use Rattle.q_message.specs.Causes.{ReadCause};
 ghost use Rattle.q_message.specs.Names.{HasHead};
 ghost use Rattle.q_message.specs.Told.{IsThere, OnNoMessage, TellsOf};
-ghost use Rattle.q_files.specs.MarkPlaces.{IsMarkPlace};
+ghost use Rattle.q_files.specs.MarkPlaces.{FindsMark, IsMarkPlace};
 
 use q_host::Host;
 use q_message::{MessageError, read_recipients};
@@ -44,7 +44,11 @@ pub fn mark_place<H: Host>(
 ) -> Result<Option<u64>, MessageError>
     requires there { IsThere H.tells (H.view host.old) spot }
     requires reading { TellsOf H.tells (H.view host.old) spot (λ bytes. HasHead bytes file.now) }
-    ensures place { IfOk result (λ found. TellsOf H.tells (H.view host.old) spot (IsMarkPlace position found)) }
+    ensures place { IfOk result (λ found.
+        TellsOf H.tells (H.view host.old) spot (IsMarkPlace position found)) }
+    // In the words of a book.
+    ensures mark { IfOk result (λ found.
+        IsTrue H.tells → FindsMark (H.view host.old).files spot position found) }
     ensures no_message { OnNoMessage result (λ _. IsTrue H.tells → ⊥) }
     ensures stays { IsTrue H.tells → Stays (H.view host.old) (H.view host.new) }
     ensures cause { ReadCause (H.faults host.old) (H.faults host.new) result }

@@ -16,9 +16,12 @@ use q_model::{Area, Id, Spot, id_name};
 /// Takes the logs of an id away, where there are any.
 fn drop_logs<H: Host>(host: &mut H, id: Id) -> Result<(), HostError>
     ensures book { KeepsBookWithout id H.tells H.view host.old host.new }
-    ensures bounce { OnOk result (IsTrue H.tells → (H.view host.new).files areas.Bounce (id_text id) ≡ None) }
-    ensures defer { OnOk result (IsTrue H.tells → (H.view host.new).files areas.Defer (id_text id) ≡ None) }
-    ensures others { IsTrue H.tells → SameButLogs (id_text id) (H.view host.old).files (H.view host.new).files }
+    ensures bounce { OnOk result (IsTrue H.tells
+        → (H.view host.new).files areas.Bounce (id_text id) ≡ None) }
+    ensures defer { OnOk result (IsTrue H.tells
+        → (H.view host.new).files areas.Defer (id_text id) ≡ None) }
+    ensures others { IsTrue H.tells
+        → SameButLogs (id_text id) (H.view host.old).files (H.view host.new).files }
     ensures cause { DiskCause (H.faults host.old) (H.faults host.new) result }
 {
     let name = id_name(id);
@@ -26,17 +29,19 @@ fn drop_logs<H: Host>(host: &mut H, id: Id) -> Result<(), HostError>
     drop_file(host, Area::Defer, name)
 }
 
-/// Removes the message of this id, whose file stands at the spot: first the queue file, and then its
-/// logs, so that no log that a crash leaves is of a message that stands. What is left of the logs
-/// after a refusal says nothing any more.
+/// Removes the message of this id, whose file stands at the spot: first the queue file, and then
+/// its logs, so that no crash leaves the message without a log that it had. A log that is left
+/// after a refusal is of no message, and says nothing any more.
 pub fn remove<H: Host>(host: &mut H, spot: Spot, id: Id) -> Result<(), HostError>
     requires { IsTrue H.tells → IsSome ((H.view host.old).files spot.area spot.name) }
     ensures ok { OnOk result (TakesBy (RemovesMessage spot id) H.tells H.view host.old host.new) }
     ensures err { OnErr result (TriesBy (RemovesMessage spot id) H.tells H.view host.old host.new) }
 
     // Its logs are gone.
-    ensures bounce { OnOk result (IsTrue H.tells → (H.view host.new).files areas.Bounce (id_text id) ≡ None) }
-    ensures defer { OnOk result (IsTrue H.tells → (H.view host.new).files areas.Defer (id_text id) ≡ None) }
+    ensures bounce { OnOk result (IsTrue H.tells
+        → (H.view host.new).files areas.Bounce (id_text id) ≡ None) }
+    ensures defer { OnOk result (IsTrue H.tells
+        → (H.view host.new).files areas.Defer (id_text id) ≡ None) }
     ensures notes { IsTrue H.tells → spot.area ≢ areas.Defer
         → KeepsOtherNotes (id_text id) (H.view host.old) (H.view host.new) }
     ensures cause { DiskCause (H.faults host.old) (H.faults host.new) result }

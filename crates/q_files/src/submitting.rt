@@ -32,7 +32,8 @@ fn store_new<H: Host>(
     requires some { 1 ≤ length to.now }
     requires few { length to.now ≤ 50000 }
     requires short { length content.now ≤ 20000000 }
-    ensures ok { OnOk result (TakesBy (AddsMessage (H.view host.old).files id head.now to.now content.now)
+    ensures ok { OnOk result (TakesBy
+        (AddsMessage (H.view host.old).files id head.now to.now content.now)
         H.tells H.view host.old host.new) }
     ensures tries { TriesBy (AddsMessage (H.view host.old).files id head.now to.now content.now)
         H.tells H.view host.old host.new }
@@ -64,13 +65,16 @@ pub fn submit<H: Host>(
 ) -> Result<(), FileError>
     requires arrival { head.now.arrival ≤ 999990000000 }
     requires some { 1 ≤ length to.now }
-    ensures ok { OnOk result (TakesBy (AddsMessage (H.view host.old).files id head.now to.now content.now)
+    ensures ok { OnOk result (TakesBy
+        (AddsMessage (H.view host.old).files id head.now to.now content.now)
         H.tells H.view host.old host.new) }
-    ensures err { OnErr result (TriesBy (AddsMessage (H.view host.old).files id head.now to.now content.now)
+    ensures err { OnErr result (TriesBy
+        (AddsMessage (H.view host.old).files id head.now to.now content.now)
         H.tells H.view host.old host.new) }
     ensures notes { IsTrue H.tells → KeepsNotes (H.view host.old) (H.view host.new) }
     ensures big { IsErrOf result TooBig ↔ (20000000 < length content.now) }
-    ensures many { IsErrOf result TooMany ↔ (length content.now ≤ 20000000) × (50000 < length to.now) }
+    ensures many { IsErrOf result TooMany
+        ↔ (length content.now ≤ 20000000) × (50000 < length to.now) }
     // Nothing was done then.
     ensures big_untouched { 20000000 < length content.now → host.new ≡ host.old }
     ensures many_untouched { 50000 < length to.now → host.new ≡ host.old }
