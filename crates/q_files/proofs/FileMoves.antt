@@ -1,14 +1,13 @@
 -- A file is renamed: the book in which its message moved, or in which it was put aside.
-use Rattle.std.proofs.Common.{◌≡◌, ◌≢◌, ◌⊎◌, ◌∙◌, ⊎_elim, ℕ, List, sym, ap, subst, inl, inr}
+use Rattle.std.proofs.Common.{◌≢◌, ◌⊎◌, ◌∙◌, ⊎_elim, sym, ap, subst}
 use Rattle.q_model.specs.declared.rows.Place.TheVariants as places
-use Rattle.q_model.specs.declared.spot.Area.{Area}
 use Rattle.q_model.specs.declared.spot.Area.TheVariants as areas
 use Rattle.q_model.specs.Book.{Book}
 use Rattle.q_model.specs.BookChanges.{move_damaged, move_message}
 use Rattle.q_model.specs.IdTexts.{id_text}
 use Rattle.q_model.specs.SpoolFiles.{area_of, Files, name_at}
 use Rattle.q_model.specs.Values.{Spot}
-use Rattle.q_host.specs.Calls.{Changes, Renames, Stays}
+use Rattle.q_host.specs.Calls.{Renames, Stays}
 use Rattle.q_host.specs.Files.{moved}
 use Rattle.q_host.specs.View.{View}
 use Rattle.q_books.specs.HostStands.{HostStands, KeepsNotes, Takes, TellsCrashes, Tries}

@@ -1,12 +1,11 @@
 -- Calls that change only files of which a book says nothing.
-use Rattle.std.proofs.Common.{◌≡◌, ◌≢◌, ◌⊎◌, ⊎_elim, ◌∙◌, ℕ, Bool, true, false, List, [], ◌∷◌, is_some, Option, Some, None, refl, sym, ap, subst, inl, inr}
-use Rattle.std.specs.Prelude.{find}
+use Rattle.std.proofs.Common.{◌≡◌, ⊎_elim, ◌∙◌, ℕ, Bool, true, false, List, [], ◌∷◌, is_some, Option, Some, None, refl, sym, ap, subst, inl, inr}
 use Rattle.std.specs.List.{AllByRecursion}
 use Rattle.q_model.specs.declared.id.Id.{Id}
 use Rattle.q_model.specs.declared.rows.Place.{Place}
 use Rattle.q_model.specs.declared.spot.Area.{Area}
 use Rattle.q_model.specs.declared.spot.Area.TheVariants as areas
-use Rattle.q_model.specs.Book.{Book, Damaged, message_of}
+use Rattle.q_model.specs.Book.{Book, message_of}
 use Rattle.q_model.specs.Crashes.{IsCrashOf}
 use Rattle.q_model.specs.FilesStand.{DamagedStands, MessageStands, Stands}
 use Rattle.q_model.specs.Ids.{id_eq}
@@ -18,13 +17,13 @@ use Rattle.q_model.proofs.EachLaws.{each-both, each-same, find-any, none-each}
 use Rattle.q_model.proofs.IdLaws.{id_text-injective}
 use Rattle.q_model.proofs.SpotLaws.{area_of-IsQueue}
 use Rattle.q_model.proofs.StandLaws.{BootStands-kept, DamagedStands-kept, MessageStands-kept, not_same}
-use Rattle.q_host.specs.Calls.{MayRemove, Removes, Stays}
+use Rattle.q_host.specs.Calls.{MayRemove}
 use Rattle.q_host.specs.Files.{same_place, without_file}
 use Rattle.q_host.specs.Steps.{SameBut}
 use Rattle.q_host.specs.View.{Goes, now, Remains, Step, View}
 use Rattle.q_host.proofs.Puts.{other_area, put-here, put-other, same_place-true}
 use Rattle.q_store.specs.Stores.{OneFile}
-use Rattle.q_books.specs.HostStands.{HostStands, IsLeftOf, OwnLogs, Takes, TellsCrashes}
+use Rattle.q_books.specs.HostStands.{HostStands, OwnLogs, Takes, TellsCrashes}
 use Rattle.q_books.proofs.Calls.{meanwhile}
 use Rattle.q_books.proofs.Joining.{reads_keep}
 use Rattle.q_files.proofs.OtherPlaces.{not_defer, other_place}

@@ -1,12 +1,11 @@
 -- A failure log is written anew with one failure more: what the files stand for, and what a crash leaves.
-use Rattle.std.proofs.Common.{◌≡◌, ◌≢◌, ◌⊎◌, ⊎_elim, ◌<◌, ◌++◌, ◌∙◌, ℕ, Bool, true, false, ◌||◌, is_some, List, [], ◌∷◌, length, map, Option, Some, None, refl, sym, ap, subst, inl, inr}
-use Rattle.std.specs.List.{AllByRecursion, list_any}
-use Rattle.std.specs.Option.{option_map, option_map_or}
+use Rattle.std.proofs.Common.{◌≡◌, ◌⊎◌, ⊎_elim, ◌<◌, ◌++◌, ◌∙◌, ℕ, true, false, ◌||◌, is_some, List, [], ◌∷◌, length, map, Option, Some, None, refl, sym, ap, subst, inl, inr}
+use Rattle.std.specs.List.{AllByRecursion}
+use Rattle.std.specs.Option.{option_map_or}
 use Rattle.std.specs.Prelude.{◌==◌, unwrap_or}
 use Rattle.std.proofs.lemmas.List.{map-append}
 use Rattle.q_model.specs.declared.id.Id.{Id}
 use Rattle.q_model.specs.declared.outcome.Failure.{Failure}
-use Rattle.q_model.specs.declared.spot.Area.{Area}
 use Rattle.q_model.specs.declared.spot.Area.TheVariants as areas
 use Rattle.q_model.specs.Book.{Book, damaged_of, message_of, stands}
 use Rattle.q_model.specs.BookChanges.{change_message}
@@ -24,15 +23,14 @@ use Rattle.q_model.proofs.IdLaws.{id_text-injective}
 use Rattle.q_model.proofs.StandChanges.{Stands-message}
 use Rattle.q_model.proofs.StandLaws.{IsSameBut, true_false}
 use Rattle.q_model.proofs.StandLogs.{IsSaid, Stands-logged, Stands-logged_crash}
-use Rattle.q_model.proofs.StandRenames.{Stands-kept}
 use Rattle.q_host.specs.Calls.{Stays}
-use Rattle.q_host.specs.View.{Goes, LeavesOnly, now, Remains, View}
+use Rattle.q_host.specs.View.{Goes, LeavesOnly, Remains, View}
 use Rattle.q_host.proofs.Puts.{other_area}
 use Rattle.q_store.specs.Stores.{Holds, IsAsBefore, IsStored, Leaves, MayHold, MayStore, Stores}
 use Rattle.q_books.specs.HostStands.{Between, HostStands, IsLeftOf, OwnLogs, Takes, TellsCrashes, Tries}
 use Rattle.q_books.proofs.Calls.{meanwhile, tried}
 use Rattle.q_books.proofs.Ids.{stands-changed}
-use Rattle.q_books.proofs.Joining.{kept_takes, kept_tries, reads_keep, reads_try}
+use Rattle.q_books.proofs.Joining.{kept_takes, kept_tries, reads_keep}
 use Rattle.q_files.specs.Changes.{AddsFailure}
 use Rattle.q_files.proofs.MessageStores.{kept_stands}
 use Rattle.q_files.proofs.OtherPlaces.{other_place}

@@ -1,11 +1,11 @@
 -- A deferral log is made, and written at its end.
-use Rattle.std.proofs.Common.{◌≡◌, ◌∙◌, ⊎_elim, ◌-◌, ℕ, Bool, true, false, List, [], length, take, is_some, Option, Some, None, refl, sym, ap, inl, inr, take_all, arith}
+use Rattle.std.proofs.Common.{◌≡◌, ◌∙◌, ⊎_elim, ◌-◌, ℕ, false, List, [], length, take, is_some, Option, Some, None, refl, sym, ap, take_all, arith}
 use Rattle.std.specs.Option.{option_map}
 use Rattle.std.specs.Prelude.{unwrap_or}
 use Rattle.q_model.specs.declared.spot.Area.{Area}
 use Rattle.q_model.specs.SpoolFiles.{Files}
 use Rattle.q_host.specs.Calls.{Creates, MayCreate, Stays, Writes, WritesAll}
-use Rattle.q_host.specs.Files.{put, with_file, written}
+use Rattle.q_host.specs.Files.{with_file, written}
 use Rattle.q_host.specs.View.{Goes, now, Remains, View}
 use Rattle.q_host.proofs.Moments.{goes_again, goes_wider}
 use Rattle.q_host.proofs.Puts.{put-here, put-other}

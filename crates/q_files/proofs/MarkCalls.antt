@@ -1,9 +1,9 @@
 -- The calls that write and sync marks.
-use Rattle.std.proofs.Common.{◌≡◌, ◌≢◌, ◌≤◌, ◌∙◌, ℕ, List, [], ◌∷◌, Option, take, sym, ap, subst}
+use Rattle.std.proofs.Common.{◌≢◌, ◌≤◌, ◌∙◌, ℕ, List, [], ◌∷◌, take, sym, ap, subst}
 use Rattle.std.specs.Option.{option_map}
 use Rattle.q_model.specs.declared.spot.Area.TheVariants as areas
 use Rattle.q_model.specs.Book.{Book}
-use Rattle.q_model.specs.SpoolFiles.{area_of, Files, name_at}
+use Rattle.q_model.specs.SpoolFiles.{Files}
 use Rattle.q_model.specs.Values.{Spot}
 use Rattle.q_host.specs.Calls.{Stays, Syncs, Writes}
 use Rattle.q_host.specs.Files.{written}

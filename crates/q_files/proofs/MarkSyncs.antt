@@ -1,5 +1,5 @@
 -- The marks of a message are synced: what the files stand for, and what a crash leaves of it.
-use Rattle.std.proofs.Common.{◌≡◌, ◌∙◌, List, ℕ, Some, refl, sym, ap, subst, inl}
+use Rattle.std.proofs.Common.{◌≡◌, Some, refl, sym, ap, subst, inl}
 use Rattle.q_model.specs.declared.id.Id.{Id}
 use Rattle.q_model.specs.declared.spot.Area.TheVariants as areas
 use Rattle.q_model.specs.Book.{Book, message_of}

@@ -1,9 +1,8 @@
 -- A message's file is stored: what the files stand for, and what a crash leaves of it.
-use Rattle.std.proofs.Common.{◌≡◌, ◌≢◌, ◌⊎◌, ⊎_elim, ◌++◌, ℕ, Bool, true, false, List, [], ◌∷◌, length, map, is_some, Option, Some, None, refl, sym, ap, subst, ◌∙◌, inl, inr}
+use Rattle.std.proofs.Common.{◌≡◌, ◌≢◌, ◌⊎◌, ⊎_elim, ℕ, true, false, List, [], ◌∷◌, length, map, is_some, Option, Some, None, refl, sym, ap, subst, ◌∙◌, inl, inr}
 use Rattle.std.specs.Option.{option_map_or}
 use Rattle.q_model.specs.declared.id.Id.{Id}
 use Rattle.q_model.specs.declared.rows.Mark.TheVariants as marks
-use Rattle.q_model.specs.declared.rows.Place.TheVariants as places
 use Rattle.q_model.specs.declared.spot.Area.{Area}
 use Rattle.q_model.specs.declared.spot.Area.TheVariants as areas
 use Rattle.q_model.specs.Book.{Book, stands}
@@ -14,20 +13,20 @@ use Rattle.q_model.specs.FilesStand.{file_message, MessageStands, Stands}
 use Rattle.q_model.specs.IdTexts.{id_text, IsId}
 use Rattle.q_model.specs.Marks.{is_marked}
 use Rattle.q_model.specs.Message.{Message, Recipient}
-use Rattle.q_model.specs.QueueFile.{FileMessage, FileRecipient}
+use Rattle.q_model.specs.QueueFile.{FileRecipient}
 use Rattle.q_model.specs.QueueFileBytes.{IsFileOf}
-use Rattle.q_model.specs.SpoolFiles.{Files, logged_in}
+use Rattle.q_model.specs.SpoolFiles.{Files}
 use Rattle.q_model.specs.Values.{Head}
 use Rattle.q_model.proofs.CrashChanges.{crash-add}
 use Rattle.q_model.proofs.CrashLaws.{stands-crash}
 use Rattle.q_model.proofs.StandLaws.{IsSameBut, Stands-add}
 use Rattle.q_model.proofs.StandRenames.{Stands-kept}
-use Rattle.q_host.specs.Files.{SameNames, same_place}
-use Rattle.q_host.specs.View.{Goes, LeavesOnly, now, Remains, View}
+use Rattle.q_host.specs.Files.{SameNames}
+use Rattle.q_host.specs.View.{Goes, LeavesOnly, Remains, View}
 use Rattle.q_host.proofs.Puts.{other_area}
 use Rattle.q_store.specs.Stores.{Holds, IsAsBefore, IsStored, Leaves, MayHold, MayStore, Stores}
 use Rattle.q_message.specs.NewFile.{new_message}
-use Rattle.q_books.specs.HostStands.{Between, HostStands, IsLeftOf, KeepsNotes, OwnLogs, Takes, TellsCrashes, Tries}
+use Rattle.q_books.specs.HostStands.{Between, HostStands, IsLeftOf, KeepsNotes, Takes, TellsCrashes, Tries}
 use Rattle.q_books.proofs.Calls.{meanwhile, tried}
 use Rattle.q_books.proofs.Ids.{stands-added}
 use Rattle.q_files.specs.Submissions.{AddsMessage, submitted}

@@ -1,5 +1,5 @@
 -- The place of a mark is found in the recipients that are read batch by batch.
-use Rattle.std.proofs.Common.{◌≡◌, ◌∙◌, ◌+◌, ◌-◌, ◌⊎◌, inl, inr, ◌<◌, ◌≤◌, ℕ, zero, suc, Bool, true, false, not, ◌||◌, eqb, List, [], ◌∷◌, length, map, take, drop, is_some, slice_get, Option, Some, None, if◌then◌else◌, refl, sym, ap, subst, arith}
+use Rattle.std.proofs.Common.{◌≡◌, ◌∙◌, ◌+◌, ◌-◌, inl, inr, ◌<◌, ◌≤◌, ℕ, zero, suc, Bool, true, false, not, List, [], ◌∷◌, length, map, take, drop, is_some, slice_get, Option, Some, None, if◌then◌else◌, refl, sym, ap, subst, arith}
 use Rattle.std.specs.List.{AllByRecursion, list_any}
 use Rattle.std.specs.Option.{IfSome, option_map, option_map_or}
 use Rattle.std.specs.Prelude.{◌==◌, find}
@@ -7,25 +7,22 @@ use Rattle.std.proofs.lemmas.Bool.{eq-eqb, eqb-true, not-true, or_cases, or_left
 use Rattle.std.proofs.lemmas.List.{length-drop, length-map}
 use Rattle.std.proofs.lemmas.Option.{slice_get-map, slice_get_past, slice_get_within}
 use Rattle.q_model.specs.declared.file_head.Cursor.{Cursor}
-use Rattle.q_model.specs.declared.id.Id.{Id}
-use Rattle.q_model.specs.Book.{Book}
-use Rattle.q_model.specs.FilesStand.{file_message, Stands}
+use Rattle.q_model.specs.FilesStand.{file_message}
 use Rattle.q_model.specs.Lists.{places_from}
 use Rattle.q_model.specs.Marking.{is_unmarked_at}
 use Rattle.q_model.specs.Marks.{is_marked}
 use Rattle.q_model.specs.Message.{Message, Recipient}
 use Rattle.q_model.specs.QueueFile.{FileMessage, FileRecipient, queue_file}
-use Rattle.q_model.specs.QueueFileBytes.{first_at, mark_at, recipient_at}
+use Rattle.q_model.specs.QueueFileBytes.{first_at, mark_at}
 use Rattle.q_model.specs.SpoolFiles.{file_at, Files}
 use Rattle.q_model.specs.Values.{FileHead, Spot, Taken}
 use Rattle.q_model.proofs.EachLaws.{any-map, find-any, find-has, find-passes}
 use Rattle.q_model.proofs.QueueFileLaws.{queue_file_again}
 use Rattle.q_model.proofs.StandChanges.{Stands-message}
 use Rattle.q_model.proofs.StandLaws.{true_false}
-use Rattle.q_message.specs.FileHeads.{head_of}
 use Rattle.q_message.specs.Names.{HasHead}
 use Rattle.q_message.specs.Pending.{AreTaken, cursor_at, HasCursor, IsPlaceBehind, position_behind, taken_at, taken_from, unmarked_from}
-use Rattle.q_books.specs.Spots.{IsFileAt, IsMarkAt}
+use Rattle.q_books.specs.Spots.{IsMarkAt}
 use Rattle.q_files.specs.MarkPlaces.{FindsMark, IsMarkPlace, mark_place}
 
 -- ---- the positions of a list at which no mark is set

@@ -1,9 +1,8 @@
 -- A message's file is taken away, and then its logs: what the files stand for, and what a crash leaves.
-use Rattle.std.proofs.Common.{◌≡◌, ◌≢◌, ◌⊎◌, ⊎_elim, ◌∙◌, ℕ, Bool, true, false, not, ◌||◌, List, [], ◌∷◌, filter, is_some, Option, Some, None, if◌then◌else◌, refl, sym, ap, subst, inl, inr}
+use Rattle.std.proofs.Common.{◌≡◌, ◌≢◌, ⊎_elim, ◌∙◌, ℕ, Bool, true, false, not, ◌||◌, List, [], ◌∷◌, filter, is_some, Option, Some, None, if◌then◌else◌, refl, sym, ap, subst, inl, inr}
 use Rattle.std.specs.Prelude.{find}
 use Rattle.q_model.specs.declared.id.Id.{Id}
 use Rattle.q_model.specs.declared.rows.Place.{Place}
-use Rattle.q_model.specs.declared.spot.Area.{Area}
 use Rattle.q_model.specs.declared.spot.Area.TheVariants as areas
 use Rattle.q_model.specs.Book.{Book, damaged_of, message_of, stands}
 use Rattle.q_model.specs.BookChanges.{remove_message}
@@ -14,23 +13,22 @@ use Rattle.q_model.specs.Message.{Message}
 use Rattle.q_model.specs.SpoolFiles.{area_of, Files, name_at}
 use Rattle.q_model.specs.Values.{Spot}
 use Rattle.q_model.proofs.CrashChanges.{crash-message, crash-remove}
-use Rattle.q_model.proofs.IdLaws.{id_eq-true, id_text-injective}
+use Rattle.q_model.proofs.IdLaws.{id_eq-true}
 use Rattle.q_model.proofs.SpotLaws.{area_of-IsQueue}
 use Rattle.q_model.proofs.StandChanges.{Stands-message}
-use Rattle.q_model.proofs.StandLaws.{not_same, true_false}
+use Rattle.q_model.proofs.StandLaws.{true_false}
 use Rattle.q_model.proofs.StandRenames.{Stands-unlinked}
-use Rattle.q_host.specs.Calls.{MayRemove, Removes, Stays}
+use Rattle.q_host.specs.Calls.{MayRemove, Removes}
 use Rattle.q_host.specs.Files.{same_place, without_file}
-use Rattle.q_host.specs.Steps.{SameBut}
 use Rattle.q_host.specs.View.{LeavesOnly, Remains, View}
 use Rattle.q_host.proofs.Moments.{leaves_on}
 use Rattle.q_host.proofs.Puts.{other_area, same_place-refl, same_place-true}
-use Rattle.q_books.specs.HostStands.{Between, HostStands, IsLeftOf, KeepsOtherNotes, OwnLogs, Takes, TellsCrashes, Tries}
+use Rattle.q_books.specs.HostStands.{Between, HostStands, IsLeftOf, OwnLogs, Takes, TellsCrashes, Tries}
 use Rattle.q_books.proofs.Calls.{meanwhile, stayed}
 use Rattle.q_files.specs.Changes.{RemovesMessage}
 use Rattle.q_files.specs.KeptBooks.{SameButLogs}
 use Rattle.q_files.proofs.KeptFiles.{drops_others}
-use Rattle.q_files.proofs.OtherPlaces.{other_place, without_unlinked}
+use Rattle.q_files.proofs.OtherPlaces.{without_unlinked}
 
 -- ---- the book without the message
 

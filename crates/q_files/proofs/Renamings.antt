@@ -1,10 +1,9 @@
 -- A rename goes with a move of a message, and of a damaged file to corrupt.
-use Rattle.std.proofs.Common.{◌≡◌, ◌≢◌, ◌∙◌, ℕ, Bool, true, false, ◌||◌, List, [], ◌∷◌, map, is_some, Option, Some, if◌then◌else◌, refl, sym, ap, subst}
+use Rattle.std.proofs.Common.{◌≡◌, ◌∙◌, ℕ, Bool, true, false, ◌||◌, List, is_some, Some, if◌then◌else◌, refl, sym, ap, subst}
 use Rattle.std.specs.Prelude.{find}
 use Rattle.q_model.specs.declared.id.Id.{Id}
 use Rattle.q_model.specs.declared.rows.Place.{Place}
 use Rattle.q_model.specs.declared.rows.Place.TheVariants as places
-use Rattle.q_model.specs.declared.spot.Area.{Area}
 use Rattle.q_model.specs.declared.spot.Area.TheVariants as areas
 use Rattle.q_model.specs.Book.{Book, Damaged, damaged_of, message_of, stands}
 use Rattle.q_model.specs.BookChanges.{move_damaged, move_message}

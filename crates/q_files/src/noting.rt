@@ -22,6 +22,7 @@ use std::alloc::Global;
 
 /// The gate of a record that counts, and the gate behind the last one.
 const OPEN: u8 = b'O';
+
 const CLOSED: u8 = 0;
 
 /// The reason of a note.
@@ -79,12 +80,7 @@ fn append<H: Host>(host: &mut H, name: Name, bytes: &[u8]) -> Result<(), HostErr
 /// Adds a note to the deferral log of an id, which is made where it is missing. It is an error to
 /// call it with a code that is neither 0 nor 400 to 599, or where the log is of another form than
 /// these calls give it: what it says then is not known.
-pub fn store_note<H: Host>(
-    alloc: Global,
-    host: &mut H,
-    id: Id,
-    note: Note,
-) -> Result<(), HostError>
+pub fn store_note<H: Host>(alloc: Global, host: &mut H, id: Id, note: Note) -> Result<(), HostError>
     requires { is_log_code note.code ≡ true }
     // The log reads as its notes and this one behind them, and has the form to its last byte.
     ensures noted { OnOk result (IsTrue H.tells → (notes : List Note)

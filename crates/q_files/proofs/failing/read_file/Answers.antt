@@ -1,9 +1,9 @@
-use Rattle.std.proofs.Common.{◌≡◌, ◌≤◌, ◌<◌, ℕ, List, length, subst, sym, refl, arith, ◌∙◌, ap, Some, ◌++◌}
+use Rattle.std.proofs.Common.{◌≡◌, ℕ, length, subst, sym, refl, arith}
 use Rattle.std.specs.Option.{IfSome}
 use Rattle.q_model.specs.SpoolFiles.{Files}
 use Rattle.q_host.specs.Reads.{IsRead}
 use Rattle.q_files.proofs.Drops.{stays_none, stays_on}
-use Rattle.q_files.proofs.FileReads.{begun-all, begun-more, begun-none, IsBegun}
+use Rattle.q_files.proofs.FileReads.{begun-more, begun-none, IsBegun}
 use Rattle.q_files.proofs.failing.read_file.Goals as goal
 
 pub loop-init : goal.loop-init

@@ -1,11 +1,9 @@
-use Rattle.std.proofs.Common.{List, ℕ, inr, subst, sym, ap, ◌∙◌, ◌≡◌, ◌++◌, ◌∷◌, [], Option, Some}
+use Rattle.std.proofs.Common.{List, ℕ, inr, sym, ap, ◌∙◌, ◌++◌, ◌∷◌, [], Some}
 use Rattle.std.specs.Option.{option_map}
 use Rattle.q_model.specs.declared.outcome.Failure.{Failure}
 use Rattle.q_model.specs.declared.spot.Area.TheVariants as areas
 use Rattle.q_model.specs.FailureLog.{log_bytes, log_records}
-use Rattle.q_model.specs.IdTexts.{id_text}
-use Rattle.q_model.specs.SpoolFiles.{Files, logged_in}
-use Rattle.q_logfile.specs.HasRecords.{HasRecords}
+use Rattle.q_model.specs.SpoolFiles.{Files}
 use Rattle.q_logfile.specs.TmpNames.{tmp_name}
 use Rattle.q_books.specs.HostStands.{TellsCrashes}
 use Rattle.q_books.proofs.Joining.{reads_try}

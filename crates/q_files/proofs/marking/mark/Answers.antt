@@ -1,4 +1,4 @@
-use Rattle.std.proofs.Common.{[], ◌∷◌, ◌≤◌, ℕ, subst}
+use Rattle.std.proofs.Common.{[], ◌∷◌, subst}
 use Rattle.q_model.specs.Values.{Spot}
 use Rattle.q_host.specs.Calls.{Writes, WritesSome}
 use Rattle.q_books.specs.HostStands.{TellsCrashes}

@@ -1,6 +1,5 @@
-use Rattle.std.proofs.Common.{◌⊎◌, inl, inr, subst}
+use Rattle.std.proofs.Common.{inl, subst}
 use Rattle.q_model.specs.Values.{Spot}
-use Rattle.q_host.specs.View.{View}
 use Rattle.q_books.specs.HostStands.{TellsCrashes}
 use Rattle.q_books.proofs.Results.{on_err, on_ok}
 use Rattle.q_files.proofs.FileMoves.{MayRenamed, may_move_file, may_put_aside, moves_file, puts_aside, Renamed, renames_no_notes}

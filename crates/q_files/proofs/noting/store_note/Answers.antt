@@ -1,11 +1,6 @@
-use Rattle.std.proofs.Common.{◌≡◌, ◌∙◌, ◌-◌, List, [], ◌∷◌, ◌++◌, ℕ, Some, ap, length, subst, sym}
-use Rattle.std.specs.Prelude.{unwrap_or}
-use Rattle.q_model.specs.declared.spot.Area.TheVariants as areas
-use Rattle.q_model.specs.FailureLog.{note_bytes}
+use Rattle.std.proofs.Common.{◌∙◌}
 use Rattle.q_model.specs.IdTexts.{id_text}
-use Rattle.q_host.specs.Files.{written}
 use Rattle.q_books.specs.HostStands.{TellsCrashes}
-use Rattle.q_books.specs.Notes.{HasNotes}
 use Rattle.q_books.proofs.Results.{on_ok}
 use Rattle.q_files.proofs.KeptFiles.{kept_by_notes}
 use Rattle.q_files.proofs.NoteLogs.{noted_at}

@@ -3,7 +3,7 @@ use Rattle.std.specs.Option.{IfSome}
 use Rattle.q_model.specs.SpoolFiles.{Files}
 use Rattle.q_model.specs.Values.{FileHead}
 use Rattle.q_message.specs.Pending.{AreTaken, IsPlaceBehind}
-use Rattle.q_files.proofs.PlaceReads.{cursor-first, cursor-on, finds-mark, place-found, place-none, place-passed}
+use Rattle.q_files.proofs.PlaceReads.{finds-mark, place-found, place-none, place-passed}
 use Rattle.q_files.proofs.places.mark_place.Goals as goal
 
 pub returns-in-Some-clause-place : goal.returns-in-Some-clause-place

@@ -1,4 +1,4 @@
-use Rattle.std.proofs.Common.{◌≡◌, ◌≤◌, IsTrue, ◌<◌}
+use Rattle.std.proofs.Common.{◌≡◌, ◌≤◌, IsTrue}
 use Rattle.std.specs.Option.{IfSome}
 use Rattle.q_host.specs.Calls.{Stays}
 use Rattle.q_message.specs.Pending.{HasCursor}

@@ -1,4 +1,4 @@
-use Rattle.std.proofs.Common.{◌≡◌, ◌∙◌, ℕ, Option, Some, ap, eq-eqb, length, arith, sym, take, take_all, None, ◌≤◌}
+use Rattle.std.proofs.Common.{◌≡◌, ◌∙◌, Option, Some, ap, eq-eqb, sym}
 use Rattle.std.specs.Option.{option_map}
 use Rattle.std.proofs.lemmas.Bool.{ne_eqb}
 use Rattle.q_model.specs.Values.{Taken}

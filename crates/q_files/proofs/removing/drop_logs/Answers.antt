@@ -1,4 +1,4 @@
-use Rattle.std.proofs.Common.{List, ℕ, ap, inr, subst, sym, ◌∙◌}
+use Rattle.std.proofs.Common.{List, ℕ, ap, subst, sym, ◌∙◌}
 use Rattle.q_model.specs.declared.spot.Area.TheVariants as areas
 use Rattle.q_model.specs.IdTexts.{id_text}
 use Rattle.q_host.specs.Calls.{MayRemove}

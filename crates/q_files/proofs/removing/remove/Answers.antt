@@ -1,4 +1,4 @@
-use Rattle.std.proofs.Common.{inl, inr, subst, ◌∙◌}
+use Rattle.std.proofs.Common.{inl, subst, ◌∙◌}
 use Rattle.q_model.specs.declared.spot.Area.TheVariants as areas
 use Rattle.q_model.specs.IdTexts.{id_text}
 use Rattle.q_model.specs.Values.{Spot}

@@ -29,7 +29,7 @@ returns-clause-tries g c t b k h ch =
     let lawful : TellsCrashes v = (record { only = g.met.H.Host.only_now c.args.host.now; told = g.met.H.Host.told_stays c.args.host.now }) in
     let file = subst (λ (xs : List ℕ). IsFileOf xs (new_message c.args.head.now c.args.to.now c.args.content.now)) (sym c.as_slice.ensures) c.in_ok-file.ensures.reads in
     let make = λ (d : MayHold name areas.Incoming name bytes v w). may_add name c.args.id c.args.head.now c.args.to.now c.args.content.now bytes file b k v w lawful (g.met.H.Host.names_stay c.args.host.now) ch h
-        (subst (λ (n : List ℕ). MayHold name areas.Incoming n bytes v w) c.id_name-name.ensures d) in
+    (subst (λ (n : List ℕ). MayHold name areas.Incoming n bytes v w) c.id_name-name.ensures d) in
     either c.store_file.result (λ d. make (inr (d t))) (λ d. make (d t)) c.store_file.ensures.ok c.store_file.ensures.err
 
 pub returns-clause-notes : goal.returns-clause-notes
