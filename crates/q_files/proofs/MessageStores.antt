@@ -5,12 +5,14 @@ use Rattle.q_model.specs.declared.id.Id.{Id}
 use Rattle.q_model.specs.declared.rows.Mark.TheVariants as marks
 use Rattle.q_model.specs.declared.spot.Area.{Area}
 use Rattle.q_model.specs.declared.spot.Area.TheVariants as areas
+use Rattle.q_model.specs.Arrivals.{arrived}
 use Rattle.q_model.specs.Book.{Book, stands}
 use Rattle.q_model.specs.BookChanges.{add_message}
 use Rattle.q_model.specs.Crashes.{EachTo, MessageAfter, RecipientAfter}
 use Rattle.q_model.specs.FailureLog.{failures_of, log_records}
 use Rattle.q_model.specs.FilesStand.{file_message, MessageStands, Stands}
 use Rattle.q_model.specs.IdTexts.{id_text, IsId}
+use Rattle.q_model.specs.Ledger.{Ledger}
 use Rattle.q_model.specs.Marks.{is_marked}
 use Rattle.q_model.specs.Message.{Message, Recipient}
 use Rattle.q_model.specs.QueueFile.{FileRecipient}
@@ -57,6 +59,10 @@ same_recipients (a ∷ to) = ap (λ (rs : List FileRecipient). unmarked a ∷ rs
 
 file_submitted : (id : Id) (head : Head) (to : List (List ℕ)) (content bytes : List ℕ) → IsFileOf bytes (new_message head to content) → IsFileOf bytes (file_message (submitted id head to content))
 file_submitted id head to content bytes h = subst (λ (rs : List FileRecipient). IsFileOf bytes (record { sender = head.sender; arrival = head.arrival; content = content; recipients = rs })) (same_recipients to) h
+
+-- it is the message that an arrival adds
+pub submitted-arrived : (l : Ledger) (id : Id) (head : Head) (to : List (List ℕ)) (content : List ℕ) → head.arrival ≡ l.now → submitted id head to content ≡ arrived l id head.sender to content
+submitted-arrived l id head to content e = ap (λ (t : ℕ). submitted id (record head { arrival = t }) to content) e
 
 -- ---- files that differ in tmp, or in one file more
 
