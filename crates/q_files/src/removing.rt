@@ -1,8 +1,6 @@
 //! Removing a message.
-ghost use Rattle.std.specs.Prelude.{◌≡◌, ◌≢◌, false, None, IsSome, IsTrue, OnErr, OnOk};
+ghost use Rattle.std.specs.Prelude.{◌≡◌, ◌≢◌, None, IsSome, IsTrue, OnErr, OnOk};
 ghost use Rattle.q_host.specs.Faults.{DiskCause};
-ghost use Rattle.q_host.specs.Files.{same_place};
-ghost use Rattle.q_model.specs.declared.spot.Area.{Area};
 ghost use Rattle.q_model.specs.declared.spot.Area.TheVariants as areas;
 ghost use Rattle.q_model.specs.IdTexts.{id_text};
 ghost use Rattle.q_books.specs.HostStands.{KeepsOtherNotes, TakesBy, TriesBy};
