@@ -1,0 +1,65 @@
+//! The content of a bounce.
+ghost use Rattle.std.specs.Prelude.{◌≡◌, ◌≤◌, ◌++◌, IfOk, length, OnOk};
+ghost use Rattle.q_model.specs.Message.{Message};
+ghost use Rattle.q_model.specs.Notices as notices;
+ghost use Rattle.q_notice.specs.NoticeTexts.{head_lines, IsToldOf, named_failures, size_lines};
+
+use crate::failures::add_failures;
+use crate::lines::{add, add_line, add_number};
+use q_model::{Address, Addresses, Bytes, Id, NoMemory, Records, id_name};
+use std::alloc::Global;
+
+/// How many bytes of a message a notice has at most.
+const FRONT: u32 = 50_000;
+
+/// Adds the header, and the line in front of the failures.
+fn add_head(text: &mut Vec<u8>, id: Id, sender: &Address) -> Result<(), NoMemory>
+    ensures { OnOk result (text.new.items ≡ text.old.items ++ head_lines id sender.now) }
+{
+    add(text, b"From: MAILER-DAEMON\nTo: ")?;
+    add(text, sender.bytes())?;
+    add(text, b"\nSubject: Undelivered Mail Returned to Sender\n\nThese recipients of message ")?;
+    add(text, id_name(id).bytes())?;
+    add(text, b" were not reached:\n\n")
+}
+
+/// Adds the lines that say how much of the message follows.
+fn add_size(alloc: Global, text: &mut Vec<u8>, size: u32) -> Result<(), NoMemory>
+    ensures { OnOk result (text.new.items ≡ text.old.items ++ size_lines size) }
+{
+    let front = if size < FRONT { size } else { FRONT };
+    add(text, b"\nThe message had ")?;
+    add_number(alloc, text, size)?;
+    add(text, b" bytes. Its first ")?;
+    add_number(alloc, text, front)?;
+    add(text, b" bytes follow.\n\n")
+}
+
+/// The content of the bounce of a message: a header, a line for each failure in their order with
+/// the address of its recipient (`names` has them in the same order), and the front of the content,
+/// of which the message has `size` bytes. It is an error to give more or fewer addresses than
+/// failures, or more than 50,000 bytes.
+pub fn notice(
+    alloc: Global,
+    id: Id,
+    sender: &Address,
+    failures: &Records,
+    names: &Addresses,
+    size: u32,
+    front: &[u8],
+) -> Result<Bytes, NoMemory>
+    requires named { length names.now ≡ length failures.now }
+    requires short { length front.now ≤ 50000 }
+    ensures text { IfOk result (λ text. text ≡ head_lines id sender.now
+        ++ named_failures failures.now names.now ++ size_lines size ++ front.now) }
+    // It is the notice of each message whose failures, names, size and front these are.
+    ensures notice { IfOk result (λ text. (m : Message)
+        → IsToldOf m id sender.now failures.now names.now size front.now → text ≡ notices.notice m) }
+{
+    let mut text = Vec::new(alloc);
+    add_head(&mut text, id, sender)?;
+    add_failures(alloc, &mut text, failures.as_slice(), names.as_slice())?;
+    add_size(alloc, &mut text, size)?;
+    add(&mut text, front)?;
+    Ok(Bytes::from_vec(text))
+}

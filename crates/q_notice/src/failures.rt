@@ -1,0 +1,51 @@
+//! The lines of failures.
+ghost use Rattle.std.specs.Prelude.{◌≡◌, ◌++◌, length, OnOk};
+ghost use Rattle.q_model.specs.TextParts.{why_text};
+ghost use Rattle.q_notice.specs.NoticeTexts.{named_failure, named_failures};
+
+use crate::lines::{add, add_number};
+use q_model::{Address, Failure, NoMemory, Why};
+use std::alloc::Global;
+
+fn why_text(why: Why) -> &'static [u8]
+    ensures { result.now ≡ why_text why }
+{
+    match why {
+        Why::Refused => b"refused",
+        Why::Expired => b"expired",
+    }
+}
+
+/// Adds the line of a failure, with the address of its recipient.
+fn add_failure(
+    alloc: Global,
+    text: &mut Vec<u8>,
+    address: &Address,
+    failure: Failure,
+) -> Result<(), NoMemory>
+    ensures { OnOk result (text.new.items ≡ text.old.items ++ named_failure address.now failure) }
+{
+    add(text, address.bytes())?;
+    add(text, b": ")?;
+    add(text, why_text(failure.why))?;
+    add(text, b" ")?;
+    add_number(alloc, text, u32::from(failure.code))?;
+    add(text, b"\n")
+}
+
+/// Adds the lines of failures, in their order, with the addresses of their recipients.
+pub(crate) fn add_failures(
+    alloc: Global,
+    text: &mut Vec<u8>,
+    failures: &[Failure],
+    names: &[Address],
+) -> Result<(), NoMemory>
+    requires { length names.now ≡ length failures.now }
+    ensures { OnOk result (text.new.items
+        ≡ text.old.items ++ named_failures failures.now names.now) }
+{
+    for (i, failure) in failures.iter().enumerate() {
+        add_failure(alloc, text, &names[i], *failure)?;
+    }
+    Ok(())
+}

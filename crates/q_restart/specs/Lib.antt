@@ -1,0 +1,9 @@
+pub mod Causes
+pub mod Clearings
+pub mod Damages
+pub mod Generations
+pub mod Judgements
+pub mod Openings
+pub mod Places
+pub mod Raises
+pub mod Walks
