@@ -1,0 +1,6 @@
+pub mod Lists
+pub mod NameLists
+pub mod GenerationLaws
+pub mod Standings
+pub mod Placing
+pub mod Clears
