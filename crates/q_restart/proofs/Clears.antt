@@ -1,10 +1,11 @@
 -- Clearing away: what each call changes, and what is handled stays so.
-use Rattle.std.proofs.Common.{◌≡◌, ◌≢◌, ◌⊎◌, ◌<◌, ◌≤◌, ◌+◌, ℕ, Bool, true, false, List, [], ◌∷◌, ◌++◌, length, take, drop, Option, Some, None, is_some, inl, inr, ⊎_elim, refl, sym, ap, subst, ◌∙◌, arith}
+use Rattle.std.proofs.Common.{◌≡◌, ◌≢◌, ◌⊎◌, ◌<◌, ◌≤◌, ◌+◌, ℕ, zero, suc, Bool, true, false, List, [], ◌∷◌, ◌++◌, length, take, drop, Option, Some, None, is_some, inl, inr, ⊎_elim, refl, sym, ap, subst, ◌∙◌, arith}
 use Rattle.std.specs.Cmp.Lexicographic.{nat_list_cmp_total, slice_cmp}
 use Rattle.std.specs.List.{Contains}
 use Rattle.std.specs.Option.{IsSome}
 use Rattle.std.specs.Ordering.{nat_cmp}
-use Rattle.std.specs.Prelude.{slice_index_or}
+use Rattle.std.specs.List.Sorted.{IsStrictlySortedBy}
+use Rattle.std.specs.Prelude.{Err, Ok, OnErr, OnOk, Result, slice_index_or}
 use Rattle.std.specs.declared.cmp.Ordering.TheVariants.{Less}
 use Rattle.std.proofs.lemmas.List.{drop_more, take_all, take_more}
 use Rattle.std.proofs.lemmas.List.Elements.{Contains-push_cases}
@@ -92,7 +93,7 @@ names-rest f g a n rest is h = subst (λ (x : Files). AreAllNames (x a) rest) (s
     apart : (m : List ℕ) → Contains rest m → m ≢ n
     apart m k e = not_itself (slice_cmp nat_cmp) nat_list_cmp_total n (subst (λ (x : List ℕ). slice_cmp nat_cmp n x ≡ Less) e (sorted_first (slice_cmp nat_cmp) nat_list_cmp_total n rest m h.sorted k))
 
-    no : IsSome None → ⊥
+    no : IsSome {T = List ℕ} None → ⊥
     no k = cc
 
     by : (m : List ℕ) (t : Bool) → same_place a n a m ≡ t → IsSome (without_file f a n a m) → Contains rest m
@@ -217,3 +218,32 @@ module _ (keeps : Id → Bool) where
     failures = λ n. handled-on areas.Bounce n w x r (failures n);
     notes = notes;
   }
+
+-- ---- answers of calls
+
+-- a call did what it was to do, or may have
+pub done_or : {T E : Type 0} {C P Q : Type 0} (r : Result T E) → OnOk r (C → P) → OnErr r (C → P ⊎ Q) → C → P ⊎ Q
+done_or (Ok v) ok err tells = inl (ok tells)
+done_or (Err e) ok err tells = err tells
+
+-- nothing else changed
+pub others-remove : (a : Area) (n : List ℕ) (v w : View) → Changes (λ f. without_file f a n) v w ⊎ Stays v w → SameBut a n v.files w.files
+others-remove a n v w (inl ch) b m apart = ap (λ (f : Files). f b m) ch.files ∙ put-other v.files a n None b m apart
+others-remove a n v w (inr s) b m apart = ap (λ (f : Files). f b m) s.files
+
+sorted_drop : (names : List (List ℕ)) (i : ℕ) → IsStrictlySortedBy (slice_cmp nat_cmp) names → IsStrictlySortedBy (slice_cmp nat_cmp) (drop i names)
+sorted_drop names zero h = h
+sorted_drop [] (suc i) h = h
+sorted_drop (n ∷ names) (suc i) h = sorted_drop names i (sorted_rest (slice_cmp nat_cmp) nat_list_cmp_total n names h)
+
+-- a name that comes later is another
+pub later_apart : (names : List (List ℕ)) (i : ℕ) (n m : List ℕ) → i < length names → n ≡ slice_index_or names i n → IsStrictlySortedBy (slice_cmp nat_cmp) names → Contains (drop (i + 1) names) m → m ≢ n
+later_apart names i n m within is sorted k same =
+    let rest = subst (IsStrictlySortedBy (slice_cmp nat_cmp)) (next_name names i n within is) (sorted_drop names i sorted) in
+    not_itself (slice_cmp nat_cmp) nat_list_cmp_total n (subst (λ (x : List ℕ). slice_cmp nat_cmp n x ≡ Less) same (sorted_first (slice_cmp nat_cmp) nat_list_cmp_total n (drop (i + 1) names) m rest k))
+
+pub later_there : (names : List (List ℕ)) (i : ℕ) (n m : List ℕ) → i < length names → n ≡ slice_index_or names i n → Contains (drop (i + 1) names) m → Contains (drop i names) m
+later_there names i n m within is k = subst (λ (xs : List (List ℕ)). Contains xs m) (sym (next_name names i n within is)) (has_tail n (drop (i + 1) names) m k)
+
+pub this_there : (names : List (List ℕ)) (i : ℕ) (n : List ℕ) → i < length names → n ≡ slice_index_or names i n → Contains (drop i names) n
+this_there names i n within is = subst (λ (xs : List (List ℕ)). Contains xs n) (sym (next_name names i n within is)) (has_head n (drop (i + 1) names))

@@ -4,3 +4,4 @@ pub mod GenerationLaws
 pub mod Standings
 pub mod Placing
 pub mod Clears
+pub mod BootNames

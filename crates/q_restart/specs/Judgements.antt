@@ -1,8 +1,9 @@
 -- Whether a spool with these names and files can be opened.
 use Rattle.std.specs.Option.{option_map_or}
-use Rattle.std.specs.Prelude.{◌≡◌, ◌+◌, ◌^◌, ◌-◌, ◌<◌, ◌&&◌, [], Bool, false, List, None, not, Option, Some, ℕ}
+use Rattle.std.specs.Prelude.{◌≡◌, ◌+◌, ◌^◌, ◌-◌, ◌<◌, ◌&&◌, [], Bool, false, List, None, not, Option, Some, true, ℕ}
 use Rattle.q_model.specs.Ids.{cause_of}
 use Rattle.q_model.specs.Places.{is_active, is_incoming}
+use Rattle.q_model.specs.Texts.{is_name}
 use Rattle.q_restart.specs.declared.error.OpenError.{OpenError}
 use Rattle.q_restart.specs.declared.error.OpenError.TheVariants as errors
 use Rattle.q_restart.specs.declared.places.Index.{Index}
@@ -31,5 +32,6 @@ pub record IsAllowed (boot : List (List ℕ)) (walk : List Standing) (generation
 abbrev pub IsRefused : List (List ℕ) → List Standing → OpenError → Type 0
 IsRefused boot walk errors.Disk = ⊥
 IsRefused boot walk errors.NoMemory = ⊥
-IsRefused boot walk (errors.Damaged area name) = damage_of boot walk ≡ Some (record { area = area; name = name })
+IsRefused boot walk (errors.Damaged area name) =
+    (damage_of boot walk ≡ Some (record { area = area; name = name })) × (is_name name ≡ true)
 IsRefused boot walk errors.Spent = (damage_of boot walk ≡ None) × (boot_generation boot ≡ 2 ^ 32 - 1)

@@ -1,6 +1,7 @@
 //! Generations, and the names that spell them.
-ghost use Rattle.std.specs.Prelude.{◌≡◌, ◌<◌, ◌^◌, ℕ, Some};
+ghost use Rattle.std.specs.Prelude.{◌≡◌, ◌<◌, ◌^◌, ℕ, Some, true};
 ghost use Rattle.q_model.specs.IdTexts.{hex};
+ghost use Rattle.q_model.specs.Texts.{is_name};
 ghost use Rattle.q_restart.specs.Generations.{generation_of};
 
 use q_model::{Id, Name, id_name};
@@ -31,7 +32,8 @@ fn hex_number(digits: &[u8]) -> Option<u32>
 
 /// The generation that a name spells: 8 hexadecimal digits in lower case, from 1 on.
 pub(crate) fn generation_of(name: Name) -> Option<u32>
-    ensures { result ≡ generation_of name }
+    ensures spelt { result ≡ generation_of name }
+    ensures form { is_name name ≡ true }
 {
     let generation = hex_number(name.bytes())?;
     if generation == 0 || generation_name(generation) != name {

@@ -1,5 +1,6 @@
 //! Whether a spool can be opened.
-ghost use Rattle.std.specs.Prelude.{◌≡◌, ◌+◌, ◌^◌, ◌-◌, ◌<◌, find, IfErr, IfOk, List, option_copied};
+ghost use Rattle.std.specs.Prelude.{◌≡◌, ◌+◌, ◌^◌, ◌-◌, ◌<◌, find, IfErr, IfOk, IfSome, List, option_copied, true};
+ghost use Rattle.q_model.specs.Texts.{is_name};
 ghost use Rattle.q_restart.specs.Damages.{boot_damage, is_mispaired, walk_damage};
 ghost use Rattle.q_restart.specs.Generations.{boot_generation};
 ghost use Rattle.q_restart.specs.Judgements.{IsAllowed, IsIndexOf, IsRefused, mispaired_at};
@@ -16,7 +17,8 @@ use q_model::{Area, Id, Name, Place, Spot};
 
 /// The name in boot that is one too many.
 fn boot_damage(names: &[Name]) -> Option<Name>
-    ensures { result ≡ boot_damage names.now }
+    ensures is { result ≡ boot_damage names.now }
+    ensures form { IfSome result (λ name. is_name name ≡ true) }
 {
     for name in names {
         if generation_of(*name).is_none() {
