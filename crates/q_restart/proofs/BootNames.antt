@@ -1,5 +1,5 @@
 -- The names in boot, gone through one behind another.
-use Rattle.std.proofs.Common.{◌≡◌, ◌<◌, ◌≤◌, ◌+◌, ℕ, zero, suc, Bool, true, false, List, [], ◌∷◌, ◌++◌, length, take, drop, Option, Some, None, is_some, if◌then◌else◌, refl, sym, ap, subst, ◌∙◌, arith, take-append-drop}
+use Rattle.std.proofs.Common.{not, ◌≡◌, ◌<◌, ◌≤◌, ◌+◌, ℕ, zero, suc, Bool, true, false, List, [], ◌∷◌, ◌++◌, length, take, drop, Option, Some, None, is_some, if◌then◌else◌, refl, sym, ap, subst, ◌∙◌, arith, take-append-drop}
 use Rattle.std.specs.Option.{option_or}
 use Rattle.std.specs.Prelude.{find, is_none, slice_get, slice_index_or}
 use Rattle.std.proofs.lemmas.List.{drop_more, take_all, take_more}
@@ -62,3 +62,9 @@ generation-name n e =
 -- a second name has a name's form
 pub second-name : (names : List (List ℕ)) (i : ℕ) (n : List ℕ) → length names ≤ i → find is_other (take i names) ≡ None → slice_get names 1 ≡ Some n → is_name n ≡ true
 second-name names i n whole none at = generation-name n (each-generation names 1 n (none-other names i whole none) at)
+
+pub none-is : (o : Option ℕ) (r : Bool) → is_some o ≡ not r → is_none o ≡ r
+none-is None true e = refl
+none-is None false e = cc
+none-is (Some x) true e = cc
+none-is (Some x) false e = refl

@@ -1,5 +1,5 @@
 -- Names that spell generations.
-use Rattle.std.proofs.Common.{◌≡◌, ◌≤◌, ◌<◌, ◌^◌, ℕ, Bool, true, false, not, List, length, take, Option, Some, None, if◌then◌else◌, nat_eq, nat_lt, refl, sym, ap, ◌∙◌, arith, append_assoc}
+use Rattle.std.proofs.Common.{◌≡◌, ◌≢◌, ◌+◌, ◌≤◌, ◌<◌, ◌^◌, ℕ, Bool, true, false, not, List, length, take, Option, Some, None, if◌then◌else◌, nat_eq, nat_lt, refl, sym, ap, ◌∙◌, arith, append_assoc}
 use Rattle.std.specs.Prelude.{◌&&◌, bytes_eq, nat_le, unwrap_or}
 use Rattle.std.specs.Cmp.Lexicographic.{bytes_decides, pointwise}
 use Rattle.std.specs.List.{list_all}
@@ -70,3 +70,9 @@ named g name made some fits is same =
     by : (t : Bool) → not t ≡ false → t ≡ true
     by true e = refl
     by false e = cc
+
+pub hex-same : (g h : ℕ) → g < 2 ^ 32 → h < 2 ^ 32 → hex 8 g ≡ hex 8 h → g ≡ h
+hex-same g h hg hh e = sym (value-spell hex-Spells 8 g hg) ∙ ap (digits_value 16) e ∙ value-spell hex-Spells 8 h hh
+
+pub next-differs : (g : ℕ) → g + 1 < 2 ^ 32 → hex 8 (g + 1) ≢ hex 8 g
+next-differs g fits e = absurd (omega (arith, hex-same (g + 1) g fits (omega (arith, fits)) e))

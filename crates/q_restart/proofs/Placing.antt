@@ -1,5 +1,5 @@
 -- The places of ids that are gone through one behind another.
-use Rattle.std.proofs.Common.{take-append-drop, ◌≡◌, ◌<◌, ◌≤◌, ◌+◌, ℕ, Bool, true, false, List, [], ◌∷◌, ◌++◌, length, take, drop, Option, Some, None, if◌then◌else◌, cond, refl, sym, ap, subst, ◌∙◌, arith}
+use Rattle.std.proofs.Common.{append_assoc, take-append-drop, ◌≡◌, ◌<◌, ◌≤◌, ◌+◌, ℕ, Bool, true, false, List, [], ◌∷◌, ◌++◌, length, take, drop, Option, Some, None, if◌then◌else◌, cond, refl, sym, ap, subst, ◌∙◌, arith}
 use Rattle.std.specs.BTreeMap.{Updates}
 use Rattle.std.specs.Option.{option_map, option_map_or, option_or}
 use Rattle.std.specs.Ordering.{bool_cmp, is_eq, nat_cmp, ordering_then}
@@ -8,6 +8,9 @@ use Rattle.std.specs.declared.cmp.Ordering.{Ordering}
 use Rattle.std.specs.declared.cmp.Ordering.TheVariants.{Equal, Greater, Less}
 use Rattle.std.proofs.lemmas.Bool.Decides.{nat_tests}
 use Rattle.std.proofs.lemmas.List.{drop_more, take_more, take_all}
+use Rattle.std.specs.List.{Contains}
+use Rattle.std.proofs.lemmas.List.Elements.{Contains-append_right}
+use Rattle.q_restart.proofs.Lists.{has_head, has_tail}
 use Rattle.std.proofs.lemmas.List.Folds.{find-append}
 use Rattle.std.proofs.Math.ListN.{drop_of_length-le}
 use Rattle.q_model.specs.declared.id.Id.{Id}
@@ -122,3 +125,53 @@ places-push walk i d within old new are absent updates id =
 
 pub mispaired-is : (walk : List Standing) (places : IdMap) (s : Standing) → ArePlacesOf walk places → mispaired_at places s ≡ is_mispaired walk s
 mispaired-is walk places s are = ap (λ (o : Option Place). s.id.bounce && option_map_or (λ cause. not (is_incoming s.place && is_active cause)) o false) (are (cause_of s.id))
+
+-- ---- what is found stands in the walk
+
+contains-by : (p : Standing → Bool) (x : Standing) (walk : List Standing) (s : Standing) (t : Bool) → p x ≡ t → (if t then Some x else find p walk) ≡ Some s → (find p walk ≡ Some s → Contains walk s × (p s ≡ true)) → Contains (x ∷ walk) s × (p s ≡ true)
+contains-by p x walk s true e k rest =
+    let same : x ≡ s = cc in
+    (subst (Contains (x ∷ walk)) same (has_head x walk), ap p (sym same) ∙ e)
+contains-by p x walk s false e k rest = let found = rest k in (has_tail x walk s found.0, found.1)
+
+pub find-contains : (p : Standing → Bool) (walk : List Standing) (s : Standing) → find p walk ≡ Some s → Contains walk s × (p s ≡ true)
+find-contains p [] s h = absurd cc
+find-contains p (x ∷ walk) s h = contains-by p x walk s (p x) refl h (find-contains p walk s)
+
+-- a file that repeats an id stands behind one of that id
+pub record Repeats (front rest : List Standing) (s : Standing) : Type 0 where
+  pub before : List Standing
+  pub after : List Standing
+  pub first : Standing
+  pub split : front ++ rest ≡ before ++ s ∷ after
+  pub there : Contains before first
+  pub same : first.id ≡ s.id
+
+place-contains : (front : List Standing) (id : Id) → is_some (standing_place front id) ≡ true → (t : Standing) × Contains front t × (t.id ≡ id)
+place-contains front id some = by (find (λ (x : Standing). id_eq x.id id) front) refl
+  where
+    no : is_some (option_map (λ (x : Standing). x.place) None) ≡ true → ⊥
+    no e = cc
+
+    by : (o : Option Standing) → find (λ (x : Standing). id_eq x.id id) front ≡ o → (t : Standing) × Contains front t × (t.id ≡ id)
+    by None e = absurd (no (ap (λ (o : Option Standing). is_some (option_map (λ (x : Standing). x.place) o)) (sym e) ∙ some))
+    by (Some t) e = let found = find-contains (λ (x : Standing). id_eq x.id id) front t e in (t, found.0, id_eq-true t.id id found.1)
+
+repeated-by : (front : List Standing) (x : Standing) (rest : List Standing) (s : Standing) (t : Bool) → is_some (standing_place front x.id) ≡ t → (if t then Some x else repeated_behind (front ++ x ∷ []) rest) ≡ Some s
+    → (repeated_behind (front ++ x ∷ []) rest ≡ Some s → Repeats (front ++ x ∷ []) rest s) → Repeats front (x ∷ rest) s
+repeated-by front x rest s true e k step =
+    let same : x ≡ s = cc in
+    let found = place-contains front x.id e in
+    record { before = front; after = rest; first = found.0; split = ap (λ (y : Standing). front ++ y ∷ rest) same; there = found.1; same = found.2 ∙ ap (λ (y : Standing). y.id) same }
+repeated-by front x rest s false e k step =
+    let more = step k in
+    record { before = more.before; after = more.after; first = more.first; split = sym (append_assoc front (x ∷ []) rest) ∙ more.split; there = more.there; same = more.same }
+
+pub repeated-is : (front rest : List Standing) (s : Standing) → repeated_behind front rest ≡ Some s → Repeats front rest s
+repeated-is front [] s h = absurd cc
+repeated-is front (x ∷ rest) s h = repeated-by front x rest s (is_some (standing_place front x.id)) refl h (repeated-is (front ++ x ∷ []) rest s)
+
+pub repeated-contains : (walk : List Standing) (s : Standing) → repeated_behind [] walk ≡ Some s → Contains walk s
+repeated-contains walk s h =
+    let r = repeated-is [] walk s h in
+    subst (λ (xs : List Standing). Contains xs s) (sym r.split) (Contains-append_right r.before (s ∷ r.after) s (has_head s r.after))

@@ -24,7 +24,7 @@ use Rattle.q_model.proofs.SpotLaws.{same_spot}
 use Rattle.q_host.specs.Files.{area_number}
 use Rattle.q_host.proofs.Puts.{same_area}
 use Rattle.q_restart.specs.declared.standing.Standing.{Standing}
-use Rattle.q_restart.specs.Walks.{AddsStandings, AreAllNames, AreStandings, GoesThrough, HasStanding, IsNoStanding, IsStandingAt, IsWalk, standing_cmp}
+use Rattle.q_restart.specs.Walks.{AddsStandings, AreAllNames, ArePlaces, AreStandings, GoesThrough, HasStanding, IsNoStanding, IsStandingAt, IsWalk, standing_cmp}
 use Rattle.q_restart.proofs.Lists.{each_has, has_cases, has_head, has_none, has_tail, sorted_append, sorted_first, sorted_rest}
 
 pub standing_cmp_total : IsTotalOrder standing_cmp
@@ -102,6 +102,14 @@ found-all area (m ∷ names) found n s (inr h) k is = ⊎_elim
     (λ (e : m ≡ n). absurd (h.0 s (subst (λ (x : List ℕ). IsStandingAt area x s) (sym e) is)))
     (λ behind. found-all area names found n s h.1 behind is)
     (has_cases m names n k)
+
+-- a walk's places have the form of places
+pub places-none : (walk : List Standing) → walk ≡ [] → ArePlaces walk
+places-none walk none s k = absurd (has_none s (subst (λ (xs : List Standing). Contains xs s) none k))
+
+pub places-added : (area : Area) (names : List (List ℕ)) (old new : List Standing) → AddsStandings area names old new → ArePlaces old → ArePlaces new
+places-added area names old new adds places s k = ⊎_elim (λ before. places s before) (λ here. (found-named area names adds.found s adds.are here).is.place)
+    (Contains-append_cases old adds.found s (subst (λ (xs : List Standing). Contains xs s) adds.added k))
 
 cmp-same : (x : ℕ) → nat_cmp x x ≡ Equal
 cmp-same x = sym (nat_cmp_is x x Equal refl)

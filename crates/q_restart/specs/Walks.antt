@@ -51,6 +51,10 @@ pub record IsWalk (f : Files) (walk : List Standing) : Type 0 where
 abbrev pub standing_place : List Standing → Id → Option Place
 standing_place walk id = option_map (λ s. s.place) (find (λ s. id_eq s.id id) walk)
 
+-- each place has a due moment of 12 digits, where it has one
+abbrev pub ArePlaces : List Standing → Type 0
+ArePlaces walk = (s : Standing) → Contains walk s → IsPlace s.place
+
 -- no file of a message has this name in the area
 abbrev pub IsNoStanding : Area → List ℕ → Type 0
 IsNoStanding area name = (s : Standing) → IsStandingAt area name s → ⊥

@@ -5,6 +5,7 @@ ghost use Rattle.q_restart.specs.Damages.{boot_damage, is_mispaired, walk_damage
 ghost use Rattle.q_restart.specs.Generations.{boot_generation};
 ghost use Rattle.q_restart.specs.Judgements.{IsAllowed, IsIndexOf, IsRefused, mispaired_at};
 ghost use Rattle.q_restart.specs.Places.{ArePlacesOf};
+ghost use Rattle.q_restart.specs.Walks.{ArePlaces};
 ghost use Rattle.q_restart.specs.declared.standing.Standing.{Standing};
 
 use crate::error::OpenError;
@@ -72,7 +73,8 @@ fn mispaired(walk: &[Standing], places: &Places) -> Option<Standing>
 
 /// The file of a walk that is named as damaged.
 fn walk_damage(walk: &[Standing], index: &Index) -> Option<Spot>
-    requires { IsIndexOf walk.now index.now }
+    requires places { ArePlaces walk.now }
+    requires index { IsIndexOf walk.now index.now }
     ensures { result ≡ walk_damage walk.now }
 {
     if let Some(standing) = index.repeated {
@@ -84,7 +86,8 @@ fn walk_damage(walk: &[Standing], index: &Index) -> Option<Spot>
 
 /// The generation of a spool without a damage that has another left; 0 before the first.
 pub(crate) fn judge(sight: &Sight, index: &Index) -> Result<u32, OpenError>
-    requires { IsIndexOf sight.now.walk.items index.now }
+    requires places { ArePlaces sight.now.walk.items }
+    requires index { IsIndexOf sight.now.walk.items index.now }
     ensures ok { IfOk result (IsAllowed sight.now.boot.items sight.now.walk.items) }
     ensures err { IfErr result (IsRefused sight.now.boot.items sight.now.walk.items) }
 {

@@ -4,7 +4,7 @@ ghost use Rattle.q_host.specs.Calls.{Stays};
 ghost use Rattle.q_host.specs.Faults.{DiskCause};
 ghost use Rattle.q_host.specs.View.{Told};
 ghost use Rattle.q_restart.specs.Damages.{SpoolShows};
-ghost use Rattle.q_restart.specs.Walks.{GoesThrough, IsWalk};
+ghost use Rattle.q_restart.specs.Walks.{ArePlaces, GoesThrough, IsWalk};
 
 use crate::names::all_names;
 use crate::standing::{Standing, add_standings};
@@ -35,6 +35,7 @@ fn walk_queue<H: Host>(
     area: Area,
     walk: &mut Vec<Standing>,
 ) -> Result<(), HostError>
+    ensures places { OnOk result (ArePlaces walk.old.items → ArePlaces walk.new.items) }
     ensures gone { OnOk result (IsTrue H.tells → GoesThrough (H.view host.old).files area walk.old.items walk.new.items) }
     ensures stays { Told H.tells H.view host.old host.new Stays }
     ensures cause { DiskCause (H.faults host.old) (H.faults host.new) result }
@@ -46,6 +47,7 @@ fn walk_queue<H: Host>(
 
 /// The files of messages in all queues.
 fn walk_queues<H: Host>(alloc: Global, host: &mut H) -> Result<Vec<Standing>, HostError>
+    ensures places { IfOk result (λ walk. ArePlaces walk.items) }
     ensures walk { IfOk result (λ walk. IsTrue H.tells → IsWalk (H.view host.old).files walk.items) }
     ensures stays { Told H.tells H.view host.old host.new Stays }
     ensures cause { DiskCause (H.faults host.old) (H.faults host.new) result }
@@ -59,6 +61,7 @@ fn walk_queues<H: Host>(alloc: Global, host: &mut H) -> Result<Vec<Standing>, Ho
 
 /// Looks at boot and at all queues.
 pub(crate) fn look<H: Host>(alloc: Global, host: &mut H) -> Result<Sight, HostError>
+    ensures places { IfOk result (λ sight. ArePlaces sight.walk.items) }
     ensures shows { IfOk result (λ sight. IsTrue H.tells
         → SpoolShows (H.view host.old).files sight.boot.items sight.walk.items) }
     ensures stays { Told H.tells H.view host.old host.new Stays }
