@@ -5,3 +5,5 @@ pub mod Standings
 pub mod Placing
 pub mod Clears
 pub mod BootNames
+pub mod FirmBooks
+pub mod RaisedBooks
