@@ -7,3 +7,6 @@ pub mod Clears
 pub mod BootNames
 pub mod FirmBooks
 pub mod RaisedBooks
+pub mod Seen
+pub mod Opened
+pub mod Begun

@@ -147,7 +147,7 @@ pub record Repeats (front rest : List Standing) (s : Standing) : Type 0 where
   pub there : Contains before first
   pub same : first.id ≡ s.id
 
-place-contains : (front : List Standing) (id : Id) → is_some (standing_place front id) ≡ true → (t : Standing) × Contains front t × (t.id ≡ id)
+pub place-contains : (front : List Standing) (id : Id) → is_some (standing_place front id) ≡ true → (t : Standing) × Contains front t × (t.id ≡ id)
 place-contains front id some = by (find (λ (x : Standing). id_eq x.id id) front) refl
   where
     no : is_some (option_map (λ (x : Standing). x.place) None) ≡ true → ⊥
