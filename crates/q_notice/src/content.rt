@@ -1,5 +1,5 @@
 //! The content of a bounce.
-ghost use Rattle.std.specs.Prelude.{◌≡◌, ◌≤◌, ◌++◌, IfOk, length, OnOk};
+ghost use Rattle.std.specs.Prelude.{◌≡◌, ◌≤◌, ◌++◌, IfOk, length, min, OnOk};
 ghost use Rattle.q_model.specs.Message.{Message};
 ghost use Rattle.q_model.specs.Notices as notices;
 ghost use Rattle.q_notice.specs.NoticeTexts.{head_lines, IsToldOf, named_failures, size_lines};
@@ -23,11 +23,18 @@ fn add_head(text: &mut Vec<u8>, id: Id, sender: &Address) -> Result<(), NoMemory
     add(text, b" were not reached:\n\n")
 }
 
+/// How many bytes of a message of this size follow.
+fn front_size(size: u32) -> u32
+    ensures { result ≡ min size 50000 }
+{
+    if size < FRONT { size } else { FRONT }
+}
+
 /// Adds the lines that say how much of the message follows.
 fn add_size(alloc: Global, text: &mut Vec<u8>, size: u32) -> Result<(), NoMemory>
     ensures { OnOk result (text.new.items ≡ text.old.items ++ size_lines size) }
 {
-    let front = if size < FRONT { size } else { FRONT };
+    let front = front_size(size);
     add(text, b"\nThe message had ")?;
     add_number(alloc, text, size)?;
     add(text, b" bytes. Its first ")?;
