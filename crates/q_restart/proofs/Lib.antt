@@ -10,3 +10,4 @@ pub mod RaisedBooks
 pub mod Seen
 pub mod Opened
 pub mod Begun
+pub mod SoundBooks

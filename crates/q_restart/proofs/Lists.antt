@@ -7,7 +7,7 @@ use Rattle.std.specs.Ordering.{ordering_reverse}
 use Rattle.std.specs.Prelude.{slice_get, slice_index_or}
 use Rattle.std.specs.declared.cmp.Ordering.{Ordering}
 use Rattle.std.specs.declared.cmp.Ordering.TheVariants.{Equal, Greater, Less}
-use Rattle.std.proofs.lemmas.List.Elements.{Contains-append_cases}
+use Rattle.std.proofs.lemmas.List.Elements.{Contains-append_cases, Contains-append_right}
 
 module _ {A : Type 0} where
   pub has_head : (x : A) (xs : List A) → Contains (x ∷ xs) x
@@ -76,6 +76,12 @@ module _ {A : Type 0} (c : A → A → Ordering) (o : IsTotalOrder c) where
   pub sorted_first : (x : A) (xs : List A) (y : A) → IsStrictlySortedBy c (x ∷ xs) → Contains xs y → c x y ≡ Less
   unfolding IsStrictlySortedBy
   sorted_first x xs y h k = has_each (λ z. c x z ≡ Less) xs y h.0 k
+
+  -- what stands in front is less
+  pub sorted_cross : (xs ys : List A) (x y : A) → IsStrictlySortedBy c (xs ++ ys) → Contains xs x → Contains ys y → c x y ≡ Less
+  sorted_cross [] ys x y h hx hy = absurd (has_none x hx)
+  sorted_cross (z ∷ xs) ys x y h hx hy = ⊎_elim (λ (e : z ≡ x). subst (λ (w : A). c w y ≡ Less) e (sorted_first z (xs ++ ys) y h (Contains-append_right xs ys y hy)))
+      (λ behind. sorted_cross xs ys x y (sorted_rest z (xs ++ ys) h) behind hy) (has_cases z xs x hx)
 
   -- lists in order that have the same elements are one
   pub sorted_same : (xs ys : List A) → IsStrictlySortedBy c xs → IsStrictlySortedBy c ys → ((z : A) → Contains xs z → Contains ys z) → ((z : A) → Contains ys z → Contains xs z) → xs ≡ ys

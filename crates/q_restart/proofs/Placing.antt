@@ -128,13 +128,13 @@ mispaired-is walk places s are = ap (λ (o : Option Place). s.id.bounce && optio
 
 -- ---- what is found stands in the walk
 
-contains-by : (p : Standing → Bool) (x : Standing) (walk : List Standing) (s : Standing) (t : Bool) → p x ≡ t → (if t then Some x else find p walk) ≡ Some s → (find p walk ≡ Some s → Contains walk s × (p s ≡ true)) → Contains (x ∷ walk) s × (p s ≡ true)
+contains-by : {A : Type 0} (p : A → Bool) (x : A) (walk : List A) (s : A) (t : Bool) → p x ≡ t → (if t then Some x else find p walk) ≡ Some s → (find p walk ≡ Some s → Contains walk s × (p s ≡ true)) → Contains (x ∷ walk) s × (p s ≡ true)
 contains-by p x walk s true e k rest =
     let same : x ≡ s = cc in
     (subst (Contains (x ∷ walk)) same (has_head x walk), ap p (sym same) ∙ e)
 contains-by p x walk s false e k rest = let found = rest k in (has_tail x walk s found.0, found.1)
 
-pub find-contains : (p : Standing → Bool) (walk : List Standing) (s : Standing) → find p walk ≡ Some s → Contains walk s × (p s ≡ true)
+pub find-contains : {A : Type 0} (p : A → Bool) (walk : List A) (s : A) → find p walk ≡ Some s → Contains walk s × (p s ≡ true)
 find-contains p [] s h = absurd cc
 find-contains p (x ∷ walk) s h = contains-by p x walk s (p x) refl h (find-contains p walk s)
 

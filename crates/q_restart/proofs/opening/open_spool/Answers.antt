@@ -13,6 +13,7 @@ use Rattle.q_restart.specs.Raises.{MayRaise, raised}
 use Rattle.q_restart.proofs.Begun.{begun-opens, begun-tries, cleared-tries}
 use Rattle.q_restart.proofs.Opened.{boot-same}
 use Rattle.q_restart.proofs.Seen.{boot-file, boot-is, no_boot, sees}
+use Rattle.q_restart.proofs.SoundBooks.{none-refused}
 use Rattle.q_restart.proofs.opening.open_spool.Goals as goal
 
 pub raise-requires-clause-there : goal.raise-requires-clause-there
@@ -80,3 +81,8 @@ returns-clause-tries g c t b h =
     tried b (begun b) (view c.args.host.now) (view c.raise.new.host)
     (record { only = g.met.H.Host.only_now c.args.host.now; told = g.met.H.Host.told_stays c.args.host.now })
     (returns-clause-ok g c t b h).takes
+
+pub returns-in_err-generation-clause-orderly : goal.returns-in_err-generation-clause-orderly
+returns-in_err-generation-clause-orderly g c t b h orderly below refusal =
+    let sight = c.in_ok-sight.sight in
+    none-refused (g.H.Host.view c.args.host.now).files b sight.boot.items sight.walk.items (c.in_ok-sight.ensures.shows t) h.reads orderly below c.in_err-generation.field-0.0 c.in_err-generation.ensures.err
