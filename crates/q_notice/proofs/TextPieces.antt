@@ -1,5 +1,5 @@
 -- Texts that grow by pieces, and the notice that the pieces make.
-use Rattle.std.proofs.Common.{◌≡◌, ◌≤◌, ◌<◌, ◌+◌, ℕ, List, [], ◌∷◌, ◌++◌, length, map, take, Option, Some, refl, sym, ap, ◌∙◌, arith, append_assoc, append-nil, length-take-le}
+use Rattle.std.proofs.Common.{◌≡◌, ◌<◌, ◌+◌, ℕ, List, [], ◌∷◌, ◌++◌, length, map, take, Option, refl, sym, ap, ◌∙◌, arith, append_assoc, append-nil, length-take-le}
 use Rattle.std.specs.Prelude.{codes, decimal, Err, flat_map, min, Ok, OnOk, Result, slice_index_or, unwrap_or}
 use Rattle.std.proofs.lemmas.List.{take_more}
 use Rattle.q_model.specs.declared.id.Id.{Id}
@@ -79,7 +79,7 @@ named-more fs ns i d e t mid new within same before pushed =
     let count : length (take i ns) ≡ length (take i fs) = omega (arith, length-take-le i ns (omega (arith, within, same)), length-take-le i fs (omega (arith, within))) in
     pushed ∙ ap (λ (x : List ℕ). x ++ named_failure n f) before ∙ append_assoc t (named_failures (take i fs) (take i ns)) (named_failure n f)
     ∙ ap (λ (x : List ℕ). t ++ x) (sym (named-push (take i fs) (take i ns) f n count)
-    ∙ sym (ap (λ (xs : List Failure). named_failures xs (take i ns ++ n ∷ [])) (take_more fs i d within) )
+    ∙ sym (ap (λ (xs : List Failure). named_failures xs (take i ns ++ n ∷ [])) (take_more fs i d within))
     ∙ sym (ap (named_failures (take (i + 1) fs)) (take_more ns i e (omega (arith, within, same)))))
 
 -- ---- the notice of a message

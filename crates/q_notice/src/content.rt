@@ -18,7 +18,10 @@ fn add_head(text: &mut Vec<u8>, id: Id, sender: &Address) -> Result<(), NoMemory
 {
     add(text, b"From: MAILER-DAEMON\nTo: ")?;
     add(text, sender.bytes())?;
-    add(text, b"\nSubject: Undelivered Mail Returned to Sender\n\nThese recipients of message ")?;
+    add(
+        text,
+        b"\nSubject: Undelivered Mail Returned to Sender\n\nThese recipients of message ",
+    )?;
     add(text, id_name(id).bytes())?;
     add(text, b" were not reached:\n\n")
 }

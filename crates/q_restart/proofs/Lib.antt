@@ -11,3 +11,4 @@ pub mod Seen
 pub mod Opened
 pub mod Begun
 pub mod SoundBooks
+pub mod OneSight

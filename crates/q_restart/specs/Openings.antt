@@ -40,6 +40,14 @@ IsRefusal (Err errors.NoMemory) = ⊥
 IsRefusal (Err (errors.Damaged area name)) = Unit {0}
 IsRefusal (Err errors.Spent) = Unit {0}
 
+-- the answers that find no damage
+abbrev pub IsAccepted : Result Spool OpenError → Type 0
+IsAccepted (Ok spool) = Unit {0}
+IsAccepted (Err errors.Disk) = ⊥
+IsAccepted (Err errors.NoMemory) = ⊥
+IsAccepted (Err (errors.Damaged area name)) = ⊥
+IsAccepted (Err errors.Spent) = Unit {0}
+
 -- `Disk` comes only where the count of disk faults rose, and neither count falls
 pub record OpenCause (before after : Faults) (result : Result Spool OpenError) : Type 0 where
   pub disk_later : before.disk ≤ after.disk

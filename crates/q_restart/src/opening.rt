@@ -7,7 +7,7 @@ ghost use Rattle.q_model.specs.declared.spot.Area.{Area};
 ghost use Rattle.q_model.specs.Book.{Book};
 ghost use Rattle.q_model.specs.Orderly.{is_orderly};
 ghost use Rattle.q_restart.specs.Damages.{IsDamage, IsNextGeneration, IsSpent};
-ghost use Rattle.q_restart.specs.Openings.{begun, IsRefusal, OpenCause, Opens};
+ghost use Rattle.q_restart.specs.Openings.{begun, IsAccepted, IsRefusal, OpenCause, Opens};
 
 use crate::clearing::clear;
 use crate::error::OpenError;
@@ -53,6 +53,8 @@ pub fn open_spool<H: Host>(alloc: Global, host: &mut H) -> Result<Spool, OpenErr
     ensures damaged { (area : Area) (name : List ℕ) → result ≡ Err (OpenError.Damaged area name)
         → IsTrue H.tells → IsDamage (H.view host.old).files area name }
     ensures spent { IsErrOf result OpenError.Spent → IsTrue H.tells → IsSpent (H.view host.old).files }
+    ensures undamaged { IsAccepted result → IsTrue H.tells → (area : Area) (name : List ℕ)
+        → IsDamage (H.view host.old).files area name → ⊥ }
     ensures untouched { IsRefusal result → Told H.tells H.view host.old host.new Stays }
 
     // An orderly book is never refused but at the last generation.

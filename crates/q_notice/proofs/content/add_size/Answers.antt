@@ -1,4 +1,4 @@
-use Rattle.std.proofs.Common.{◌++◌, ◌∙◌, ap, List, ℕ}
+use Rattle.std.proofs.Common.{◌++◌, ◌∙◌, ap, ℕ}
 use Rattle.std.specs.Prelude.{decimal}
 use Rattle.q_notice.proofs.TextPieces.{on_ok, size-pieces}
 use Rattle.q_notice.proofs.content.add_size.Goals as goal

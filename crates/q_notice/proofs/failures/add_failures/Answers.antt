@@ -5,5 +5,7 @@ use Rattle.q_notice.proofs.TextPieces.{named-more, no_failure}
 use Rattle.q_notice.proofs.failures.add_failures.Goals as goal
 
 pub loop-i-preserved : goal.loop-i-preserved
-loop-i-preserved c = record { text = named-more c.args.failures.now c.args.names.now c.loop-i.i no_failure c.index-names-i.result c.args.text.now.items c.loop-i.text.items c.add_failure.new.text.items c.loop-i-test.true c.requires c.loop-i.invariant.text
-    (c.in_ok-add_failure.ensures ∙ ap (λ (n : List ℕ). c.loop-i.text.items ++ named_failure n (slice_index_or c.args.failures.now c.loop-i.i no_failure)) c.index-names-i.is) }
+loop-i-preserved c = record {
+  text = named-more c.args.failures.now c.args.names.now c.loop-i.i no_failure c.index-names-i.result c.args.text.now.items c.loop-i.text.items c.add_failure.new.text.items c.loop-i-test.true c.requires c.loop-i.invariant.text
+      (c.in_ok-add_failure.ensures ∙ ap (λ (n : List ℕ). c.loop-i.text.items ++ named_failure n (slice_index_or c.args.failures.now c.loop-i.i no_failure)) c.index-names-i.is);
+}
