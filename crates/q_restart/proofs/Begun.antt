@@ -1,11 +1,11 @@
 -- The whole of an opening: at each of its ends, and at each moment.
-use Rattle.std.proofs.Common.{◌≡◌, ◌≢◌, ◌<◌, ◌+◌, ◌^◌, ℕ, Bool, true, false, List, None, inl, refl, sym, ap, subst, ◌∙◌}
+use Rattle.std.proofs.Common.{◌≡◌, ◌≢◌, ◌<◌, ◌+◌, ◌^◌, ℕ, Bool, true, false, List, refl, sym, ap, subst, ◌∙◌}
 use Rattle.std.proofs.lemmas.Bool.{false_from_ne_true}
 use Rattle.q_model.specs.declared.id.Id.{Id}
 use Rattle.q_model.specs.declared.spot.Area.{Area}
 use Rattle.q_model.specs.declared.spot.Area.TheVariants as areas
 use Rattle.q_model.specs.Book.{Book, stands}
-use Rattle.q_model.specs.IdTexts.{id_text, IsId}
+use Rattle.q_model.specs.IdTexts.{id_text}
 use Rattle.q_model.specs.SpoolFiles.{Files}
 use Rattle.q_model.proofs.StandLaws.{true_false}
 use Rattle.q_host.specs.Calls.{Changes, Stays}

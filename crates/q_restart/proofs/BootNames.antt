@@ -1,5 +1,5 @@
 -- The names in boot, gone through one behind another.
-use Rattle.std.proofs.Common.{not, ◌≡◌, ◌<◌, ◌≤◌, ◌+◌, ℕ, zero, suc, Bool, true, false, List, [], ◌∷◌, ◌++◌, length, take, drop, Option, Some, None, is_some, if◌then◌else◌, refl, sym, ap, subst, ◌∙◌, arith, take-append-drop}
+use Rattle.std.proofs.Common.{not, ◌≡◌, ◌<◌, ◌≤◌, ◌+◌, ℕ, zero, suc, Bool, true, false, List, [], ◌∷◌, ◌++◌, length, take, drop, Option, Some, None, is_some, if◌then◌else◌, refl, sym, ap, ◌∙◌, take-append-drop}
 use Rattle.std.specs.Option.{option_or}
 use Rattle.std.specs.Prelude.{find, is_none, slice_get, slice_index_or}
 use Rattle.std.proofs.lemmas.List.{drop_more, take_all, take_more}

@@ -1,5 +1,5 @@
 -- Clearing away: what each call changes, and what is handled stays so.
-use Rattle.std.proofs.Common.{◌≡◌, ◌≢◌, ◌⊎◌, ◌<◌, ◌≤◌, ◌+◌, ℕ, zero, suc, Bool, true, false, List, [], ◌∷◌, ◌++◌, length, take, drop, Option, Some, None, is_some, inl, inr, ⊎_elim, refl, sym, ap, subst, ◌∙◌, arith}
+use Rattle.std.proofs.Common.{◌≡◌, ◌≢◌, ◌⊎◌, ◌<◌, ◌≤◌, ◌+◌, ℕ, zero, suc, Bool, true, false, List, [], ◌∷◌, ◌++◌, length, take, drop, Option, Some, None, is_some, inl, inr, ⊎_elim, refl, sym, ap, subst, ◌∙◌}
 use Rattle.std.specs.Cmp.Lexicographic.{nat_list_cmp_total, slice_cmp}
 use Rattle.std.specs.List.{Contains}
 use Rattle.std.specs.Option.{IsSome}
@@ -7,8 +7,7 @@ use Rattle.std.specs.Ordering.{nat_cmp}
 use Rattle.std.specs.List.Sorted.{IsStrictlySortedBy}
 use Rattle.std.specs.Prelude.{Err, Ok, OnErr, OnOk, Result, slice_index_or}
 use Rattle.std.specs.declared.cmp.Ordering.TheVariants.{Less}
-use Rattle.std.proofs.lemmas.List.{drop_more, take_all, take_more}
-use Rattle.std.proofs.lemmas.List.Elements.{Contains-push_cases}
+use Rattle.std.proofs.lemmas.List.{drop_more, take_more}
 use Rattle.std.proofs.Math.ListN.{drop_of_length-le}
 use Rattle.q_model.specs.declared.id.Id.{Id}
 use Rattle.q_model.specs.declared.spot.Area.{Area}
@@ -19,11 +18,11 @@ use Rattle.q_model.proofs.IdLaws.{id_text-injective}
 use Rattle.q_model.proofs.StandLaws.{true_false}
 use Rattle.q_host.specs.Calls.{Changes, Stays, Syncs}
 use Rattle.q_host.specs.Files.{same_place, SameNames, without_file}
-use Rattle.q_host.specs.Steps.{SameBut, Stay}
-use Rattle.q_host.specs.View.{Goes, now, Remains, Step, View}
+use Rattle.q_host.specs.Steps.{SameBut}
+use Rattle.q_host.specs.View.{now, Remains, Step, View}
 use Rattle.q_host.proofs.Moments.{goes_again, goes_nowhere, goes_wider}
 use Rattle.q_host.proofs.Puts.{other_area, put-here, put-other, same_place-refl, same_place-true}
-use Rattle.q_restart.specs.Clearings.{AreHandled, ChangesTmp, Cleans, DropsStrays, GoesBy, IsClean, IsEmpty, IsHandled, IsLogArea, IsSettled, IsStray}
+use Rattle.q_restart.specs.Clearings.{AreHandled, ChangesTmp, Cleans, DropsStrays, GoesBy, IsClean, IsEmpty, IsHandled, IsSettled, IsStray}
 use Rattle.q_restart.specs.Walks.{AreAllNames}
 use Rattle.q_restart.proofs.Lists.{has_cases, has_head, has_none, has_tail, not_itself, sorted_first, sorted_rest}
 
@@ -135,8 +134,10 @@ module _ (keeps : Id → Bool) where
       by : (b : Area) (m : List ℕ) (t : Bool) → same_place a n b m ≡ t → (c.files b m ≡ d.files b m) ⊎ (IsStray keeps b m × (c.files b m ≡ None))
       by b m true e =
           let same = same_place-true a n b m e in
-          inr (subst (λ (x : Area). IsStray keeps x m) same.0 (subst (IsStray keeps a) same.1 stray),
-          ap (λ (f : Files). f b m) files ∙ ap (λ (x : Area). without_file d.files a n x m) (sym same.0) ∙ ap (λ (x : List ℕ). without_file d.files a n a x) (sym same.1) ∙ put-here d.files a n None)
+          inr (
+            subst (λ (x : Area). IsStray keeps x m) same.0 (subst (IsStray keeps a) same.1 stray),
+            ap (λ (f : Files). f b m) files ∙ ap (λ (x : Area). without_file d.files a n x m) (sym same.0) ∙ ap (λ (x : List ℕ). without_file d.files a n a x) (sym same.1) ∙ put-here d.files a n None,
+          )
       by b m false e = inl (ap (λ (f : Files). f b m) files ∙ put-other d.files a n None b m e)
 
   -- who is kept isn't stray

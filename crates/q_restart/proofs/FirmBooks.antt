@@ -1,20 +1,18 @@
 -- A book whose failures are sure: what reads give and what a crash leaves stand for it, where no log can differ.
-use Rattle.std.proofs.Common.{◌≡◌, ◌≤◌, ◌<◌, ◌+◌, ℕ, suc, Bool, true, false, List, [], ◌∷◌, length, map, Option, Some, None, is_some, inl, inr, ⊎_elim, refl, sym, ap, subst, ◌∙◌, arith}
+use Rattle.std.proofs.Common.{◌≡◌, ◌≤◌, ℕ, true, false, List, [], ◌∷◌, length, map, Option, inl, inr, refl, sym, ap, subst, ◌∙◌, arith}
 use Rattle.std.specs.List.{AllByRecursion}
 use Rattle.std.specs.Option.{IsSome, option_map_or}
 use Rattle.std.proofs.lemmas.List.{length-map}
-use Rattle.q_model.specs.declared.id.Id.{Id}
 use Rattle.q_model.specs.declared.outcome.Failure.{Failure}
-use Rattle.q_model.specs.declared.rows.Place.{Place}
 use Rattle.q_model.specs.declared.spot.Area.TheVariants as areas
-use Rattle.q_model.specs.Book.{Book, Damaged}
-use Rattle.q_model.specs.Crashes.{EachTo, FailuresAfter, IsCrashOf, MessageAfter}
+use Rattle.q_model.specs.Book.{Book}
+use Rattle.q_model.specs.Crashes.{EachTo, FailuresAfter, MessageAfter}
 use Rattle.q_model.specs.FailureLog.{failures_of, log_records}
 use Rattle.q_model.specs.FilesStand.{MessageStands, Stands}
-use Rattle.q_model.specs.IdTexts.{id_text, IsId}
+use Rattle.q_model.specs.IdTexts.{id_text}
 use Rattle.q_model.specs.Lives.{firm_failures}
-use Rattle.q_model.specs.Message.{Logged, Message, Recipient}
-use Rattle.q_model.specs.SpoolFiles.{file_at, Files, logged_in}
+use Rattle.q_model.specs.Message.{Logged, Message}
+use Rattle.q_model.specs.SpoolFiles.{Files, logged_in}
 use Rattle.q_model.proofs.CrashChanges.{recipients-length}
 use Rattle.q_model.proofs.StandReads.{ReadsSame, Stands-reads}
 use Rattle.q_host.specs.View.{Remains}

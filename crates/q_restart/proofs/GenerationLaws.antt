@@ -1,15 +1,13 @@
 -- Names that spell generations.
-use Rattle.std.proofs.Common.{◌≡◌, ◌≢◌, ◌+◌, ◌≤◌, ◌<◌, ◌^◌, ℕ, Bool, true, false, not, List, length, take, Option, Some, None, if◌then◌else◌, nat_eq, nat_lt, refl, sym, ap, ◌∙◌, arith, append_assoc}
-use Rattle.std.specs.Prelude.{◌&&◌, bytes_eq, nat_le, unwrap_or}
+use Rattle.std.proofs.Common.{◌≡◌, ◌≢◌, ◌+◌, ◌≤◌, ◌<◌, ◌^◌, ℕ, Bool, true, false, not, List, length, take, Option, Some, None, if◌then◌else◌, nat_eq, nat_lt, refl, sym, ap, ◌∙◌, arith}
+use Rattle.std.specs.Prelude.{◌&&◌, bytes_eq, unwrap_or}
 use Rattle.std.specs.Cmp.Lexicographic.{bytes_decides, pointwise}
-use Rattle.std.specs.List.{list_all}
 use Rattle.std.specs.Str.Parse.{digits_value}
 use Rattle.std.proofs.lemmas.Bool.{and_parts}
 use Rattle.std.proofs.lemmas.Bool.Decides.{nat_tests}
 use Rattle.std.proofs.lemmas.Slice.Eq.{bytes_eq-Decides}
-use Rattle.q_model.specs.declared.id.Id.{Id}
 use Rattle.q_model.specs.IdTexts.{hex, id_text}
-use Rattle.q_model.specs.Texts.{is_name, is_name_byte}
+use Rattle.q_model.specs.Texts.{is_name}
 use Rattle.q_model.proofs.IdLaws.{id_text-IdParts, id_with, length-id_text}
 use Rattle.q_model.proofs.NumberTexts.{bytes-spell, hex-Spells, length-spell, value-spell}
 use Rattle.q_restart.specs.Generations.{generation_of}

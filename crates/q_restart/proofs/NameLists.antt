@@ -1,5 +1,5 @@
 -- A listing of an area goes on behind the names that came before.
-use Rattle.std.proofs.Common.{◌≡◌, ◌⊎◌, ◌<◌, ◌≤◌, ℕ, zero, suc, List, [], ◌∷◌, ◌++◌, length, Option, Some, None, inl, inr, ⊎_elim, refl, sym, ap, subst, ◌∙◌, arith}
+use Rattle.std.proofs.Common.{◌≡◌, ◌⊎◌, ◌<◌, ◌≤◌, ℕ, zero, suc, List, [], ◌∷◌, ◌++◌, length, Option, Some, None, inl, inr, ⊎_elim, refl, sym, subst, ◌∙◌, arith}
 use Rattle.std.specs.Cmp.Lexicographic.{nat_list_cmp_total, slice_cmp}
 use Rattle.std.specs.List.{Contains}
 use Rattle.std.specs.List.Sorted.{IsStrictlySortedBy}
@@ -15,7 +15,7 @@ use Rattle.q_host.specs.Steps.{Stay}
 use Rattle.q_host.specs.View.{View}
 use Rattle.q_host.proofs.Moments.{goes_nowhere, goes_on}
 use Rattle.q_restart.specs.Walks.{AreAllNames}
-use Rattle.q_restart.proofs.Lists.{each_has, has_at, has_cases, has_head, has_none, has_tail, sorted_append}
+use Rattle.q_restart.proofs.Lists.{each_has, has_at, has_cases, has_none, sorted_append}
 
 -- ---- calls that only look
 

@@ -1,9 +1,9 @@
 -- An opening, call by call: the book stays while the spool is cleared, and its life begins with the next name in boot.
-use Rattle.std.proofs.Common.{◌≡◌, ◌≢◌, ◌⊎◌, ◌<◌, ◌+◌, ◌^◌, ℕ, Bool, true, false, ◌||◌, List, [], ◌∷◌, map, Option, Some, None, is_some, if◌then◌else◌, inl, inr, ⊎_elim, refl, sym, ap, subst, ◌∙◌, arith}
+use Rattle.std.proofs.Common.{◌≡◌, ◌≢◌, ◌<◌, ◌+◌, ◌^◌, ℕ, Bool, true, false, ◌||◌, List, [], ◌∷◌, map, Option, Some, None, is_some, if◌then◌else◌, inl, inr, ⊎_elim, refl, sym, ap, ◌∙◌}
 use Rattle.std.specs.Option.{IsSome}
 use Rattle.std.specs.Prelude.{◌&&◌, find}
 use Rattle.std.specs.List.{list_any}
-use Rattle.std.proofs.lemmas.Bool.{and_parts, or_cases, or_left, or_right, false_from_ne_true}
+use Rattle.std.proofs.lemmas.Bool.{and_parts, or_cases, or_left, or_right}
 use Rattle.q_model.specs.declared.id.Id.{Id}
 use Rattle.q_model.specs.declared.rows.Place.{Place}
 use Rattle.q_model.specs.declared.rows.Place.TheVariants as places
@@ -16,7 +16,7 @@ use Rattle.q_model.specs.IdTexts.{id_text, IsId}
 use Rattle.q_model.specs.Lives.{firm_failures}
 use Rattle.q_model.specs.Message.{Message}
 use Rattle.q_model.specs.Places.{place_eq}
-use Rattle.q_model.specs.SpoolFiles.{area_of, file_at, Files, IsPlace, name_at}
+use Rattle.q_model.specs.SpoolFiles.{area_of, file_at, Files, name_at}
 use Rattle.q_model.proofs.EachLaws.{each-same, find-any}
 use Rattle.q_model.proofs.IdLaws.{id_text-injective}
 use Rattle.q_model.proofs.SpotLaws.{area_of-IsQueue}
@@ -24,19 +24,18 @@ use Rattle.q_model.proofs.StandChanges.{Stands-message}
 use Rattle.q_model.proofs.StandDamaged.{Stands-damaged}
 use Rattle.q_model.proofs.StandLaws.{BootStands-kept, DamagedStands-kept, MessageStands-kept, true_false}
 use Rattle.q_model.proofs.StandMoves.{found-any}
-use Rattle.q_host.specs.Calls.{Changes, Stays}
+use Rattle.q_host.specs.Calls.{Changes}
 use Rattle.q_host.specs.Files.{SameNames}
 use Rattle.q_host.specs.View.{LeavesOnly, now, Remains, View}
-use Rattle.q_books.specs.HostStands.{Between, HostStands, IsLeftOf, OwnLogs, Takes, TellsCrashes, Tries}
+use Rattle.q_books.specs.HostStands.{Between, HostStands, IsLeftOf, Takes, TellsCrashes, Tries}
 use Rattle.q_books.proofs.Calls.{changed, may_change, meanwhile}
-use Rattle.q_books.proofs.Joining.{kept_takes, kept_tries, reads_keep}
 use Rattle.q_restart.specs.declared.standing.Standing.{Standing}
-use Rattle.q_restart.specs.Clearings.{Cleans, GoesBy, IsClean, IsStray}
-use Rattle.q_restart.specs.Openings.{begun, KeepsOwnNotes, Opens}
+use Rattle.q_restart.specs.Clearings.{Cleans, GoesBy, IsClean}
+use Rattle.q_restart.specs.Openings.{begun}
 use Rattle.q_restart.specs.Raises.{MayRaise, raised}
 use Rattle.q_restart.specs.Walks.{HasStanding}
 use Rattle.q_restart.proofs.FirmBooks.{firmed, left-firm, left-unfirm, Stands-firm, Stands-unfirm}
-use Rattle.q_restart.proofs.RaisedBooks.{raise_book, raised-other, raises}
+use Rattle.q_restart.proofs.RaisedBooks.{raise_book, raises}
 use Rattle.q_restart.proofs.Seen.{Sees}
 
 -- ---- who stands in a book has a file
@@ -66,9 +65,9 @@ some_file f p id bytes e = ap is_some e
 -- an id of the book has a file
 pub stands-standing : (f : Files) (b : Book) (id : Id) → Stands f b → stands b id ≡ true → (s : Standing) × HasStanding f s × (s.id ≡ id)
 stands-standing f b id h there = elim (or_cases (is_some (message_of b id)) (is_some (damaged_of b id)) there) [
-    | inl some ↦ message (message_of b id) refl some
-    | inr some ↦ damaged (damaged_of b id) refl some
-  ]
+  | inl some ↦ message (message_of b id) refl some
+  | inr some ↦ damaged (damaged_of b id) refl some
+]
   where
     message : (o : Option Message) → message_of b id ≡ o → is_some o ≡ true → (s : Standing) × HasStanding f s × (s.id ≡ id)
     message None e some = absurd (true_false false some refl)

@@ -1,18 +1,16 @@
 -- Boot's file has its next name: the files stand for the book of the next generation.
-use Rattle.std.proofs.Common.{◌≡◌, ◌≢◌, ◌<◌, ◌+◌, ◌^◌, ℕ, Bool, true, false, List, [], Option, Some, None, is_some, if◌then◌else◌, nat_lt, refl, sym, ap, subst, ◌∙◌, arith}
+use Rattle.std.proofs.Common.{◌≡◌, ◌≢◌, ◌<◌, ◌+◌, ◌^◌, ℕ, Bool, true, false, List, [], Some, None, is_some, if◌then◌else◌, nat_lt, refl, sym, ap, subst, ◌∙◌, arith}
 use Rattle.std.specs.Prelude.{◌&&◌, ◌==◌, bytes_eq}
-use Rattle.std.proofs.lemmas.Bool.{eqb-true, false_from_ne_true, and_parts}
+use Rattle.std.proofs.lemmas.Bool.{eqb-true, false_from_ne_true}
 use Rattle.std.proofs.lemmas.Bool.Decides.{nat_tests}
 use Rattle.std.proofs.lemmas.Slice.Eq.{bytes_eq-Decides}
 use Rattle.q_model.specs.declared.id.Id.{Id}
 use Rattle.q_model.specs.declared.rows.Place.{Place}
 use Rattle.q_model.specs.declared.spot.Area.{Area}
 use Rattle.q_model.specs.declared.spot.Area.TheVariants as areas
-use Rattle.q_model.specs.Book.{Book, Damaged}
-use Rattle.q_model.specs.Crashes.{IsCrashOf}
+use Rattle.q_model.specs.Book.{Book}
 use Rattle.q_model.specs.FilesStand.{BootStands, DamagedStands, MessageStands, Stands}
 use Rattle.q_model.specs.IdTexts.{hex, id_text}
-use Rattle.q_model.specs.Message.{Message}
 use Rattle.q_model.specs.SpoolFiles.{area_of, file_at, Files, name_at}
 use Rattle.q_model.specs.Texts.{is_name}
 use Rattle.q_model.proofs.EachLaws.{each-same}
@@ -20,7 +18,6 @@ use Rattle.q_model.proofs.SpotLaws.{area_of-IsQueue}
 use Rattle.q_model.proofs.StandLaws.{DamagedStands-kept, MessageStands-kept, true_false}
 use Rattle.q_host.specs.Files.{moved, same_place, with_file, without_file}
 use Rattle.q_host.proofs.Puts.{other_area, put-here, put-other, same_place-refl, same_place-true}
-use Rattle.q_books.specs.HostStands.{OwnLogs}
 use Rattle.q_books.proofs.Calls.{Carries}
 use Rattle.q_restart.specs.Raises.{raised}
 use Rattle.q_restart.proofs.GenerationLaws.{is_name-hex}

@@ -1,5 +1,5 @@
 -- What was seen of a spool: which ids stand there, and its last generation.
-use Rattle.std.proofs.Common.{◌≡◌, ◌⊎◌, inl, inr, ◌<◌, ◌^◌, ◌+◌, ℕ, zero, suc, Bool, true, false, List, [], ◌∷◌, Option, Some, None, is_some, if◌then◌else◌, nat_lt, refl, sym, ap, subst, ◌∙◌, arith}
+use Rattle.std.proofs.Common.{◌≡◌, ◌⊎◌, inl, inr, ◌<◌, ℕ, zero, suc, Bool, true, false, List, [], ◌∷◌, Option, Some, None, is_some, if◌then◌else◌, nat_lt, refl, sym, ap, subst, ◌∙◌, arith}
 use Rattle.std.specs.List.{Contains}
 use Rattle.std.specs.Option.{IsSome, option_map, option_or}
 use Rattle.std.specs.Prelude.{◌&&◌, bytes_eq, find, slice_get, unwrap_or}
@@ -16,12 +16,12 @@ use Rattle.q_model.proofs.IdLaws.{id_eq-refl}
 use Rattle.q_model.proofs.StandLaws.{true_false}
 use Rattle.q_restart.specs.declared.standing.Standing.{Standing}
 use Rattle.q_restart.specs.Damages.{boot_damage, boot_spot, damage_of, is_mispaired, repeated_behind, SpoolShows, standing_spot, walk_damage}
-use Rattle.q_restart.specs.Generations.{boot_generation, generation_of}
+use Rattle.q_restart.specs.Generations.{boot_generation}
 use Rattle.q_restart.specs.Places.{ArePlacesOf, ArePlacesOfOnce, IdMap, is_placed}
 use Rattle.q_restart.specs.Walks.{AreAllNames, HasStanding, standing_place}
 use Rattle.q_restart.proofs.BootNames.{each-generation, generation-is, generation-name, is_other}
 use Rattle.q_restart.proofs.GenerationLaws.{hex-same, spells, Spells}
-use Rattle.q_restart.proofs.Lists.{has_at, has_cases, has_head, has_none}
+use Rattle.q_restart.proofs.Lists.{has_cases, has_head, has_none}
 use Rattle.q_restart.proofs.Placing.{place-contains}
 use Rattle.q_restart.proofs.RaisedBooks.{boot-there}
 

@@ -1,5 +1,5 @@
 -- Files that stand for an orderly book show no damage.
-use Rattle.std.proofs.Common.{◌≡◌, ◌≢◌, ◌⊎◌, ◌<◌, ◌+◌, ◌-◌, ◌^◌, ℕ, Bool, true, false, not, ◌&&◌, ◌||◌, List, [], ◌∷◌, ◌++◌, map, Option, Some, None, is_some, if◌then◌else◌, nat_lt, inl, inr, ⊎_elim, refl, sym, ap, subst, ◌∙◌, arith}
+use Rattle.std.proofs.Common.{◌≡◌, ◌≢◌, ◌<◌, ◌-◌, ◌^◌, ℕ, Bool, true, false, not, ◌&&◌, ◌||◌, List, [], ◌∷◌, map, Option, Some, None, is_some, nat_lt, inl, inr, refl, sym, ap, subst, ◌∙◌, arith}
 use Rattle.std.specs.Cmp.Lexicographic.{nat_list_cmp_total, slice_cmp}
 use Rattle.std.specs.List.{AllByRecursion, Contains, list_all, list_any}
 use Rattle.std.specs.List.Sorted.{IsStrictlySortedBy}
@@ -7,7 +7,7 @@ use Rattle.std.specs.Option.{IsSome, option_map, option_map_or, option_or}
 use Rattle.std.specs.Ordering.{nat_cmp}
 use Rattle.std.specs.Prelude.{bytes_eq, find, is_none, nat_le, slice_get}
 use Rattle.std.specs.declared.cmp.Ordering.TheVariants.{Less}
-use Rattle.std.proofs.lemmas.Bool.{and_parts, ltb-true, or_cases, or_left, or_right}
+use Rattle.std.proofs.lemmas.Bool.{and_parts, ltb-true, or_cases}
 use Rattle.std.proofs.lemmas.List.Folds.{list_any-append}
 use Rattle.std.proofs.lemmas.Slice.Eq.{bytes_eq-Decides}
 use Rattle.std.proofs.lemmas.List.Elements.{Contains-append_left, Contains-append_right}
@@ -35,13 +35,13 @@ use Rattle.q_model.proofs.StandRenames.{only_place}
 use Rattle.q_restart.specs.declared.error.OpenError.{OpenError}
 use Rattle.q_restart.specs.declared.error.OpenError.TheVariants as errors
 use Rattle.q_restart.specs.declared.standing.Standing.{Standing}
-use Rattle.q_restart.specs.Damages.{boot_damage, boot_spot, damage_of, is_mispaired, repeated_behind, SpoolShows, standing_spot, walk_damage}
-use Rattle.q_restart.specs.Generations.{boot_generation, generation_of}
+use Rattle.q_restart.specs.Damages.{boot_damage, boot_spot, is_mispaired, repeated_behind, SpoolShows, standing_spot, walk_damage}
+use Rattle.q_restart.specs.Generations.{generation_of}
 use Rattle.q_restart.specs.Judgements.{IsRefused}
 use Rattle.q_restart.specs.Walks.{AreAllNames, HasStanding, IsWalk, standing_cmp, standing_place}
 use Rattle.q_restart.proofs.BootNames.{each-generation, generation-name, is_other}
 use Rattle.q_restart.proofs.GenerationLaws.{generation_of-hex}
-use Rattle.q_restart.proofs.Lists.{has_at, has_head, has_tail, not_itself, sorted_cross, sorted_first}
+use Rattle.q_restart.proofs.Lists.{has_at, has_head, not_itself, sorted_cross, sorted_first}
 use Rattle.q_restart.proofs.Opened.{standing-stands}
 use Rattle.q_restart.proofs.Placing.{find-contains, repeated-is}
 use Rattle.q_restart.proofs.Seen.{boot-is, no_boot}
@@ -115,15 +115,15 @@ pair-parts false c i s hb hc h = cc
 -- where an id stands in incoming, its file does
 incoming-there : (f : Files) (b : Book) (s : Standing) → Stands f b → HasStanding f s → stands_in is_incoming b s.id ≡ true → is_incoming s.place ≡ true
 incoming-there f b s h hs there = elim (or_cases (list_any (λ (m : Message). id_eq m.id s.id && is_incoming m.place) b.messages) (list_any (λ (d : Damaged). id_eq d.id s.id && is_incoming d.place) b.damaged) there) [
-    | inl at ↦
-        let m = any-each (MessageStands f) (λ (m : Message). id_eq m.id s.id && is_incoming m.place) b.messages h.messages at in
-        let two = and_parts (id_eq m.0.id s.id) (is_incoming m.0.place) m.2 in
-        ap is_incoming (one-place f b s (standing m.0.id m.0.place) h hs (record { id = m.1.id; place = m.1.place; there = ap is_some m.1.there }) (sym (id_eq-true m.0.id s.id two.0))) ∙ two.1
-    | inr at ↦
-        let d = any-each (DamagedStands f) (λ (d : Damaged). id_eq d.id s.id && is_incoming d.place) b.damaged h.damaged at in
-        let two = and_parts (id_eq d.0.id s.id) (is_incoming d.0.place) d.2 in
-        ap is_incoming (one-place f b s (standing d.0.id d.0.place) h hs (record { id = d.1.id; place = d.1.place; there = ap is_some d.1.there }) (sym (id_eq-true d.0.id s.id two.0))) ∙ two.1
-  ]
+  | inl at ↦
+      let m = any-each (MessageStands f) (λ (m : Message). id_eq m.id s.id && is_incoming m.place) b.messages h.messages at in
+      let two = and_parts (id_eq m.0.id s.id) (is_incoming m.0.place) m.2 in
+      ap is_incoming (one-place f b s (standing m.0.id m.0.place) h hs (record { id = m.1.id; place = m.1.place; there = ap is_some m.1.there }) (sym (id_eq-true m.0.id s.id two.0))) ∙ two.1
+  | inr at ↦
+      let d = any-each (DamagedStands f) (λ (d : Damaged). id_eq d.id s.id && is_incoming d.place) b.damaged h.damaged at in
+      let two = and_parts (id_eq d.0.id s.id) (is_incoming d.0.place) d.2 in
+      ap is_incoming (one-place f b s (standing d.0.id d.0.place) h hs (record { id = d.1.id; place = d.1.place; there = ap is_some d.1.there }) (sym (id_eq-true d.0.id s.id two.0))) ∙ two.1
+]
 
 active-by : (f : Files) (b : Book) (t : Standing) → Stands f b → HasStanding f t → (o : Option Message) → message_of b t.id ≡ o → option_map_or (λ m. is_active m.place && is_sealed m) o false ≡ true → is_active t.place ≡ true
 active-by f b t h ht None e there = absurd (true_false false there refl)

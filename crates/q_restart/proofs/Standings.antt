@@ -1,12 +1,12 @@
 -- The files of messages among the names of areas, gone through one area behind another.
-use Rattle.std.proofs.Common.{◌≡◌, ◌≢◌, ◌⊎◌, ◌<◌, ◌≤◌, ◌+◌, ℕ, zero, suc, List, [], ◌∷◌, ◌++◌, length, take, Option, Some, None, inl, inr, ⊎_elim, refl, sym, ap, subst, ◌∙◌, arith, append_assoc, append-nil}
+use Rattle.std.proofs.Common.{◌≡◌, ◌⊎◌, ◌<◌, ◌≤◌, ◌+◌, ℕ, zero, suc, List, [], ◌∷◌, ◌++◌, length, take, inl, inr, ⊎_elim, refl, sym, ap, subst, ◌∙◌, arith, append_assoc, append-nil}
 use Rattle.std.specs.Cmp.{IsTotalOrder}
 use Rattle.std.specs.Cmp.Lexicographic.{nat_list_cmp_total, slice_cmp}
 use Rattle.std.specs.List.{Contains}
 use Rattle.std.specs.List.Sorted.{IsStrictlySortedBy}
 use Rattle.std.specs.Option.{IsSome}
 use Rattle.std.specs.Ordering.{nat_cmp, ordering_then}
-use Rattle.std.specs.Prelude.{slice_get, slice_index_or}
+use Rattle.std.specs.Prelude.{slice_index_or}
 use Rattle.std.specs.declared.cmp.Ordering.{Ordering}
 use Rattle.std.specs.declared.cmp.Ordering.TheVariants.{Equal, Less}
 use Rattle.std.specs.Cmp.{nat_cmp_is}
@@ -19,12 +19,12 @@ use Rattle.q_model.specs.declared.rows.Place.{Place}
 use Rattle.q_model.specs.declared.rows.Place.TheVariants as places
 use Rattle.q_model.specs.declared.spot.Area.{Area}
 use Rattle.q_model.specs.declared.spot.Area.TheVariants as areas
-use Rattle.q_model.specs.SpoolFiles.{area_of, file_at, Files, name_at}
+use Rattle.q_model.specs.SpoolFiles.{area_of, Files, name_at}
 use Rattle.q_model.proofs.SpotLaws.{same_spot}
 use Rattle.q_host.specs.Files.{area_number}
 use Rattle.q_host.proofs.Puts.{same_area}
 use Rattle.q_restart.specs.declared.standing.Standing.{Standing}
-use Rattle.q_restart.specs.Walks.{AddsStandings, AreAllNames, ArePlaces, AreStandings, GoesThrough, HasStanding, IsNoStanding, IsStandingAt, IsWalk, standing_cmp}
+use Rattle.q_restart.specs.Walks.{AddsStandings, ArePlaces, AreStandings, GoesThrough, HasStanding, IsNoStanding, IsStandingAt, IsWalk, standing_cmp}
 use Rattle.q_restart.proofs.Lists.{each_has, has_cases, has_head, has_none, has_tail, sorted_append, sorted_first, sorted_rest}
 
 pub standing_cmp_total : IsTotalOrder standing_cmp

@@ -1,6 +1,6 @@
 -- Whether a spool with these names and files can be opened.
 use Rattle.std.specs.Option.{option_map_or}
-use Rattle.std.specs.Prelude.{◌≡◌, ◌+◌, ◌^◌, ◌-◌, ◌<◌, ◌&&◌, [], Bool, false, List, None, not, Option, Some, true, ℕ}
+use Rattle.std.specs.Prelude.{◌≡◌, ◌+◌, ◌^◌, ◌-◌, ◌<◌, ◌&&◌, [], Bool, false, List, None, not, Some, true, ℕ}
 use Rattle.q_model.specs.Ids.{cause_of}
 use Rattle.q_model.specs.Places.{is_active, is_incoming}
 use Rattle.q_model.specs.Texts.{is_name}

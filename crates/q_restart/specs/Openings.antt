@@ -1,5 +1,5 @@
 -- What opening a spool does: a life begins on the book that its files stand for.
-use Rattle.std.specs.Prelude.{◌≡◌, ◌+◌, ◌≤◌, Err, false, IsErrOf, List, map, None, Ok, Result, true, ℕ}
+use Rattle.std.specs.Prelude.{◌≡◌, ◌+◌, ◌≤◌, Err, false, IsErrOf, map, None, Ok, Result, true, ℕ}
 use Rattle.q_model.specs.declared.id.Id.{Id}
 use Rattle.q_model.specs.declared.spot.Area.TheVariants as areas
 use Rattle.q_model.specs.Book.{Book, stands}

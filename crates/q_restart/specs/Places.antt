@@ -6,7 +6,6 @@ use Rattle.std.specs.Prelude.{◌≡◌, Bool, is_some, List, None, Option}
 use Rattle.q_model.specs.declared.id.Id.{Id}
 use Rattle.q_model.specs.declared.rows.Place.{Place}
 use Rattle.q_restart.specs.declared.standing.Standing.{Standing}
-use Rattle.q_restart.specs.Damages.{repeated_behind}
 use Rattle.q_restart.specs.Walks.{standing_place}
 
 -- the order of ids

@@ -1,11 +1,10 @@
 -- The names of areas in their order, and the files of messages in the five queues.
 use Rattle.std.specs.Cmp.Lexicographic.{slice_cmp}
-use Rattle.std.specs.List.{AllByRecursion}
 use Rattle.std.specs.List.Sorted.{IsStrictlySortedBy}
 use Rattle.std.specs.Option.{option_map}
 use Rattle.std.specs.Ordering.{nat_cmp, ordering_then}
 use Rattle.std.specs.declared.cmp.Ordering.{Ordering}
-use Rattle.std.specs.Prelude.{◌≡◌, ◌≢◌, ◌⊎◌, ◌++◌, [], ◌∷◌, Contains, find, IsSome, List, Option, true, ℕ}
+use Rattle.std.specs.Prelude.{◌≡◌, ◌≢◌, ◌⊎◌, ◌++◌, [], ◌∷◌, Contains, find, IsSome, List, Option, ℕ}
 use Rattle.q_model.specs.declared.id.Id.{Id}
 use Rattle.q_model.specs.declared.rows.Place.{Place}
 use Rattle.q_model.specs.declared.spot.Area.{Area}
@@ -13,7 +12,6 @@ use Rattle.q_model.specs.declared.spot.Area.TheVariants as areas
 use Rattle.q_model.specs.Ids.{id_eq}
 use Rattle.q_model.specs.IdTexts.{IsId}
 use Rattle.q_model.specs.SpoolFiles.{area_of, file_at, Files, IsPlace, name_at}
-use Rattle.q_model.specs.Texts.{is_name}
 use Rattle.q_host.specs.Files.{area_number}
 use Rattle.q_restart.specs.declared.standing.Standing.{Standing}
 

@@ -114,11 +114,7 @@ fn clear_logs<H: Host>(
 
 /// Empties tmp, removes the logs whose ids stand in no queue, and makes the other failure logs
 /// sure.
-pub(crate) fn clear<H: Host>(
-    alloc: Global,
-    host: &mut H,
-    places: &Places,
-) -> Result<(), HostError>
+pub(crate) fn clear<H: Host>(alloc: Global, host: &mut H, places: &Places) -> Result<(), HostError>
     ensures clean { OnOk result (IsTrue H.tells → IsClean (is_placed places.now) (H.view host.new)) }
     ensures goes { Told H.tells H.view host.old host.new (GoesBy (Cleans (is_placed places.now))) }
     ensures cause { DiskCause (H.faults host.old) (H.faults host.new) result }

@@ -2,8 +2,7 @@
 ghost use Rattle.std.specs.Prelude.{◌≡◌};
 
 use q_host::HostError;
-use q_model::NoMemory as WantOfMemory;
-use q_model::{Area, Name};
+use q_model::{Area, Name, NoMemory as WantOfMemory};
 use thiserror::Error;
 
 /// Why a spool couldn't be opened.

@@ -1,4 +1,4 @@
-use Rattle.std.proofs.Common.{◌≡◌, ◌∙◌, ap, false, is_some, List, None, sym, true, ℕ}
+use Rattle.std.proofs.Common.{◌≡◌, ◌∙◌, ap, false, is_some, None, sym, true}
 use Rattle.q_books.proofs.Results.{on_ok}
 use Rattle.q_model.specs.SpoolFiles.{Files}
 use Rattle.q_host.specs.Files.{without_file}

@@ -1,4 +1,4 @@
-use Rattle.std.proofs.Common.{◌≡◌, ◌∙◌, ⊎_elim, arith, drop, List, Option, subst, sym, take, take_all, ℕ}
+use Rattle.std.proofs.Common.{◌≡◌, ⊎_elim, arith, List, Option, subst, sym, take, take_all, ℕ}
 use Rattle.std.specs.List.{Contains}
 use Rattle.std.specs.Option.{IsSome}
 use Rattle.std.proofs.lemmas.List.Elements.{Contains-push_cases}

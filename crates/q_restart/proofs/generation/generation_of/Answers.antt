@@ -1,4 +1,4 @@
-use Rattle.std.proofs.Common.{arith, rules, sym, ◌∙◌}
+use Rattle.std.proofs.Common.{arith, sym, ◌∙◌}
 use Rattle.q_restart.proofs.GenerationLaws.{named}
 use Rattle.q_restart.proofs.generation.generation_of.Goals as goal
 

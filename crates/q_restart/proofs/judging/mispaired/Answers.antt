@@ -12,5 +12,7 @@ returns-then-is_mispaired c =
 pub loop-standing-preserved : goal.loop-standing-preserved
 loop-standing-preserved c =
     let walk = c.args.walk.now in
-    record { none = find-none walk c.loop-standing.standing-index _ c.loop-standing-test.true (is_mispaired walk)
-        (sym (c.is_mispaired.ensures ∙ mispaired-is walk c.args.places.now _ c.requires) ∙ c.if-is_mispaired.false) c.loop-standing.invariant.none }
+    record {
+      none = find-none walk c.loop-standing.standing-index _ c.loop-standing-test.true (is_mispaired walk)
+          (sym (c.is_mispaired.ensures ∙ mispaired-is walk c.args.places.now _ c.requires) ∙ c.if-is_mispaired.false) c.loop-standing.invariant.none;
+    }

@@ -1,4 +1,4 @@
-use Rattle.std.proofs.Common.{◌≡◌, ◌<◌, ◌≤◌, ◌++◌, ◌∙◌, List, ℕ, ap, arith, length, suc, subst}
+use Rattle.std.proofs.Common.{◌<◌, ◌≤◌, ◌++◌, ◌∙◌, List, ℕ, ap, arith, length, subst}
 use Rattle.q_host.specs.Reads.{IsListing}
 use Rattle.q_model.specs.SpoolFiles.{Files}
 use Rattle.q_restart.proofs.NameLists.{front-all, front-more, front-none, stays_here, stays_on}

@@ -1,9 +1,7 @@
-use Rattle.std.proofs.Common.{is_some, ◌≡◌, ◌∙◌, ◌+◌, ◌<◌, ◌^◌, ap, subst, sym, List, ℕ}
-use Rattle.std.specs.Option.{IsSome}
+use Rattle.std.proofs.Common.{is_some, ◌≡◌, ◌∙◌, ◌+◌, ◌<◌, ◌^◌, ap, subst, sym, ℕ}
 use Rattle.q_model.specs.declared.spot.Area.TheVariants as areas
 use Rattle.q_model.specs.IdTexts.{hex}
 use Rattle.q_model.specs.SpoolFiles.{Files}
-use Rattle.q_books.specs.HostStands.{TellsCrashes}
 use Rattle.q_books.proofs.Calls.{tried}
 use Rattle.q_host.specs.Calls.{Changes}
 use Rattle.q_host.specs.View.{now}

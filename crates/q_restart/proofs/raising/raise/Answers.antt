@@ -1,4 +1,4 @@
-use Rattle.std.proofs.Common.{◌≡◌, ◌≢◌, ◌∙◌, List, subst, sym, ℕ}
+use Rattle.std.proofs.Common.{◌∙◌, sym}
 use Rattle.q_model.specs.declared.spot.Area.TheVariants as areas
 use Rattle.q_restart.proofs.Clears.{other_name}
 use Rattle.q_restart.proofs.GenerationLaws.{next-differs}

@@ -10,10 +10,14 @@ loop-name-init c = record { adds = adds-none c.args.area c.args.walk.now.items }
 
 pub loop-name-preserved : goal.loop-name-preserved
 loop-name-preserved c = elim c.match-standing_at.branch [
-  | in-Some+in_ok-push w ↦ record { adds = adds-push c.args.area c.args.names.now c.loop-name.name-index c.name-item.result w.in-Some.standing c.args.walk.now.items c.loop-name.walk.items c.match-standing_at.walk.items
-      c.loop-name-test.true c.name-item.is w.in-Some.ensures.some (ap (λ (v : Vec Standing Global). v.items) w.walk-is ∙ w.in_ok-push.ensures.items) c.loop-name.invariant.adds }
-  | in_default w ↦ record { adds = adds-skip c.args.area c.args.names.now c.loop-name.name-index c.name-item.result c.args.walk.now.items c.loop-name.walk.items c.match-standing_at.walk.items
-      c.loop-name-test.true c.name-item.is w.in_default.ensures.none (ap (λ (v : Vec Standing Global). v.items) w.walk-is) c.loop-name.invariant.adds }
+  | in-Some+in_ok-push w ↦ record {
+    adds = adds-push c.args.area c.args.names.now c.loop-name.name-index c.name-item.result w.in-Some.standing c.args.walk.now.items c.loop-name.walk.items c.match-standing_at.walk.items
+        c.loop-name-test.true c.name-item.is w.in-Some.ensures.some (ap (λ (v : Vec Standing Global). v.items) w.walk-is ∙ w.in_ok-push.ensures.items) c.loop-name.invariant.adds;
+  }
+  | in_default w ↦ record {
+    adds = adds-skip c.args.area c.args.names.now c.loop-name.name-index c.name-item.result c.args.walk.now.items c.loop-name.walk.items c.match-standing_at.walk.items
+        c.loop-name-test.true c.name-item.is w.in_default.ensures.none (ap (λ (v : Vec Standing Global). v.items) w.walk-is) c.loop-name.invariant.adds;
+  }
 ]
 
 pub returns : goal.returns
