@@ -1,8 +1,6 @@
 //! The content of a bounce.
 ghost use Rattle.std.specs.Prelude.{◌≡◌, ◌≤◌, ◌++◌, IfOk, length, min, OnOk};
-ghost use Rattle.q_model.specs.Message.{Message};
-ghost use Rattle.q_model.specs.Notices as notices;
-ghost use Rattle.q_notice.specs.NoticeTexts.{head_lines, IsToldOf, named_failures, size_lines};
+ghost use Rattle.q_notice.specs.NoticeTexts.{head_lines, IsNotice, notice_text, size_lines};
 
 use crate::failures::add_failures;
 use crate::lines::{add, add_line, add_number};
@@ -60,11 +58,11 @@ pub fn notice(
 ) -> Result<Bytes, NoMemory>
     requires named { length names.now ≡ length failures.now }
     requires short { length front.now ≤ 50000 }
-    ensures text { IfOk result (λ text. text ≡ head_lines id sender.now
-        ++ named_failures failures.now names.now ++ size_lines size ++ front.now) }
+    ensures text { IfOk result (λ text. text
+        ≡ notice_text id sender.now failures.now names.now size front.now) }
     // It is the notice of each message whose failures, names, size and front these are.
-    ensures notice { IfOk result (λ text. (m : Message)
-        → IsToldOf m id sender.now failures.now names.now size front.now → text ≡ notices.notice m) }
+    ensures notice { IfOk result (λ text.
+        IsNotice text id sender.now failures.now names.now size front.now) }
 {
     let mut text = Vec::new(alloc);
     add_head(&mut text, id, sender)?;

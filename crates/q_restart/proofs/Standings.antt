@@ -24,7 +24,7 @@ use Rattle.q_model.proofs.SpotLaws.{same_spot}
 use Rattle.q_host.specs.Files.{area_number}
 use Rattle.q_host.proofs.Puts.{same_area}
 use Rattle.q_restart.specs.declared.standing.Standing.{Standing}
-use Rattle.q_restart.specs.Walks.{AddsStandings, ArePlaces, AreStandings, GoesThrough, HasStanding, IsNoStanding, IsStandingAt, IsWalk, standing_cmp}
+use Rattle.q_restart.specs.Walks.{AddsStandings, ArePlaces, AreStandings, AddsArea, HasStanding, IsNoStanding, IsStandingAt, IsWalk, standing_cmp}
 use Rattle.q_restart.proofs.Lists.{each_has, has_cases, has_head, has_none, has_tail, sorted_append, sorted_first, sorted_rest}
 
 pub standing_cmp_total : IsTotalOrder standing_cmp
@@ -170,7 +170,7 @@ walk-none f walk none = subst (IsWalkTo f 3) (sym none) (record {
 pub walk-whole : (f : Files) (walk : List Standing) → IsWalkTo f 8 walk → IsWalk f walk
 walk-whole f walk h = record { sorted = h.sorted; there = h.there; all = λ s k. h.all s k (at_most s.place) }
 
-module _ (f : Files) (area : Area) (old new : List Standing) (so_far : IsWalkTo f (area_number area) old) (through : GoesThrough f area old new) where
+module _ (f : Files) (area : Area) (old new : List Standing) (so_far : IsWalkTo f (area_number area) old) (through : AddsArea f area old new) where
   abbrev found : List Standing
   found = through.adds.found
 
@@ -225,10 +225,10 @@ queue-number (suc (suc (suc zero))) d h = refl
 queue-number (suc (suc (suc (suc zero)))) d h = refl
 queue-number (suc (suc (suc (suc (suc i))))) d h = absurd (omega (arith, h))
 
-pub walk-next : (f g : Files) (i : ℕ) (d : Area) (old new : List Standing) → i < 5 → g ≡ f → IsWalkTo f (3 + i) old → GoesThrough g (slice_index_or queues i d) old new → IsWalkTo f (3 + (i + 1)) new
+pub walk-next : (f g : Files) (i : ℕ) (d : Area) (old new : List Standing) → i < 5 → g ≡ f → IsWalkTo f (3 + i) old → AddsArea g (slice_index_or queues i d) old new → IsWalkTo f (3 + (i + 1)) new
 walk-next f g i d old new within same so_far through =
     let is = queue-number i d within in
-    let done = walk-more f (slice_index_or queues i d) old new (subst (λ (n : ℕ). IsWalkTo f n old) (sym is) so_far) (subst (λ (h : Files). GoesThrough h (slice_index_or queues i d) old new) same through) in
+    let done = walk-more f (slice_index_or queues i d) old new (subst (λ (n : ℕ). IsWalkTo f n old) (sym is) so_far) (subst (λ (h : Files). AddsArea h (slice_index_or queues i d) old new) same through) in
     let count : area_number (slice_index_or queues i d) + 1 ≡ 3 + (i + 1) = omega (arith, is) in
     subst (λ (n : ℕ). IsWalkTo f n new) count done
 

@@ -31,8 +31,12 @@ pub record IsStray (keeps : Id → Bool) (a : Area) (n : List ℕ) : Type 0 wher
 
 -- some stray logs are gone, and nothing else changed
 pub record DropsStrays (keeps : Id → Bool) (d c : Remains) : Type 0 where
-  pub files : (a : Area) (n : List ℕ) → (c.files a n ≡ d.files a n) ⊎ (IsStray keeps a n × (c.files a n ≡ None))
+  pub files : (a : Area) (n : List ℕ)
+      → (c.files a n ≡ d.files a n) ⊎ (IsStray keeps a n × (c.files a n ≡ None))
   pub told : c.told ≡ d.told
+
+abbrev pub Drops : (Id → Bool) → View → View → Type 0
+Drops keeps = GoesBy (DropsStrays keeps)
 
 -- files in tmp may have changed, and some stray logs are gone
 pub record Cleans (keeps : Id → Bool) (d c : Remains) : Type 0 where
@@ -47,7 +51,8 @@ IsSettled v n = (c : Remains) → v.may_leave c → c.files areas.Bounce n ≡ v
 -- the log of this name is gone where its id isn't kept, and sure where it is a failure log that is
 pub record IsHandled (keeps : Id → Bool) (w : View) (a : Area) (n : List ℕ) : Type 0 where
   pub gone : (id : Id) → IsId id → id_text id ≡ n → keeps id ≡ false → w.files a n ≡ None
-  pub settled : a ≡ areas.Bounce → (id : Id) → IsId id → id_text id ≡ n → keeps id ≡ true → IsSettled w n
+  pub settled : a ≡ areas.Bounce → (id : Id) → IsId id → id_text id ≡ n → keeps id ≡ true
+      → IsSettled w n
 
 -- so are all logs of an area
 abbrev pub AreHandled : (Id → Bool) → View → Area → Type 0

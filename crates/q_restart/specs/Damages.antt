@@ -14,7 +14,8 @@ use Rattle.q_restart.specs.Walks.{AreAllNames, IsWalk, standing_place}
 
 -- the first name in boot that is no generation, else the second name
 abbrev pub boot_damage : List (List ℕ) → Option (List ℕ)
-boot_damage names = option_or (find (λ name. is_none (generation_of name)) names) (slice_get names 1)
+boot_damage names =
+    option_or (find (λ name. is_none (generation_of name)) names) (slice_get names 1)
 
 -- the first file of a walk whose id stands in front of it
 abbrev pub repeated_behind : List Standing → List Standing → Option Standing
@@ -25,14 +26,16 @@ repeated_behind front (s ∷ rest) =
 -- a bounce stands together with its cause, other than in incoming with the cause in active
 abbrev pub is_mispaired : List Standing → Standing → Bool
 is_mispaired walk s = s.id.bounce
-    && option_map_or (λ cause. not (is_incoming s.place && is_active cause)) (standing_place walk (cause_of s.id)) false
+    && option_map_or (λ cause. not (is_incoming s.place && is_active cause))
+    (standing_place walk (cause_of s.id)) false
 
 abbrev pub standing_spot : Standing → Spot
 standing_spot s = spot_of s.place s.id
 
 -- what is named of these files of messages
 abbrev pub walk_damage : List Standing → Option Spot
-walk_damage walk = option_map standing_spot (option_or (repeated_behind [] walk) (find (is_mispaired walk) walk))
+walk_damage walk =
+    option_map standing_spot (option_or (repeated_behind [] walk) (find (is_mispaired walk) walk))
 
 abbrev pub boot_spot : List ℕ → Spot
 boot_spot name = record { area = areas.Boot; name = name }
@@ -52,6 +55,10 @@ pub record IsDamage (f : Files) (area : Area) (name : List ℕ) : Type 0 where
   pub walk : List Standing
   pub shows : SpoolShows f boot walk
   pub is : damage_of boot walk ≡ Some (record { area = area; name = name })
+
+-- the spool has no damage
+abbrev pub IsUndamaged : Files → Type 0
+IsUndamaged f = (area : Area) (name : List ℕ) → IsDamage f area name → ⊥
 
 -- the spool has no damage, and its last generation is this
 pub record IsWhole (f : Files) (generation : ℕ) : Type 0 where

@@ -7,7 +7,9 @@ use Rattle.q_model.specs.IdTexts.{hex}
 abbrev pub generation_of : List ℕ → Option ℕ
 generation_of name =
     let number = digits_value 16 name in
-    if nat_lt 0 number && nat_lt number (2 ^ 32) && bytes_eq name (hex 8 number) then Some number else None
+    if nat_lt 0 number && nat_lt number (2 ^ 32) && bytes_eq name (hex 8 number)
+    then Some number
+    else None
 
 -- the last generation that the names of boot tell; 0 before the first
 abbrev pub boot_generation : List (List ℕ) → ℕ

@@ -30,7 +30,8 @@ pub record IsStandingAt (area : Area) (name : List ℕ) (s : Standing) : Type 0 
 
 -- the order of the queues incoming, active, deferred, hold, corrupt, and in each that of the names
 abbrev pub standing_cmp : Standing → Standing → Ordering
-standing_cmp s t = ordering_then (nat_cmp (area_number (area_of s.place)) (area_number (area_of t.place)))
+standing_cmp s t =
+    ordering_then (nat_cmp (area_number (area_of s.place)) (area_number (area_of t.place)))
     (slice_cmp nat_cmp (name_at s.place s.id) (name_at t.place t.id))
 
 -- a file of this id stands at this place
@@ -65,17 +66,19 @@ IsPlain place = area_of place ≢ areas.Deferred
 abbrev pub AreStandings : Area → List (List ℕ) → List Standing → Type 0
 AreStandings area [] found = found ≡ []
 AreStandings area (name ∷ names) found =
-    ((s : Standing) × (rest : List Standing) × IsStandingAt area name s × (found ≡ s ∷ rest) × AreStandings area names rest)
+    ((s : Standing) × (rest : List Standing) × IsStandingAt area name s × (found ≡ s ∷ rest)
+    × AreStandings area names rest)
     ⊎ (IsNoStanding area name × AreStandings area names found)
 
 -- they are added to a walk
-pub record AddsStandings (area : Area) (names : List (List ℕ)) (old new : List Standing) : Type 0 where
+pub record AddsStandings (area : Area) (names : List (List ℕ)) (old new : List Standing)
+    : Type 0 where
   pub found : List Standing
   pub are : AreStandings area names found
   pub added : new ≡ old ++ found
 
 -- all files of messages in an area are added to a walk
-pub record GoesThrough (f : Files) (area : Area) (old new : List Standing) : Type 0 where
+pub record AddsArea (f : Files) (area : Area) (old new : List Standing) : Type 0 where
   pub names : List (List ℕ)
   pub listed : AreAllNames (f area) names
   pub adds : AddsStandings area names old new

@@ -6,7 +6,7 @@ ghost use Rattle.q_host.specs.View.{Told};
 ghost use Rattle.q_model.specs.declared.id.Id.{Id};
 ghost use Rattle.q_model.specs.declared.spot.Area.TheVariants as areas;
 ghost use Rattle.q_model.specs.IdTexts.{id_text, IsId};
-ghost use Rattle.q_restart.specs.Clearings.{AreHandled, ChangesTmp, Cleans, DropsStrays, GoesBy, IsClean, IsEmpty, IsHandled, IsLogArea, IsSettled};
+ghost use Rattle.q_restart.specs.Clearings.{AreHandled, ChangesTmp, Cleans, Drops, GoesBy, IsClean, IsEmpty, IsHandled, IsLogArea, IsSettled};
 ghost use Rattle.q_restart.specs.Places.{is_placed};
 ghost use Rattle.q_restart.specs.Walks.{AreAllNames};
 
@@ -43,8 +43,9 @@ fn empty_tmp<H: Host>(alloc: Global, host: &mut H) -> Result<(), HostError>
 fn keep_log<H: Host>(host: &mut H, area: Area, name: Name) -> Result<(), HostError>
     requires { IsTrue H.tells → IsSome ((H.view host.old).files area name) }
     ensures files { IsTrue H.tells → (H.view host.new).files ≡ (H.view host.old).files }
-    ensures goes { (keeps : Id → Bool) → Told H.tells H.view host.old host.new (GoesBy (DropsStrays keeps)) }
-    ensures settled { OnOk result (IsTrue H.tells → area ≡ areas.Bounce → IsSettled (H.view host.new) name) }
+    ensures goes { (keeps : Id → Bool) → Told H.tells H.view host.old host.new (Drops keeps) }
+    ensures settled { OnOk result (IsTrue H.tells
+        → area ≡ areas.Bounce → IsSettled (H.view host.new) name) }
     ensures cause { DiskCause (H.faults host.old) (H.faults host.new) result }
 {
     match area {
@@ -62,9 +63,11 @@ fn handle_log<H: Host>(
 ) -> Result<(), HostError>
     requires logs { IsLogArea area }
     requires there { IsTrue H.tells → IsSome ((H.view host.old).files area name) }
-    ensures handled { OnOk result (IsTrue H.tells → IsHandled (is_placed places.now) (H.view host.new) area name) }
-    ensures others { IsTrue H.tells → SameBut area name (H.view host.old).files (H.view host.new).files }
-    ensures goes { Told H.tells H.view host.old host.new (GoesBy (DropsStrays (is_placed places.now))) }
+    ensures handled { OnOk result (IsTrue H.tells
+        → IsHandled (is_placed places.now) (H.view host.new) area name) }
+    ensures others { IsTrue H.tells
+        → SameBut area name (H.view host.old).files (H.view host.new).files }
+    ensures goes { Told H.tells H.view host.old host.new (Drops (is_placed places.now)) }
     ensures cause { DiskCause (H.faults host.old) (H.faults host.new) result }
 {
     let Some(id) = id_of(name) else {
@@ -85,8 +88,9 @@ fn handle_logs<H: Host>(
 ) -> Result<(), HostError>
     requires logs { IsLogArea area }
     requires listed { IsTrue H.tells → AreAllNames ((H.view host.old).files area) names.now }
-    ensures handled { OnOk result (IsTrue H.tells → AreHandled (is_placed places.now) (H.view host.new) area) }
-    ensures goes { Told H.tells H.view host.old host.new (GoesBy (DropsStrays (is_placed places.now))) }
+    ensures handled { OnOk result (IsTrue H.tells
+        → AreHandled (is_placed places.now) (H.view host.new) area) }
+    ensures goes { Told H.tells H.view host.old host.new (Drops (is_placed places.now)) }
     ensures cause { DiskCause (H.faults host.old) (H.faults host.new) result }
 {
     for name in names {
@@ -104,8 +108,9 @@ fn clear_logs<H: Host>(
     area: Area,
 ) -> Result<(), HostError>
     requires { IsLogArea area }
-    ensures handled { OnOk result (IsTrue H.tells → AreHandled (is_placed places.now) (H.view host.new) area) }
-    ensures goes { Told H.tells H.view host.old host.new (GoesBy (DropsStrays (is_placed places.now))) }
+    ensures handled { OnOk result (IsTrue H.tells
+        → AreHandled (is_placed places.now) (H.view host.new) area) }
+    ensures goes { Told H.tells H.view host.old host.new (Drops (is_placed places.now)) }
     ensures cause { DiskCause (H.faults host.old) (H.faults host.new) result }
 {
     let names = all_names(alloc, host, area)?;
@@ -115,7 +120,8 @@ fn clear_logs<H: Host>(
 /// Empties tmp, removes the logs whose ids stand in no queue, and makes the other failure logs
 /// sure.
 pub(crate) fn clear<H: Host>(alloc: Global, host: &mut H, places: &Places) -> Result<(), HostError>
-    ensures clean { OnOk result (IsTrue H.tells → IsClean (is_placed places.now) (H.view host.new)) }
+    ensures clean { OnOk result (IsTrue H.tells
+        → IsClean (is_placed places.now) (H.view host.new)) }
     ensures goes { Told H.tells H.view host.old host.new (GoesBy (Cleans (is_placed places.now))) }
     ensures cause { DiskCause (H.faults host.old) (H.faults host.new) result }
 {

@@ -3,8 +3,8 @@ ghost use Rattle.std.specs.Prelude.{◌≡◌, IfOk, IsTrue, OnOk};
 ghost use Rattle.q_host.specs.Calls.{Stays};
 ghost use Rattle.q_host.specs.Faults.{DiskCause};
 ghost use Rattle.q_host.specs.View.{Told};
-ghost use Rattle.q_restart.specs.Damages.{SpoolShows};
-ghost use Rattle.q_restart.specs.Walks.{ArePlaces, GoesThrough, IsWalk};
+ghost use Rattle.q_restart.specs.Judgements.{IsSightOf};
+ghost use Rattle.q_restart.specs.Walks.{ArePlaces, AddsArea, IsWalk};
 
 use crate::names::all_names;
 use crate::standing::{Standing, add_standings};
@@ -36,7 +36,8 @@ fn walk_queue<H: Host>(
     walk: &mut Vec<Standing>,
 ) -> Result<(), HostError>
     ensures places { OnOk result (ArePlaces walk.old.items → ArePlaces walk.new.items) }
-    ensures gone { OnOk result (IsTrue H.tells → GoesThrough (H.view host.old).files area walk.old.items walk.new.items) }
+    ensures adds { OnOk result (IsTrue H.tells
+        → AddsArea (H.view host.old).files area walk.old.items walk.new.items) }
     ensures stays { Told H.tells H.view host.old host.new Stays }
     ensures cause { DiskCause (H.faults host.old) (H.faults host.new) result }
 {
@@ -48,7 +49,8 @@ fn walk_queue<H: Host>(
 /// The files of messages in all queues.
 fn walk_queues<H: Host>(alloc: Global, host: &mut H) -> Result<Vec<Standing>, HostError>
     ensures places { IfOk result (λ walk. ArePlaces walk.items) }
-    ensures walk { IfOk result (λ walk. IsTrue H.tells → IsWalk (H.view host.old).files walk.items) }
+    ensures walk { IfOk result (λ walk. IsTrue H.tells
+        → IsWalk (H.view host.old).files walk.items) }
     ensures stays { Told H.tells H.view host.old host.new Stays }
     ensures cause { DiskCause (H.faults host.old) (H.faults host.new) result }
 {
@@ -63,7 +65,7 @@ fn walk_queues<H: Host>(alloc: Global, host: &mut H) -> Result<Vec<Standing>, Ho
 pub(crate) fn look<H: Host>(alloc: Global, host: &mut H) -> Result<Sight, HostError>
     ensures places { IfOk result (λ sight. ArePlaces sight.walk.items) }
     ensures shows { IfOk result (λ sight. IsTrue H.tells
-        → SpoolShows (H.view host.old).files sight.boot.items sight.walk.items) }
+        → IsSightOf (H.view host.old).files sight) }
     ensures stays { Told H.tells H.view host.old host.new Stays }
     ensures cause { DiskCause (H.faults host.old) (H.faults host.new) result }
 {

@@ -15,7 +15,8 @@ pub(crate) fn all_names<H: Host>(
     host: &mut H,
     area: Area,
 ) -> Result<Vec<Name>, HostError>
-    ensures names { IfOk result (λ names. IsTrue H.tells → AreAllNames ((H.view host.old).files area) names.items) }
+    ensures names { IfOk result (λ names. IsTrue H.tells
+        → AreAllNames ((H.view host.old).files area) names.items) }
     ensures stays { Told H.tells H.view host.old host.new Stays }
     ensures cause { DiskCause (H.faults host.old) (H.faults host.new) result }
 {

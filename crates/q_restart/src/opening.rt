@@ -1,13 +1,9 @@
 //! Opening a spool.
-ghost use Rattle.std.specs.Prelude.{◌≡◌, ◌+◌, ◌<◌, ◌-◌, ◌^◌, Err, IfOk, IsErrOf, IsTrue, List, true, ℕ};
-ghost use Rattle.q_books.specs.HostStands.{HostStands, Tries};
+ghost use Rattle.std.specs.Prelude.{IfOk, IsErrOf, IsTrue};
 ghost use Rattle.q_host.specs.Calls.{Stays};
 ghost use Rattle.q_host.specs.View.{Told};
-ghost use Rattle.q_model.specs.declared.spot.Area.{Area};
-ghost use Rattle.q_model.specs.Book.{Book};
-ghost use Rattle.q_model.specs.Orderly.{is_orderly};
-ghost use Rattle.q_restart.specs.Damages.{IsDamage, IsNextGeneration, IsSpent};
-ghost use Rattle.q_restart.specs.Openings.{begun, IsAccepted, IsRefusal, OpenCause, Opens};
+ghost use Rattle.q_restart.specs.Damages.{IsNextGeneration, IsSpent, IsUndamaged};
+ghost use Rattle.q_restart.specs.Openings.{AcceptsOrderly, IsAccepted, IsRefusal, NamesDamage, OpenCause, OpensUnder, TriesToBegin};
 
 use crate::clearing::clear;
 use crate::error::OpenError;
@@ -40,26 +36,23 @@ pub struct Spool {
 /// generation, or made as the first.
 pub fn open_spool<H: Host>(alloc: Global, host: &mut H) -> Result<Spool, OpenError>
     // After Ok the host stands for the book with which the life begins.
-    ensures ok { IfOk result (λ spool. IsTrue H.tells → (b : Book) → HostStands (H.view host.old) b
-        → Opens b spool.generation (H.view host.old) (H.view host.new)) }
+    ensures ok { IfOk result (λ spool.
+        Told H.tells H.view host.old host.new (OpensUnder spool.generation)) }
 
     // After every answer it stands for that book, or for the one before.
-    ensures tries { IsTrue H.tells → (b : Book) → HostStands (H.view host.old) b
-        → Tries b (begun b) (H.view host.old) (H.view host.new) }
+    ensures tries { Told H.tells H.view host.old host.new TriesToBegin }
 
     // The spool is opened, found damaged or found spent exactly where it is so.
     ensures opened { IfOk result (λ spool. IsTrue H.tells
         → IsNextGeneration (H.view host.old).files spool.generation) }
-    ensures damaged { (area : Area) (name : List ℕ) → result ≡ Err (OpenError.Damaged area name)
-        → IsTrue H.tells → IsDamage (H.view host.old).files area name }
-    ensures spent { IsErrOf result OpenError.Spent → IsTrue H.tells → IsSpent (H.view host.old).files }
-    ensures undamaged { IsAccepted result → IsTrue H.tells → (area : Area) (name : List ℕ)
-        → IsDamage (H.view host.old).files area name → ⊥ }
+    ensures damaged { IsTrue H.tells → NamesDamage (H.view host.old).files result }
+    ensures undamaged { IsTrue H.tells → IsAccepted result → IsUndamaged (H.view host.old).files }
+    ensures spent { IsTrue H.tells → IsErrOf result OpenError.Spent
+        → IsSpent (H.view host.old).files }
     ensures untouched { IsRefusal result → Told H.tells H.view host.old host.new Stays }
 
     // An orderly book is never refused but at the last generation.
-    ensures orderly { IsTrue H.tells → (b : Book) → HostStands (H.view host.old) b
-        → is_orderly b ≡ true → b.generation < 2 ^ 32 - 1 → IsRefusal result → ⊥ }
+    ensures orderly { IsTrue H.tells → AcceptsOrderly (H.view host.old) result }
     ensures cause { OpenCause (H.faults host.old) (H.faults host.new) result }
 {
     let sight = look(alloc, host)?;

@@ -18,7 +18,7 @@ loop-area-preserved g c =
     let so_far = c.loop-area.invariant in
     record {
       places = c.in_ok-walk_queue.ensures.places so_far.places;
-      walk = λ t. walk-next (view c.args.host.now).files (view c.loop-area.host).files c.loop-area.area-index _ c.loop-area.walk.items c.walk_queue.new.walk.items c.loop-area-test.true (so_far.stays t).files (so_far.walk t) (c.in_ok-walk_queue.ensures.gone t);
+      walk = λ t. walk-next (view c.args.host.now).files (view c.loop-area.host).files c.loop-area.area-index _ c.loop-area.walk.items c.walk_queue.new.walk.items c.loop-area-test.true (so_far.stays t).files (so_far.walk t) (c.in_ok-walk_queue.ensures.adds t);
       stays = λ t. stays_on (view c.args.host.now) (view c.loop-area.host) (view c.walk_queue.new.host) (so_far.stays t) (c.walk_queue.ensures.stays t);
       disk_later = omega (arith, so_far.disk_later, c.walk_queue.ensures.cause.disk_later);
       tell_later = omega (arith, so_far.tell_later, c.walk_queue.ensures.cause.tell_later);

@@ -87,12 +87,12 @@ returns-in_err-generation-clause-orderly g c t b h orderly below refusal =
     none-refused (g.H.Host.view c.args.host.now).files b sight.boot.items sight.walk.items (c.in_ok-sight.ensures.shows t) h.reads orderly below c.in_err-generation.field-0.0 c.in_err-generation.ensures.err
 
 pub returns-in_err-generation-clause-undamaged : goal.returns-in_err-generation-clause-undamaged
-returns-in_err-generation-clause-undamaged g c accepted t area name damage =
+returns-in_err-generation-clause-undamaged g c t accepted area name damage =
     let sight = c.in_ok-sight.sight in
     spent-undamaged (g.H.Host.view c.args.host.now).files sight.boot.items sight.walk.items area name (c.in_ok-sight.ensures.shows t) c.in_err-generation.field-0.0
     (accepted-spent c.from_residual-in_err-generation.result c.in_err-generation.field-0.0 c.from_residual-in_err-generation.ensures.1 accepted) c.in_err-generation.ensures.err damage
 
 pub returns-clause-undamaged : goal.returns-clause-undamaged
-returns-clause-undamaged g c accepted t area name damage =
+returns-clause-undamaged g c t accepted area name damage =
     let sight = c.in_ok-sight.sight in
     sound-undamaged (g.H.Host.view c.args.host.now).files sight.boot.items sight.walk.items area name (c.in_ok-sight.ensures.shows t) c.in_ok-generation.ensures.ok.sound damage
