@@ -10,7 +10,7 @@ use Rattle.q_restart.specs.declared.error.OpenError.{OpenError}
 use Rattle.q_restart.specs.declared.error.OpenError.TheVariants as errors
 use Rattle.q_restart.specs.declared.opening.Spool.{Spool}
 use Rattle.q_restart.specs.declared.standing.Standing.{Standing}
-use Rattle.q_restart.specs.Damages.{damage_of, IsDamage, IsWhole, SpoolShows}
+use Rattle.q_restart.specs.Damages.{damage_of, IsDamage, IsIntact, SpoolShows}
 use Rattle.q_restart.specs.Generations.{boot_generation}
 use Rattle.q_restart.specs.Judgements.{IsRefused}
 use Rattle.q_restart.specs.Openings.{IsAccepted}
@@ -43,7 +43,7 @@ pub sound-undamaged : (f : Files) (boot : List (List ℕ)) (walk : List Standing
 sound-undamaged f boot walk area name shows sound h = none_spot (record { area = area; name = name }) (sym sound ∙ one-damage_of f boot h.boot walk h.walk shows h.shows ∙ h.is)
 
 -- and a spool without damage has one last generation
-pub one-generation : (f : Files) (g k : ℕ) → IsWhole f g → IsWhole f k → g ≡ k
+pub one-generation : (f : Files) (g k : ℕ) → IsIntact f g → IsIntact f k → g ≡ k
 one-generation f g k h i = sym h.last ∙ ap boot_generation (one-names _ h.boot i.boot h.shows.names i.shows.names) ∙ i.last
 
 pub accepted-spent : (r : Result Spool OpenError) (e : OpenError) → IsErrAnd r (λ x. x ≡ e) → IsAccepted r → e ≡ errors.Spent

@@ -61,7 +61,7 @@ abbrev pub IsUndamaged : Files → Type 0
 IsUndamaged f = (area : Area) (name : List ℕ) → IsDamage f area name → ⊥
 
 -- the spool has no damage, and its last generation is this
-pub record IsWhole (f : Files) (generation : ℕ) : Type 0 where
+pub record IsIntact (f : Files) (generation : ℕ) : Type 0 where
   pub boot : List (List ℕ)
   pub walk : List Standing
   pub shows : SpoolShows f boot walk
@@ -70,11 +70,11 @@ pub record IsWhole (f : Files) (generation : ℕ) : Type 0 where
 
 -- every generation was used
 abbrev pub IsSpent : Files → Type 0
-IsSpent f = IsWhole f (2 ^ 32 - 1)
+IsSpent f = IsIntact f (2 ^ 32 - 1)
 
 -- another generation can begin, and it is this
 pub record IsNextGeneration (f : Files) (generation : ℕ) : Type 0 where
   pub last : ℕ
-  pub whole : IsWhole f last
+  pub whole : IsIntact f last
   pub next : generation ≡ last + 1
   pub fits : generation < 2 ^ 32
