@@ -1,4 +1,3 @@
 pub mod HostStands
-pub mod NewMessages
 pub mod Notes
 pub mod Spots
