@@ -1,3 +1,4 @@
 pub mod HostStands
+pub mod NewMessages
 pub mod Notes
 pub mod Spots

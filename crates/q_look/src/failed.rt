@@ -53,7 +53,7 @@ impl Flags {
 }
 
 /// The records of the failure log of an id; none, where there is no log.
-fn log_of<H: Host>(alloc: Global, host: &mut H, id: Id) -> Result<Records, HostError>
+pub fn log_of<H: Host>(alloc: Global, host: &mut H, id: Id) -> Result<Records, HostError>
     ensures records { IfOk result (λ records. IsTrue H.tells
         → records ≡ logged_in (H.view host.old).files id) }
     ensures stays { IsTrue H.tells → Stays (H.view host.old) (H.view host.new) }

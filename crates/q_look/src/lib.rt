@@ -16,4 +16,5 @@ mod names;
 mod wanted;
 mod whole;
 
+pub use failed::log_of;
 pub use looks::{look_active, look_deferred, look_incoming};
