@@ -1,0 +1,140 @@
+-- The load that the core asked for, carried out and told.
+use Rattle.std.proofs.Common.{◌≡◌, ◌∙◌, ◌+◌, ℕ, List, [], ◌∷◌, ◌++◌, map, take, slice_get, Some, refl, sym, ap, subst, inl, append_assoc}
+use Rattle.std.proofs.lemmas.List.{map-append}
+use Rattle.q_model.specs.declared.entry.Entry.TheVariants as entries
+use Rattle.q_model.specs.declared.id.Id.{Id}
+use Rattle.q_model.specs.Batches.{load_end}
+use Rattle.q_model.specs.Book.{Book, message_of}
+use Rattle.q_model.specs.Ledger.{Ledger}
+use Rattle.q_model.specs.Message.{Message}
+use Rattle.q_model.specs.Next.{next}
+use Rattle.q_model.specs.Settings.{Table, World}
+use Rattle.q_model.specs.Step.{after}
+use Rattle.q_model.specs.Values.{Site, Taken}
+use Rattle.q_host.specs.declared.error.HostError.{HostError}
+use Rattle.q_host.specs.View.{View}
+use Rattle.q_lives.proofs.Books.{after_is}
+use Rattle.q_lives.proofs.Caused.{load_alike}
+use Rattle.q_transport.specs.Routing.{table_of}
+use Rattle.q_books.specs.HostStands.{Takes}
+use Rattle.q_entries.specs.Entries.{DoesEntry, StopsEntry}
+use Rattle.q_entries.proofs.Lines.{changed_does, changed_stops, may_stop}
+use Rattle.q_core.specs.Agrees.{Agrees}
+use Rattle.q_core.specs.declared.state.Core.{Core}
+use Rattle.q_engine.specs.Loads.{sites_of}
+use Rattle.q_engine.specs.Stands.{HasAsked}
+use Rattle.q_engine.specs.Steps.{WasCarriedOut, WasGivenUp}
+use Rattle.q_engine.specs.declared.engine.Engine.{Engine}
+use Rattle.q_engine.proofs.Counting.{counts_core, counts_stay}
+use Rattle.q_engine.proofs.OpenRecipients.{next_taken}
+
+-- which sites are named is no part of a ledger
+pub named_agrees : (w : World) (c : Core) (l : Ledger) (xs : List Site) → Agrees w c l → Agrees w (record c { named = xs }) l
+named_agrees w c l xs a = let m = a.matches in let h = m.parts in record {
+  matches = record {
+    parts = record {
+      settings = h.settings;
+      count = h.count;
+      transports = h.transports;
+      mode = h.mode;
+      clock = h.clock;
+      timed = h.timed;
+      next_run = h.next_run;
+      ignores = h.ignores;
+      deferred_turn = h.deferred_turn;
+      admitted = h.admitted;
+      waiting = h.waiting;
+      flights = h.flights;
+      memory = h.memory;
+      served = h.served;
+      unsettled = h.unsettled;
+      lines = h.lines;
+      sites = h.sites;
+      synced = h.synced;
+      starts = h.starts;
+      active = h.active;
+      incoming = h.incoming;
+    };
+    scan = record { goes_on = m.scan.goes_on; seen = m.scan.seen };
+  };
+  consistent = a.consistent;
+  sites = a.sites;
+  living = a.living;
+  moment = a.moment;
+}
+
+-- so many sites of the recipients that were read are named
+abbrev pub named_so_far : Engine → List Taken → ℕ → Engine
+named_so_far old taken i = record old { core = record old.core { named = old.core.named ++ sites_of old (take i taken) } }
+
+pub named_next : (old so_far : Engine) (core : Core) (taken : List Taken) (i : ℕ) (t : Taken) (site : Site) → so_far ≡ named_so_far old taken i → slice_get taken i ≡ Some t → site ≡ (table_of so_far.table).route t.address
+    → core ≡ record so_far.core { named = so_far.core.named ++ site ∷ [] } → record so_far { core = core } ≡ named_so_far old taken (i + 1)
+named_next old so_far core taken i t site is here routed named =
+    let route = (table_of old.table).route in
+    let by_old : site ≡ route t.address = routed ∙ ap (λ (e : Engine). (table_of e.table).route t.address) is in
+    let before = sites_of old (take i taken) in
+    let sites : (old.core.named ++ before) ++ site ∷ [] ≡ old.core.named ++ sites_of old (take (i + 1) taken) =
+    append_assoc old.core.named before (site ∷ [])
+    ∙ ap (λ (s : Site). old.core.named ++ (before ++ s ∷ [])) by_old
+    ∙ ap (λ (ss : List Site). old.core.named ++ ss) (sym (ap (map (λ (x : Taken). route x.address)) (next_taken taken i t here) ∙ map-append (λ (x : Taken). route x.address) (take i taken) (t ∷ []))) in
+    ap (λ (c : Core). record so_far { core = c }) named
+    ∙ ap (λ (e : Engine). record e { core = record e.core { named = e.core.named ++ site ∷ [] } }) is
+    ∙ ap (λ (ss : List Site). record old { core = record old.core { named = ss } }) sites
+
+same_message : (b : Book) (id : Id) (m k : Message) → message_of b id ≡ Some m → message_of b id ≡ Some k → m ≡ k
+same_message b id m k e f = by (sym e ∙ f)
+  where
+    by : Some m ≡ Some k → m ≡ k
+    by h = cc
+
+module _ (w : World) (l : Ledger) (id : Id) (from max : ℕ) (engine : Engine) (v : View) (h : HasAsked w l id from max engine v) where
+  -- the ledger's next entry, by the message of the book
+  pub next_load : (m : Message) (to : ℕ) → message_of l.book id ≡ Some m → to ≡ load_end m from max → next w l ≡ Some (entries.Load id from to)
+  next_load m to there is =
+      h.following ∙ ap (λ (n : ℕ). Some (entries.Load id from n)) (ap (λ (k : Message). load_end k from max) (same_message l.book id h.message m h.there there) ∙ sym is)
+
+  abbrev lines : Table
+  lines = table_of engine.table
+
+  -- a load changes no book
+  same_book : (to : ℕ) → l.book ≡ (after w l (entries.Load id from to)).book
+  same_book to = sym (load_alike w l id from to (message_of l.book id)).book ∙ sym (after_is w l (entries.Load id from to)).book
+
+  -- it was read, taken in and told
+  pub loaded_told : (to : ℕ) (core : Core) (m x : View) → next w l ≡ Some (entries.Load id from to) → Agrees w core (after w l (entries.Load id from to)) → Takes l.book l.book v m → DoesEntry lines (entries.Load id from to) l.book l.book m x
+      → WasCarriedOut w l (record engine { core = core }) v x
+  loaded_told to core m x following agrees takes does =
+      let e = entries.Load id from to in
+      let all = changed_does lines e l.book l.book v m x takes does in
+      let done = subst (λ (t : Table). DoesEntry t e l.book (after w l e).book v x) (sym h.stands.table) (subst (λ (b : Book). DoesEntry lines e l.book b v x) (same_book to) all) in
+      record {
+        entry_told = e;
+        following = following;
+        does = done;
+        stands = record {
+          table = h.stands.table;
+          core = agrees;
+          counts = counts_stay w l e (record engine { core = core }) refl refl refl (counts_core engine core l h.stands.counts);
+          host = done.stands;
+          logs = done.logs h.stands.logs;
+        };
+      }
+
+  stopped_at : (to : ℕ) (error : HostError) (x : View) → next w l ≡ Some (entries.Load id from to) → StopsEntry lines (entries.Load id from to) l.book l.book error v x → WasGivenUp w l error v x
+  stopped_at to error x following stops =
+      let e = entries.Load id from to in
+      record {
+        entry_told = e;
+        following = following;
+        stops = subst (λ (t : Table). StopsEntry t e l.book (after w l e).book error v x) (sym h.stands.table) (subst (λ (b : Book). StopsEntry lines e l.book b error v x) (same_book to) stops);
+      }
+
+  -- it was read, and given up
+  pub load_given_up : (error : HostError) (m : View) → Takes l.book l.book v m → WasGivenUp w l error v m
+  load_given_up error m takes =
+      let to = load_end h.message from max in
+      stopped_at to error m h.following (may_stop lines (entries.Load id from to) l.book l.book error v m (record { told = takes.told; stands = inl takes.stands; moments = takes.moments }))
+
+  -- its line was refused
+  pub load_untold : (to : ℕ) (error : HostError) (m x : View) → next w l ≡ Some (entries.Load id from to) → Takes l.book l.book v m → StopsEntry lines (entries.Load id from to) l.book l.book error m x → WasGivenUp w l error v x
+  load_untold to error m x following takes stops = stopped_at to error x following (changed_stops lines (entries.Load id from to) l.book l.book v m x takes error stops)

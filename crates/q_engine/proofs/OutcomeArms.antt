@@ -1,0 +1,44 @@
+-- What the entries of an outcome ask of the calls that write them.
+use Rattle.std.proofs.Common.{◌≡◌, ◌≤◌, ℕ, refl, length}
+use Rattle.std.specs.Option.{IsSome, IsSomeAnd}
+use Rattle.q_model.specs.declared.entry.Entry.TheVariants as entries
+use Rattle.q_model.specs.declared.id.Id.{Id}
+use Rattle.q_model.specs.declared.outcome.Failure.{Failure}
+use Rattle.q_model.specs.declared.rows.Place.TheVariants as places
+use Rattle.q_model.specs.Ledger.{Ledger}
+use Rattle.q_model.specs.Settings.{World}
+use Rattle.q_model.specs.Step.{change}
+use Rattle.q_model.specs.Values.{Spot}
+use Rattle.q_host.specs.View.{View}
+use Rattle.q_books.specs.Spots.{spot_of}
+use Rattle.q_core.specs.declared.decision.Decision.TheVariants as decisions
+use Rattle.q_files.specs.Changes.{AddsFailure, MarksRecipient}
+use Rattle.q_engine.specs.MarkOffsets.{FindsOffset}
+use Rattle.q_engine.specs.Stands.{HasDecided}
+use Rattle.q_engine.specs.declared.engine.Engine.{Engine}
+use Rattle.q_engine.proofs.FirstOutcomes.{log_speaks, mark_bare, mark_inside}
+use Rattle.q_engine.proofs.Speaking.{file_there, in_active}
+
+module _ (w : World) (l : Ledger) (id : Id) (p : ℕ) (engine : Engine) (v : View) (h : HasDecided w l (decisions.Mark id p) (entries.Mark id p) engine v) (s : Spot) (is : s ≡ spot_of places.Active id) where
+  -- the file of the message is there
+  pub mark_there : IsSome (v.files s.area s.name)
+  mark_there = let b = mark_bare w l id p h.was.consistent h.following in
+      file_there v l.book id b.message s h.host (in_active l id b.message b.active s is)
+
+  module _ (at : ℕ) (finds : FindsOffset v s p at) where
+    -- the mark is the entry's
+    pub mark_changes : MarksRecipient s at l.book (change w l (entries.Mark id p)).book
+    mark_changes = let b = mark_bare w l id p h.was.consistent h.following in
+        let file = in_active l id b.message b.active s is in
+        record { id = id; message = b.message; position = p; file = file; mark = finds l.book id b.message h.host file; changed = refl }
+
+    -- and stands within the file
+    pub mark_fits : IsSomeAnd (v.files s.area s.name) (λ file. at ≤ length file)
+    unfolding mark_changes
+    mark_fits = let m = mark_changes in mark_inside v l.book id m.message s p at h.host m.file m.mark
+
+-- the record of the failure is the entry's
+pub log_changes : (w : World) (l : Ledger) (id : Id) (f : Failure) (engine : Engine) (v : View) → HasDecided w l (decisions.Log id f) (entries.Log id f) engine v → AddsFailure id f l.book (change w l (entries.Log id f)).book
+log_changes w l id f engine v h =
+    let m = log_speaks w l id f h.was.consistent h.following in
+    record { message = m.message; found = m.there; here = m.here; fresh = m.fresh; firm = m.firm; changed = refl }

@@ -1,0 +1,15 @@
+use Rattle.q_books.proofs.Joining.{reads_keep}
+use Rattle.q_books.specs.HostStands.{TellsCrashes}
+use Rattle.q_engine.proofs.Counting.{counts_core}
+use Rattle.q_engine.proofs.Looking.{shown_answers}
+use Rattle.q_engine.proofs.engine.Engine.answer.Goals as goal
+
+pub returns-clause-ok : goal.returns-clause-ok
+returns-clause-ok g c t w l h look =
+    let v = g.H.Host.view c.args.host.now in
+    let x = g.H.Host.view c.look.new.host in
+    let lawful : TellsCrashes v = (record { only = g.met.H.Host.only_now c.args.host.now; told = g.met.H.Host.told_stays c.args.host.now }) in
+    let takes = reads_keep l.book l.book v x lawful (c.in_ok-found.ensures.stays t) h.host in
+    let shown = c.in_ok-found.ensures.found t w l h.core h.host.reads in
+    let core = c.found.ensures.exact w l h.core (shown_answers c.args.decision.now c.args.self.now.core c.in_ok-found.found l c.requires.asked look shown) in
+    (record { table = h.table; core = core; counts = counts_core c.args.self.now c.found.new.self l h.counts; host = takes.stands; logs = takes.logs h.logs }, takes)

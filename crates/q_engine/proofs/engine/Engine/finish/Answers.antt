@@ -1,0 +1,15 @@
+use Rattle.std.proofs.Common.{refl}
+use Rattle.q_model.specs.declared.entry.Entry.TheVariants as entries
+use Rattle.q_engine.proofs.BegunLives.{fault_of}
+use Rattle.q_engine.proofs.EndedLives.{ended}
+use Rattle.q_engine.proofs.HeardEvents.{stopped}
+use Rattle.q_engine.proofs.engine.Engine.finish.Goals as goal
+
+pub returns-in-Ok-clause-ok : goal.returns-in-Ok-clause-ok
+returns-in-Ok-clause-ok g c t w l h =
+    ended w l c.args.self (g.H.Host.view c.args.host.now) (g.H.Host.view c.tell.new.host) h (c.in-Ok.ensures.ok t l.book h.host)
+
+pub returns-clause-err : goal.returns-clause-err
+returns-clause-err g c error is t w l h =
+    stopped w l entries.End c.args.self (g.H.Host.view c.args.host.now) h l.book error (g.H.Host.view c.tell.new.host) refl
+    (c.tell.ensures.err error (fault_of c.in-Err.error error c.refusal_of.result c.tell.result c.in-Err.is c.refusal_of.ensures is) t l.book h.host)

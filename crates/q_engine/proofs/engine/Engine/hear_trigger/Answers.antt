@@ -1,0 +1,23 @@
+use Rattle.std.proofs.Common.{◌∙◌, sym, refl}
+use Rattle.q_books.proofs.Results.{on_ok}
+use Rattle.q_model.specs.declared.entry.Entry.TheVariants as entries
+use Rattle.q_engine.proofs.Counting.{counts_core, counts_stay}
+use Rattle.q_engine.proofs.HeardEvents.{allowed_by, done, not_done, stopped}
+use Rattle.q_engine.proofs.QuietEvents.{trigger_book}
+use Rattle.q_engine.proofs.engine.Engine.hear_trigger.Goals as goal
+
+pub returns-in_err-event-clause-err : goal.returns-in_err-event-clause-err
+returns-in_err-event-clause-err g c error is t w l h =
+    not_done w l (entries.Trigger c.args.kind) c.args.self.now (g.H.Host.view c.args.host.now) h error (record { only = g.met.H.Host.only_now c.args.host.now; told = g.met.H.Host.told_stays c.args.host.now })
+
+pub returns-clause-ok : goal.returns-clause-ok
+returns-clause-ok g c = on_ok c.tell.result (λ told t w l h.
+    let e = entries.Trigger c.args.kind in
+    let engine = c.args.self.now in
+    let core = c.in_ok-event.ensures.ok w l h.core e refl (allowed_by w l e h.core.living (sym h.core.matches.parts.timed ∙ c.requires.timed)) in
+    done w l e engine (g.H.Host.view c.args.host.now) h (record engine { core = c.event.new.self }) l.book (g.H.Host.view c.tell.new.host) refl core
+    (counts_stay w l e (record engine { core = c.event.new.self }) refl refl refl (counts_core engine c.event.new.self l h.counts)) (trigger_book w l c.args.kind) (told t l.book h.host)) c.tell.ensures.ok
+
+pub returns-clause-err : goal.returns-clause-err
+returns-clause-err g c error is t w l h =
+    stopped w l (entries.Trigger c.args.kind) c.args.self.now (g.H.Host.view c.args.host.now) h l.book error (g.H.Host.view c.tell.new.host) (trigger_book w l c.args.kind) (c.tell.ensures.err error is t l.book h.host)

@@ -1,0 +1,99 @@
+use Rattle.std.proofs.Common.{◌≡◌, Option, subst, sym}
+use Rattle.std.specs.Option.{IfSome}
+use Rattle.std.specs.Prelude.{IfNone, None}
+use Rattle.q_books.proofs.Joining.{reads_keep}
+use Rattle.q_books.proofs.Results.{on_ok}
+use Rattle.q_books.specs.HostStands.{TellsCrashes}
+use Rattle.q_entries.specs.Entries.{DoesEntry, StopsEntry}
+use Rattle.q_message.specs.Told.{bytes_at, TellsOf}
+use Rattle.q_model.specs.Batches.{load_end}
+use Rattle.q_model.specs.FilesStand.{file_message}
+use Rattle.q_model.specs.QueueFile.{queue_file}
+use Rattle.q_model.specs.declared.entry.Entry.TheVariants as entries
+use Rattle.q_transport.specs.Routing.{table_of}
+use Rattle.q_engine.specs.Pending.{AreRead}
+use Rattle.q_engine.specs.Steps.{WasCarriedOut}
+use Rattle.q_engine.specs.declared.engine.Engine.{Engine}
+use Rattle.q_engine.specs.declared.seeking.Reading.{Reading}
+use Rattle.q_engine.proofs.CarriedLoads.{load_given_up, load_untold, loaded_told, next_load}
+use Rattle.q_engine.proofs.LoadedEntries.{ends, file_reads, file_whole, load_speaks, read_of, reads_are}
+use Rattle.q_engine.proofs.Speaking.{file_there, in_active}
+use Rattle.q_engine.proofs.engine.Engine.load.Goals as goal
+
+pub read_pending-requires : goal.read_pending-requires
+read_pending-requires g c = record {
+  there = λ t.
+      let (w, l, n) = c.requires.decided t in
+      let a = load_speaks w l c.args.id c.args.from (load_end n.message c.args.from c.args.max) n.stands.core.consistent n.following in
+      file_there (g.H.Host.view c.args.host.now) l.book c.args.id a.0 c.file_spot-spot.result n.stands.host (in_active l c.args.id a.0 a.1.message c.file_spot-spot.result c.file_spot-spot.ensures);
+}
+
+pub returns-in_err-reading-clause-err : goal.returns-in_err-reading-clause-err
+returns-in_err-reading-clause-err g c error is t w l n =
+    let v = g.H.Host.view c.args.host.now in
+    let x = g.H.Host.view c.read_pending.new.host in
+    let lawful : TellsCrashes v = record { only = g.met.H.Host.only_now c.args.host.now; told = g.met.H.Host.told_stays c.args.host.now } in
+    load_given_up w l c.args.id c.args.from c.args.max c.args.self.now v n error x (reads_keep l.book l.book v x lawful (c.in_err-reading.ensures.stays t) n.stands.host)
+
+pub returns-in_default-clause-ok : goal.returns-in_default-clause-ok
+returns-in_default-clause-ok g c t w l n =
+    let v = g.H.Host.view c.args.host.now in
+    let spot = c.file_spot-spot.result in
+    let a = load_speaks w l c.args.id c.args.from (load_end n.message c.args.from c.args.max) n.stands.core.consistent n.following in
+    let file = file_reads v l.book c.args.id a.0 spot n.stands.host (in_active l c.args.id a.0 a.1.message spot c.file_spot-spot.ensures) in
+    let none = subst (λ (o : Option Reading). IfNone o (TellsOf g.H.Host.tells v spot (λ bytes. queue_file bytes ≡ None))) c.in_default.is c.in_ok-reading.ensures.none in
+    absurd {A = WasCarriedOut w l (record c.args.self.now { core = c.found.new.self }) v (g.H.Host.view c.read_pending.new.host)} (file_whole (bytes_at v spot) file.0 (file_message a.0) file.1 file.2 (none t))
+
+pub returns-in_err-take_in-clause-err : goal.returns-in_err-take_in-clause-err
+returns-in_err-take_in-clause-err g c error is t w l n =
+    let v = g.H.Host.view c.args.host.now in
+    let x = g.H.Host.view c.read_pending.new.host in
+    let lawful : TellsCrashes v = record { only = g.met.H.Host.only_now c.args.host.now; told = g.met.H.Host.told_stays c.args.host.now } in
+    load_given_up w l c.args.id c.args.from c.args.max c.args.self.now v n error x (reads_keep l.book l.book v x lawful (c.in_ok-reading.ensures.stays t) n.stands.host)
+
+pub returns-clause-ok : goal.returns-clause-ok
+returns-clause-ok g c = on_ok c.tell.result (λ told t w l n.
+    let id = c.args.id in
+    let from = c.args.from in
+    let max = c.args.max in
+    let engine = c.args.self.now in
+    let spot = c.file_spot-spot.result in
+    let v = g.H.Host.view c.args.host.now in
+    let m = g.H.Host.view c.read_pending.new.host in
+    let x = g.H.Host.view c.tell.new.host in
+    let items = c.in-Some.reading.taken.items in
+    let to = c.in-Some.reading.next.position in
+    let lawful : TellsCrashes v = record { only = g.met.H.Host.only_now c.args.host.now; told = g.met.H.Host.told_stays c.args.host.now } in
+    let a = load_speaks w l id from (load_end n.message from max) n.stands.core.consistent n.following in
+    let file = file_reads v l.book id a.0 spot n.stands.host (in_active l id a.0 a.1.message spot c.file_spot-spot.ensures) in
+    let taken = subst (λ (o : Option Reading). IfSome o (λ r. TellsOf g.H.Host.tells v spot (AreRead from max r.taken.items r.next.position))) c.in-Some.is c.in_ok-reading.ensures.taken in
+    let read = read_of (bytes_at v spot) file.0 (file_message a.0) from max to items file.1 file.2 (taken t) in
+    let following = next_load w l id from max engine v n a.0 to a.1.message.there (ends w l id a.0 engine from max to items a.1 read) in
+    let reads = reads_are w l id a.0 engine from max to items a.1 read n.stands.table in
+    let agrees = c.in_ok-take_in.ensures.ok w l n.stands.core id from max c.requires.question following reads in
+    let same = c.in_ok-take_in.ensures.rest in
+    let takes = reads_keep l.book l.book v m lawful (c.in_ok-reading.ensures.stays t) n.stands.host in
+    let does = subst (λ (e : Engine). DoesEntry (table_of e.table) (entries.Load id from to) l.book l.book m x) same (told t l.book takes.stands) in
+    subst (λ (e : Engine). WasCarriedOut w l e v x) (sym same) (loaded_told w l id from max engine v n to c.take_in.new.self.core m x following agrees takes does)) c.tell.ensures.ok
+
+pub returns-clause-err : goal.returns-clause-err
+returns-clause-err g c error is t w l n =
+    let id = c.args.id in
+    let from = c.args.from in
+    let max = c.args.max in
+    let engine = c.args.self.now in
+    let spot = c.file_spot-spot.result in
+    let v = g.H.Host.view c.args.host.now in
+    let m = g.H.Host.view c.read_pending.new.host in
+    let x = g.H.Host.view c.tell.new.host in
+    let items = c.in-Some.reading.taken.items in
+    let to = c.in-Some.reading.next.position in
+    let lawful : TellsCrashes v = record { only = g.met.H.Host.only_now c.args.host.now; told = g.met.H.Host.told_stays c.args.host.now } in
+    let a = load_speaks w l id from (load_end n.message from max) n.stands.core.consistent n.following in
+    let file = file_reads v l.book id a.0 spot n.stands.host (in_active l id a.0 a.1.message spot c.file_spot-spot.ensures) in
+    let taken = subst (λ (o : Option Reading). IfSome o (λ r. TellsOf g.H.Host.tells v spot (AreRead from max r.taken.items r.next.position))) c.in-Some.is c.in_ok-reading.ensures.taken in
+    let read = read_of (bytes_at v spot) file.0 (file_message a.0) from max to items file.1 file.2 (taken t) in
+    let following = next_load w l id from max engine v n a.0 to a.1.message.there (ends w l id a.0 engine from max to items a.1 read) in
+    let takes = reads_keep l.book l.book v m lawful (c.in_ok-reading.ensures.stays t) n.stands.host in
+    let stops = subst (λ (e : Engine). StopsEntry (table_of e.table) (entries.Load id from to) l.book l.book error m x) c.in_ok-take_in.ensures.rest (c.tell.ensures.err error is t l.book takes.stands) in
+    load_untold w l id from max engine v n to error m x following takes stops

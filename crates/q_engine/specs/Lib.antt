@@ -1,0 +1,12 @@
+pub mod Beginnings
+pub mod BounceTexts
+pub mod Delays
+pub mod Heard
+pub mod Loads
+pub mod Looks
+pub mod MarkOffsets
+pub mod Pending
+pub mod ReadFaults
+pub mod Refusals
+pub mod Stands
+pub mod Steps

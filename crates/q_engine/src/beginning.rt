@@ -1,0 +1,143 @@
+//! The beginning of a life on a spool.
+ghost use Rattle.std.specs.Prelude.{◌≡◌, ◌<◌, ◌-◌, ◌^◌, IfOk, IsErrOf, false, IsTrue, length, List, ℕ, true};
+ghost use Rattle.q_books.specs.HostStands.{HostStands};
+ghost use Rattle.q_core.specs.Agrees.{AgreesIfOrderly, ForFirst};
+ghost use Rattle.q_engine.specs.Beginnings.{BeginsLife, is_of_spool, opening_refusal, StopsBeginning};
+ghost use Rattle.q_engine.specs.Refusals.{EngineCause, refusal_of};
+ghost use Rattle.q_engine.specs.Stands.{IsReady};
+ghost use Rattle.q_engine.specs.declared.error.EngineError.{EngineError as EngineRefusal};
+ghost use Rattle.q_engine.specs.declared.error.EngineError.TheVariants as errors;
+ghost use Rattle.q_entries.specs.Entries.{DoesEntry, StopsEntry};
+ghost use Rattle.q_events.specs.declared.error.Bound.{Bound as Bounds};
+ghost use Rattle.q_events.specs.declared.error.Bound.TheVariants as bounds;
+ghost use Rattle.q_host.specs.Calls.{Stays};
+ghost use Rattle.q_host.specs.View.{Told};
+ghost use Rattle.q_host.specs.declared.error.HostError.{HostError as Refusal};
+ghost use Rattle.q_model.specs.Book.{Book};
+ghost use Rattle.q_model.specs.Orderly.{is_orderly};
+ghost use Rattle.q_model.specs.declared.entry.Entry.TheVariants as entries;
+ghost use Rattle.q_model.specs.declared.spot.Area.{Area as Areas};
+ghost use Rattle.q_params.specs.Ranges.{IsInRange};
+ghost use Rattle.q_restart.specs.Damages.{IsDamage, IsNextGeneration, IsSpent};
+ghost use Rattle.q_transport.specs.Routing.{table_of};
+
+use crate::engine::Engine;
+use crate::error::{EngineError, refusal_of};
+use q_core::Core;
+use q_entries::tell;
+use q_events::Bound;
+use q_host::Host;
+use q_model::{Entry, Mode};
+use q_params::Params;
+use q_restart::{OpenError, open_spool};
+use q_transport::Table;
+use std::alloc::Global;
+
+fn opening_refusal(error: OpenError) -> EngineError
+    ensures { result ≡ opening_refusal error }
+{
+    match error {
+        OpenError::Disk => EngineError::Disk,
+        OpenError::NoMemory => EngineError::NoMemory,
+        OpenError::Damaged { area, name } => EngineError::Damaged { area, name },
+        OpenError::Spent => EngineError::Limit {
+            bound: Bound::Generation,
+        },
+    }
+}
+
+/// Tells the first line of a life on a spool that was opened.
+fn tell_life<H: Host>(
+    alloc: Global,
+    host: &mut H,
+    params: Params,
+    table: Table,
+    mode: Mode,
+    generation: u32,
+) -> Result<Engine, EngineError>
+    requires { IsInRange params }
+    ensures ok { IfOk result (λ engine. IsTrue H.tells → (b : Book) → HostStands (H.view host.old) b
+        → DoesEntry (table_of table) (entries.Life generation mode) b b
+        (H.view host.old) (H.view host.new)) }
+    ensures core { IfOk result (λ engine. ForFirst params (length (table_of table).transports) mode
+        (λ w book l. AgreesIfOrderly w engine.core book l)) }
+    ensures made { IfOk result (λ engine. engine ≡ record {
+      core = engine.core;
+      table = table;
+      generation = generation;
+      arrivals = 0;
+      preempts = 0;
+    }) }
+    ensures ready { IfOk result (λ engine. IsReady engine) }
+    ensures err { (error : Refusal) → IsErrOf result (refusal_of error) → IsTrue H.tells
+        → (b : Book) → HostStands (H.view host.old) b
+        → StopsEntry (table_of table) (entries.Life generation mode) b b error
+        (H.view host.old) (H.view host.new) }
+    ensures spool { (error : EngineRefusal) → IsErrOf result error → is_of_spool error ≡ false }
+    ensures cause { EngineCause (H.faults host.old) (H.faults host.new) result }
+{
+    let Ok(core) = Core::new(alloc, params, table.transports(), mode) else {
+        return Err(EngineError::NoMemory);
+    };
+    let engine = Engine {
+        core,
+        table,
+        generation,
+        arrivals: 0,
+        preempts: 0,
+    };
+    match tell(
+        alloc,
+        host,
+        &engine.table,
+        &Entry::Life { generation, mode },
+    ) {
+        Ok(()) => Ok(engine),
+        Err(error) => Err(refusal_of(error)),
+    }
+}
+
+/// Opens a spool, and begins a life on it: each entry that follows is one of `step` or `finish`.
+///
+/// `Damaged` and `Limit` of Generation come where the spool can't be opened, and then nothing is
+/// done. After every other error the spool is the one before or the one of the new life.
+pub fn begin<H: Host>(
+    alloc: Global,
+    host: &mut H,
+    params: Params,
+    table: Table,
+    mode: Mode,
+) -> Result<Engine, EngineError>
+    requires { IsInRange params }
+    // Of each book for which the host stands: the life begins on it, and its first line is told.
+    ensures ok { IfOk result (λ engine. IsTrue H.tells
+        → BeginsLife params table mode engine (H.view host.old) (H.view host.new)) }
+    ensures ready { IfOk result (λ engine. IsReady engine) }
+
+    // By a fault or for want of memory it may have gone some way.
+    ensures err { (error : Refusal) → IsErrOf result (refusal_of error) → IsTrue H.tells
+        → StopsBeginning table mode error (H.view host.old) (H.view host.new) }
+
+    // The spool is opened, found damaged or found spent where it is so.
+    ensures opened { IfOk result (λ engine. IsTrue H.tells
+        → IsNextGeneration (H.view host.old).files engine.generation) }
+    ensures damaged { IsTrue H.tells → (area : Areas) → (name : List ℕ)
+        → IsErrOf result (errors.Damaged area name) → IsDamage (H.view host.old).files area name }
+    ensures limit { (bound : Bounds) → IsErrOf result (errors.Limit bound)
+        → bound ≡ bounds.Generation }
+    ensures spent { (bound : Bounds) → IsErrOf result (errors.Limit bound) → IsTrue H.tells
+        → IsSpent (H.view host.old).files }
+    ensures untouched { (error : EngineRefusal) → IsErrOf result error → is_of_spool error ≡ true
+        → Told H.tells H.view host.old host.new Stays }
+
+    // An orderly book is never refused but at the last generation.
+    ensures orderly { IsTrue H.tells → (b : Book) → HostStands (H.view host.old) b
+        → is_orderly b ≡ true → b.generation < 2 ^ 32 - 1
+        → (error : EngineRefusal) → IsErrOf result error → is_of_spool error ≡ false }
+    ensures cause { EngineCause (H.faults host.old) (H.faults host.new) result }
+{
+    match open_spool(alloc, host) {
+        Ok(spool) => tell_life(alloc, host, params, table, mode, spool.generation),
+        Err(error) => Err(opening_refusal(error)),
+    }
+}

@@ -1,0 +1,60 @@
+//! How each decision is carried out: the disk first, then its line.
+ghost use Rattle.q_engine.specs.Steps.{EachError};
+ghost use Rattle.q_host.specs.View.{Told};
+ghost use Rattle.std.specs.Prelude.{◌≡◌, [], false, IsTrue, OnOk, true};
+ghost use Rattle.q_core.specs.Changes.{is_looked_at};
+ghost use Rattle.q_core.specs.Deciding.{is_answered, is_look, is_reading, question_of};
+ghost use Rattle.q_engine.specs.Steps.{CarriesOut, GivesDecisionUp, HasNext};
+ghost use Rattle.q_entries.specs.Causes.{HostCause};
+
+use crate::engine::Engine;
+use q_core::Decision;
+use q_host::{Host, HostError};
+use std::alloc::Global;
+
+impl Engine {
+    /// Carries a decision out that the core has taken over, or the read that it asks for.
+    pub(crate) fn carry_out<H: Host>(
+        &mut self,
+        alloc: Global,
+        host: &mut H,
+        decision: &Decision,
+    ) -> Result<(), HostError>
+        requires decided { IsTrue H.tells → HasNext decision.now self.old (H.view host.old) }
+        requires question { self.old.core.question ≡ question_of decision.now }
+        requires no_look { is_look (question_of decision.now) ≡ false }
+        requires reads { is_reading (question_of decision.now) ≡ true
+            → (is_looked_at self.old.core ≡ true) × (self.old.core.named ≡ []) }
+        ensures ok { OnOk result (Told H.tells H.view host.old host.new
+            (CarriesOut decision.now self.old self.new)) }
+        ensures answered { OnOk result (is_answered self.new.core.question ≡ true) }
+        ensures err { EachError result (λ error. Told H.tells H.view host.old host.new
+            (GivesDecisionUp decision.now self.old error)) }
+        ensures cause { HostCause (H.faults host.old) (H.faults host.new) result }
+    {
+        match *decision {
+            Decision::Log { id, failure } => self.log(alloc, host, id, failure),
+            Decision::Mark { id, position } => self.mark(alloc, host, id, position),
+            Decision::Sync { id } => self.sync(alloc, host, id),
+            Decision::Skip { id, site, entry } => self.skip(alloc, host, id, site, entry),
+            Decision::Defer { id, due } => self.defer(alloc, host, id, due),
+            Decision::Back { id } => self.back(alloc, host, id),
+            Decision::Bounce { id } => self.bounce(alloc, host, id),
+            Decision::Remove { id } => self.remove(alloc, host, id),
+            Decision::Corrupt { id, place } => self.corrupt(alloc, host, id, place),
+            Decision::Admit { id, place } => self.admit(alloc, host, id, place),
+            Decision::Preempt {
+                child,
+                parent,
+                transport,
+                need,
+            } => self.preempt(alloc, host, child, parent, transport, need),
+            Decision::Start { number, id, site } => self.start(alloc, host, number, id, site),
+            Decision::Read { id, from, max } => self.load(alloc, host, id, from, max),
+            // Looks are answered before.
+            Decision::LookActive | Decision::LookIncoming | Decision::LookDeferred { .. } => {
+                Err(HostError::NoMemory)
+            }
+        }
+    }
+}

@@ -1,0 +1,17 @@
+//! The engine: the decision core of one life, and what is counted beside it.
+use q_core::Core;
+use q_transport::Table;
+
+/// A life on a spool: its core, and the table by which its lines are written. It keeps no address
+/// and no content.
+#[derive(Drop)]
+pub struct Engine {
+    pub(crate) core: Core,
+    pub(crate) table: Table,
+    /// The generation of this life.
+    pub(crate) generation: u32,
+    /// How many messages arrived in this life.
+    pub(crate) arrivals: u32,
+    /// How often a job went before another in this life.
+    pub(crate) preempts: u64,
+}

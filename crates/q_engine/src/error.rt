@@ -1,0 +1,42 @@
+//! Why an engine gives up.
+ghost use Rattle.std.specs.Prelude.{◌≡◌};
+ghost use Rattle.q_engine.specs.Refusals.{refusal_of};
+
+use q_events::Bound;
+use q_host::HostError;
+use q_model::{Area, Name};
+use thiserror::Error;
+
+/// Why an engine gave up. It is spent by each refusal.
+#[derive(Clone, Copy, Debug, PartialEq, Eq, Error)]
+pub enum EngineError {
+    #[error("disk fault")]
+    Disk,
+    #[error("output fault")]
+    Tell,
+    #[error("no memory")]
+    NoMemory,
+    /// A reply to a delivery that isn't in flight.
+    #[error("no delivery {number} in flight")]
+    Unknown { number: u64 },
+    /// A reply must have an outcome for each recipient of the delivery.
+    #[error("delivery {number} has {want} recipients, and {got} outcomes came")]
+    WrongCount { number: u64, want: u32, got: u32 },
+    #[error("an event before the first moment of a life")]
+    Untimed,
+    #[error("beyond the limit on {bound}")]
+    Limit { bound: Bound },
+    /// The spool can't be opened: this name in this area is at fault.
+    #[error("damaged spool")]
+    Damaged { area: Area, name: Name },
+}
+
+pub(crate) fn refusal_of(error: HostError) -> EngineError
+    ensures { result ≡ refusal_of error }
+{
+    match error {
+        HostError::Disk => EngineError::Disk,
+        HostError::Tell => EngineError::Tell,
+        HostError::NoMemory => EngineError::NoMemory,
+    }
+}

@@ -1,0 +1,119 @@
+//! Which events are refused, before anything is done.
+ghost use Rattle.std.specs.Prelude.{◌≡◌, ◌<◌, ◌-◌, ◌^◌, IfNone, IfSome, true};
+ghost use Rattle.q_engine.specs.Heard.{is_moment};
+ghost use Rattle.q_engine.specs.Refusals.{ForAgreed, HasSerial, is_early, is_of_event, IsAdmissible, refused_event, refused_kind, refused_mail, refused_reply, told_count};
+ghost use Rattle.q_model.specs.Deliveries.{flight_of};
+
+use crate::engine::Engine;
+use crate::error::EngineError;
+use q_events::Bound;
+use q_model::{Address, Event, Outcome};
+
+/// How many bytes the content of a message that comes may have (postconf(5): message_size_limit).
+const MAX_CONTENT: usize = 10_240_000;
+
+/// How many recipients a message may have.
+const MAX_RECIPIENTS: usize = 50_000;
+
+/// A count, of which no more than 2^32 - 1 is told.
+fn counted(count: usize) -> u32
+    ensures { result ≡ told_count count }
+{
+    if count > u32::MAX as usize {
+        return u32::MAX;
+    }
+    count as u32
+}
+
+fn mail_refusal(arrived: u32, to: &[Address], content: &[u8]) -> Option<EngineError>
+    ensures exact { result ≡ refused_mail arrived to.now content.now }
+    ensures serial { IfNone result (arrived < 2 ^ 32 - 1) }
+    ensures kind { IfSome result (λ error. is_of_event error ≡ true) }
+{
+    if content.len() > MAX_CONTENT {
+        return Some(EngineError::Limit {
+            bound: Bound::Content,
+        });
+    }
+    if to.len() > MAX_RECIPIENTS {
+        return Some(EngineError::Limit {
+            bound: Bound::Recipients,
+        });
+    }
+    if arrived == u32::MAX {
+        return Some(EngineError::Limit {
+            bound: Bound::Serial,
+        });
+    }
+    None
+}
+
+impl Engine {
+    fn reply_refusal(&self, number: u64, outcomes: &[Outcome]) -> Option<EngineError>
+        ensures ledger { ForAgreed self.now (λ w l. result
+            ≡ refused_reply number outcomes.now (flight_of l number)) }
+        ensures kind { IfSome result (λ error. is_of_event error ≡ true) }
+    {
+        let Some(positions) = self.core.entry_positions(number) else {
+            return Some(EngineError::Unknown { number });
+        };
+        if positions.len() == outcomes.len() {
+            return None;
+        }
+        Some(EngineError::WrongCount {
+            number,
+            want: counted(positions.len()),
+            got: counted(outcomes.len()),
+        })
+    }
+
+    fn kind_refusal(&self, event: &Event) -> Option<EngineError>
+        ensures ledger { ForAgreed self.now (λ w l. result ≡ refused_kind l event.now) }
+        ensures serial { IfNone result (HasSerial self.now event.now) }
+        ensures kind { IfSome result (λ error. is_of_event error ≡ true) }
+    {
+        match event {
+            Event::At { .. } => None,
+            Event::Mail { to, content, .. } => {
+                mail_refusal(self.arrivals, to.as_slice(), content.as_slice())
+            }
+            Event::Reply {
+                number,
+                outcomes,
+                ..
+            } => self.reply_refusal(*number, outcomes.as_slice()),
+            Event::Trigger { .. } => None,
+        }
+    }
+
+    /// Whether the event is none of the first of a life, and no moment came.
+    fn is_early(&self, event: &Event) -> bool
+        ensures { result ≡ is_early self.now.core.timed event.now }
+    {
+        if is_moment(event) {
+            return false;
+        }
+        !self.core.is_timed()
+    }
+
+    /// Why the event is refused, where it is.
+    pub(crate) fn refusal(&self, event: &Event) -> Option<EngineError>
+        ensures ledger { ForAgreed self.now (λ w l. result ≡ refused_event l event.now) }
+        ensures none { IfNone result (IsAdmissible self.now event.now) }
+        ensures kind { IfSome result (λ error. is_of_event error ≡ true) }
+    {
+        if self.is_early(event) {
+            return Some(EngineError::Untimed);
+        }
+        self.kind_refusal(event)
+    }
+}
+
+fn is_moment(event: &Event) -> bool
+    ensures { result ≡ is_moment event.now }
+{
+    match event {
+        Event::At { .. } => true,
+        _ => false,
+    }
+}

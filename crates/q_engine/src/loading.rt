@@ -1,0 +1,94 @@
+//! Recipients of a message come into memory (postconf(5): qmgr_message_recipient_limit).
+ghost use Rattle.std.specs.Prelude.{◌≡◌, ◌++◌, [], IsTrue, OnOk, true};
+ghost use Rattle.q_core.specs.Agrees.{ForLedgers};
+ghost use Rattle.q_core.specs.Changes.{is_looked_at};
+ghost use Rattle.q_core.specs.Deciding.{is_answered, is_reading, question_of};
+ghost use Rattle.q_core.specs.declared.decision.Decision.TheVariants as decisions;
+ghost use Rattle.q_engine.specs.Loads.{AnswersRead, sites_of};
+ghost use Rattle.q_engine.specs.Steps.{CarriesOut, EachError, GivesDecisionUp, HasNext};
+ghost use Rattle.q_entries.specs.Causes.{HostCause};
+ghost use Rattle.q_host.specs.View.{Told};
+
+use crate::engine::Engine;
+use crate::seeking::{Reading, read_pending};
+use q_books::file_spot;
+use q_core::Found;
+use q_entries::tell;
+use q_host::{Host, HostError};
+use q_model::{Batch, Cursor, Entry, Id, NoMemory, Place};
+use std::alloc::Global;
+
+impl Engine {
+    /// Names the sites of recipients that were read.
+    fn name_sites(&mut self, taken: &Batch) -> Result<(), NoMemory>
+        ensures ok { OnOk result (self.new ≡ record self.old {
+          core = record self.old.core {
+            named = self.old.core.named ++ sites_of self.old taken.now.items;
+          };
+        }) }
+    {
+        for i in 0..taken.len() {
+            // A read asks for as many as are taken at least, so that this never comes.
+            if !self.core.may_name() {
+                return Err(NoMemory);
+            }
+            let recipient = taken.get(i);
+            let site = self.table.route(&recipient.address);
+            self.core.sited(&site)?;
+        }
+        Ok(())
+    }
+
+    /// Takes in recipients whose sites were named, and answers the read.
+    fn take_in(&mut self, alloc: Global, taken: &Batch, next: Cursor) -> Result<(), NoMemory>
+        requires reading { is_reading self.old.core.question ≡ true }
+        requires looked { is_looked_at self.old.core ≡ true }
+        requires named { self.old.core.named ≡ [] }
+        ensures ok { OnOk result (ForLedgers self.old.core (λ w l.
+            AnswersRead w l self.old taken.now.items next.position self.new.core)) }
+        ensures rest { OnOk result (self.new ≡ record self.old { core = self.new.core }) }
+        ensures answered { OnOk result (is_answered self.new.core.question ≡ true) }
+    {
+        self.name_sites(taken)?;
+        // Each has its site, so that this never comes.
+        if self.core.named() != taken.len() {
+            return Err(NoMemory);
+        }
+        self.core.loaded(alloc, taken, next)
+    }
+
+    /// Reads the next recipients of a message into memory, and tells how far it was read. A message
+    /// of which a record can't be read reads no more; that is told later, with its `Corrupt`.
+    pub(crate) fn load<H: Host>(
+        &mut self,
+        alloc: Global,
+        host: &mut H,
+        id: Id,
+        from: u32,
+        max: u32,
+    ) -> Result<(), HostError>
+        requires decided { IsTrue H.tells
+            → HasNext (decisions.Read id from max) self.old (H.view host.old) }
+        requires question { self.old.core.question ≡ question_of (decisions.Read id from max) }
+        requires reads { (is_looked_at self.old.core ≡ true) × (self.old.core.named ≡ []) }
+        ensures ok { OnOk result (Told H.tells H.view host.old host.new
+            (CarriesOut (decisions.Read id from max) self.old self.new)) }
+        ensures answered { OnOk result (is_answered self.new.core.question ≡ true) }
+        ensures err { EachError result (λ error. Told H.tells H.view host.old host.new
+            (GivesDecisionUp (decisions.Read id from max) self.old error)) }
+        ensures cause { HostCause (H.faults host.old) (H.faults host.new) result }
+    {
+        let spot = file_spot(Place::Active, id);
+        let Some(reading) = read_pending(alloc, host, spot, from, max)? else {
+            self.core.found(Found::Damaged {
+                id,
+                due: 0,
+                alone: true,
+            });
+            return Ok(());
+        };
+        self.take_in(alloc, &reading.taken, reading.next)?;
+        let to = reading.next.position;
+        tell(alloc, host, &self.table, &Entry::Load { id, from, to })
+    }
+}

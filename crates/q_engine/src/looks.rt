@@ -1,0 +1,96 @@
+//! The looks that the core asks for before a decision is known.
+ghost use Rattle.q_host.specs.View.{Told};
+ghost use Rattle.std.specs.Prelude.{◌≡◌, false, IfOk, IsTrue, None, OnErr, OnOk, true, []};
+ghost use Rattle.q_core.specs.Agrees.{Agrees};
+ghost use Rattle.q_core.specs.Changes.{is_looked_at};
+ghost use Rattle.q_core.specs.Deciding.{is_answered, is_look, is_reading, question_for, question_of};
+ghost use Rattle.q_engine.specs.Looks.{AnswersLook, FindsNext, IsShown, StaysAtBook};
+ghost use Rattle.q_host.specs.Calls.{Stays};
+ghost use Rattle.q_host.specs.Faults.{DiskCause};
+ghost use Rattle.q_model.specs.FilesStand.{Stands};
+ghost use Rattle.q_model.specs.Ledger.{Ledger};
+ghost use Rattle.q_model.specs.Settings.{World};
+
+use crate::engine::Engine;
+use q_core::{Core, Decision, Found};
+use q_host::{Host, HostError};
+use q_look::{look_active, look_deferred, look_incoming};
+use std::alloc::Global;
+
+/// At most four looks come in a row, and the entry behind them.
+const LOOKS: u8 = 5;
+
+/// What the queue that is looked at shows.
+fn look<H: Host>(
+    alloc: Global,
+    host: &mut H,
+    core: &Core,
+    decision: &Decision,
+) -> Result<Found, HostError>
+    ensures found { IfOk result (λ found. IsTrue H.tells → (w : World) → (l : Ledger)
+        → Agrees w core.now l → Stands (H.view host.old).files l.book → IsShown decision.now found l) }
+    ensures stays { IsTrue H.tells → Stays (H.view host.old) (H.view host.new) }
+    ensures cause { DiskCause (H.faults host.old) (H.faults host.new) result }
+{
+    match decision {
+        Decision::LookActive => look_active(alloc, host, core),
+        Decision::LookIncoming => look_incoming(alloc, host),
+        Decision::LookDeferred { after, until } => look_deferred(alloc, host, *after, *until),
+        // No other decision is a look.
+        _ => Err(HostError::NoMemory),
+    }
+}
+
+impl Engine {
+    /// Answers the look that waits.
+    fn answer<H: Host>(
+        &mut self,
+        alloc: Global,
+        host: &mut H,
+        decision: &Decision,
+    ) -> Result<(), HostError>
+        requires look { is_look self.old.core.question ≡ true }
+        requires asked { self.old.core.question ≡ question_of decision.now }
+        ensures ok { OnOk result (Told H.tells H.view host.old host.new
+            (AnswersLook decision.now self.old self.new)) }
+        ensures answered { OnOk result (is_answered self.new.core.question ≡ true) }
+        ensures err { OnErr result (Told H.tells H.view host.old host.new (StaysAtBook self.old)) }
+        ensures rest { self.new ≡ record self.old { core = self.new.core } }
+        ensures cause { DiskCause (H.faults host.old) (H.faults host.new) result }
+    {
+        let found = look(alloc, host, &self.core, decision)?;
+        self.core.found(found);
+        Ok(())
+    }
+
+    /// The next decision that has an entry; looks are answered before it.
+    pub(crate) fn next_entry<H: Host>(
+        &mut self,
+        alloc: Global,
+        host: &mut H,
+    ) -> Result<Option<Decision>, HostError>
+        requires { is_answered self.old.core.question ≡ true }
+        ensures ok { IfOk result (λ d. Told H.tells H.view host.old host.new
+            (FindsNext d self.old self.new)) }
+        ensures err { OnErr result (Told H.tells H.view host.old host.new (StaysAtBook self.old)) }
+        ensures question { IfOk result (λ d. self.new.core.question ≡ question_for d) }
+        ensures no_look { IfOk result (λ d. is_look (question_for d) ≡ false) }
+        ensures reads { IfOk result (λ d. is_reading (question_for d) ≡ true
+            → (is_looked_at self.new.core ≡ true) × (self.new.core.named ≡ [])) }
+        ensures quiet { IfOk result (λ d. d ≡ None → self.new.core.timed ≡ true
+            → is_looked_at self.new.core ≡ true) }
+        ensures rest { self.new ≡ record self.old { core = self.new.core } }
+        ensures cause { DiskCause (H.faults host.old) (H.faults host.new) result }
+    {
+        for _ in 0..LOOKS {
+            let Some(decision) = self.core.next_decision(alloc)? else {
+                return Ok(None);
+            };
+            if !self.core.is_looking() {
+                return Ok(Some(decision));
+            }
+            self.answer(alloc, host, &decision)?;
+        }
+        Err(HostError::NoMemory)
+    }
+}

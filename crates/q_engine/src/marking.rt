@@ -1,0 +1,83 @@
+//! Marks of recipients that are done, and what makes them sure.
+ghost use Rattle.q_engine.specs.Steps.{EachError};
+ghost use Rattle.q_host.specs.View.{Told};
+ghost use Rattle.std.specs.Prelude.{◌≡◌, IfOk, IsTrue, OnOk};
+ghost use Rattle.q_core.specs.declared.decision.Decision.TheVariants as decisions;
+ghost use Rattle.q_engine.specs.MarkOffsets.{FindsOffset};
+ghost use Rattle.q_engine.specs.Steps.{CarriesOut, GivesDecisionUp, HasNext};
+ghost use Rattle.q_entries.specs.Causes.{HostCause};
+ghost use Rattle.q_host.specs.Calls.{Stays};
+ghost use Rattle.q_host.specs.Faults.{DiskCause};
+ghost use Rattle.q_message.specs.Told.{IsThere};
+
+use crate::engine::Engine;
+use crate::read_fault::read_fault;
+use q_books::file_spot;
+use q_entries::tell;
+use q_files::{mark, mark_place, sync_marks};
+use q_host::{Host, HostError};
+use q_message::read_head;
+use q_model::{Entry, Id, Place, Spot};
+use std::alloc::Global;
+
+/// The offset of a recipient's mark in the queue file at the spot. Where the host tells its files
+/// and the mark isn't set, `NoMemory` is want of memory.
+fn mark_offset<H: Host>(
+    alloc: Global,
+    host: &mut H,
+    spot: Spot,
+    position: u32,
+) -> Result<u64, HostError>
+    requires { IsThere H.tells (H.view host.old) spot }
+    ensures offset { IfOk result (λ at. IsTrue H.tells
+        → FindsOffset (H.view host.old) spot position at) }
+    ensures stays { IsTrue H.tells → Stays (H.view host.old) (H.view host.new) }
+    ensures cause { DiskCause (H.faults host.old) (H.faults host.new) result }
+{
+    let head = match read_head(host, spot) {
+        Ok(head) => head,
+        Err(error) => return Err(read_fault(error)),
+    };
+    match mark_place(alloc, host, spot, &head, position) {
+        Ok(Some(at)) => Ok(at),
+        Ok(None) => Err(HostError::NoMemory),
+        Err(error) => Err(read_fault(error)),
+    }
+}
+
+impl Engine {
+    /// Marks a recipient of a message as done.
+    pub(crate) fn mark<H: Host>(
+        &self,
+        alloc: Global,
+        host: &mut H,
+        id: Id,
+        position: u32,
+    ) -> Result<(), HostError>
+        requires { IsTrue H.tells
+            → HasNext (decisions.Mark id position) self.now (H.view host.old) }
+        ensures ok { OnOk result (Told H.tells H.view host.old host.new
+            (CarriesOut (decisions.Mark id position) self.now self.now)) }
+        ensures err { EachError result (λ error. Told H.tells H.view host.old host.new
+            (GivesDecisionUp (decisions.Mark id position) self.now error)) }
+        ensures cause { HostCause (H.faults host.old) (H.faults host.new) result }
+    {
+        let spot = file_spot(Place::Active, id);
+        let at = mark_offset(alloc, host, spot, position)?;
+        mark(host, spot, at)?;
+        tell(alloc, host, &self.table, &Entry::Mark { id, position })
+    }
+
+    /// Makes the marks of a message outlive every crash.
+    pub(crate) fn sync<H: Host>(&self, alloc: Global, host: &mut H, id: Id) -> Result<(), HostError>
+        requires { IsTrue H.tells → HasNext (decisions.Sync id) self.now (H.view host.old) }
+        ensures ok { OnOk result (Told H.tells H.view host.old host.new
+            (CarriesOut (decisions.Sync id) self.now self.now)) }
+        ensures err { EachError result (λ error. Told H.tells H.view host.old host.new
+            (GivesDecisionUp (decisions.Sync id) self.now error)) }
+        ensures cause { HostCause (H.faults host.old) (H.faults host.new) result }
+    {
+        sync_marks(host, file_spot(Place::Active, id))?;
+        tell(alloc, host, &self.table, &Entry::Sync { id })
+    }
+}

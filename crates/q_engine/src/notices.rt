@@ -1,0 +1,88 @@
+//! The notice of a message, made of its queue file and of its failure log.
+ghost use Rattle.std.specs.Prelude.{◌≡◌, ◌≤◌, IfOk, IsTrue, length, min};
+ghost use Rattle.q_engine.specs.BounceTexts.{IsContentFront, TellsNotice};
+ghost use Rattle.q_host.specs.Calls.{Stays};
+ghost use Rattle.q_host.specs.Faults.{DiskCause};
+ghost use Rattle.q_message.specs.FileHeads.{IsHead};
+ghost use Rattle.q_message.specs.Told.{IsThere, TellsOf};
+
+use crate::failures::{failures_at, positions_of};
+use crate::read_fault::read_fault;
+use q_host::{Host, HostError};
+use q_message::read_names;
+use q_model::{Address, Bytes, FileHead, Id, Spot};
+use q_notice::notice;
+use std::alloc::Global;
+
+/// How many bytes of a message its notice has at most.
+const FRONT: u32 = 50_000;
+
+fn front_size(size: u32) -> usize
+    ensures { result ≡ min size 50000 }
+{
+    if size < FRONT {
+        size as usize
+    } else {
+        FRONT as usize
+    }
+}
+
+/// The front of the content of the message whose file, with this head, stands at the spot.
+fn content_front<H: Host>(
+    alloc: Global,
+    host: &mut H,
+    spot: Spot,
+    head: &FileHead,
+) -> Result<Bytes, HostError>
+    requires there { IsThere H.tells (H.view host.old) spot }
+    requires reading { TellsOf H.tells (H.view host.old) spot (IsHead head.now) }
+    ensures front { IfOk result (λ front. TellsOf H.tells (H.view host.old) spot
+        (IsContentFront front)) }
+    ensures short { IfOk result (λ front. length front ≤ 50000) }
+    ensures stays { IsTrue H.tells → Stays (H.view host.old) (H.view host.new) }
+    ensures cause { DiskCause (H.faults host.old) (H.faults host.new) result }
+{
+    let mut bytes = vec![in alloc; 0u8; front_size(head.content_len)]?;
+    let count = host.read(spot.area, spot.name, head.content_at, bytes.as_mut_slice())?;
+    bytes.truncate(count);
+    Ok(Bytes::from_vec(bytes))
+}
+
+/// The notice of the message whose file, with this head, stands at the spot, for this sender.
+pub(crate) fn notice_at<H: Host>(
+    alloc: Global,
+    host: &mut H,
+    spot: Spot,
+    id: Id,
+    head: &FileHead,
+    sender: &Address,
+) -> Result<Bytes, HostError>
+    requires there { IsThere H.tells (H.view host.old) spot }
+    requires reading { TellsOf H.tells (H.view host.old) spot (IsHead head.now) }
+    ensures notice { IfOk result (λ text. IsTrue H.tells
+        → TellsNotice (H.view host.old) spot id sender.now text) }
+    ensures stays { IsTrue H.tells → Stays (H.view host.old) (H.view host.new) }
+    ensures cause { DiskCause (H.faults host.old) (H.faults host.new) result }
+{
+    let failures = failures_at(alloc, host, id, head.recipients)?;
+    let positions = positions_of(alloc, failures.as_slice())?;
+    let names = match read_names(alloc, host, spot, head, &positions) {
+        Ok(names) => names,
+        Err(error) => return Err(read_fault(error)),
+    };
+    // There are as many wherever the host tells its files.
+    if names.len() != failures.len() {
+        return Err(HostError::NoMemory);
+    }
+    let front = content_front(alloc, host, spot, head)?;
+    let text = notice(
+        alloc,
+        id,
+        sender,
+        &failures,
+        &names,
+        head.content_len,
+        front.as_slice(),
+    )?;
+    Ok(text)
+}
