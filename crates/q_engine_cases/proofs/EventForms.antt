@@ -1,0 +1,40 @@
+-- What an event list gives has the form that a step of the engine asks for.
+use Rattle.std.proofs.Common.{◌≡◌, arith, List, [], ◌∷◌, true, refl, ℕ}
+use Rattle.std.proofs.lemmas.Bool.{and_from}
+use Rattle.std.specs.List.{AllByRecursion, list_all}
+use Rattle.q_model.specs.declared.event.Event.{Event}
+use Rattle.q_model.specs.declared.event.Event.TheVariants as events
+use Rattle.q_model.specs.declared.outcome.Outcome.{Outcome}
+use Rattle.q_model.specs.declared.outcome.Outcome.TheVariants as outcomes
+use Rattle.q_model.specs.declared.outcome.SiteState.{SiteState}
+use Rattle.q_model.specs.declared.outcome.SiteState.TheVariants.{Down, Up}
+use Rattle.q_model.specs.FailureLog.{is_log_code}
+use Rattle.q_model.specs.Replies.{fits_state}
+use Rattle.q_text.specs.ValueForms.{IsCode, IsOutcomeAt}
+use Rattle.q_text.proofs.OutcomeFits.{outcomes_fit}
+use Rattle.q_events.specs.Forms.{IsInForm as IsListed}
+use Rattle.q_engine.specs.Heard.{has_log_code, IsEventInForm}
+
+later_code : (code : ℕ) → IsCode 400 code → is_log_code code ≡ true
+later_code code h = grind (arith, h)
+
+never_code : (code : ℕ) → IsCode 500 code → is_log_code code ≡ true
+never_code code h = grind (arith, h)
+
+log_code : (state : SiteState) (o : Outcome) → IsOutcomeAt state o → has_log_code o ≡ true
+log_code state outcomes.Ok h = refl
+log_code Up (outcomes.Later code) h = later_code code h
+log_code Up (outcomes.Never code) h = never_code code h
+log_code Down (outcomes.Later code) h = later_code code h
+log_code Down (outcomes.Never code) h = absurd h
+
+log_codes : (state : SiteState) (os : List Outcome) → AllByRecursion (IsOutcomeAt state) os → list_all has_log_code os ≡ true
+log_codes state [] h = refl
+log_codes state (o ∷ os) h = and_from (has_log_code o) (list_all has_log_code os) (log_code state o h.0) (log_codes state os h.1)
+
+pub form : (event : Event) → IsListed event → IsEventInForm event
+form (events.At t) h = h
+form (events.Mail sender to content) h = h.2
+form (events.Reply number state os) h =
+    and_from (fits_state state os) (list_all has_log_code os) (outcomes_fit state os h.1) (log_codes state os h.1)
+form (events.Trigger kind) h = tt
