@@ -25,6 +25,13 @@ refusal_of Disk = errors.Disk
 refusal_of Tell = errors.Tell
 refusal_of NoMemory = errors.NoMemory
 
+-- the refusal is one of the host: a fault, or want of memory
+abbrev pub is_of_host : EngineError → Bool
+is_of_host errors.Disk = true
+is_of_host errors.Tell = true
+is_of_host errors.NoMemory = true
+is_of_host _ = false
+
 -- a count, of which no more than 2^32 - 1 is told
 abbrev pub told_count : ℕ → ℕ
 told_count n = min n (2 ^ 32 - 1)

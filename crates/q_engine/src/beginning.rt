@@ -1,9 +1,9 @@
 //! The beginning of a life on a spool.
-ghost use Rattle.std.specs.Prelude.{◌≡◌, ◌<◌, ◌-◌, ◌^◌, IfOk, IsErrOf, false, IsTrue, length, List, ℕ, true};
+ghost use Rattle.std.specs.Prelude.{◌≡◌, ◌<◌, ◌-◌, ◌^◌, ◌||◌, IfOk, IsErrOf, false, IsTrue, length, List, ℕ, true};
 ghost use Rattle.q_books.specs.HostStands.{HostStands};
 ghost use Rattle.q_core.specs.Agrees.{AgreesIfOrderly, ForFirst};
 ghost use Rattle.q_engine.specs.Beginnings.{BeginsLife, is_of_spool, opening_refusal, StopsBeginning};
-ghost use Rattle.q_engine.specs.Refusals.{EngineCause, refusal_of};
+ghost use Rattle.q_engine.specs.Refusals.{EngineCause, is_of_host, refusal_of};
 ghost use Rattle.q_engine.specs.Stands.{IsReady};
 ghost use Rattle.q_engine.specs.declared.error.EngineError.{EngineError as EngineRefusal};
 ghost use Rattle.q_engine.specs.declared.error.EngineError.TheVariants as errors;
@@ -34,7 +34,8 @@ use q_transport::Table;
 use std::alloc::Global;
 
 fn opening_refusal(error: OpenError) -> EngineError
-    ensures { result ≡ opening_refusal error }
+    ensures exact { result ≡ opening_refusal error }
+    ensures kinds { (is_of_host result || is_of_spool result) ≡ true }
 {
     match error {
         OpenError::Disk => EngineError::Disk,
@@ -74,6 +75,7 @@ fn tell_life<H: Host>(
         → StopsEntry (table_of table) (entries.Life generation mode) b b error
         (H.view host.old) (H.view host.new) }
     ensures spool { (error : EngineRefusal) → IsErrOf result error → is_of_spool error ≡ false }
+    ensures kinds { (error : EngineRefusal) → IsErrOf result error → is_of_host error ≡ true }
     ensures cause { EngineCause (H.faults host.old) (H.faults host.new) result }
 {
     let Ok(core) = Core::new(alloc, params, table.transports(), mode) else {
@@ -129,6 +131,10 @@ pub fn begin<H: Host>(
         → IsSpent (H.view host.old).files }
     ensures untouched { (error : EngineRefusal) → IsErrOf result error → is_of_spool error ≡ true
         → Told H.tells H.view host.old host.new Stays }
+
+    // No other refusal comes, so none of an event.
+    ensures kinds { (error : EngineRefusal) → IsErrOf result error
+        → (is_of_host error || is_of_spool error) ≡ true }
 
     // An orderly book is never refused but at the last generation.
     ensures orderly { IsTrue H.tells → (b : Book) → HostStands (H.view host.old) b

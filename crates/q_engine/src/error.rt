@@ -1,6 +1,6 @@
 //! Why an engine gives up.
-ghost use Rattle.std.specs.Prelude.{◌≡◌};
-ghost use Rattle.q_engine.specs.Refusals.{refusal_of};
+ghost use Rattle.std.specs.Prelude.{◌≡◌, true};
+ghost use Rattle.q_engine.specs.Refusals.{is_of_host, refusal_of};
 
 use q_events::Bound;
 use q_host::HostError;
@@ -32,7 +32,8 @@ pub enum EngineError {
 }
 
 pub(crate) fn refusal_of(error: HostError) -> EngineError
-    ensures { result ≡ refusal_of error }
+    ensures exact { result ≡ refusal_of error }
+    ensures host { is_of_host result ≡ true }
 {
     match error {
         HostError::Disk => EngineError::Disk,

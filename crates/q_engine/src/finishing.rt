@@ -1,9 +1,10 @@
 //! The end of a life as asked.
 //!
 //! Its line alone is told: what the life knew is on disk already, so the next life begins with it.
-ghost use Rattle.std.specs.Prelude.{◌≡◌, IsErrOf, IsTrue, OnOk};
+ghost use Rattle.std.specs.Prelude.{◌≡◌, IsErrOf, IsTrue, OnOk, true};
 ghost use Rattle.q_engine.specs.Beginnings.{EndsLife, StopsEnding};
-ghost use Rattle.q_engine.specs.Refusals.{EngineCause, refusal_of};
+ghost use Rattle.q_engine.specs.Refusals.{EngineCause, is_of_host, refusal_of};
+ghost use Rattle.q_engine.specs.declared.error.EngineError.{EngineError as EngineRefusal};
 ghost use Rattle.q_engine.specs.declared.error.EngineError.TheVariants as errors;
 ghost use Rattle.q_host.specs.declared.error.HostError.{HostError as Refusal};
 
@@ -24,6 +25,7 @@ impl Engine {
         ensures err { (error : Refusal) → IsErrOf result (refusal_of error) → IsTrue H.tells
             → StopsEnding self error (H.view host.old) (H.view host.new) }
         ensures no_disk { IsErrOf result errors.Disk → ⊥ }
+        ensures kinds { (error : EngineRefusal) → IsErrOf result error → is_of_host error ≡ true }
         ensures cause { EngineCause (H.faults host.old) (H.faults host.new) result }
     {
         match tell(alloc, host, &self.table, &Entry::End) {

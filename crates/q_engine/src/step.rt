@@ -1,11 +1,11 @@
 //! One event, and the decisions that follow it.
 ghost use Rattle.q_engine.specs.Steps.{EachError, EachFault};
 ghost use Rattle.q_host.specs.View.{Told};
-ghost use Rattle.std.specs.Prelude.{◌≡◌, None, IfOk, IsErrOf, IsTrue, OnOk, Some, true};
+ghost use Rattle.std.specs.Prelude.{◌≡◌, ◌||◌, None, IfOk, IsErrOf, IsTrue, OnOk, Some, true};
 ghost use Rattle.q_core.specs.Deciding.{is_answered};
 ghost use Rattle.q_engine.specs.Heard.{HearsEvent, IsEventInForm, StopsHearing};
 ghost use Rattle.q_engine.specs.Looks.{ForStands};
-ghost use Rattle.q_engine.specs.Refusals.{EngineCause, ForAgreed, is_of_event, IsAdmissible, refusal_of, refused_event};
+ghost use Rattle.q_engine.specs.Refusals.{EngineCause, ForAgreed, is_of_event, is_of_host, IsAdmissible, refusal_of, refused_event};
 ghost use Rattle.q_engine.specs.Stands.{IsReady};
 ghost use Rattle.q_engine.specs.Steps.{HaltsTurn, StandsForSome, TakesTurn};
 ghost use Rattle.q_entries.specs.Causes.{HostCause};
@@ -98,6 +98,10 @@ impl Engine {
             → refused_event l event ≡ Some error → IsErrOf result error × (host.new ≡ host.old)) }
         ensures only_refused { (error : EngineRefusal) → IsErrOf result error
             → is_of_event error ≡ true → ForAgreed self (λ w l. refused_event l event ≡ Some error) }
+
+        // No other refusal comes, so none of the spool.
+        ensures kinds { (error : EngineRefusal) → IsErrOf result error
+            → (is_of_host error || is_of_event error) ≡ true }
         ensures cause { EngineCause (H.faults host.old) (H.faults host.new) result }
     {
         let mut engine = self;

@@ -42,12 +42,12 @@ returns-in-Err-clause-err g c error is t b h =
 
 pub returns-in-Err-clause-damaged : goal.returns-in-Err-clause-damaged
 returns-in-Err-clause-damaged g c t area name is =
-    c.open_spool.ensures.damaged t area name (found_damaged c.in-Err.error c.opening_refusal.result area name c.open_spool.result c.in-Err.is c.opening_refusal.ensures is)
+    c.open_spool.ensures.damaged t area name (found_damaged c.in-Err.error c.opening_refusal.result area name c.open_spool.result c.in-Err.is c.opening_refusal.ensures.exact is)
 
 pub returns-in-Err-clause-spent : goal.returns-in-Err-clause-spent
 returns-in-Err-clause-spent g c bound is t =
-    c.open_spool.ensures.spent t (found_spent c.in-Err.error c.opening_refusal.result bound c.open_spool.result c.in-Err.is c.opening_refusal.ensures is)
+    c.open_spool.ensures.spent t (found_spent c.in-Err.error c.opening_refusal.result bound c.open_spool.result c.in-Err.is c.opening_refusal.ensures.exact is)
 
 pub returns-in-Err-clause-untouched : goal.returns-in-Err-clause-untouched
 returns-in-Err-clause-untouched g c error is of t =
-    c.open_spool.ensures.untouched (found_refused c.in-Err.error c.opening_refusal.result error c.open_spool.result c.in-Err.is c.opening_refusal.ensures is of) t
+    c.open_spool.ensures.untouched (found_refused c.in-Err.error c.opening_refusal.result error c.open_spool.result c.in-Err.is c.opening_refusal.ensures.exact is of) t

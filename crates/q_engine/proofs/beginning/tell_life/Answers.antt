@@ -11,4 +11,4 @@ returns-in_default-clause-err g c error is t b h =
 
 pub returns-in-Err-clause-err : goal.returns-in-Err-clause-err
 returns-in-Err-clause-err g c error is t b h =
-    c.tell.ensures.err error (fault_of c.in-Err.error error c.refusal_of.result c.tell.result c.in-Err.is c.refusal_of.ensures is) t b h
+    c.tell.ensures.err error (fault_of c.in-Err.error error c.refusal_of.result c.tell.result c.in-Err.is c.refusal_of.ensures.exact is) t b h

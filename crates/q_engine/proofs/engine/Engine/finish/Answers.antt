@@ -12,4 +12,4 @@ returns-in-Ok-clause-ok g c t w l h =
 pub returns-clause-err : goal.returns-clause-err
 returns-clause-err g c error is t w l h =
     stopped w l entries.End c.args.self (g.H.Host.view c.args.host.now) h l.book error (g.H.Host.view c.tell.new.host) refl
-    (c.tell.ensures.err error (fault_of c.in-Err.error error c.refusal_of.result c.tell.result c.in-Err.is c.refusal_of.ensures is) t l.book h.host)
+    (c.tell.ensures.err error (fault_of c.in-Err.error error c.refusal_of.result c.tell.result c.in-Err.is c.refusal_of.ensures.exact is) t l.book h.host)
