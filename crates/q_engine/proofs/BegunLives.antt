@@ -5,6 +5,7 @@ use Rattle.std.proofs.lemmas.List.Sums.{sum_by-cons}
 use Rattle.q_model.specs.declared.entry.Entry.{Entry}
 use Rattle.q_model.specs.declared.entry.Entry.TheVariants as entries
 use Rattle.q_model.specs.declared.event.Mode.{Mode}
+use Rattle.q_model.specs.declared.id.Id.{Id}
 use Rattle.q_model.specs.Book.{Book}
 use Rattle.q_model.specs.Ledger.{opening}
 use Rattle.q_model.specs.Past.{is_arrive}
@@ -28,6 +29,7 @@ use Rattle.q_engine.specs.declared.error.EngineError.TheVariants as errors
 use Rattle.q_transport.specs.Contents.{Contents}
 use Rattle.q_transport.specs.Routing.{table_of}
 use Rattle.q_engine.specs.Beginnings.{BeganLife, is_of_spool, opening_refusal}
+use Rattle.q_engine.specs.KeptNotes.{was_admitted}
 use Rattle.q_engine.specs.Refusals.{refusal_of}
 use Rattle.q_engine.specs.Stands.{HasCounts, is_preempt}
 use Rattle.q_engine.specs.declared.engine.Engine.{Engine}
@@ -56,6 +58,9 @@ first_book w mode b = (after_is w (opening mode b) (entries.Life (b.generation +
 
 first_past : (w : World) (mode : Mode) (b : Book) → (opened_ledger w mode b).past ≡ entries.Life (b.generation + 1) mode ∷ []
 first_past w mode b = (after_is w (opening mode b) (entries.Life (b.generation + 1) mode)).past
+
+none_admitted : (w : World) (mode : Mode) (b : Book) (id : Id) → was_admitted id (opened_ledger w mode b).past ≡ true → ⊥
+none_admitted w mode b id was = let bad : true ≡ false = sym was ∙ ap (was_admitted id) (first_past w mode b) in absurd cc
 
 counted_none : (test : Entry → Bool) (e : Entry) → test e ≡ false → count_by test (e ∷ []) ≡ 0
 counted_none test e h = sum_by-cons (λ x. if test x then 1 else 0) e [] ∙ ap (λ (t : Bool). (if t then 1 else 0) + count_by test []) h
@@ -94,6 +99,7 @@ module _ (params : Settings) (table : Contents) (mode : Mode) (b : Book) (genera
           host = subst (HostStands x) (sym (first_book w mode b)) done.stands;
           logs = subst (OwnLogs x.files) (sym (first_book w mode b)) (does.logs opens.logs);
         };
+        notes = λ w id form was. absurd (none_admitted w mode b id was);
       }
 
   pub not_begun : (error : HostError) → StopsEntry (table_of table) (entries.Life generation mode) (begun b) (begun b) error u x → StopsEntry (table_of table) (entries.Life (b.generation + 1) mode) b (begun b) error v x

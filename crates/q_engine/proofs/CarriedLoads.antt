@@ -16,7 +16,7 @@ use Rattle.q_host.specs.View.{View}
 use Rattle.q_lives.proofs.Books.{after_is}
 use Rattle.q_lives.proofs.Caused.{load_alike}
 use Rattle.q_transport.specs.Routing.{table_of}
-use Rattle.q_books.specs.HostStands.{Takes}
+use Rattle.q_books.specs.HostStands.{KeepsNotes, Takes}
 use Rattle.q_entries.specs.Entries.{DoesEntry, StopsEntry}
 use Rattle.q_entries.proofs.Lines.{changed_does, changed_stops, may_stop}
 use Rattle.q_core.specs.Agrees.{Agrees}
@@ -27,6 +27,7 @@ use Rattle.q_engine.specs.Steps.{WasCarriedOut, WasGivenUp}
 use Rattle.q_engine.specs.declared.engine.Engine.{Engine}
 use Rattle.q_engine.proofs.Counting.{counts_core, counts_stay}
 use Rattle.q_engine.proofs.OpenRecipients.{next_taken}
+use Rattle.q_engine.proofs.StoredNotes.{plain_notes}
 
 -- which sites are named is no part of a ledger
 pub named_agrees : (w : World) (c : Core) (l : Ledger) (xs : List Site) → Agrees w c l → Agrees w (record c { named = xs }) l
@@ -102,8 +103,8 @@ module _ (w : World) (l : Ledger) (id : Id) (from max : ℕ) (engine : Engine) (
 
   -- it was read, taken in and told
   pub loaded_told : (to : ℕ) (core : Core) (m x : View) → next w l ≡ Some (entries.Load id from to) → Agrees w core (after w l (entries.Load id from to)) → Takes l.book l.book v m → DoesEntry lines (entries.Load id from to) l.book l.book m x
-      → WasCarriedOut w l (record engine { core = core }) v x
-  loaded_told to core m x following agrees takes does =
+      → KeepsNotes v x → WasCarriedOut w l (record engine { core = core }) v x
+  loaded_told to core m x following agrees takes does keeps =
       let e = entries.Load id from to in
       let all = changed_does lines e l.book l.book v m x takes does in
       let done = subst (λ (t : Table). DoesEntry t e l.book (after w l e).book v x) (sym h.stands.table) (subst (λ (b : Book). DoesEntry lines e l.book b v x) (same_book to) all) in
@@ -118,6 +119,7 @@ module _ (w : World) (l : Ledger) (id : Id) (from max : ℕ) (engine : Engine) (
           host = done.stands;
           logs = done.logs h.stands.logs;
         };
+        notes = plain_notes w l e v x refl refl keeps;
       }
 
   stopped_at : (to : ℕ) (error : HostError) (x : View) → next w l ≡ Some (entries.Load id from to) → StopsEntry lines (entries.Load id from to) l.book l.book error v x → WasGivenUp w l error v x

@@ -14,6 +14,7 @@ use Rattle.q_core.specs.declared.decision.Decision.{Decision}
 use Rattle.q_books.specs.HostStands.{Takes, TellsCrashes, Tries}
 use Rattle.q_entries.specs.Entries.{DoesEntry, StopsEntry}
 use Rattle.q_entries.proofs.Lines.{as_it_was, changed_does, changed_stops, may_stop, stands_still}
+use Rattle.q_engine.specs.KeptNotes.{StoresNotes}
 use Rattle.q_engine.specs.Stands.{HasDecided, is_preempt}
 use Rattle.q_engine.specs.Steps.{WasCarriedOut, WasGivenUp}
 use Rattle.q_engine.specs.declared.engine.Engine.{Engine}
@@ -33,8 +34,8 @@ module _ (w : World) (l : Ledger) (d : Decision) (e : Entry) (engine : Engine) (
   lines = table_of engine.table
 
   -- it was done and told
-  pub carried : (k : Book) (x : View) → IsUncounted e → k ≡ (change w l e).book → DoesEntry lines e l.book k v x → WasCarriedOut w l engine v x
-  carried k x plain is does =
+  pub carried : (k : Book) (x : View) → IsUncounted e → k ≡ (change w l e).book → DoesEntry lines e l.book k v x → StoresNotes w l e v.files x.files → WasCarriedOut w l engine v x
+  carried k x plain is does stores =
       let there : k ≡ next_book = is ∙ sym (after_is w l e).book in
       let done = subst (λ (t : Table). DoesEntry t e l.book next_book v x) (sym h.table) (subst (λ (b : Book). DoesEntry lines e l.book b v x) there does) in
       record {
@@ -42,11 +43,12 @@ module _ (w : World) (l : Ledger) (d : Decision) (e : Entry) (engine : Engine) (
         following = h.following;
         does = done;
         stands = record { table = h.table; core = h.core; counts = counts_stay w l e engine plain.life plain.arrive plain.preempt h.counts; host = done.stands; logs = done.logs h.logs };
+        notes = stores;
       }
 
   -- a preemption was told, and is counted
-  pub carried_preempt : (more : ℕ) (x : View) → is_life e ≡ false → is_arrive e ≡ false → is_preempt e ≡ true → l.book ≡ (change w l e).book → more ≡ min (engine.preempts + 1) (2 ^ 64 - 1) → DoesEntry lines e l.book l.book v x → WasCarriedOut w l (record engine { preempts = more }) v x
-  carried_preempt more x life arrive preempt is next does =
+  pub carried_preempt : (more : ℕ) (x : View) → is_life e ≡ false → is_arrive e ≡ false → is_preempt e ≡ true → l.book ≡ (change w l e).book → more ≡ min (engine.preempts + 1) (2 ^ 64 - 1) → DoesEntry lines e l.book l.book v x → StoresNotes w l e v.files x.files → WasCarriedOut w l (record engine { preempts = more }) v x
+  carried_preempt more x life arrive preempt is next does stores =
       let there : l.book ≡ next_book = is ∙ sym (after_is w l e).book in
       let done = subst (λ (t : Table). DoesEntry t e l.book next_book v x) (sym h.table) (subst (λ (b : Book). DoesEntry lines e l.book b v x) there does) in
       record {
@@ -54,6 +56,7 @@ module _ (w : World) (l : Ledger) (d : Decision) (e : Entry) (engine : Engine) (
         following = h.following;
         does = done;
         stands = record { table = h.table; core = h.core; counts = counts_preempt w l e engine more life arrive preempt next h.counts; host = done.stands; logs = done.logs h.logs };
+        notes = stores;
       }
 
   -- it was given up
@@ -67,8 +70,8 @@ module _ (w : World) (l : Ledger) (d : Decision) (e : Entry) (engine : Engine) (
       }
 
   -- the disk changed first, and then the line was told
-  pub carried_behind : (k : Book) (m x : View) → IsUncounted e → k ≡ (change w l e).book → Takes l.book k v m → DoesEntry lines e k k m x → WasCarriedOut w l engine v x
-  carried_behind k m x plain is takes does = carried k x plain is (changed_does lines e l.book k v m x takes does)
+  pub carried_behind : (k : Book) (m x : View) → IsUncounted e → k ≡ (change w l e).book → Takes l.book k v m → DoesEntry lines e k k m x → StoresNotes w l e v.files x.files → WasCarriedOut w l engine v x
+  carried_behind k m x plain is takes does stores = carried k x plain is (changed_does lines e l.book k v m x takes does) stores
 
   -- the disk changed, and the line was refused
   pub given_up_behind : (k : Book) (error : HostError) (m x : View) → k ≡ (change w l e).book → Takes l.book k v m → StopsEntry lines e k k error m x → WasGivenUp w l error v x

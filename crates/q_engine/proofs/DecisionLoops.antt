@@ -9,32 +9,35 @@ use Rattle.q_model.specs.Step.{after, after_all}
 use Rattle.q_model.proofs.RunLaws.{after_all-append, decide-ends, decide-more}
 use Rattle.q_host.specs.View.{View}
 use Rattle.q_host.specs.declared.error.HostError.{HostError}
-use Rattle.q_books.specs.HostStands.{Takes, TellsCrashes}
+use Rattle.q_books.specs.HostStands.{KeepsNotes, Takes, TellsCrashes}
 use Rattle.q_entries.specs.Runs.{HaltsRun, PlaysRun}
 use Rattle.q_entries.proofs.Playing.{does_behind, plays_given_up, plays_halts, plays_more, plays_none, plays_reads, stops_behind}
 use Rattle.std.specs.Result.{IsErrAnd}
 use Rattle.std.specs.Prelude.{Err, IsErrOf, Ok, Result}
+use Rattle.q_engine.specs.KeptNotes.{StoresAllNotes}
 use Rattle.q_engine.specs.Stands.{EngineStands}
 use Rattle.q_engine.specs.Steps.{WasCarriedOut, WasGivenUp, WentQuiet}
 use Rattle.q_engine.specs.declared.engine.Engine.{Engine}
+use Rattle.q_engine.proofs.StoredNotes.{stores_looked, stores_more, stores_none}
 
 -- so many decisions may have been carried out and told
 pub record Went (w : World) (l : Ledger) (count : ℕ) (engine : Engine) (u v : View) : Type 0 where
   pub told_entries : List Entry
   pub plays : PlaysRun w l told_entries u v
   pub stands : EngineStands w engine v (after_all w l told_entries)
+  pub notes : StoresAllNotes w l told_entries u.files v.files
   pub rest : told_entries ++ decide (2 ^ 60 - count) w (after_all w l told_entries) ≡ all_decisions w l
 
 module _ (w : World) (l : Ledger) where
   pub went_none : (engine : Engine) (u : View) → TellsCrashes u → EngineStands w engine u l → Went w l 0 engine u u
   unfolding after_all all_decisions
-  went_none engine u lawful h = record { told_entries = []; plays = plays_none w l u lawful h.host; stands = h; rest = refl }
+  went_none engine u lawful h = record { told_entries = []; plays = plays_none w l u lawful h.host; stands = h; notes = stores_none w l u.files; rest = refl }
 
   -- the entry that was decided, carried out and told
   pub went_more : (count : ℕ) (old new : Engine) (u v x y : View) → count < 2 ^ 60 → (so_far : Went w l count old u v) → Takes (after_all w l so_far.told_entries).book (after_all w l so_far.told_entries).book v x
-      → WasCarriedOut w (after_all w l so_far.told_entries) new x y → Went w l (count + 1) new u y
+      → KeepsNotes v x → WasCarriedOut w (after_all w l so_far.told_entries) new x y → Went w l (count + 1) new u y
   unfolding after_all
-  went_more count old new u v x y below so_far reads carried =
+  went_more count old new u v x y below so_far reads keeps carried =
       let es = so_far.told_entries in
       let e = carried.entry_told in
       let m = after_all w l es in
@@ -43,19 +46,21 @@ module _ (w : World) (l : Ledger) where
         told_entries = es ++ e ∷ [];
         plays = plays_more w l es e (after w m e).book u v y refl so_far.plays (does_behind w.table e m.book (after w m e).book v x y reads carried.does);
         stands = subst (EngineStands w new y) there carried.stands;
+        notes = stores_more w l es e u.files x.files y.files (stores_looked w l es u.files v x so_far.notes keeps) carried.notes;
         rest = decide-more w l (2 ^ 60) count es (all_decisions w l) e below carried.following so_far.rest;
       }
 
   -- there is no entry more
   pub went_all : (count : ℕ) (old new : Engine) (u v x : View) (so_far : Went w l count old u v) → Takes (after_all w l so_far.told_entries).book (after_all w l so_far.told_entries).book v x
-      → next w (after_all w l so_far.told_entries) ≡ None → EngineStands w new x (after_all w l so_far.told_entries) → WentQuiet w l new u x
-  went_all count old new u v x so_far reads quiet stands =
+      → KeepsNotes v x → next w (after_all w l so_far.told_entries) ≡ None → EngineStands w new x (after_all w l so_far.told_entries) → WentQuiet w l new u x
+  went_all count old new u v x so_far reads keeps quiet stands =
       let es = so_far.told_entries in
       let all : es ≡ all_decisions w l = decide-ends w l (2 ^ 60) count es (all_decisions w l) quiet so_far.rest in
       record {
         plays = subst (λ (xs : List Entry). PlaysRun w l xs u x) all (plays_reads w l es u v x so_far.plays reads);
         stands = subst (λ (xs : List Entry). EngineStands w new x (after_all w l xs)) all stands;
         quiet = subst (λ (xs : List Entry). next w (after_all w l xs) ≡ None) all quiet;
+        notes = subst (λ (xs : List Entry). StoresAllNotes w l xs u.files x.files) all (stores_looked w l es u.files v x so_far.notes keeps);
       }
 
   -- no more than those told so far

@@ -16,6 +16,7 @@ use Rattle.q_books.specs.HostStands.{TellsCrashes}
 use Rattle.q_entries.specs.Entries.{DoesEntry, StopsEntry}
 use Rattle.q_entries.proofs.Lines.{as_it_was, stands_still}
 use Rattle.q_engine.specs.Heard.{WasDone}
+use Rattle.q_engine.specs.KeptNotes.{StoresNotes}
 use Rattle.q_engine.specs.Stands.{EngineStands, HasCounts}
 use Rattle.q_engine.specs.declared.engine.Engine.{Engine}
 
@@ -29,11 +30,11 @@ module _ (w : World) (l : Ledger) (e : Entry) (engine : Engine) (v : View) (h : 
   lines = table_of engine.table
 
   -- it was done and told; the engine that is left has the core that heard it
-  pub done : (left : Engine) (k : Book) (x : View) → left.table ≡ engine.table → Agrees w left.core (after w l e) → HasCounts left (after w l e) → k ≡ (change w l e).book → DoesEntry lines e l.book k v x → WasDone w l e left v x
-  done left k x table core counts is does =
+  pub done : (left : Engine) (k : Book) (x : View) → left.table ≡ engine.table → Agrees w left.core (after w l e) → HasCounts left (after w l e) → k ≡ (change w l e).book → DoesEntry lines e l.book k v x → StoresNotes w l e v.files x.files → WasDone w l e left v x
+  done left k x table core counts is does stores =
       let there : k ≡ (after w l e).book = is ∙ sym (after_is w l e).book in
       let told = subst (λ (t : Table). DoesEntry t e l.book (after w l e).book v x) (sym h.table) (subst (λ (b : Book). DoesEntry lines e l.book b v x) there does) in
-      record { does = told; stands = record { table = h.table ∙ ap table_of (sym table); core = core; counts = counts; host = told.stands; logs = told.logs h.logs } }
+      record { does = told; stands = record { table = h.table ∙ ap table_of (sym table); core = core; counts = counts; host = told.stands; logs = told.logs h.logs }; notes = stores }
 
   pub stopped : (k : Book) (error : HostError) (x : View) → k ≡ (change w l e).book → StopsEntry lines e l.book k error v x → StopsEntry w.table e l.book (after w l e).book error v x
   stopped k error x is stops =

@@ -7,6 +7,7 @@ pub mod ContentFronts
 pub mod Counting
 pub mod DecisionArms
 pub mod DecisionLoops
+pub mod Delayed
 pub mod DoneMessages
 pub mod EndedLives
 pub mod FailureFlags
@@ -20,8 +21,10 @@ pub mod NoteLists
 pub mod NoticesTold
 pub mod OpenRecipients
 pub mod OutcomeArms
+pub mod OwnNotes
 pub mod QuietEvents
 pub mod SkippedEntries
 pub mod Speaking
 pub mod StartedEntries
+pub mod StoredNotes
 pub mod Turns

@@ -15,10 +15,12 @@ use Rattle.q_books.specs.HostStands.{HostStands, TellsCrashes}
 use Rattle.q_entries.specs.Entries.{DoesEntry, StopsEntry}
 use Rattle.q_entries.specs.Runs.{HaltsRun, PlaysRun}
 use Rattle.q_entries.proofs.Playing.{halts_behind, halts_more, plays_halts, plays_more, plays_none, plays_then}
+use Rattle.q_engine.specs.KeptNotes.{StoresNotes}
 use Rattle.q_engine.specs.Refusals.{refusal_of}
 use Rattle.q_engine.specs.Steps.{TookTurn, WentQuiet}
 use Rattle.q_engine.specs.declared.engine.Engine.{Engine}
 use Rattle.q_engine.specs.declared.error.EngineError.{EngineError}
+use Rattle.q_engine.proofs.StoredNotes.{stores_first}
 
 module _ (w : World) (l : Ledger) (event : Event) where
   abbrev own : Entry
@@ -34,12 +36,13 @@ module _ (w : World) (l : Ledger) (event : Event) where
   halts_one error u v lawful h d = plays_halts w l [] own [] (after w l own).book error u u v refl (plays_none w l u lawful h) d
 
   -- the decisions behind the event's own entry
-  pub took_turn : (engine : Engine) (u v x : View) → TellsCrashes u → HostStands u l.book → DoesEntry w.table own l.book (after w l own).book u v → WentQuiet w (after w l own) engine v x → TookTurn w l event engine u x
+  pub took_turn : (engine : Engine) (u v x : View) → TellsCrashes u → HostStands u l.book → DoesEntry w.table own l.book (after w l own).book u v → StoresNotes w l own u.files v.files → WentQuiet w (after w l own) engine v x → TookTurn w l event engine u x
   unfolding after_all turn
-  took_turn engine u v x lawful h d rest = record {
+  took_turn engine u v x lawful h d stores rest = record {
     plays = plays_then w l (own ∷ []) (decisions w (after w l own)) u v x (plays_one u v lawful h d) rest.plays;
     stands = rest.stands;
     quiet = rest.quiet;
+    notes = stores_first w l own (decisions w (after w l own)) u.files v.files x.files stores rest.notes;
   }
 
   pub halts_deciding : (error : HostError) (u v x : View) → TellsCrashes u → HostStands u l.book → DoesEntry w.table own l.book (after w l own).book u v → HaltsRun w (after w l own) (decisions w (after w l own)) error v x → HaltsRun w l (turn w l (life_events.Heard event)) error u x

@@ -16,6 +16,7 @@ use Rattle.q_model.specs.Step.{after}
 use Rattle.q_host.specs.declared.error.HostError.{HostError}
 use Rattle.q_host.specs.View.{View}
 use Rattle.q_entries.specs.Entries.{DoesEntry, StopsEntry}
+use Rattle.q_engine.specs.KeptNotes.{StoresNotes}
 use Rattle.q_engine.specs.Looks.{ForStands}
 use Rattle.q_engine.specs.Stands.{EngineStands}
 use Rattle.q_engine.specs.declared.engine.Engine.{Engine}
@@ -24,6 +25,7 @@ use Rattle.q_engine.specs.declared.engine.Engine.{Engine}
 pub record WasDone (w : World) (l : Ledger) (e : Entry) (engine : Engine) (v x : View) : Type 0 where
   pub does : DoesEntry w.table e l.book (after w l e).book v x
   pub stands : EngineStands w engine x (after w l e)
+  pub notes : StoresNotes w l e v.files x.files
 
 abbrev pub Hearing : Event → Ledger → Entry
 Hearing event l = entry_of l (life_events.Heard event)

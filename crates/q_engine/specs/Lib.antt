@@ -2,6 +2,7 @@ pub mod Beginnings
 pub mod BounceTexts
 pub mod Delays
 pub mod Heard
+pub mod KeptNotes
 pub mod Loads
 pub mod Looks
 pub mod MarkOffsets

@@ -13,6 +13,7 @@ use Rattle.q_host.specs.View.{View}
 use Rattle.q_core.specs.declared.decision.Decision.{Decision}
 use Rattle.q_entries.specs.Entries.{DoesEntry, StopsEntry}
 use Rattle.q_entries.specs.Runs.{HaltsRun, PlaysRun}
+use Rattle.q_engine.specs.KeptNotes.{StoresAllNotes, StoresNotes}
 use Rattle.q_engine.specs.Looks.{ForStands}
 use Rattle.q_engine.specs.Refusals.{refusal_of}
 use Rattle.q_engine.specs.Stands.{EngineStands, IsNextEntry}
@@ -25,6 +26,7 @@ pub record WasCarriedOut (w : World) (l : Ledger) (engine : Engine) (v x : View)
   pub following : next w l ≡ Some entry_told
   pub does : DoesEntry w.table entry_told l.book (after w l entry_told).book v x
   pub stands : EngineStands w engine x (after w l entry_told)
+  pub notes : StoresNotes w l entry_told v.files x.files
 
 -- the next entry was given up
 pub record WasGivenUp (w : World) (l : Ledger) (error : HostError) (v x : View) : Type 0 where
@@ -55,6 +57,7 @@ pub record WentQuiet (w : World) (l : Ledger) (engine : Engine) (u v : View) : T
   pub plays : PlaysRun w l (decisions w l) u v
   pub stands : EngineStands w engine v (after_all w l (decisions w l))
   pub quiet : next w (after_all w l (decisions w l)) ≡ None
+  pub notes : StoresAllNotes w l (decisions w l) u.files v.files
 
 abbrev pub DecidesAll : Engine → Engine → View → View → Type 0
 DecidesAll old new u v = ForStands old u (λ w l. WentQuiet w l new u v)
@@ -67,6 +70,7 @@ pub record TookTurn (w : World) (l : Ledger) (event : Event) (engine : Engine) (
   pub plays : PlaysRun w l (turn w l (life_events.Heard event)) u v
   pub stands : EngineStands w engine v (after_all w l (turn w l (life_events.Heard event)))
   pub quiet : next w (after_all w l (turn w l (life_events.Heard event))) ≡ None
+  pub notes : StoresAllNotes w l (turn w l (life_events.Heard event)) u.files v.files
 
 abbrev pub TakesTurn : Event → Engine → Engine → View → View → Type 0
 TakesTurn event old new u v = ForStands old u (λ w l. TookTurn w l event new u v)

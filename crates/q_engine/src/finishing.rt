@@ -26,6 +26,7 @@ impl Engine {
             → StopsEnding self error (H.view host.old) (H.view host.new) }
         ensures no_disk { IsErrOf result errors.Disk → ⊥ }
         ensures kinds { (error : EngineRefusal) → IsErrOf result error → is_of_host error ≡ true }
+        ensures files { IsTrue H.tells → (H.view host.new).files ≡ (H.view host.old).files }
         ensures cause { EngineCause (H.faults host.old) (H.faults host.new) result }
     {
         match tell(alloc, host, &self.table, &Entry::End) {

@@ -1,7 +1,7 @@
 //! What becomes of a message that is done: its notice to the sender is stored where it wants one,
 //! and then it is gone.
 ghost use Rattle.std.specs.Prelude.{◌≡◌, ◌≤◌, ◌∷◌, [], IfOk, IsTrue, OnOk};
-ghost use Rattle.q_books.specs.HostStands.{TakesBy, TriesBy};
+ghost use Rattle.q_books.specs.HostStands.{KeepsNotes, TakesBy, TriesBy};
 ghost use Rattle.q_core.specs.declared.decision.Decision.TheVariants as decisions;
 ghost use Rattle.q_engine.specs.BounceTexts.{AddsBounce};
 ghost use Rattle.q_engine.specs.Steps.{CarriesOut, EachError, GivesDecisionUp, HasNext};
@@ -60,6 +60,7 @@ fn store_bounce<H: Host>(
     // Whatever it answers.
     ensures tries { TriesBy (AddsBounce (H.view host.old).files spot id arrival)
         H.tells H.view host.old host.new }
+    ensures notes { IsTrue H.tells → KeepsNotes (H.view host.old) (H.view host.new) }
     ensures cause { DiskCause (H.faults host.old) (H.faults host.new) result }
 {
     let head = match read_head(host, spot) {

@@ -1,6 +1,7 @@
 //! The looks that the core asks for before a decision is known.
 ghost use Rattle.q_host.specs.View.{Told};
 ghost use Rattle.std.specs.Prelude.{◌≡◌, false, IfOk, IsTrue, None, OnErr, OnOk, true, []};
+ghost use Rattle.q_books.specs.HostStands.{KeepsNotes};
 ghost use Rattle.q_core.specs.Agrees.{Agrees};
 ghost use Rattle.q_core.specs.Changes.{is_looked_at};
 ghost use Rattle.q_core.specs.Deciding.{is_answered, is_look, is_reading, question_for, question_of};
@@ -55,6 +56,7 @@ impl Engine {
             (AnswersLook decision.now self.old self.new)) }
         ensures answered { OnOk result (is_answered self.new.core.question ≡ true) }
         ensures err { OnErr result (Told H.tells H.view host.old host.new (StaysAtBook self.old)) }
+        ensures notes { IsTrue H.tells → KeepsNotes (H.view host.old) (H.view host.new) }
         ensures rest { self.new ≡ record self.old { core = self.new.core } }
         ensures cause { DiskCause (H.faults host.old) (H.faults host.new) result }
     {
@@ -79,6 +81,7 @@ impl Engine {
             → (is_looked_at self.new.core ≡ true) × (self.new.core.named ≡ [])) }
         ensures quiet { IfOk result (λ d. d ≡ None → self.new.core.timed ≡ true
             → is_looked_at self.new.core ≡ true) }
+        ensures notes { IsTrue H.tells → KeepsNotes (H.view host.old) (H.view host.new) }
         ensures rest { self.new ≡ record self.old { core = self.new.core } }
         ensures cause { DiskCause (H.faults host.old) (H.faults host.new) result }
     {

@@ -2,16 +2,20 @@
 ghost use Rattle.q_engine.specs.Steps.{EachError};
 ghost use Rattle.q_host.specs.View.{Told};
 ghost use Rattle.std.specs.Prelude.{◌≡◌, IsTrue, length, OnOk, Some, true};
+ghost use Rattle.std.specs.List.{list_all};
 ghost use Rattle.std.specs.Option.{option_copied};
 ghost use Rattle.q_engine.specs.Refusals.{ForAgreed};
 ghost use Rattle.q_core.specs.Deciding.{is_answered};
-ghost use Rattle.q_engine.specs.Heard.{HearsEvent, StopsHearing};
+ghost use Rattle.q_books.specs.HostStands.{KeepsOtherNotes};
+ghost use Rattle.q_engine.specs.Delays.{AddsDelays};
+ghost use Rattle.q_engine.specs.Heard.{has_log_code, HearsEvent, StopsHearing};
 ghost use Rattle.q_engine.specs.Looks.{ForStands};
 ghost use Rattle.q_engine.specs.Stands.{IsReady};
 ghost use Rattle.q_entries.specs.Causes.{HostCause};
 ghost use Rattle.q_files.specs.KeptBooks.{KeepsBook};
 ghost use Rattle.q_host.specs.Faults.{DiskCause};
 ghost use Rattle.q_model.specs.declared.event.Event.TheVariants as events;
+ghost use Rattle.q_model.specs.IdTexts.{id_text};
 ghost use Rattle.q_model.specs.Replies.{may_reply};
 
 use crate::engine::Engine;
@@ -33,6 +37,13 @@ impl Engine {
         positions: &[u32],
         outcomes: &Outcomes,
     ) -> Result<(), HostError>
+        requires codes { list_all has_log_code outcomes.now ≡ true }
+        // Where there is an outcome for each position.
+        ensures noted { OnOk result (IsTrue H.tells → length positions.now ≡ length outcomes.now
+            → AddsDelays self.now.core id positions.now outcomes.now
+            (H.view host.old).files (H.view host.new).files) }
+        ensures others { IsTrue H.tells
+            → KeepsOtherNotes (id_text id) (H.view host.old) (H.view host.new) }
         ensures book { KeepsBook H.tells H.view host.old host.new }
         ensures cause { DiskCause (H.faults host.old) (H.faults host.new) result }
     {
@@ -59,6 +70,7 @@ impl Engine {
         requires ready { IsReady self.old }
         requires timed { self.old.core.timed ≡ true }
         requires fits { ForAgreed self.old (λ w l. may_reply l number site outcomes ≡ true) }
+        requires codes { list_all has_log_code outcomes ≡ true }
         ensures ok { OnOk result (Told H.tells H.view host.old host.new
             (HearsEvent (events.Reply number site outcomes) self.old self.new)) }
         ensures answered { OnOk result (is_answered self.new.core.question ≡ true) }

@@ -2,13 +2,16 @@
 ghost use Rattle.q_engine.specs.Steps.{EachError};
 ghost use Rattle.q_host.specs.View.{Told};
 ghost use Rattle.std.specs.Prelude.{◌≡◌, IsTrue, OnOk, Some, true};
+ghost use Rattle.q_books.specs.HostStands.{KeepsOtherNotes};
 ghost use Rattle.q_core.specs.Agrees.{ForLedgers};
 ghost use Rattle.q_core.specs.declared.decision.Decision.TheVariants as decisions;
+ghost use Rattle.q_engine.specs.Delays.{AddsDelays, row_outcomes};
 ghost use Rattle.q_engine.specs.Steps.{CarriesOut, GivesDecisionUp, HasNext};
 ghost use Rattle.q_entries.specs.Causes.{HostCause};
 ghost use Rattle.q_files.specs.KeptBooks.{KeepsBook};
 ghost use Rattle.q_host.specs.Faults.{DiskCause};
 ghost use Rattle.q_model.specs.Book.{message_of};
+ghost use Rattle.q_model.specs.IdTexts.{id_text};
 ghost use Rattle.q_model.specs.Memory.{is_admitted};
 ghost use Rattle.q_model.specs.Message.{Message};
 ghost use Rattle.q_model.specs.Times.{is_expired};
@@ -42,6 +45,10 @@ impl Engine {
         id: Id,
         positions: &[u32],
     ) -> Result<(), HostError>
+        ensures noted { OnOk result (IsTrue H.tells → AddsDelays self.now.core id positions.now
+            (row_outcomes positions.now) (H.view host.old).files (H.view host.new).files) }
+        ensures others { IsTrue H.tells
+            → KeepsOtherNotes (id_text id) (H.view host.old) (H.view host.new) }
         ensures book { KeepsBook H.tells H.view host.old host.new }
         ensures cause { DiskCause (H.faults host.old) (H.faults host.new) result }
     {

@@ -1,5 +1,5 @@
 //! Telling the line of an entry.
-ghost use Rattle.std.specs.Prelude.{IsErrOf, OnOk};
+ghost use Rattle.std.specs.Prelude.{◌≡◌, IsErrOf, IsTrue, OnOk};
 ghost use Rattle.q_transport.specs.Routing.{table_of};
 ghost use Rattle.q_host.specs.Faults.{TellCause};
 ghost use Rattle.q_host.specs.View.{Told};
@@ -24,6 +24,8 @@ pub fn tell<H: Host>(
     ensures err { (error : HostError) → IsErrOf result error →
         Told H.tells H.view host.old host.new
         (GivesUpLine (table_of table.now) entry.now error) }
+    // No file changes, whatever it answers.
+    ensures files { IsTrue H.tells → (H.view host.new).files ≡ (H.view host.old).files }
     ensures cause { TellCause (H.faults host.old) (H.faults host.new) result }
 {
     let Ok(text) = entry_text(alloc, entry, table) else {

@@ -8,6 +8,7 @@ use Rattle.q_laws.proofs.Living.{inner_now}
 use Rattle.q_engine.specs.Stands.{HasDecided}
 use Rattle.q_engine.proofs.Bounced.{bounce_changes, bounce_there}
 use Rattle.q_engine.proofs.CarriedOut.{carried_behind, given_up_behind, refused}
+use Rattle.q_engine.proofs.StoredNotes.{plain_told}
 use Rattle.q_engine.proofs.engine.Engine.bounce.Goals as goal
 
 pub store_bounce-requires-clause-there : goal.store_bounce-requires-clause-there
@@ -40,7 +41,7 @@ returns-clause-ok g c = on_ok c.tell.result (λ told t w l n.
     let at = c.now.ensures.ledger w (after w l e) h.core ∙ inner_now w l e refl in
     let adds = bounce_changes w l c.args.id engine v h c.file_spot-spot.result c.file_spot-spot.ensures c.now.result at in
     let takes = c.in_ok-store_bounce.ensures.ok t l.book k h.host adds in
-    carried_behind w l d e engine v h k (g.H.Host.view c.store_bounce.new.host) (g.H.Host.view c.tell.new.host) (record { life = refl; arrive = refl; preempt = refl }) refl takes (told t k takes.stands)) c.tell.ensures.ok
+    carried_behind w l d e engine v h k (g.H.Host.view c.store_bounce.new.host) (g.H.Host.view c.tell.new.host) (record { life = refl; arrive = refl; preempt = refl }) refl takes (told t k takes.stands) (plain_told w l e v (g.H.Host.view c.store_bounce.new.host) (g.H.Host.view c.tell.new.host) refl refl (c.in_ok-store_bounce.ensures.notes t) (c.tell.ensures.files t))) c.tell.ensures.ok
 
 pub returns-clause-err : goal.returns-clause-err
 returns-clause-err g c error is t w l n =

@@ -25,7 +25,7 @@ returns-in_default-clause-ok g c = on_ok c.come_to_rest.result (λ timed t w l h
     let m = after_all w l so_far.told_entries in
     let got = c.in_ok-decision.ensures.ok t w m so_far.stands in
     let quiet = subst (λ (d : Option Decision). IsNextEntry w m d c.next_entry.new.self (g.H.Host.view c.next_entry.new.host)) c.in_default.is got.0 in
-    went_all w l c.loop.counter c.loop.self c.next_entry.new.self (g.H.Host.view c.args.host.now) (g.H.Host.view c.loop.host) (g.H.Host.view c.next_entry.new.host) so_far got.1 quiet.0 quiet.1) c.come_to_rest.ensures.timed
+    went_all w l c.loop.counter c.loop.self c.next_entry.new.self (g.H.Host.view c.args.host.now) (g.H.Host.view c.loop.host) (g.H.Host.view c.next_entry.new.host) so_far got.1 (c.in_ok-decision.ensures.notes t) quiet.0 quiet.1) c.come_to_rest.ensures.timed
 
 pub returns-in_default-clause-err : goal.returns-in_default-clause-err
 returns-in_default-clause-err g c error is t w l h =
@@ -59,7 +59,7 @@ loop-preserved g c = record {
       let got = c.in_ok-decision.ensures.ok t w m so_far.stands in
       let one = subst (λ (d : Option Decision). IsNextEntry w m d c.next_entry.new.self (g.H.Host.view c.next_entry.new.host)) c.in-Some.is got.0 in
       went_more w l c.loop.counter c.loop.self c.carry_out.new.self (g.H.Host.view c.args.host.now) (g.H.Host.view c.loop.host) (g.H.Host.view c.next_entry.new.host) (g.H.Host.view c.carry_out.new.host)
-      (omega (arith, c.loop-test.true)) so_far got.1 (c.in_ok-carry_out.ensures.ok t w m one);
+      (omega (arith, c.loop-test.true)) so_far got.1 (c.in_ok-decision.ensures.notes t) (c.in_ok-carry_out.ensures.ok t w m one);
   disk_later = omega (arith, c.loop.invariant.disk_later, c.in_ok-decision.ensures.cause.disk_later, c.in_ok-carry_out.ensures.cause.disk_later);
   tell_later = omega (arith, c.loop.invariant.tell_later, c.in_ok-decision.ensures.cause.tell_later, c.in_ok-carry_out.ensures.cause.tell_later);
 }

@@ -12,6 +12,7 @@ use Rattle.q_engine.specs.Heard.{WasDone}
 use Rattle.q_engine.proofs.Counting.{counts_arrival}
 use Rattle.q_engine.proofs.HeardEvents.{done, not_done, stopped}
 use Rattle.q_engine.proofs.Mails.{adds_as, mail_adds, mail_allowed, mail_id, mail_next}
+use Rattle.q_engine.proofs.StoredNotes.{plain_told}
 use Rattle.q_engine.proofs.engine.Engine.hear_mail.Goals as goal
 
 pub returns-in_err-event-clause-err : goal.returns-in_err-event-clause-err
@@ -45,7 +46,7 @@ returns-clause-ok g c = on_ok c.tell.result (λ told t w l h.
     let left : Engine = record engine { core = c.event.new.self; arrivals = engine.arrivals + 1 } in
     subst (λ (j : Id). WasDone w l (entries.Arrive j c.args.sender c.args.to c.args.content) left v x) (mail_next w l engine v h)
     (done w l e engine v h left k x refl core (counts_arrival w l e engine c.event.new.self (engine.arrivals + 1) refl refl refl refl h.counts) refl
-    (changed_does (table_of engine.table) e l.book k v m x takes (told t k takes.stands)))) c.tell.ensures.ok
+    (changed_does (table_of engine.table) e l.book k v m x takes (told t k takes.stands)) (plain_told w l e v m x refl refl (c.in_ok-store.ensures.notes t) (c.tell.ensures.files t)))) c.tell.ensures.ok
 
 pub returns-clause-err : goal.returns-clause-err
 returns-clause-err g c error is t w l h =

@@ -18,6 +18,7 @@ use Rattle.q_engine.specs.declared.seeking.Reading.{Reading}
 use Rattle.q_engine.proofs.CarriedLoads.{load_given_up, load_untold, loaded_told, next_load}
 use Rattle.q_engine.proofs.LoadedEntries.{ends, file_reads, file_whole, load_speaks, read_of, reads_are}
 use Rattle.q_engine.proofs.Speaking.{file_there, in_active}
+use Rattle.q_engine.proofs.StoredNotes.{files_keep, keeps_then}
 use Rattle.q_engine.proofs.engine.Engine.load.Goals as goal
 
 pub read_pending-requires : goal.read_pending-requires
@@ -74,7 +75,8 @@ returns-clause-ok g c = on_ok c.tell.result (λ told t w l n.
     let same = c.in_ok-take_in.ensures.rest in
     let takes = reads_keep l.book l.book v m lawful (c.in_ok-reading.ensures.stays t) n.stands.host in
     let does = subst (λ (e : Engine). DoesEntry (table_of e.table) (entries.Load id from to) l.book l.book m x) same (told t l.book takes.stands) in
-    subst (λ (e : Engine). WasCarriedOut w l e v x) (sym same) (loaded_told w l id from max engine v n to c.take_in.new.self.core m x following agrees takes does)) c.tell.ensures.ok
+    subst (λ (e : Engine). WasCarriedOut w l e v x) (sym same) (loaded_told w l id from max engine v n to c.take_in.new.self.core m x following agrees takes does
+    (keeps_then v m x (files_keep v m (c.in_ok-reading.ensures.stays t).files) (files_keep m x (c.tell.ensures.files t))))) c.tell.ensures.ok
 
 pub returns-clause-err : goal.returns-clause-err
 returns-clause-err g c error is t w l n =

@@ -8,9 +8,11 @@ use Rattle.q_model.specs.SpoolFiles.{Files}
 use Rattle.q_model.specs.Step.{change}
 use Rattle.q_model.specs.declared.entry.Entry.TheVariants as entries
 use Rattle.q_model.specs.declared.entry.Entry.{Entry}
+use Rattle.q_model.specs.declared.rows.Place.TheVariants as places
 use Rattle.q_engine.specs.Stands.{HasDecided}
 use Rattle.q_engine.proofs.CarriedOut.{carried_behind, given_up_behind, refused}
 use Rattle.q_engine.proofs.OutcomeArms.{mark_changes, mark_fits, mark_there}
+use Rattle.q_engine.proofs.StoredNotes.{files_keep, keeps_then, no_log_spot, plain_told}
 use Rattle.q_engine.proofs.engine.Engine.mark.Goals as goal
 
 pub mark_offset-requires : goal.mark_offset-requires
@@ -72,7 +74,8 @@ returns-clause-ok g c = on_ok c.tell.result (λ told t w l n.
     let changes = mark_changes w l c.args.id c.args.position engine v h c.file_spot-spot.result c.file_spot-spot.ensures c.in_ok-at.at (c.in_ok-at.ensures.offset t) in
     let x = g.H.Host.view c.mark.new.host in
     let takes = kept_takes l.book k v m x keeps (c.in_ok-mark.ensures.ok t l.book k keeps.stands changes) in
-    carried_behind w l d e engine v h k x (g.H.Host.view c.tell.new.host) (record { life = refl; arrive = refl; preempt = refl }) refl takes (told t k takes.stands)) c.tell.ensures.ok
+    carried_behind w l d e engine v h k x (g.H.Host.view c.tell.new.host) (record { life = refl; arrive = refl; preempt = refl }) refl takes (told t k takes.stands)
+    (plain_told w l e v x (g.H.Host.view c.tell.new.host) refl refl (keeps_then v m x (files_keep v m (c.in_ok-at.ensures.stays t).files) (c.in_ok-mark.ensures.notes t (no_log_spot c.file_spot-spot.result places.Active c.args.id c.file_spot-spot.ensures))) (c.tell.ensures.files t))) c.tell.ensures.ok
 
 pub returns-clause-err : goal.returns-clause-err
 returns-clause-err g c error is t w l n =

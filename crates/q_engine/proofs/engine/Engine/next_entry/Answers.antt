@@ -5,6 +5,7 @@ use Rattle.q_core.specs.declared.decision.Decision.{Decision}
 use Rattle.q_core.specs.declared.state.Core.{Core}
 use Rattle.q_engine.specs.declared.engine.Engine.{Engine}
 use Rattle.q_engine.proofs.Looking.{always_err, answers_some, look_found, next_found}
+use Rattle.q_engine.proofs.StoredNotes.{keeps_then}
 use Rattle.q_engine.proofs.engine.Engine.next_entry.Goals as goal
 
 pub returns-in_default-clause-quiet : goal.returns-in_default-clause-quiet
@@ -47,6 +48,7 @@ loop-preserved g c = record {
       let look = look_found w l v c.loop.self d c.next_decision.new.self a (ap is_look (ap question_for (sym c.in-Some.is) ∙ sym e.question) ∙ sym c.is_looking.ensures ∙ c.if-not-is_looking.false) in
       let one = c.in_ok-answer.ensures.ok t w l look.1 look.0 in
       (one.0, reads_then l.book _ _ _ so_far.1 one.1);
+  notes = λ t. keeps_then (g.H.Host.view c.args.host.now) (g.H.Host.view c.loop.host) (g.H.Host.view c.answer.new.host) (c.loop.invariant.notes t) (c.in_ok-answer.ensures.notes t);
   disk_later = omega (arith, c.loop.invariant.disk_later, c.in_ok-answer.ensures.cause.disk_later);
   tell_later = omega (arith, c.loop.invariant.tell_later, c.in_ok-answer.ensures.cause.tell_later);
 }

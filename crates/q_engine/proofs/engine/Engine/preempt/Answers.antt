@@ -5,6 +5,7 @@ use Rattle.q_model.specs.declared.entry.Entry.{Entry}
 use Rattle.q_engine.specs.Stands.{HasDecided}
 use Rattle.q_engine.proofs.CarriedOut.{carried_preempt, given_up}
 use Rattle.q_engine.proofs.DecisionLoops.{same_error}
+use Rattle.q_engine.proofs.StoredNotes.{files_keep, plain_notes}
 use Rattle.q_engine.proofs.engine.Engine.preempt.Goals as goal
 
 pub returns-in_err-tell-clause-err : goal.returns-in_err-tell-clause-err
@@ -23,4 +24,4 @@ returns-clause-ok g c t w l n =
     let v = g.H.Host.view c.args.host.now in
     let h = subst (λ (x : Entry). HasDecided w l d x c.args.self.now v) n.1.of n.1 in
     carried_preempt w l d e c.args.self.now v h c.saturating_add-self.result (g.H.Host.view c.tell.new.host) refl refl refl refl c.saturating_add-self.ensures
-    (c.in_ok-tell.ensures.ok t l.book h.host)
+    (c.in_ok-tell.ensures.ok t l.book h.host) (plain_notes w l e v (g.H.Host.view c.tell.new.host) refl refl (files_keep v (g.H.Host.view c.tell.new.host) (c.in_ok-tell.ensures.files t)))

@@ -20,7 +20,7 @@ pub returns-clause-ok : goal.returns-clause-ok
 returns-clause-ok g c = on_ok c.decisions.result (λ did t w l h.
     let lawful : TellsCrashes (g.H.Host.view c.args.host.now) = (record { only = g.met.H.Host.only_now c.args.host.now; told = g.met.H.Host.told_stays c.args.host.now }) in
     let heard = c.in_ok-hear.ensures.ok t w l h in
-    took_turn w l c.args.event c.decisions.new.self _ _ _ lawful h.host heard.does (did t w (after w l (Hearing c.args.event l)) heard.stands)) c.decisions.ensures.ok
+    took_turn w l c.args.event c.decisions.new.self _ _ _ lawful h.host heard.does heard.notes (did t w (after w l (Hearing c.args.event l)) heard.stands)) c.decisions.ensures.ok
 
 pub returns-clause-err : goal.returns-clause-err
 returns-clause-err g c error is t w l h =
