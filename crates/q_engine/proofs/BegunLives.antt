@@ -1,5 +1,5 @@
 -- The first entry of a life, told on a spool that was opened; and the refusals of a life's ends.
-use Rattle.std.proofs.Common.{◌≡◌, ◌+◌, ◌-◌, ◌^◌, ℕ, Bool, true, false, List, [], ◌∷◌, length, min, refl, sym, ap, subst, ◌∙◌, arith}
+use Rattle.std.proofs.Common.{None, ◌≡◌, ◌+◌, ◌-◌, ◌^◌, ℕ, Bool, true, false, List, [], ◌∷◌, length, min, refl, sym, ap, subst, ◌∙◌, arith}
 use Rattle.std.specs.Prelude.{count_by, Err, IfOk, IsErrOf, Ok, Result, if◌then◌else◌}
 use Rattle.std.proofs.lemmas.List.Sums.{sum_by-cons}
 use Rattle.q_model.specs.declared.entry.Entry.{Entry}
@@ -31,6 +31,9 @@ use Rattle.q_transport.specs.Routing.{table_of}
 use Rattle.q_engine.specs.Beginnings.{BeganLife, is_of_spool, opening_refusal}
 use Rattle.q_engine.specs.KeptNotes.{was_admitted}
 use Rattle.q_engine.specs.Refusals.{refusal_of}
+use Rattle.q_model.specs.declared.id.Id.{Id}
+use Rattle.q_places.specs.Kept.{kept_file}
+use Rattle.q_engine.proofs.KeptPlaces.{placed_none}
 use Rattle.q_engine.specs.Stands.{HasCounts, is_preempt}
 use Rattle.q_engine.specs.declared.engine.Engine.{Engine}
 use Rattle.q_engine.specs.declared.error.EngineError.{EngineError}
@@ -75,12 +78,13 @@ first_counts w mode b engine generation arrived preempted =
       preempts = preempted ∙ sym (ap (λ (n : ℕ). min n (2 ^ 64 - 1)) (ap (count_by is_preempt) (first_past w mode b) ∙ counted_none is_preempt e refl));
     }
 
--- the engine has this table and this generation, and has counted nothing
+-- the engine has this table and this generation, and has counted and kept nothing
 pub record IsNewEngine (table : Contents) (generation : ℕ) (engine : Engine) : Type 0 where
   pub same_table : engine.table ≡ table
   pub same_generation : engine.generation ≡ generation
   pub arrivals : engine.arrivals ≡ 0
   pub preempts : engine.preempts ≡ 0
+  pub empty : (id : Id) → kept_file engine.places id ≡ None
 
 module _ (params : Settings) (table : Contents) (mode : Mode) (b : Book) (generation : ℕ) (v u x : View) (opens : Opens b generation v u) where
   told_first : DoesEntry (table_of table) (entries.Life generation mode) (begun b) (begun b) u x → DoesEntry (table_of table) (entries.Life (b.generation + 1) mode) (begun b) (begun b) u x
@@ -98,6 +102,7 @@ module _ (params : Settings) (table : Contents) (mode : Mode) (b : Book) (genera
           counts = first_counts w mode b engine (new.same_generation ∙ opens.is_next) new.arrivals new.preempts;
           host = subst (HostStands x) (sym (first_book w mode b)) done.stands;
           logs = subst (OwnLogs x.files) (sym (first_book w mode b)) (does.logs opens.logs);
+          places = placed_none engine.places (opened_ledger w mode b).book new.empty;
         };
         notes = λ w id form was. absurd (none_admitted w mode b id was);
       }
@@ -107,17 +112,18 @@ module _ (params : Settings) (table : Contents) (mode : Mode) (b : Book) (genera
       changed_stops (table_of table) (entries.Life (b.generation + 1) mode) b (begun b) v u x opens.takes error
       (subst (λ (g : ℕ). StopsEntry (table_of table) (entries.Life g mode) (begun b) (begun b) error u x) opens.is_next stops)
 
--- what is true of an answer by three facts of it
-pub by_three : {T : Type 0} {E : Type 0} {P Q R S : T → Type 0} (r : Result T E) → ((x : T) → P x → Q x → R x → S x) → IfOk r P → IfOk r Q → IfOk r R → IfOk r S
-by_three (Ok x) f p q r = f x p q r
-by_three (Err e) f p q r = tt
+-- what is true of an answer by four facts of it
+pub by_four : {T : Type 0} {E : Type 0} {P Q R S U : T → Type 0} (r : Result T E) → ((x : T) → P x → Q x → R x → S x → U x) → IfOk r P → IfOk r Q → IfOk r R → IfOk r S → IfOk r U
+by_four (Ok x) f p q r s = f x p q r s
+by_four (Err e) f p q r s = tt
 
-pub new_engine : (table : Contents) (generation : ℕ) (engine : Engine) → engine ≡ record { core = engine.core; table = table; generation = generation; arrivals = 0; preempts = 0 } → IsNewEngine table generation engine
-new_engine table generation engine h = record {
+pub new_engine : (table : Contents) (generation : ℕ) (engine : Engine) → engine ≡ record { core = engine.core; table = table; generation = generation; arrivals = 0; preempts = 0; places = engine.places } → ((id : Id) → kept_file engine.places id ≡ None) → IsNewEngine table generation engine
+new_engine table generation engine h empty = record {
   same_table = ap (λ (e : Engine). e.table) h;
   same_generation = ap (λ (e : Engine). e.generation) h;
   arrivals = ap (λ (e : Engine). e.arrivals) h;
   preempts = ap (λ (e : Engine). e.preempts) h;
+  empty = empty;
 }
 
 damaged_is : (e : OpenError) (area : Area) (name : List ℕ) → opening_refusal e ≡ errors.Damaged area name → e ≡ open_errors.Damaged area name

@@ -21,11 +21,13 @@ use Rattle.q_entries.specs.Entries.{DoesEntry, StopsEntry}
 use Rattle.q_entries.proofs.Lines.{changed_does, changed_stops, may_stop}
 use Rattle.q_core.specs.Agrees.{Agrees}
 use Rattle.q_core.specs.declared.state.Core.{Core}
+use Rattle.q_places.specs.declared.places.Places.{Places}
+use Rattle.q_engine.specs.KeptPlaces.{ArePlaced}
 use Rattle.q_engine.specs.Loads.{sites_of}
 use Rattle.q_engine.specs.Stands.{HasAsked}
 use Rattle.q_engine.specs.Steps.{WasCarriedOut, WasGivenUp}
 use Rattle.q_engine.specs.declared.engine.Engine.{Engine}
-use Rattle.q_engine.proofs.Counting.{counts_core, counts_stay}
+use Rattle.q_engine.proofs.Counting.{counts_stay}
 use Rattle.q_engine.proofs.OpenRecipients.{next_taken}
 use Rattle.q_engine.proofs.StoredNotes.{plain_notes}
 
@@ -102,9 +104,9 @@ module _ (w : World) (l : Ledger) (id : Id) (from max : ℕ) (engine : Engine) (
   same_book to = sym (load_alike w l id from to (message_of l.book id)).book ∙ sym (after_is w l (entries.Load id from to)).book
 
   -- it was read, taken in and told
-  pub loaded_told : (to : ℕ) (core : Core) (m x : View) → next w l ≡ Some (entries.Load id from to) → Agrees w core (after w l (entries.Load id from to)) → Takes l.book l.book v m → DoesEntry lines (entries.Load id from to) l.book l.book m x
-      → KeepsNotes v x → WasCarriedOut w l (record engine { core = core }) v x
-  loaded_told to core m x following agrees takes does keeps =
+  pub loaded_told : (to : ℕ) (core : Core) (places : Places) (m x : View) → ArePlaced places l.book → next w l ≡ Some (entries.Load id from to) → Agrees w core (after w l (entries.Load id from to)) → Takes l.book l.book v m → DoesEntry lines (entries.Load id from to) l.book l.book m x
+      → KeepsNotes v x → WasCarriedOut w l (record engine { core = core; places = places }) v x
+  loaded_told to core places m x placed following agrees takes does keeps =
       let e = entries.Load id from to in
       let all = changed_does lines e l.book l.book v m x takes does in
       let done = subst (λ (t : Table). DoesEntry t e l.book (after w l e).book v x) (sym h.stands.table) (subst (λ (b : Book). DoesEntry lines e l.book b v x) (same_book to) all) in
@@ -115,9 +117,10 @@ module _ (w : World) (l : Ledger) (id : Id) (from max : ℕ) (engine : Engine) (
         stands = record {
           table = h.stands.table;
           core = agrees;
-          counts = counts_stay w l e (record engine { core = core }) refl refl refl (counts_core engine core l h.stands.counts);
+          counts = counts_stay w l e (record engine { core = core; places = places }) refl refl refl (record { begun = h.stands.counts.begun; generation = h.stands.counts.generation; arrivals = h.stands.counts.arrivals; preempts = h.stands.counts.preempts });
           host = done.stands;
           logs = done.logs h.stands.logs;
+          places = subst (ArePlaced places) (same_book to) placed;
         };
         notes = plain_notes w l e v x refl refl keeps;
       }

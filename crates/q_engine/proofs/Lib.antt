@@ -13,6 +13,8 @@ pub mod EndedLives
 pub mod FailureFlags
 pub mod FirstOutcomes
 pub mod HeardEvents
+pub mod KeptPlaces
+pub mod Layouts
 pub mod LoadedEntries
 pub mod Looking
 pub mod Mails

@@ -33,13 +33,13 @@ use Rattle.q_host.specs.View.{View}
 use Rattle.q_laws.specs.Consistency.{IsConsistent, logged_of}
 use Rattle.q_laws.proofs.Batched.{IsRising, pending_in, pending_rising}
 use Rattle.q_laws.proofs.Decisions.{next_decided}
-use Rattle.q_laws.proofs.Members.{any_from, find_in, IsIn}
+use Rattle.q_laws.proofs.Members.{any_from, find_in, in_filtered, IsIn}
 use Rattle.q_laws.proofs.Places.{got_in, places_mapped}
 use Rattle.q_laws.proofs.Synced.{admitted_active, found_admitted, IsActiveMessage}
 use Rattle.q_message.specs.Names.{address_in}
 use Rattle.q_message.specs.Pending.{taken_at, unmarked_from}
 use Rattle.q_books.specs.HostStands.{HostStands}
-use Rattle.q_books.specs.Spots.{IsFileAt}
+use Rattle.q_books.specs.Spots.{IsFileAt, IsMarkAt}
 use Rattle.q_core.specs.Loading.{ReadsAre}
 use Rattle.q_transport.specs.Routing.{table_of}
 use Rattle.q_engine.specs.declared.engine.Engine.{Engine}
@@ -167,6 +167,12 @@ sites_taken : (route : List ℕ → Site) (m : Message) (ps : List ℕ) → map 
 sites_taken route m [] = refl
 sites_taken route m (p ∷ ps) = ap (λ (s : Site). s ∷ map (λ t. route t.address) (map (taken_at (file_message m)) ps)) (ap route (same_address m p)) ∙ ap (λ (ss : List Site). route (address_at m p) ∷ ss) (sites_taken route m ps)
 
+none_taken : (t : Taken) → Some t ≡ None → ⊥
+none_taken t h = cc
+
+same_taken : (t u : Taken) → Some t ≡ Some u → t ≡ u
+same_taken t u h = cc
+
 module _ (w : World) (l : Ledger) (id : Id) (m : Message) (engine : Engine) (from max to : ℕ) (taken : List Taken) (h : IsToRead l id m) (read : IsReadUpTo (file_message m) from max taken to) where
   these : take max (open_from (file_message m) from) ≡ load_positions m from (load_end m from max)
   these = ap (take max) (sym (pending_open m from h.settled)) ∙ sym (load_takes m from max read.some)
@@ -174,8 +180,22 @@ module _ (w : World) (l : Ledger) (id : Id) (m : Message) (engine : Engine) (fro
   pub ends : to ≡ load_end m from max
   ends = read.end ∙ ap (λ (n : ℕ). option_map_or (λ p. p + 1) (slice_get (open_from (file_message m) from) (max - 1)) n) (length-map m.recipients to_file) ∙ ap (λ (ps : List ℕ). option_map_or (λ p. p + 1) (slice_get ps (max - 1)) (length m.recipients)) (sym (pending_open m from h.settled))
 
-  taken_are : taken ≡ map (taken_at (file_message m)) (load_positions m from to)
+  pub taken_are : taken ≡ map (taken_at (file_message m)) (load_positions m from to)
   taken_are = read.taken_are ∙ ap (map (taken_at (file_message m))) (these ∙ ap (load_positions m from) (sym ends))
+
+  -- each stands within the message, with its mark where the recipient says
+  pub marks_are : (i : ℕ) (t : Taken) → slice_get taken i ≡ Some t → IsMarkAt m t.position t.mark_at
+  marks_are i t here = by (slice_get (load_positions m from to) i) refl
+    where
+      by : (o : Option ℕ) → slice_get (load_positions m from to) i ≡ o → IsMarkAt m t.position t.mark_at
+      by o e = of o e (sym here ∙ ap (λ (ts : List Taken). slice_get ts i) taken_are ∙ slice_get-map (taken_at (file_message m)) (load_positions m from to) i ∙ ap (option_map (taken_at (file_message m))) e)
+        where
+          of : (o : Option ℕ) → slice_get (load_positions m from to) i ≡ o → Some t ≡ option_map (taken_at (file_message m)) o → IsMarkAt m t.position t.mark_at
+          of None e is = absurd (none_taken t is)
+          of (Some p) e is = subst (λ (x : Taken). IsMarkAt m x.position x.mark_at) (same_taken (taken_at (file_message m) p) t (sym is)) (record {
+            here = (pending_in m from p (in_filtered (λ q. nat_lt q to) p (pending_from m from) (got_in p (load_positions m from to) i e)).0).1;
+            offset = refl;
+          })
 
   pub reads_are : w.table ≡ table_of engine.table → ReadsAre w l (sites_of engine taken) id from to taken
   reads_are table = record {
@@ -209,3 +229,11 @@ file_whole (Some x) bytes m e r h = let same : x ≡ bytes = cc in by (sym (ap q
 pub read_of : (o : Option (List ℕ)) (bytes : List ℕ) (m : FileMessage) (from max to : ℕ) (taken : List Taken) → o ≡ Some bytes → queue_file bytes ≡ Some m → IfSome o (AreRead from max taken to) → IsReadUpTo m from max taken to
 read_of None bytes m from max to taken e r h = absurd cc
 read_of (Some x) bytes m from max to taken e r h = let same : x ≡ bytes = cc in subst (λ (y : Option FileMessage). IfSome y (λ k. IsReadUpTo k from max taken to)) (ap queue_file same ∙ r) h
+
+-- what is told of the file at the spot, of its bytes
+pub told_of : (o : Option (List ℕ)) (bytes : List ℕ) (P : List ℕ → Type 0) → o ≡ Some bytes → IfSome o P → P bytes
+told_of None bytes P e h = absurd cc
+told_of (Some x) bytes P e h = let same : x ≡ bytes = cc in subst P same h
+
+pub told_at : (o : Option (List ℕ)) (bytes : List ℕ) (P : List ℕ → Type 0) → o ≡ Some bytes → P bytes → IfSome o P
+told_at o bytes P e h = subst (λ (x : Option (List ℕ)). IfSome x P) (sym e) h

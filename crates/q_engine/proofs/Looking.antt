@@ -27,7 +27,7 @@ some_same d x h = cc
 module _ (w : World) (l : Ledger) (v : View) where
   -- there is no entry
   pub next_none : (engine : Engine) (c : Core) → EngineStands w engine v l → IsDecided w l engine.core None c → IsNextEntry w l None (record engine { core = c }) v
-  next_none engine c h decided = (decided.0, record { table = h.table; core = decided.1; counts = record { begun = h.counts.begun; generation = h.counts.generation; arrivals = h.counts.arrivals; preempts = h.counts.preempts }; host = h.host; logs = h.logs })
+  next_none engine c h decided = (decided.0, record { table = h.table; core = decided.1; counts = record { begun = h.counts.begun; generation = h.counts.generation; arrivals = h.counts.arrivals; preempts = h.counts.preempts }; host = h.host; logs = h.logs; places = h.places })
 
   -- all that is known of a decision that the core has taken over
   pub record Answers (engine : Engine) (o : Option Decision) (c : Core) : Type 0 where
@@ -53,13 +53,13 @@ module _ (w : World) (l : Ledger) (v : View) where
   -- it has an entry
   plain : (engine : Engine) (d : Decision) (c : Core) → is_asking d ≡ false → Answers engine (Some d) c → (e : Entry) × HasDecided w l d e (record engine { core = c }) v
   plain engine d c h a = elim a.decided [
-    | inl (e, of, is, agrees) ↦ (e, record { before = engine.core; table = a.stands.table; of = of; following = is; was = a.stands.core; core = agrees; placed = a.placed; started = a.started; skipped = a.skipped; counts = record { begun = a.stands.counts.begun; generation = a.stands.counts.generation; arrivals = a.stands.counts.arrivals; preempts = a.stands.counts.preempts }; host = a.stands.host; logs = a.stands.logs })
+    | inl (e, of, is, agrees) ↦ (e, record { before = engine.core; table = a.stands.table; of = of; following = is; was = a.stands.core; core = agrees; placed = a.placed; started = a.started; skipped = a.skipped; counts = record { begun = a.stands.counts.begun; generation = a.stands.counts.generation; arrivals = a.stands.counts.arrivals; preempts = a.stands.counts.preempts }; host = a.stands.host; logs = a.stands.logs; places = a.stands.places })
     | inr (asked, agrees) ↦ absurd (⊎_elim (λ r. wants_none d (next w l) h r) (λ k. looks_none engine.core d h k) asked)
   ]
 
   -- what becomes of engine and host while the core asks
   asking : (engine : Engine) (c : Core) → EngineStands w engine v l → Agrees w c l → EngineStands w (record engine { core = c }) v l
-  asking engine c h agrees = record { table = h.table; core = agrees; counts = record { begun = h.counts.begun; generation = h.counts.generation; arrivals = h.counts.arrivals; preempts = h.counts.preempts }; host = h.host; logs = h.logs }
+  asking engine c h agrees = record { table = h.table; core = agrees; counts = record { begun = h.counts.begun; generation = h.counts.generation; arrivals = h.counts.arrivals; preempts = h.counts.preempts }; host = h.host; logs = h.logs; places = h.places }
 
   reads : (engine : Engine) (id : Id) (from max : ℕ) (c : Core) → Answers engine (Some (decisions.Read id from max)) c → HasAsked w l id from max (record engine { core = c }) v
   reads engine id from max c a = elim a.decided [

@@ -5,12 +5,13 @@ use Rattle.std.specs.Option.{IfSome, option_map_or}
 use Rattle.std.specs.Prelude.{◌&&◌, Err, IsErrOf, nat_le, nat_lt, Ok, Result}
 use Rattle.std.specs.Result.{IsErrAnd}
 use Rattle.std.proofs.lemmas.List.Folds.{list_all-append}
-use Rattle.std.proofs.lemmas.Bool.{and_parts, le-leb, leb-false, leb-true, ltb-false, ltb-true}
+use Rattle.std.proofs.lemmas.Bool.{and_parts, le-leb, leb-false, leb-true, lt-ltb, ltb-false, ltb-true}
 use Rattle.std.proofs.lemmas.List.{drop-drop, drop_all, length-drop, take-map}
 use Rattle.std.proofs.lemmas.Option.{slice_get_past}
 use Rattle.q_laws.proofs.Batched.{IsRising, rising_places}
 use Rattle.q_core.proofs.PlaceLaws.{few_places}
 use Rattle.q_laws.proofs.Members.{IsIn}
+use Rattle.q_laws.proofs.Places.{place_is}
 use Rattle.q_model.specs.declared.file_head.Cursor.{Cursor}
 use Rattle.q_model.specs.Lists.{places_from}
 use Rattle.q_model.specs.QueueFile.{FileMessage, FileRecipient, queue_file}
@@ -97,6 +98,23 @@ rising_kept from (x ∷ xs) h k = all_kept (nat_le from) (x ∷ xs) (each (k x r
     each least p (inl same) = le-leb from p (omega (arith, least, same))
     each least p (inr there) = let more : x < p = h.0 p there in le-leb from p (omega (arith, least, more))
 
+-- those from a position on stand behind that many recipients
+behind_position : {A : Type 0} (t : ℕ → A → Bool) (n k : ℕ) (xs : List A) → filter (nat_le (n + k)) (places_from n t xs) ≡ places_from (n + k) t (drop k xs)
+behind_position t n zero xs =
+    let same : n + 0 ≡ n = omega arith in
+    all_kept (nat_le (n + 0)) (places_from n t xs) (λ p h. let is = (place_is n t xs p h).is in le-leb (n + 0) p (omega (arith, is))) ∙ ap (λ (m : ℕ). places_from m t xs) (sym same)
+behind_position t n (suc k) [] = refl
+behind_position t n (suc k) (x ∷ xs) =
+    let same : (n + 1) + k ≡ n + suc k = omega arith in
+    by (t n x) (subst (λ (m : ℕ). filter (nat_le m) (places_from (n + 1) t xs) ≡ places_from m t (drop k xs)) same (behind_position t (n + 1) k xs))
+  where
+    by : (b : Bool) → filter (nat_le (n + suc k)) (places_from (n + 1) t xs) ≡ places_from (n + suc k) t (drop k xs) → filter (nat_le (n + suc k)) (if b then n ∷ places_from (n + 1) t xs else places_from (n + 1) t xs) ≡ places_from (n + suc k) t (drop k xs)
+    by true h = passed_over (n + suc k) n (filter (nat_le (n + suc k)) (places_from (n + 1) t xs)) (nat_le (n + suc k) n) (kept_not (n + suc k) n (lt-ltb n (n + suc k) (omega arith))) ∙ h
+    by false h = h
+
+open_behind : (m : FileMessage) (from : ℕ) → unmarked_from m from ≡ open_from m from
+open_behind m from = let same : 0 + from ≡ from = omega arith in sym (subst (λ (k : ℕ). filter (nat_le k) (unmarked_from m 0) ≡ places_from k (λ i (r : FileRecipient). not r.marked) (drop from m.recipients)) same (behind_position (λ i (r : FileRecipient). not r.marked) 0 from m.recipients))
+
 -- ---- a place in the file
 
 -- the recipients behind the place that don't lie below the position are those from the position on
@@ -174,6 +192,15 @@ leaves_from (Some bytes) from k c items none h taken behind = by (queue_file byt
         let xs = unmarked_from m c.position in
         let first : (t : Taken) → slice_get (map (taken_at m) (take 256 xs)) 0 ≡ Some t → nat_lt t.position from ≡ false = λ t e. behind t (ap (slice_get items) none ∙ ap (λ (ts : List Taken). slice_get ts 0) taken ∙ e) in
         sym (rising_kept from xs (rising_places c.position (λ i (r : FileRecipient). not r.marked) (drop c.position m.recipients)) (first_taken m from xs first)) ∙ h
+
+-- the place is that of the position itself
+pub leaves_at : (o : Option (List ℕ)) (from place : ℕ) → place ≡ from → IfSome o (LeavesFrom from place)
+leaves_at None from place same = tt
+leaves_at (Some bytes) from place same = by (queue_file bytes)
+  where
+    by : (x : Option FileMessage) → IfSome x (λ m. unmarked_from m place ≡ open_from m from)
+    by None = tt
+    by (Some m) = ap (unmarked_from m) same ∙ open_behind m from
 
 -- ---- the read
 

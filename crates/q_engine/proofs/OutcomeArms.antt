@@ -1,5 +1,5 @@
 -- What the entries of an outcome ask of the calls that write them.
-use Rattle.std.proofs.Common.{◌≡◌, ◌≤◌, ℕ, refl, length}
+use Rattle.std.proofs.Common.{◌≡◌, ◌≤◌, ◌∙◌, ◌⊎◌, ⊎_elim, ℕ, Bool, IsTrue, Option, Some, refl, sym, length}
 use Rattle.std.specs.Option.{IsSome, IsSomeAnd}
 use Rattle.q_model.specs.declared.entry.Entry.TheVariants as entries
 use Rattle.q_model.specs.declared.id.Id.{Id}
@@ -10,13 +10,16 @@ use Rattle.q_model.specs.Settings.{World}
 use Rattle.q_model.specs.Step.{change}
 use Rattle.q_model.specs.Values.{Spot}
 use Rattle.q_host.specs.View.{View}
-use Rattle.q_books.specs.Spots.{spot_of}
+use Rattle.q_model.specs.Message.{Message}
+use Rattle.q_books.specs.Spots.{IsFileAt, IsMarkAt, spot_of}
 use Rattle.q_core.specs.declared.decision.Decision.TheVariants as decisions
 use Rattle.q_files.specs.Changes.{AddsFailure, MarksRecipient}
+use Rattle.q_places.specs.Kept.{kept_mark}
 use Rattle.q_engine.specs.MarkOffsets.{FindsOffset}
 use Rattle.q_engine.specs.Stands.{HasDecided}
 use Rattle.q_engine.specs.declared.engine.Engine.{Engine}
 use Rattle.q_engine.proofs.FirstOutcomes.{log_speaks, mark_bare, mark_inside}
+use Rattle.q_engine.proofs.KeptPlaces.{of_message}
 use Rattle.q_engine.proofs.Speaking.{file_there, in_active}
 
 module _ (w : World) (l : Ledger) (id : Id) (p : ℕ) (engine : Engine) (v : View) (h : HasDecided w l (decisions.Mark id p) (entries.Mark id p) engine v) (s : Spot) (is : s ≡ spot_of places.Active id) where
@@ -25,12 +28,17 @@ module _ (w : World) (l : Ledger) (id : Id) (p : ℕ) (engine : Engine) (v : Vie
   mark_there = let b = mark_bare w l id p h.was.consistent h.following in
       file_there v l.book id b.message s h.host (in_active l id b.message b.active s is)
 
-  module _ (at : ℕ) (finds : FindsOffset v s p at) where
+  -- the offset that was kept, or else was read, is that of the mark
+  pub mark_is_at : (tells : Bool) (kept : Option ℕ) (at : ℕ) → IsTrue tells → kept ≡ kept_mark engine.places id p → (kept ≡ Some at) ⊎ (IsTrue tells → FindsOffset v s p at) → (m : Message) → IsFileAt l.book id m s → IsMarkAt m p at
+  mark_is_at tells kept at t known which m file =
+      ⊎_elim (λ same. of_message l.book id m (λ x. IsMarkAt x p at) file.found (h.places.marks id p at (sym known ∙ same))) (λ read. read t l.book id m h.host file) which
+
+  module _ (at : ℕ) (finds : (m : Message) → IsFileAt l.book id m s → IsMarkAt m p at) where
     -- the mark is the entry's
     pub mark_changes : MarksRecipient s at l.book (change w l (entries.Mark id p)).book
     mark_changes = let b = mark_bare w l id p h.was.consistent h.following in
         let file = in_active l id b.message b.active s is in
-        record { id = id; message = b.message; position = p; file = file; mark = finds l.book id b.message h.host file; changed = refl }
+        record { id = id; message = b.message; position = p; file = file; mark = finds b.message file; changed = refl }
 
     -- and stands within the file
     pub mark_fits : IsSomeAnd (v.files s.area s.name) (λ file. at ≤ length file)

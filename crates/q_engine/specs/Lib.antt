@@ -3,6 +3,7 @@ pub mod BounceTexts
 pub mod Delays
 pub mod Heard
 pub mod KeptNotes
+pub mod KeptPlaces
 pub mod Loads
 pub mod Looks
 pub mod MarkOffsets

@@ -22,6 +22,7 @@ use Rattle.q_core.specs.Decisions.{IsOf}
 use Rattle.q_core.specs.declared.decision.Decision.{Decision}
 use Rattle.q_core.specs.declared.decision.Decision.TheVariants as decisions
 use Rattle.q_core.specs.declared.state.Core.{Core}
+use Rattle.q_engine.specs.KeptPlaces.{ArePlaced}
 use Rattle.q_engine.specs.declared.engine.Engine.{Engine}
 
 -- a job goes before another
@@ -47,6 +48,7 @@ pub record EngineStands (w : World) (engine : Engine) (v : View) (l : Ledger) : 
   pub counts : HasCounts engine l
   pub host : HostStands v l.book
   pub logs : OwnLogs v.files l.book
+  pub places : ArePlaced engine.places l.book
 
 -- The core has taken the next entry over, and the host still stands for the book before it.
 pub record HasDecided (w : World) (l : Ledger) (d : Decision) (e : Entry) (engine : Engine) (v : View)
@@ -63,6 +65,7 @@ pub record HasDecided (w : World) (l : Ledger) (d : Decision) (e : Entry) (engin
   pub counts : HasCounts engine l
   pub host : HostStands v l.book
   pub logs : OwnLogs v.files l.book
+  pub places : ArePlaced engine.places l.book
 
 -- The next entry is the load that the core asked for.
 pub record HasAsked (w : World) (l : Ledger) (id : Id) (from max : ℕ) (engine : Engine) (v : View)

@@ -1,5 +1,5 @@
 //! The beginning of a life on a spool.
-ghost use Rattle.std.specs.Prelude.{◌≡◌, ◌<◌, ◌-◌, ◌^◌, ◌||◌, IfOk, IsErrOf, false, IsTrue, length, List, ℕ, true};
+ghost use Rattle.std.specs.Prelude.{◌≡◌, ◌<◌, ◌-◌, ◌^◌, ◌||◌, IfOk, IsErrOf, false, IsTrue, length, List, None, ℕ, true};
 ghost use Rattle.q_books.specs.HostStands.{HostStands};
 ghost use Rattle.q_core.specs.Agrees.{AgreesIfOrderly, ForFirst};
 ghost use Rattle.q_engine.specs.Beginnings.{BeginsLife, is_of_spool, opening_refusal, StopsBeginning};
@@ -16,7 +16,9 @@ ghost use Rattle.q_host.specs.declared.error.HostError.{HostError as Refusal};
 ghost use Rattle.q_model.specs.Book.{Book};
 ghost use Rattle.q_model.specs.Orderly.{is_orderly};
 ghost use Rattle.q_model.specs.declared.entry.Entry.TheVariants as entries;
+ghost use Rattle.q_model.specs.declared.id.Id.{Id as Ids};
 ghost use Rattle.q_model.specs.declared.spot.Area.{Area as Areas};
+ghost use Rattle.q_places.specs.Kept.{kept_file};
 ghost use Rattle.q_params.specs.Ranges.{IsInRange};
 ghost use Rattle.q_restart.specs.Damages.{IsDamage, IsNextGeneration, IsSpent};
 ghost use Rattle.q_transport.specs.Routing.{table_of};
@@ -29,6 +31,7 @@ use q_events::Bound;
 use q_host::Host;
 use q_model::{Entry, Mode};
 use q_params::Params;
+use q_places::Places;
 use q_restart::{OpenError, open_spool};
 use q_transport::Table;
 use std::alloc::Global;
@@ -68,7 +71,9 @@ fn tell_life<H: Host>(
       generation = generation;
       arrivals = 0;
       preempts = 0;
+      places = engine.places;
     }) }
+    ensures places { IfOk result (λ engine. (id : Ids) → kept_file engine.places id ≡ None) }
     ensures ready { IfOk result (λ engine. IsReady engine) }
     ensures err { (error : Refusal) → IsErrOf result (refusal_of error) → IsTrue H.tells
         → (b : Book) → HostStands (H.view host.old) b
@@ -87,6 +92,7 @@ fn tell_life<H: Host>(
         generation,
         arrivals: 0,
         preempts: 0,
+        places: Places::new(alloc),
     };
     match tell(
         alloc,

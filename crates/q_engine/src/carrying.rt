@@ -1,5 +1,7 @@
 //! How each decision is carried out: the disk first, then its line.
 ghost use Rattle.q_engine.specs.Steps.{EachError};
+ghost use Rattle.q_engine.specs.KeptPlaces.{IsForgotten, left_by};
+ghost use Rattle.q_places.specs.Kept.{IsFewer};
 ghost use Rattle.q_host.specs.View.{Told};
 ghost use Rattle.std.specs.Prelude.{◌≡◌, [], false, IsTrue, OnOk, true};
 ghost use Rattle.q_core.specs.Changes.{is_looked_at};
@@ -10,11 +12,36 @@ ghost use Rattle.q_entries.specs.Causes.{HostCause};
 use crate::engine::Engine;
 use q_core::Decision;
 use q_host::{Host, HostError};
+use q_model::Id;
 use std::alloc::Global;
 
+/// The message that leaves memory by the decision.
+fn left_by(decision: &Decision) -> Option<Id>
+    ensures { result ≡ left_by decision.now }
+{
+    match *decision {
+        Decision::Defer { id, .. } => Some(id),
+        Decision::Remove { id } => Some(id),
+        Decision::Corrupt { id, .. } => Some(id),
+        _ => None,
+    }
+}
+
 impl Engine {
-    /// Carries a decision out that the core has taken over, or the read that it asks for.
-    pub(crate) fn carry_out<H: Host>(
+    /// What is kept of a message that leaves memory by the decision is forgotten.
+    fn forget_left(&mut self, decision: &Decision)
+        ensures fewer { IsFewer self.old.places self.new.places }
+        ensures gone { IsForgotten decision.now self.new }
+        ensures rest { self.new ≡ record self.old { places = self.new.places } }
+    {
+        let Some(id) = left_by(decision) else {
+            return;
+        };
+        self.places.forget(id);
+    }
+
+    /// Carries a decision out of which nothing is kept that it makes untrue.
+    fn dispatch<H: Host>(
         &mut self,
         alloc: Global,
         host: &mut H,
@@ -25,6 +52,7 @@ impl Engine {
         requires no_look { is_look (question_of decision.now) ≡ false }
         requires reads { is_reading (question_of decision.now) ≡ true
             → (is_looked_at self.old.core ≡ true) × (self.old.core.named ≡ []) }
+        requires forgotten { IsForgotten decision.now self.old }
         ensures ok { OnOk result (Told H.tells H.view host.old host.new
             (CarriesOut decision.now self.old self.new)) }
         ensures answered { OnOk result (is_answered self.new.core.question ≡ true) }
@@ -56,5 +84,28 @@ impl Engine {
                 Err(HostError::NoMemory)
             }
         }
+    }
+
+    /// Carries a decision out that the core has taken over, or the read that it asks for.
+    pub(crate) fn carry_out<H: Host>(
+        &mut self,
+        alloc: Global,
+        host: &mut H,
+        decision: &Decision,
+    ) -> Result<(), HostError>
+        requires decided { IsTrue H.tells → HasNext decision.now self.old (H.view host.old) }
+        requires question { self.old.core.question ≡ question_of decision.now }
+        requires no_look { is_look (question_of decision.now) ≡ false }
+        requires reads { is_reading (question_of decision.now) ≡ true
+            → (is_looked_at self.old.core ≡ true) × (self.old.core.named ≡ []) }
+        ensures ok { OnOk result (Told H.tells H.view host.old host.new
+            (CarriesOut decision.now self.old self.new)) }
+        ensures answered { OnOk result (is_answered self.new.core.question ≡ true) }
+        ensures err { EachError result (λ error. Told H.tells H.view host.old host.new
+            (GivesDecisionUp decision.now self.old error)) }
+        ensures cause { HostCause (H.faults host.old) (H.faults host.new) result }
+    {
+        self.forget_left(decision);
+        self.dispatch(alloc, host, decision)
     }
 }

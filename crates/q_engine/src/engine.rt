@@ -1,5 +1,6 @@
-//! The engine: the decision core of one life, and what is counted beside it.
+//! The engine: the decision core of one life, and what is counted and kept beside it.
 use q_core::Core;
+use q_places::Places;
 use q_transport::Table;
 
 /// A life on a spool: its core, and the table by which its lines are written. It keeps no address
@@ -14,4 +15,7 @@ pub struct Engine {
     pub(crate) arrivals: u32,
     /// How often a job went before another in this life.
     pub(crate) preempts: u64,
+    /// Places in the queue files of messages in memory, so that no file is read from its beginning
+    /// again.
+    pub(crate) places: Places,
 }

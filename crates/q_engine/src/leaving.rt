@@ -1,6 +1,6 @@
 //! What becomes of a message that is done: its notice to the sender is stored where it wants one,
 //! and then it is gone.
-ghost use Rattle.std.specs.Prelude.{◌≡◌, ◌≤◌, ◌∷◌, [], IfOk, IsTrue, OnOk};
+ghost use Rattle.std.specs.Prelude.{◌≡◌, ◌≤◌, ◌∷◌, [], IfOk, IsTrue, None, OnOk};
 ghost use Rattle.q_books.specs.HostStands.{KeepsNotes, TakesBy, TriesBy};
 ghost use Rattle.q_core.specs.declared.decision.Decision.TheVariants as decisions;
 ghost use Rattle.q_engine.specs.BounceTexts.{AddsBounce};
@@ -10,6 +10,7 @@ ghost use Rattle.q_host.specs.Faults.{DiskCause};
 ghost use Rattle.q_host.specs.View.{Told};
 ghost use Rattle.q_message.specs.Told.{IsThere};
 ghost use Rattle.q_model.specs.Ids.{bounce_of};
+ghost use Rattle.q_places.specs.Kept.{kept_file};
 
 use crate::engine::Engine;
 use crate::mailing::store;
@@ -87,7 +88,9 @@ impl Engine {
         host: &mut H,
         id: Id,
     ) -> Result<(), HostError>
-        requires { IsTrue H.tells → HasNext (decisions.Remove id) self.now (H.view host.old) }
+        requires decided { IsTrue H.tells → HasNext (decisions.Remove id) self.now (H.view host.old) }
+        // Nothing is kept of its places any longer.
+        requires forgotten { kept_file self.now.places id ≡ None }
         ensures ok { OnOk result (Told H.tells H.view host.old host.new
             (CarriesOut (decisions.Remove id) self.now self.now)) }
         ensures err { EachError result (λ error. Told H.tells H.view host.old host.new

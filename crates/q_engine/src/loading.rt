@@ -79,7 +79,8 @@ impl Engine {
         ensures cause { HostCause (H.faults host.old) (H.faults host.new) result }
     {
         let spot = file_spot(Place::Active, id);
-        let Some(reading) = read_pending(alloc, host, spot, from, max)? else {
+        let known = self.places.progress(id);
+        let Some(reading) = read_pending(alloc, host, spot, from, max, known)? else {
             self.core.found(Found::Damaged {
                 id,
                 due: 0,
@@ -87,8 +88,11 @@ impl Engine {
             });
             return Ok(());
         };
-        self.take_in(alloc, &reading.taken, reading.next)?;
-        let to = reading.next.position;
+        let next = reading.progress.next;
+        self.take_in(alloc, &reading.taken, next)?;
+        self.places
+            .keep(alloc, id, reading.progress, &reading.taken);
+        let to = next.position;
         tell(alloc, host, &self.table, &Entry::Load { id, from, to })
     }
 }

@@ -1,7 +1,7 @@
 //! Marks of recipients that are done, and what makes them sure.
 ghost use Rattle.q_engine.specs.Steps.{EachError};
 ghost use Rattle.q_host.specs.View.{Told};
-ghost use Rattle.std.specs.Prelude.{◌≡◌, IfOk, IsTrue, OnOk};
+ghost use Rattle.std.specs.Prelude.{◌≡◌, ◌⊎◌, IfOk, IsTrue, OnOk, Some};
 ghost use Rattle.q_core.specs.declared.decision.Decision.TheVariants as decisions;
 ghost use Rattle.q_engine.specs.MarkOffsets.{FindsOffset};
 ghost use Rattle.q_engine.specs.Steps.{CarriesOut, GivesDecisionUp, HasNext};
@@ -20,20 +20,24 @@ use q_message::read_head;
 use q_model::{Entry, Id, Place, Spot};
 use std::alloc::Global;
 
-/// The offset of a recipient's mark in the queue file at the spot. Where the host tells its files
-/// and the mark isn't set, `NoMemory` is want of memory.
+/// The offset of a recipient's mark in the queue file at the spot: the one that was kept, or else
+/// it is read. Where the host tells its files and the mark isn't set, `NoMemory` is want of memory.
 fn mark_offset<H: Host>(
     alloc: Global,
     host: &mut H,
     spot: Spot,
     position: u32,
+    kept: Option<u64>,
 ) -> Result<u64, HostError>
     requires { IsThere H.tells (H.view host.old) spot }
-    ensures offset { IfOk result (λ at. IsTrue H.tells
-        → FindsOffset (H.view host.old) spot position at) }
+    ensures offset { IfOk result (λ at. (kept ≡ Some at) ⊎ (IsTrue H.tells
+        → FindsOffset (H.view host.old) spot position at)) }
     ensures stays { IsTrue H.tells → Stays (H.view host.old) (H.view host.new) }
     ensures cause { DiskCause (H.faults host.old) (H.faults host.new) result }
 {
+    if let Some(at) = kept {
+        return Ok(at);
+    }
     let head = match read_head(host, spot) {
         Ok(head) => head,
         Err(error) => return Err(read_fault(error)),
@@ -48,22 +52,24 @@ fn mark_offset<H: Host>(
 impl Engine {
     /// Marks a recipient of a message as done.
     pub(crate) fn mark<H: Host>(
-        &self,
+        &mut self,
         alloc: Global,
         host: &mut H,
         id: Id,
         position: u32,
     ) -> Result<(), HostError>
         requires { IsTrue H.tells
-            → HasNext (decisions.Mark id position) self.now (H.view host.old) }
+            → HasNext (decisions.Mark id position) self.old (H.view host.old) }
         ensures ok { OnOk result (Told H.tells H.view host.old host.new
-            (CarriesOut (decisions.Mark id position) self.now self.now)) }
+            (CarriesOut (decisions.Mark id position) self.old self.new)) }
         ensures err { EachError result (λ error. Told H.tells H.view host.old host.new
-            (GivesDecisionUp (decisions.Mark id position) self.now error)) }
+            (GivesDecisionUp (decisions.Mark id position) self.old error)) }
+        ensures core { self.new.core ≡ self.old.core }
         ensures cause { HostCause (H.faults host.old) (H.faults host.new) result }
     {
         let spot = file_spot(Place::Active, id);
-        let at = mark_offset(alloc, host, spot, position)?;
+        let kept = self.places.take_mark(id, position);
+        let at = mark_offset(alloc, host, spot, position, kept)?;
         mark(host, spot, at)?;
         tell(alloc, host, &self.table, &Entry::Mark { id, position })
     }

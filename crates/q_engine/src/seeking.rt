@@ -1,9 +1,11 @@
 //! The recipients of a queue file that aren't in memory yet.
 //!
-//! A file is read from its first recipient on, in batches, as no offset of a recipient is kept.
-//! What stands before the first recipient to be read is passed over; no address outlives its batch.
+//! A file is read from the place on up to which it was read before, where that is kept. Else it is
+//! read from its first recipient on, in batches, and what stands before the first recipient to be
+//! read is passed over. No address outlives its batch.
 ghost use Rattle.std.specs.List.{list_all};
 ghost use Rattle.std.specs.Prelude.{◌≡◌, ◌≤◌, IfNone, IfOk, IfSome, IsTrue, length, min, nat_lt, None, slice_get, Some, take, true, false, ℕ};
+ghost use Rattle.q_engine.specs.KeptPlaces.{HasProgress};
 ghost use Rattle.q_engine.specs.Pending.{AreRead, LeavesFrom};
 ghost use Rattle.q_host.specs.Calls.{Stays};
 ghost use Rattle.q_host.specs.Faults.{DiskCause};
@@ -17,16 +19,17 @@ ghost use Rattle.q_model.specs.Values.{Taken};
 use q_host::{Host, HostError};
 use q_message::{MessageError, read_head, read_recipients};
 use q_model::{Batch, Cursor, FileHead, Spot};
+use q_places::Progress;
 use std::alloc::Global;
 
 /// How many recipients are passed over at once.
 const ROOM: u32 = 256;
 
-/// Recipients that were read, and the place behind them.
+/// Recipients that were read, and how far their message was read with them.
 #[derive(Drop)]
 pub(crate) struct Reading {
     pub(crate) taken: Batch,
-    pub(crate) next: Cursor,
+    pub(crate) progress: Progress,
 }
 
 /// How many recipients at the front of the batch have a position below this.
@@ -128,7 +131,10 @@ fn read_on<H: Host>(
         (λ bytes. HasCursor bytes file.now place) }
     ensures taken { IfOk result (λ r. (from : ℕ) → TellsOf H.tells (H.view host.old) spot
         (LeavesFrom from place.position)
-        → TellsOf H.tells (H.view host.old) spot (AreRead from max r.taken.items r.next.position)) }
+        → TellsOf H.tells (H.view host.old) spot
+        (AreRead from max r.taken.items r.progress.next.position)) }
+    ensures progress { IfOk result (λ r. TellsOf H.tells (H.view host.old) spot
+        (HasProgress r.progress)) }
     ensures no_message { OnNoMessage result (λ _. IsTrue H.tells → ⊥) }
     ensures stays { IsTrue H.tells → Stays (H.view host.old) (H.view host.new) }
     ensures cause { ReadCause (H.faults host.old) (H.faults host.new) result }
@@ -140,7 +146,10 @@ fn read_on<H: Host>(
     }
     let mut taken = Batch::new(alloc, room)?;
     let next = read_recipients(host, spot, file, place, room, &mut taken)?;
-    Ok(Reading { taken, next })
+    Ok(Reading {
+        taken,
+        progress: Progress { head: *file, next },
+    })
 }
 
 /// Reads the recipients whose mark isn't set, from a position on: the first `max`.
@@ -153,7 +162,9 @@ fn read_whole<H: Host>(
 ) -> Result<Reading, MessageError>
     requires there { IsThere H.tells (H.view host.old) spot }
     ensures taken { IfOk result (λ r. TellsOf H.tells (H.view host.old) spot
-        (AreRead from max r.taken.items r.next.position)) }
+        (AreRead from max r.taken.items r.progress.next.position)) }
+    ensures progress { IfOk result (λ r. TellsOf H.tells (H.view host.old) spot
+        (HasProgress r.progress)) }
     ensures no_message { OnNoMessage result (λ _. TellsOf H.tells (H.view host.old) spot
         (λ bytes. queue_file bytes ≡ None)) }
     ensures stays { IsTrue H.tells → Stays (H.view host.old) (H.view host.new) }
@@ -164,25 +175,84 @@ fn read_whole<H: Host>(
     read_on(alloc, host, spot, &file, place, max)
 }
 
+/// Reads the recipients whose mark isn't set, from a position on: the first `max`. The message was
+/// read before, and if it was read up to that position, it is read on from there.
+fn read_known<H: Host>(
+    alloc: Global,
+    host: &mut H,
+    spot: Spot,
+    known: &Progress,
+    from: u32,
+    max: u32,
+) -> Result<Reading, MessageError>
+    requires there { IsThere H.tells (H.view host.old) spot }
+    requires known { TellsOf H.tells (H.view host.old) spot (HasProgress known.now) }
+    ensures taken { IfOk result (λ r. TellsOf H.tells (H.view host.old) spot
+        (AreRead from max r.taken.items r.progress.next.position)) }
+    ensures progress { IfOk result (λ r. TellsOf H.tells (H.view host.old) spot
+        (HasProgress r.progress)) }
+    ensures no_message { OnNoMessage result (λ _. IsTrue H.tells → ⊥) }
+    ensures stays { IsTrue H.tells → Stays (H.view host.old) (H.view host.new) }
+    ensures cause { ReadCause (H.faults host.old) (H.faults host.new) result }
+{
+    if known.next.position == from {
+        return read_on(alloc, host, spot, &known.head, known.next, max);
+    }
+    let place = place_from(alloc, host, spot, &known.head, from)?;
+    read_on(alloc, host, spot, &known.head, place, max)
+}
+
+/// The same, whether it is known how far the message was read or not.
+fn read_next<H: Host>(
+    alloc: Global,
+    host: &mut H,
+    spot: Spot,
+    from: u32,
+    max: u32,
+    known: Option<&Progress>,
+) -> Result<Reading, MessageError>
+    requires there { IsThere H.tells (H.view host.old) spot }
+    requires known { IfSome known (λ p. TellsOf H.tells (H.view host.old) spot
+        (HasProgress p.now)) }
+    ensures taken { IfOk result (λ r. TellsOf H.tells (H.view host.old) spot
+        (AreRead from max r.taken.items r.progress.next.position)) }
+    ensures progress { IfOk result (λ r. TellsOf H.tells (H.view host.old) spot
+        (HasProgress r.progress)) }
+    ensures no_message { OnNoMessage result (λ _. TellsOf H.tells (H.view host.old) spot
+        (λ bytes. queue_file bytes ≡ None)) }
+    ensures stays { IsTrue H.tells → Stays (H.view host.old) (H.view host.new) }
+    ensures cause { ReadCause (H.faults host.old) (H.faults host.new) result }
+{
+    match known {
+        Some(known) => read_known(alloc, host, spot, known, from, max),
+        None => read_whole(alloc, host, spot, from, max),
+    }
+}
+
 /// Reads the recipients of a queue file whose mark isn't set, from a position on: the first `max`.
-/// None where a record of it can't be read: where the host tells its files, only where the file is
-/// no queue file.
+/// Where it is known how far the message was read, it is read on from there. None where a record
+/// can't be read: where the host tells its files, only where the file is no queue file.
 pub(crate) fn read_pending<H: Host>(
     alloc: Global,
     host: &mut H,
     spot: Spot,
     from: u32,
     max: u32,
+    known: Option<&Progress>,
 ) -> Result<Option<Reading>, HostError>
     requires there { IsThere H.tells (H.view host.old) spot }
+    requires known { IfSome known (λ p. TellsOf H.tells (H.view host.old) spot
+        (HasProgress p.now)) }
     ensures taken { IfOk result (λ found. IfSome found (λ r. TellsOf H.tells (H.view host.old) spot
-        (AreRead from max r.taken.items r.next.position))) }
+        (AreRead from max r.taken.items r.progress.next.position))) }
+    ensures progress { IfOk result (λ found. IfSome found (λ r. TellsOf H.tells (H.view host.old) spot
+        (HasProgress r.progress))) }
     ensures none { IfOk result (λ found. IfNone found (TellsOf H.tells (H.view host.old) spot
         (λ bytes. queue_file bytes ≡ None))) }
     ensures stays { IsTrue H.tells → Stays (H.view host.old) (H.view host.new) }
     ensures cause { DiskCause (H.faults host.old) (H.faults host.new) result }
 {
-    match read_whole(alloc, host, spot, from, max) {
+    match read_next(alloc, host, spot, from, max, known) {
         Ok(reading) => Ok(Some(reading)),
         Err(MessageError::Disk) => Err(HostError::Disk),
         Err(MessageError::NoMemory) => Err(HostError::NoMemory),

@@ -13,6 +13,8 @@ mod looks;
 #[cfg(test)]
 mod openings;
 #[cfg(test)]
+mod places_kept;
+#[cfg(test)]
 mod refusals;
 #[cfg(test)]
 mod scans;

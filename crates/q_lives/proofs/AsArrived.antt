@@ -44,9 +44,10 @@ use Rattle.q_model.specs.declared.rows.Place.TheVariants as places
 abbrev addresses : List Recipient → List (List ℕ)
 addresses rs = map (λ (r : Recipient). r.address) rs
 
--- the second message has the sender, the recipients and the content of the first
+-- the second message has the sender, the arrival, the recipients and the content of the first
 pub record IsLike (m n : Message) : Type 0 where
   pub sender : n.sender ≡ m.sender
+  pub arrival : n.arrival ≡ m.arrival
   pub recipients : addresses n.recipients ≡ addresses m.recipients
   pub content : n.content ≡ m.content
 
@@ -54,7 +55,7 @@ pub like_arrived : (m n : Message) (sender : Option (List ℕ)) (to : List (List
 like_arrived m n sender to content a h = record { same_sender = a.sender ∙ h.same_sender; same_recipients = a.recipients ∙ h.same_recipients; same_content = a.content ∙ h.same_content }
 
 like_itself : (m : Message) → IsLike m m
-like_itself m = record { sender = refl; recipients = refl; content = refl }
+like_itself m = record { sender = refl; arrival = refl; recipients = refl; content = refl }
 
 -- a message like it stands
 abbrev pub HasLike : Message → Book → Id → Type 0
@@ -96,7 +97,7 @@ firm_like : (b c : Book) (id : Id) (m : Message) → c.messages ≡ map firm_fai
 firm_like b c id m same h = (
   firm_failures m,
   ap (λ (ms : List Message). find (λ (x : Message). id_eq x.id id) ms) same ∙ find_mapped firm_failures (λ x. refl) id b.messages ∙ ap (option_map firm_failures) h,
-  record { sender = refl; recipients = refl; content = refl },
+  record { sender = refl; arrival = refl; recipients = refl; content = refl },
 )
 
 bounce_like : (l : Ledger) (id : Id) (m : Message) (o : Option Message) → message_of l.book id ≡ Some m → HasLike m (option_map_or (λ (x : Message). record l { book = add_message l.book (bounce_message l.now x) }) o l).book id
@@ -110,7 +111,7 @@ abbrev pub StaysLike : Message → Id → Entry → Book → Type 0
 StaysLike m id e b = (is_remove_of id e ≡ true) ⊎ HasLike m b id
 
 moved_like : (l : Ledger) (i : Id) (place : Place) (id : Id) (m : Message) (e : Entry) → message_of l.book id ≡ Some m → StaysLike m id e (change_message l.book i (move_to place))
-moved_like l i place id m e h = inr (changed_like l.book i (move_to place) id m (λ x. refl) (record { sender = refl; recipients = refl; content = refl }) h)
+moved_like l i place id m e h = inr (changed_like l.book i (move_to place) id m (λ x. refl) (record { sender = refl; arrival = refl; recipients = refl; content = refl }) h)
 
 remove_like : (w : World) (l : Ledger) (i id : Id) (m : Message) → IsConsistent w l → message_of l.book id ≡ Some m → StaysLike m id (entries.Remove i) (remove_message l.book i)
 remove_like w l i id m c h = elim (id_cases i id) [
@@ -129,9 +130,9 @@ change_like w l (entries.Start number i site ps) id m c h = inr (m, h, like_itse
 change_like w l (entries.Preempt child parent transport need) id m c h = inr (m, h, like_itself m)
 change_like w l (entries.Reply number state os) id m c h = inr (same_like l.book (change w l (entries.Reply number state os)).book id m (reply_book w l state os (flight_of l number)) h)
 change_like w l (entries.Skip i site ps) id m c h = inr (same_like l.book (change w l (entries.Skip i site ps)).book id m (with_outcomes_book w (unqueued l i site ps) ps (replicate (length ps) (outcomes.Later 0)) (message_of l.book i)) h)
-change_like w l (entries.Log i f) id m c h = inr (changed_like l.book i (with_failure f) id m (λ x. refl) (record { sender = refl; recipients = refl; content = refl }) h)
-change_like w l (entries.Mark i q) id m c h = inr (changed_like l.book i (with_mark q) id m (λ x. refl) (record { sender = refl; recipients = marked_addresses q 0 m.recipients; content = refl }) h)
-change_like w l (entries.Sync i) id m c h = inr (changed_like l.book i sync_all id m (λ x. refl) (record { sender = refl; recipients = synced_addresses m.recipients; content = refl }) h)
+change_like w l (entries.Log i f) id m c h = inr (changed_like l.book i (with_failure f) id m (λ x. refl) (record { sender = refl; arrival = refl; recipients = refl; content = refl }) h)
+change_like w l (entries.Mark i q) id m c h = inr (changed_like l.book i (with_mark q) id m (λ x. refl) (record { sender = refl; arrival = refl; recipients = marked_addresses q 0 m.recipients; content = refl }) h)
+change_like w l (entries.Sync i) id m c h = inr (changed_like l.book i sync_all id m (λ x. refl) (record { sender = refl; arrival = refl; recipients = synced_addresses m.recipients; content = refl }) h)
 change_like w l (entries.Defer i due) id m c h = moved_like l i (places.Deferred due) id m (entries.Defer i due) h
 change_like w l (entries.Bounce i) id m c h = inr (bounce_like l id m (message_of l.book i) h)
 change_like w l (entries.Remove i) id m c h = remove_like w l i id m c h
@@ -148,7 +149,7 @@ life_like w l generation mode id m h = subst (λ b. HasLike m b id) (sym (after_
 -- ---- what a life leaves
 
 cut_like : (e : Entry) (b : Book) (id : Id) (m : Message) → message_of b id ≡ Some m → HasLike m (cut_off e b) id
-cut_like (entries.Log i failure) b id m h = changed_like b i loosened id m (λ x. refl) (record { sender = refl; recipients = refl; content = refl }) h
+cut_like (entries.Log i failure) b id m h = changed_like b i loosened id m (λ x. refl) (record { sender = refl; arrival = refl; recipients = refl; content = refl }) h
 cut_like (entries.Life generation mode) b id m h = (m, h, like_itself m)
 cut_like (entries.At t) b id m h = (m, h, like_itself m)
 cut_like (entries.Arrive i sender to content) b id m h = (m, h, like_itself m)
@@ -188,10 +189,10 @@ crash_found (o ∷ os) (x ∷ ns) id m h e = on (id_eq x.id id) (id_eq o.id id) 
 crash_like : (b c : Book) (id : Id) (m : Message) → IsCrashOf b c → message_of b id ≡ Some m → HasLike m c id
 crash_like b c id m h there =
     let one = crash_found b.messages c.messages id m h.messages there in
-    (one.0, one.1, record { sender = one.2.sender; recipients = crashed_addresses m.recipients one.0.recipients one.2.recipients; content = one.2.content })
+    (one.0, one.1, record { sender = one.2.sender; arrival = one.2.arrival; recipients = crashed_addresses m.recipients one.0.recipients one.2.recipients; content = one.2.content })
 
 like_both : (m n x : Message) → IsLike m n → IsLike n x → IsLike m x
-like_both m n x a b = record { sender = b.sender ∙ a.sender; recipients = b.recipients ∙ a.recipients; content = b.content ∙ a.content }
+like_both m n x a b = record { sender = b.sender ∙ a.sender; arrival = b.arrival ∙ a.arrival; recipients = b.recipients ∙ a.recipients; content = b.content ∙ a.content }
 
 pub left_like : (l : Ledger) (left : Book) (id : Id) (m : Message) → IsLeftBy l left → message_of l.book id ≡ Some m → HasLike m left id
 left_like l left id m h there = let one = end h.1 in let two = after_crash one.0 one.1 h.2 in (two.0, two.1, like_both m one.0 two.0 one.2 two.2)

@@ -4,16 +4,16 @@ use Rattle.q_restart.specs.Openings.{begun}
 use Rattle.q_transport.specs.Routing.{table_of}
 use Rattle.q_engine.specs.Beginnings.{first_entry}
 use Rattle.q_engine.specs.declared.error.EngineError.TheVariants as errors
-use Rattle.q_engine.proofs.BegunLives.{began, by_three, found_damaged, found_refused, found_spent, new_engine, not_begun}
+use Rattle.q_engine.proofs.BegunLives.{began, by_four, found_damaged, found_refused, found_spent, new_engine, not_begun}
 use Rattle.q_engine.proofs.beginning.begin.Goals as goal
 
 pub returns-in-Ok-clause-ok : goal.returns-in-Ok-clause-ok
-returns-in-Ok-clause-ok g c = by_three c.tell_life.result (λ engine told core made t b h.
+returns-in-Ok-clause-ok g c = by_four c.tell_life.result (λ engine told core made empty t b h.
     let v = g.H.Host.view c.args.host.now in
     let u = g.H.Host.view c.open_spool.new.host in
     let opens = c.in-Ok.ensures.ok t b h in
     began c.args.params c.args.table c.args.mode b c.in-Ok.spool.generation v u (g.H.Host.view c.tell_life.new.host) opens engine
-    (new_engine c.args.table c.in-Ok.spool.generation engine made) core (told t (begun b) opens.takes.stands)) c.tell_life.ensures.ok c.tell_life.ensures.core c.tell_life.ensures.made
+    (new_engine c.args.table c.in-Ok.spool.generation engine made empty) core (told t (begun b) opens.takes.stands)) c.tell_life.ensures.ok c.tell_life.ensures.core c.tell_life.ensures.made c.tell_life.ensures.places
 
 pub returns-in-Ok-clause-err : goal.returns-in-Ok-clause-err
 returns-in-Ok-clause-err g c error is t b h =

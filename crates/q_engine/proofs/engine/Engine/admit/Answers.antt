@@ -53,7 +53,7 @@ returns-clause-ok g c = on_ok c.tell.result (λ told t w l n.
     let kept = c.in_ok-drop_notes.ensures.book t l.book m.decided.host in
     let x = g.H.Host.view c.move_to.new.host in
     let takes = kept_takes l.book k v u x kept (c.in_ok-move_to.ensures.ok t l.book k kept.stands m.moves) in
-    carried_behind w l (decisions.Admit c.args.id c.args.place) (entries.Admit c.args.id) c.args.self.now v m.decided k x (g.H.Host.view c.tell.new.host) (record { life = refl; arrive = refl; preempt = refl }) refl takes (told t k takes.stands) (admit_notes w l c.args.id v u (g.H.Host.view c.tell.new.host) (placed_form v l.book c.args.id c.args.place n.1.host n.1.placed) (c.in_ok-drop_notes.ensures.notes t)
+    carried_behind w l (decisions.Admit c.args.id c.args.place) (entries.Admit c.args.id) c.args.self.now v m.decided k x (g.H.Host.view c.tell.new.host) (record { life = refl; arrive = refl; preempt = refl; stays = λ id. refl }) refl takes (told t k takes.stands) (admit_notes w l c.args.id v u (g.H.Host.view c.tell.new.host) (placed_form v l.book c.args.id c.args.place n.1.host n.1.placed) (c.in_ok-drop_notes.ensures.notes t)
     (keeps_then u x (g.H.Host.view c.tell.new.host) (c.in_ok-move_to.ensures.notes t (no_log_spot c.file_spot.result c.args.place c.args.id c.file_spot.ensures) (no_log_spot c.file_spot-2.result places.Active c.args.id c.file_spot-2.ensures)) (files_keep x (g.H.Host.view c.tell.new.host) (c.tell.ensures.files t))) (c.in_ok-drop_notes.ensures.gone t))) c.tell.ensures.ok
 
 pub returns-clause-err : goal.returns-clause-err

@@ -12,4 +12,4 @@ returns-clause-ok g c t w l h look =
     let takes = reads_keep l.book l.book v x lawful (c.in_ok-found.ensures.stays t) h.host in
     let shown = c.in_ok-found.ensures.found t w l h.core h.host.reads in
     let core = c.found.ensures.exact w l h.core (shown_answers c.args.decision.now c.args.self.now.core c.in_ok-found.found l c.requires.asked look shown) in
-    (record { table = h.table; core = core; counts = counts_core c.args.self.now c.found.new.self l h.counts; host = takes.stands; logs = takes.logs h.logs }, takes)
+    (record { table = h.table; core = core; counts = counts_core c.args.self.now c.found.new.self l h.counts; host = takes.stands; logs = takes.logs h.logs; places = h.places }, takes)

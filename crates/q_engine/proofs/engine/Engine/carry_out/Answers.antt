@@ -1,43 +1,22 @@
-use Rattle.std.proofs.Common.{IsTrue}
-use Rattle.q_core.specs.declared.decision.Decision.TheVariants as decisions
-use Rattle.q_engine.proofs.DecisionArms.{arm_ok}
+use Rattle.std.proofs.Common.{Some, subst, sym}
+use Rattle.q_books.proofs.Results.{on_ok}
+use Rattle.q_engine.specs.Stands.{IsNextEntry}
+use Rattle.q_engine.specs.declared.engine.Engine.{Engine}
+use Rattle.q_engine.proofs.CarriedOut.{next_fewer}
 use Rattle.q_engine.proofs.engine.Engine.carry_out.Goals as goal
 
-pub returns-in-Sync-clause-ok : goal.returns-in-Sync-clause-ok
-returns-in-Sync-clause-ok g c = arm_ok c.sync.result (IsTrue g.H.Host.tells) c.args.decision.now (decisions.Sync c.in-Sync.id) c.args.self.now c.args.self.now _ _ c.in-Sync.is c.sync.ensures.ok
+pub dispatch-requires-clause-decided : goal.dispatch-requires-clause-decided
+dispatch-requires-clause-decided g c t =
+    let (w, l, n) = c.requires.decided t in
+    let v = g.H.Host.view c.args.host.now in
+    (w, l, subst (λ (e : Engine). IsNextEntry w l (Some c.args.decision.now) e v) (sym c.forget_left.ensures.rest) (next_fewer w l c.args.decision.now c.args.self.now v c.forget_left.new.self.places c.forget_left.ensures.fewer n))
 
-pub returns-in-Skip-clause-ok : goal.returns-in-Skip-clause-ok
-returns-in-Skip-clause-ok g c = arm_ok c.skip.result (IsTrue g.H.Host.tells) c.args.decision.now (decisions.Skip c.in-Skip.id c.in-Skip.site c.in-Skip.entry) c.args.self.now c.args.self.now _ _ c.in-Skip.is c.skip.ensures.ok
+pub returns-clause-ok : goal.returns-clause-ok
+returns-clause-ok g c = on_ok c.dispatch.result (λ told t w l n.
+    let v = g.H.Host.view c.args.host.now in
+    told t w l (subst (λ (e : Engine). IsNextEntry w l (Some c.args.decision.now) e v) (sym c.forget_left.ensures.rest) (next_fewer w l c.args.decision.now c.args.self.now v c.forget_left.new.self.places c.forget_left.ensures.fewer n))) c.dispatch.ensures.ok
 
-pub returns-in-Defer-clause-ok : goal.returns-in-Defer-clause-ok
-returns-in-Defer-clause-ok g c = arm_ok c.defer.result (IsTrue g.H.Host.tells) c.args.decision.now (decisions.Defer c.in-Defer.id c.in-Defer.due) c.args.self.now c.args.self.now _ _ c.in-Defer.is c.defer.ensures.ok
-
-pub returns-in-Back-clause-ok : goal.returns-in-Back-clause-ok
-returns-in-Back-clause-ok g c = arm_ok c.back.result (IsTrue g.H.Host.tells) c.args.decision.now (decisions.Back c.in-Back.id) c.args.self.now c.args.self.now _ _ c.in-Back.is c.back.ensures.ok
-
-pub returns-in-Remove-clause-ok : goal.returns-in-Remove-clause-ok
-returns-in-Remove-clause-ok g c = arm_ok c.remove.result (IsTrue g.H.Host.tells) c.args.decision.now (decisions.Remove c.in-Remove.id) c.args.self.now c.args.self.now _ _ c.in-Remove.is c.remove.ensures.ok
-
-pub returns-in-Corrupt-clause-ok : goal.returns-in-Corrupt-clause-ok
-returns-in-Corrupt-clause-ok g c = arm_ok c.corrupt.result (IsTrue g.H.Host.tells) c.args.decision.now (decisions.Corrupt c.in-Corrupt.id c.in-Corrupt.place) c.args.self.now c.args.self.now _ _ c.in-Corrupt.is c.corrupt.ensures.ok
-
-pub returns-in-Admit-clause-ok : goal.returns-in-Admit-clause-ok
-returns-in-Admit-clause-ok g c = arm_ok c.admit.result (IsTrue g.H.Host.tells) c.args.decision.now (decisions.Admit c.in-Admit.id c.in-Admit.place) c.args.self.now c.args.self.now _ _ c.in-Admit.is c.admit.ensures.ok
-
-pub returns-in-Preempt-clause-ok : goal.returns-in-Preempt-clause-ok
-returns-in-Preempt-clause-ok g c = arm_ok c.preempt.result (IsTrue g.H.Host.tells) c.args.decision.now (decisions.Preempt c.in-Preempt.child c.in-Preempt.parent c.in-Preempt.transport c.in-Preempt.need) c.args.self.now c.preempt.new.self _ _ c.in-Preempt.is c.preempt.ensures.ok
-
-pub returns-in-Start-clause-ok : goal.returns-in-Start-clause-ok
-returns-in-Start-clause-ok g c = arm_ok c.start.result (IsTrue g.H.Host.tells) c.args.decision.now (decisions.Start c.in-Start.number c.in-Start.id c.in-Start.site) c.args.self.now c.args.self.now _ _ c.in-Start.is c.start.ensures.ok
-
-pub returns-in-Log-clause-ok : goal.returns-in-Log-clause-ok
-returns-in-Log-clause-ok g c = arm_ok c.log.result (IsTrue g.H.Host.tells) c.args.decision.now (decisions.Log c.in-Log.id c.in-Log.failure) c.args.self.now c.args.self.now _ _ c.in-Log.is c.log.ensures.ok
-
-pub returns-in-Mark-clause-ok : goal.returns-in-Mark-clause-ok
-returns-in-Mark-clause-ok g c = arm_ok c.mark.result (IsTrue g.H.Host.tells) c.args.decision.now (decisions.Mark c.in-Mark.id c.in-Mark.position) c.args.self.now c.args.self.now _ _ c.in-Mark.is c.mark.ensures.ok
-
-pub returns-in-Bounce-clause-ok : goal.returns-in-Bounce-clause-ok
-returns-in-Bounce-clause-ok g c = arm_ok c.bounce.result (IsTrue g.H.Host.tells) c.args.decision.now (decisions.Bounce c.in-Bounce.id) c.args.self.now c.args.self.now _ _ c.in-Bounce.is c.bounce.ensures.ok
-
-pub returns-in-Read-clause-ok : goal.returns-in-Read-clause-ok
-returns-in-Read-clause-ok g c = arm_ok c.load.result (IsTrue g.H.Host.tells) c.args.decision.now (decisions.Read c.in-Read.id c.in-Read.from c.in-Read.max) c.args.self.now c.load.new.self _ _ c.in-Read.is c.load.ensures.ok
+pub returns-clause-err : goal.returns-clause-err
+returns-clause-err g c error is t w l n =
+    let v = g.H.Host.view c.args.host.now in
+    c.dispatch.ensures.err error is t w l (subst (λ (e : Engine). IsNextEntry w l (Some c.args.decision.now) e v) (sym c.forget_left.ensures.rest) (next_fewer w l c.args.decision.now c.args.self.now v c.forget_left.new.self.places c.forget_left.ensures.fewer n))

@@ -40,7 +40,7 @@ returns-clause-ok g c = on_ok c.tell.result (λ told t w l h.
     let noted = subst (λ (xs : List ℕ). length xs ≡ length os → AddsDelays c.event.new.self c.flight-2.inside.id xs os v.files m.files) c.as_slice.ensures (c.in_ok-note_reply.ensures.noted t) fits in
     let adds = subst (λ (i : Id). AddsDelays c.event.new.self i ps os v.files m.files) named noted in
     let others = subst (λ (i : Id). KeepsOtherNotes (id_text i) v m) named (c.in_ok-note_reply.ensures.others t) in
-    done w l e engine v h (record engine { core = c.event.new.self }) l.book x refl core
+    done w l e engine v h (record engine { core = c.event.new.self }) l.book x refl refl (λ id. refl) core
     (counts_stay w l e (record engine { core = c.event.new.self }) refl refl refl (counts_core engine c.event.new.self l h.counts)) (reply_book w l number state os)
     (changed_does (table_of engine.table) e l.book l.book v m x takes (told t l.book takes.stands))
     (reply_stored w l number state os engine v m x h flight ps shown listed c.event.new.self core adds others (c.tell.ensures.files t))) c.tell.ensures.ok

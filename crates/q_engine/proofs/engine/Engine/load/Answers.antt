@@ -1,4 +1,4 @@
-use Rattle.std.proofs.Common.{◌≡◌, Option, subst, sym}
+use Rattle.std.proofs.Common.{◌≡◌, ◌∙◌, Option, subst, sym}
 use Rattle.std.specs.Option.{IfSome}
 use Rattle.std.specs.Prelude.{IfNone, None}
 use Rattle.q_books.proofs.Joining.{reads_keep}
@@ -11,12 +11,14 @@ use Rattle.q_model.specs.FilesStand.{file_message}
 use Rattle.q_model.specs.QueueFile.{queue_file}
 use Rattle.q_model.specs.declared.entry.Entry.TheVariants as entries
 use Rattle.q_transport.specs.Routing.{table_of}
+use Rattle.q_engine.specs.KeptPlaces.{ArePlaced, HasProgress, IsReadTo}
 use Rattle.q_engine.specs.Pending.{AreRead}
 use Rattle.q_engine.specs.Steps.{WasCarriedOut}
 use Rattle.q_engine.specs.declared.engine.Engine.{Engine}
 use Rattle.q_engine.specs.declared.seeking.Reading.{Reading}
 use Rattle.q_engine.proofs.CarriedLoads.{load_given_up, load_untold, loaded_told, next_load}
-use Rattle.q_engine.proofs.LoadedEntries.{ends, file_reads, file_whole, load_speaks, read_of, reads_are}
+use Rattle.q_engine.proofs.LoadedEntries.{ends, file_reads, file_whole, load_speaks, marks_are, read_of, reads_are, told_at, told_of}
+use Rattle.q_engine.proofs.KeptPlaces.{each_copied, of_message, placed_more, progress_of, read_to}
 use Rattle.q_engine.proofs.Speaking.{file_there, in_active}
 use Rattle.q_engine.proofs.StoredNotes.{files_keep, keeps_then}
 use Rattle.q_engine.proofs.engine.Engine.load.Goals as goal
@@ -27,6 +29,14 @@ read_pending-requires g c = record {
       let (w, l, n) = c.requires.decided t in
       let a = load_speaks w l c.args.id c.args.from (load_end n.message c.args.from c.args.max) n.stands.core.consistent n.following in
       file_there (g.H.Host.view c.args.host.now) l.book c.args.id a.0 c.file_spot-spot.result n.stands.host (in_active l c.args.id a.0 a.1.message c.file_spot-spot.result c.file_spot-spot.ensures);
+  known = each_copied c.progress-known.result (λ p. TellsOf g.H.Host.tells (g.H.Host.view c.args.host.now) c.file_spot-spot.result (HasProgress p)) (λ p kept t.
+      let (w, l, n) = c.requires.decided t in
+      let v = g.H.Host.view c.args.host.now in
+      let spot = c.file_spot-spot.result in
+      let a = load_speaks w l c.args.id c.args.from (load_end n.message c.args.from c.args.max) n.stands.core.consistent n.following in
+      let file = file_reads v l.book c.args.id a.0 spot n.stands.host (in_active l c.args.id a.0 a.1.message spot c.file_spot-spot.ensures) in
+      let upto = of_message l.book c.args.id a.0 (IsReadTo p) a.1.message.there (n.stands.places.progress c.args.id p (sym c.progress-known.ensures ∙ kept)) in
+      told_at (bytes_at v spot) file.0 (HasProgress p) file.1 (progress_of p a.0 file.0 file.2 upto));
 }
 
 pub returns-in_err-reading-clause-err : goal.returns-in_err-reading-clause-err
@@ -63,19 +73,23 @@ returns-clause-ok g c = on_ok c.tell.result (λ told t w l n.
     let m = g.H.Host.view c.read_pending.new.host in
     let x = g.H.Host.view c.tell.new.host in
     let items = c.in-Some.reading.taken.items in
-    let to = c.in-Some.reading.next.position in
+    let to = c.in-Some.reading.progress.next.position in
     let lawful : TellsCrashes v = record { only = g.met.H.Host.only_now c.args.host.now; told = g.met.H.Host.told_stays c.args.host.now } in
     let a = load_speaks w l id from (load_end n.message from max) n.stands.core.consistent n.following in
     let file = file_reads v l.book id a.0 spot n.stands.host (in_active l id a.0 a.1.message spot c.file_spot-spot.ensures) in
-    let taken = subst (λ (o : Option Reading). IfSome o (λ r. TellsOf g.H.Host.tells v spot (AreRead from max r.taken.items r.next.position))) c.in-Some.is c.in_ok-reading.ensures.taken in
+    let taken = subst (λ (o : Option Reading). IfSome o (λ r. TellsOf g.H.Host.tells v spot (AreRead from max r.taken.items r.progress.next.position))) c.in-Some.is c.in_ok-reading.ensures.taken in
     let read = read_of (bytes_at v spot) file.0 (file_message a.0) from max to items file.1 file.2 (taken t) in
     let following = next_load w l id from max engine v n a.0 to a.1.message.there (ends w l id a.0 engine from max to items a.1 read) in
     let reads = reads_are w l id a.0 engine from max to items a.1 read n.stands.table in
     let agrees = c.in_ok-take_in.ensures.ok w l n.stands.core id from max c.requires.question following reads in
     let same = c.in_ok-take_in.ensures.rest in
+    let progress = subst (λ (o : Option Reading). IfSome o (λ r. TellsOf g.H.Host.tells v spot (HasProgress r.progress))) c.in-Some.is c.in_ok-reading.ensures.progress in
+    let upto = read_to c.in-Some.reading.progress a.0 file.0 file.2 (told_of (bytes_at v spot) file.0 (HasProgress c.in-Some.reading.progress) file.1 (progress t)) in
+    let before = subst (λ (e : Engine). ArePlaced e.places l.book) (sym same) n.stands.places in
+    let placed = placed_more c.take_in.new.self.places c.keep.new.self l.book id a.0 c.in-Some.reading.progress items a.1.message.there upto (marks_are w l id a.0 engine from max to items a.1 read) c.keep.ensures before in
     let takes = reads_keep l.book l.book v m lawful (c.in_ok-reading.ensures.stays t) n.stands.host in
     let does = subst (λ (e : Engine). DoesEntry (table_of e.table) (entries.Load id from to) l.book l.book m x) same (told t l.book takes.stands) in
-    subst (λ (e : Engine). WasCarriedOut w l e v x) (sym same) (loaded_told w l id from max engine v n to c.take_in.new.self.core m x following agrees takes does
+    subst (λ (e : Engine). WasCarriedOut w l (record e { places = c.keep.new.self }) v x) (sym same) (loaded_told w l id from max engine v n to c.take_in.new.self.core c.keep.new.self m x placed following agrees takes does
     (keeps_then v m x (files_keep v m (c.in_ok-reading.ensures.stays t).files) (files_keep m x (c.tell.ensures.files t))))) c.tell.ensures.ok
 
 pub returns-clause-err : goal.returns-clause-err
@@ -89,11 +103,11 @@ returns-clause-err g c error is t w l n =
     let m = g.H.Host.view c.read_pending.new.host in
     let x = g.H.Host.view c.tell.new.host in
     let items = c.in-Some.reading.taken.items in
-    let to = c.in-Some.reading.next.position in
+    let to = c.in-Some.reading.progress.next.position in
     let lawful : TellsCrashes v = record { only = g.met.H.Host.only_now c.args.host.now; told = g.met.H.Host.told_stays c.args.host.now } in
     let a = load_speaks w l id from (load_end n.message from max) n.stands.core.consistent n.following in
     let file = file_reads v l.book id a.0 spot n.stands.host (in_active l id a.0 a.1.message spot c.file_spot-spot.ensures) in
-    let taken = subst (λ (o : Option Reading). IfSome o (λ r. TellsOf g.H.Host.tells v spot (AreRead from max r.taken.items r.next.position))) c.in-Some.is c.in_ok-reading.ensures.taken in
+    let taken = subst (λ (o : Option Reading). IfSome o (λ r. TellsOf g.H.Host.tells v spot (AreRead from max r.taken.items r.progress.next.position))) c.in-Some.is c.in_ok-reading.ensures.taken in
     let read = read_of (bytes_at v spot) file.0 (file_message a.0) from max to items file.1 file.2 (taken t) in
     let following = next_load w l id from max engine v n a.0 to a.1.message.there (ends w l id a.0 engine from max to items a.1 read) in
     let takes = reads_keep l.book l.book v m lawful (c.in_ok-reading.ensures.stays t) n.stands.host in

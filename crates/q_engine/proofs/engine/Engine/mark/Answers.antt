@@ -10,8 +10,8 @@ use Rattle.q_model.specs.declared.entry.Entry.TheVariants as entries
 use Rattle.q_model.specs.declared.entry.Entry.{Entry}
 use Rattle.q_model.specs.declared.rows.Place.TheVariants as places
 use Rattle.q_engine.specs.Stands.{HasDecided}
-use Rattle.q_engine.proofs.CarriedOut.{carried_behind, given_up_behind, refused}
-use Rattle.q_engine.proofs.OutcomeArms.{mark_changes, mark_fits, mark_there}
+use Rattle.q_engine.proofs.CarriedOut.{carried_behind, decided_fewer, given_up_behind, refused}
+use Rattle.q_engine.proofs.OutcomeArms.{mark_changes, mark_fits, mark_is_at, mark_there}
 use Rattle.q_engine.proofs.StoredNotes.{files_keep, keeps_then, no_log_spot, plain_told}
 use Rattle.q_engine.proofs.engine.Engine.mark.Goals as goal
 
@@ -43,7 +43,7 @@ mark-requires g c t =
     let h = subst (λ (x : Entry). HasDecided w l (decisions.Mark c.args.id c.args.position) x engine v) n.1.of n.1 in
     let s = c.file_spot-spot.result in
     let at = c.in_ok-at.at in
-    subst (λ (f : Files). IsSomeAnd (f s.area s.name) (λ file. at ≤ length file)) (sym (c.in_ok-at.ensures.stays t).files) (mark_fits w l c.args.id c.args.position engine v h s c.file_spot-spot.ensures at (c.in_ok-at.ensures.offset t))
+    subst (λ (f : Files). IsSomeAnd (f s.area s.name) (λ file. at ≤ length file)) (sym (c.in_ok-at.ensures.stays t).files) (mark_fits w l c.args.id c.args.position engine v h s c.file_spot-spot.ensures at (mark_is_at w l c.args.id c.args.position engine v h c.file_spot-spot.result c.file_spot-spot.ensures g.H.Host.tells c.take_mark-kept.result c.in_ok-at.at t c.take_mark-kept.ensures.offset c.in_ok-at.ensures.offset))
 
 pub returns-in_err-mark-clause-err : goal.returns-in_err-mark-clause-err
 returns-in_err-mark-clause-err g c error is t w l n =
@@ -56,7 +56,7 @@ returns-in_err-mark-clause-err g c error is t w l n =
     let k = (change w l e).book in
     let lawful : TellsCrashes v = record { only = g.met.H.Host.only_now c.args.host.now; told = g.met.H.Host.told_stays c.args.host.now } in
     let keeps = reads_keep l.book l.book v m lawful (c.in_ok-at.ensures.stays t) h.host in
-    let changes = mark_changes w l c.args.id c.args.position engine v h c.file_spot-spot.result c.file_spot-spot.ensures c.in_ok-at.at (c.in_ok-at.ensures.offset t) in
+    let changes = mark_changes w l c.args.id c.args.position engine v h c.file_spot-spot.result c.file_spot-spot.ensures c.in_ok-at.at (mark_is_at w l c.args.id c.args.position engine v h c.file_spot-spot.result c.file_spot-spot.ensures g.H.Host.tells c.take_mark-kept.result c.in_ok-at.at t c.take_mark-kept.ensures.offset c.in_ok-at.ensures.offset) in
     let x = g.H.Host.view c.mark.new.host in
     refused w l d e engine v h k error x refl (kept_tries l.book k v m x keeps (c.in_err-mark.ensures.err t l.book k keeps.stands changes))
 
@@ -71,10 +71,10 @@ returns-clause-ok g c = on_ok c.tell.result (λ told t w l n.
     let k = (change w l e).book in
     let lawful : TellsCrashes v = record { only = g.met.H.Host.only_now c.args.host.now; told = g.met.H.Host.told_stays c.args.host.now } in
     let keeps = reads_keep l.book l.book v m lawful (c.in_ok-at.ensures.stays t) h.host in
-    let changes = mark_changes w l c.args.id c.args.position engine v h c.file_spot-spot.result c.file_spot-spot.ensures c.in_ok-at.at (c.in_ok-at.ensures.offset t) in
+    let changes = mark_changes w l c.args.id c.args.position engine v h c.file_spot-spot.result c.file_spot-spot.ensures c.in_ok-at.at (mark_is_at w l c.args.id c.args.position engine v h c.file_spot-spot.result c.file_spot-spot.ensures g.H.Host.tells c.take_mark-kept.result c.in_ok-at.at t c.take_mark-kept.ensures.offset c.in_ok-at.ensures.offset) in
     let x = g.H.Host.view c.mark.new.host in
     let takes = kept_takes l.book k v m x keeps (c.in_ok-mark.ensures.ok t l.book k keeps.stands changes) in
-    carried_behind w l d e engine v h k x (g.H.Host.view c.tell.new.host) (record { life = refl; arrive = refl; preempt = refl }) refl takes (told t k takes.stands)
+    carried_behind w l d e (record engine { places = c.take_mark-kept.new.self }) v (decided_fewer w l d e engine v c.take_mark-kept.new.self c.take_mark-kept.ensures.rest h) k x (g.H.Host.view c.tell.new.host) (record { life = refl; arrive = refl; preempt = refl; stays = λ id. refl }) refl takes (told t k takes.stands)
     (plain_told w l e v x (g.H.Host.view c.tell.new.host) refl refl (keeps_then v m x (files_keep v m (c.in_ok-at.ensures.stays t).files) (c.in_ok-mark.ensures.notes t (no_log_spot c.file_spot-spot.result places.Active c.args.id c.file_spot-spot.ensures))) (c.tell.ensures.files t))) c.tell.ensures.ok
 
 pub returns-clause-err : goal.returns-clause-err
@@ -88,7 +88,7 @@ returns-clause-err g c error is t w l n =
     let k = (change w l e).book in
     let lawful : TellsCrashes v = record { only = g.met.H.Host.only_now c.args.host.now; told = g.met.H.Host.told_stays c.args.host.now } in
     let keeps = reads_keep l.book l.book v m lawful (c.in_ok-at.ensures.stays t) h.host in
-    let changes = mark_changes w l c.args.id c.args.position engine v h c.file_spot-spot.result c.file_spot-spot.ensures c.in_ok-at.at (c.in_ok-at.ensures.offset t) in
+    let changes = mark_changes w l c.args.id c.args.position engine v h c.file_spot-spot.result c.file_spot-spot.ensures c.in_ok-at.at (mark_is_at w l c.args.id c.args.position engine v h c.file_spot-spot.result c.file_spot-spot.ensures g.H.Host.tells c.take_mark-kept.result c.in_ok-at.at t c.take_mark-kept.ensures.offset c.in_ok-at.ensures.offset) in
     let x = g.H.Host.view c.mark.new.host in
     let takes = kept_takes l.book k v m x keeps (c.in_ok-mark.ensures.ok t l.book k keeps.stands changes) in
     given_up_behind w l d e engine v h k error x (g.H.Host.view c.tell.new.host) refl takes (c.tell.ensures.err error is t k takes.stands)

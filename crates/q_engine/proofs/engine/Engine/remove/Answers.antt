@@ -6,15 +6,16 @@ use Rattle.q_model.specs.declared.entry.Entry.TheVariants as entries
 use Rattle.q_model.specs.declared.entry.Entry.{Entry}
 use Rattle.q_model.specs.declared.rows.Place.TheVariants as places
 use Rattle.q_engine.specs.Stands.{HasDecided}
-use Rattle.q_engine.proofs.CarriedOut.{carried_behind, given_up_behind, refused}
+use Rattle.q_engine.proofs.CarriedOut.{given_up_behind, left_behind, refused}
 use Rattle.q_engine.proofs.DoneMessages.{remove_speaks}
+use Rattle.q_engine.proofs.KeptPlaces.{removed_alone}
 use Rattle.q_engine.proofs.Speaking.{file_there, in_active}
 use Rattle.q_engine.proofs.StoredNotes.{files_keep, message_form, no_log_spot, remove_notes}
 use Rattle.q_engine.proofs.engine.Engine.remove.Goals as goal
 
 pub remove-requires : goal.remove-requires
 remove-requires g c t =
-    let (w, l, n) = c.requires t in
+    let (w, l, n) = c.requires.decided t in
     let a = remove_speaks w l c.args.id n.1.was.consistent (n.1.following ∙ ap (λ (x : Entry). Some x) n.1.of) in
     file_there (g.H.Host.view c.args.host.now) l.book c.args.id a.0 c.file_spot.result n.1.host (in_active l c.args.id a.0 a.1 c.file_spot.result c.file_spot.ensures)
 
@@ -38,7 +39,7 @@ returns-clause-ok g c = on_ok c.tell.result (λ told t w l n.
     let a = remove_speaks w l c.args.id h.was.consistent h.following in
     let k = (change w l e).book in
     let takes = c.in_ok-remove.ensures.ok t l.book k h.host (record { message = a.0; file = in_active l c.args.id a.0 a.1 c.file_spot.result c.file_spot.ensures; changed = refl }) in
-    carried_behind w l d e c.args.self.now v h k (g.H.Host.view c.remove.new.host) (g.H.Host.view c.tell.new.host) (record { life = refl; arrive = refl; preempt = refl }) refl takes (told t k takes.stands) (remove_notes w l c.args.id v (g.H.Host.view c.remove.new.host) (g.H.Host.view c.tell.new.host) (message_form v l.book c.args.id a.0 h.host a.1.there) (c.in_ok-remove.ensures.notes t (no_log_spot c.file_spot.result places.Active c.args.id c.file_spot.ensures)) (files_keep (g.H.Host.view c.remove.new.host) (g.H.Host.view c.tell.new.host) (c.tell.ensures.files t)))) c.tell.ensures.ok
+    left_behind w l d e c.args.self.now v h k (g.H.Host.view c.remove.new.host) (g.H.Host.view c.tell.new.host) refl refl refl (removed_alone c.args.self.now.places c.args.id c.requires.forgotten) refl takes (told t k takes.stands) (remove_notes w l c.args.id v (g.H.Host.view c.remove.new.host) (g.H.Host.view c.tell.new.host) (message_form v l.book c.args.id a.0 h.host a.1.there) (c.in_ok-remove.ensures.notes t (no_log_spot c.file_spot.result places.Active c.args.id c.file_spot.ensures)) (files_keep (g.H.Host.view c.remove.new.host) (g.H.Host.view c.tell.new.host) (c.tell.ensures.files t)))) c.tell.ensures.ok
 
 pub returns-clause-err : goal.returns-clause-err
 returns-clause-err g c error is t w l n =

@@ -34,7 +34,7 @@ returns-clause-ok g c = on_ok c.tell.result (λ told t w l n.
     let m = g.H.Host.view c.note_row.new.host in
     let x = g.H.Host.view c.tell.new.host in
     let takes = c.in_ok-note_row.ensures.book t l.book h.host in
-    carried_behind w l d (entries.Skip c.args.id c.args.site ps) c.args.self.now v h l.book (g.H.Host.view c.note_row.new.host) (g.H.Host.view c.tell.new.host) (record { life = refl; arrive = refl; preempt = refl }) (skip_book w l c.args.id c.args.site ps) takes (told t l.book takes.stands)
+    carried_behind w l d (entries.Skip c.args.id c.args.site ps) c.args.self.now v h l.book (g.H.Host.view c.note_row.new.host) (g.H.Host.view c.tell.new.host) (record { life = refl; arrive = refl; preempt = refl; stays = λ id. refl }) (skip_book w l c.args.id c.args.site ps) takes (told t l.book takes.stands)
     (skip_stored w l c.args.id c.args.site ps d c.args.self.now v m x h (subst (λ (xs : List ℕ). AddsDelays c.args.self.now.core c.args.id xs (row_outcomes xs) v.files m.files) c.as_slice.ensures (c.in_ok-note_row.ensures.noted t)) (c.in_ok-note_row.ensures.others t) (c.tell.ensures.files t))) c.tell.ensures.ok
 
 pub returns-clause-err : goal.returns-clause-err
