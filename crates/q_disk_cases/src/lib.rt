@@ -1,8 +1,10 @@
-//! Tests by public calls alone of the crates at the disk: names, records and queue files, logs, hosts
-//! and streams. They say what no contract says: bytes written out by hand, texts of errors, and that
+//! Tests by public calls alone of the crates at the disk: names, records and queue files, logs, hosts,
+//! streams and clocks. They say what no contract says: bytes written out by hand, texts of errors, and that
 //! calls answer where memory is ample.
 #![tactic(auto)]
 
+#[cfg(test)]
+mod clocks;
 #[cfg(test)]
 mod host_errors;
 #[cfg(test)]

@@ -11,13 +11,14 @@ use std::test::Fail;
 struct Flaky {
     bytes: &'static [u8],
     failing: Option<usize>,
+    fault: io::ErrorKind,
 }
 
 impl Read for Flaky {
     fn read(&mut self, buf: &mut [u8]) -> io::Result<usize> {
         if self.failing == Some(0) {
             self.failing = None;
-            return Err(io::Error::from(io::ErrorKind::BrokenPipe));
+            return Err(io::Error::from(self.fault));
         }
         self.failing = self.failing.map(|n| n.saturating_sub(1));
         let count = self.bytes.len().min(buf.len()).min(2);
@@ -76,13 +77,22 @@ fn comes_in_pieces(rt: HostRuntime) -> Result<(), Fail> {
 
 #[test]
 fn reads_a_reader(rt: HostRuntime) -> Result<(), Fail> {
-    let rows: [(&'static [u8], Option<usize>, &[Take]); 3] = [
-        (b"abc", None, &[Took(2), Took(1), End, End]),
-        (b"abc", Some(1), &[Took(2), Failed, Took(1), End]),
-        (b"", Some(0), &[Failed, End]),
+    let fault = io::ErrorKind::BrokenPipe;
+    let interrupted = io::ErrorKind::Interrupted;
+    let rows: [(&'static [u8], Option<usize>, io::ErrorKind, &[Take]); 5] = [
+        (b"abc", None, fault, &[Took(2), Took(1), End, End]),
+        (b"abc", Some(1), fault, &[Took(2), Failed, Took(1), End]),
+        (b"", Some(0), fault, &[Failed, End]),
+        // A read that a signal interrupts is tried again.
+        (b"abc", Some(1), interrupted, &[Took(2), Took(1), End]),
+        (b"", Some(0), interrupted, &[End]),
     ];
-    for (bytes, failing, answers) in rows {
-        let mut source = StdSource::new(Flaky { bytes, failing });
+    for (bytes, failing, fault, answers) in rows {
+        let mut source = StdSource::new(Flaky {
+            bytes,
+            failing,
+            fault,
+        });
         row(&rt, rt.alloc(), &mut source, answers, bytes)?;
     }
     Ok(())

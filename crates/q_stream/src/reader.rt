@@ -1,12 +1,15 @@
 //! A reader of std as a stream.
-ghost use Rattle.std.specs.Prelude.{◌≡◌, ◌<◌, None, length};
+ghost use Rattle.std.specs.Prelude.{◌≡◌, ◌<◌, None, length, IfOk, OnErr};
+ghost use Rattle.std.specs.Io.{ReadsAtMost};
+ghost use Rattle.std.specs.Io.KnownBytes.{Keeps, ReadConsumes};
 ghost use Rattle.q_stream.specs.Takes.{TakesFront, TakesKnown, HasCause};
 
 use crate::{Source, Take};
-use std::io::Read;
+use std::io;
+use std::io::{ErrorKind, Read};
 
-/// A reader of std. It tells nothing of its bytes. Each error of the reader is a fault, an
-/// interrupted read (EINTR) too.
+/// A reader of std. It tells nothing of its bytes. Each error of the reader is a fault, but for
+/// an interrupted read (EINTR), which is tried again.
 #[derive(Drop)]
 pub struct StdSource<R: Read> {
     reader: R,
@@ -21,6 +24,20 @@ impl<R: Read> StdSource<R> {
     {
         StdSource { reader, faults: 0 }
     }
+}
+
+// One read, tried again where a signal interrupts it.
+fn read_on<R: Read>(reader: &mut R, buf: &mut [u8]) -> io::Result<usize>
+    ensures bound { ReadsAtMost result buf.new }
+    ensures bytes { ReadConsumes (R.remaining reader.old) (R.remaining reader.new) result buf.new }
+{
+    for _ in 0..u64::MAX {
+        match reader.read(buf) {
+            Err(e) if e.kind() == ErrorKind::Interrupted => {}
+            answer => return answer,
+        }
+    }
+    Err(io::Error::from(ErrorKind::Interrupted))
 }
 
 impl<R: Read> Source for StdSource<R> {
@@ -38,7 +55,7 @@ impl<R: Read> Source for StdSource<R> {
         ensures known { TakesKnown (R.remaining self.old.reader) (R.remaining self.new.reader)
             result buf.new }
     {
-        match self.reader.read(buf) {
+        match read_on(&mut self.reader, buf) {
             Ok(0) => Take::End,
             Ok(count) => Take::Took(count),
             Err(_) => {

@@ -1,0 +1,10 @@
+-- The buffer keeps its length, and a read that was interrupted took nothing.
+use Rattle.std.proofs.Common.{◌≡◌, length}
+use Rattle.std.specs.Io.KnownBytes.{Keeps}
+use Rattle.q_stream.proofs.reader.read_on.Given as goal
+
+abbrev pub invariant-loop : goal.invariant-loop
+invariant-loop g l = record {
+  room : length l.buf ≡ length l.initial.buf;
+  kept : Keeps (g.R.Read.remaining l.initial.reader) (g.R.Read.remaining l.reader);
+}
