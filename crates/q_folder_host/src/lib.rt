@@ -1,0 +1,24 @@
+//! A host over folders of the system, one for each area below a root, and an output. It tells nothing
+//! of its content, so what a crash leaves of it is left to the system; what it does for that is this:
+//!
+//! - What answers Ok is durable as `Host` says: bytes once their file was synced; a file that was
+//!   made, renamed or removed once the call is over, since its folders are synced in the call. A
+//!   file that is made in tmp is the exception: opening a spool clears tmp, so nothing rests on it.
+//! - What reads give of names when the host is opened is durable, since it syncs all folders. Bytes
+//!   that a killed process left unsynced are not: opening a spool syncs failure logs, and the first
+//!   sync of a message left in active comes before anything rests on its marks.
+//! - One process at a time: the root is locked (flock(2)) as long as the host lives.
+//!
+//! It is an error to change the files of these folders by hand while a host is open: names that it
+//! has listed it goes on from, without a look at the folder.
+#![tactic(auto)]
+
+mod fault;
+mod files;
+mod folders;
+mod host;
+mod names;
+mod opening;
+
+pub use fault::OpenFault;
+pub use host::FolderHost;
