@@ -1,0 +1,4 @@
+pub mod BucketLaws
+pub mod CountLaws
+pub mod RowLaws
+pub mod TextLaws
