@@ -1,0 +1,52 @@
+-- The commands as clap reads their words.
+use Rattle.std.specs.Prelude.{◌∷◌, ◌-◌, ◌^◌, [], Bool, codes, length, List, nat_lt, pos, Some, true, ℕ}
+use Rattle.clap.specs.Words.{App, fault_of, new_app, new_rule, Rule, Text, with_rule}
+use Rattle.clap.specs.declared.builder.action.ArgAction.TheVariants.{SetTrue}
+use Rattle.clap.specs.declared.builder.value_parser.ValueParser.TheVariants.{Signed}
+
+-- `submit SENDER RECIPIENT..`
+abbrev pub sender_rule : Rule
+sender_rule = record (new_rule (codes "sender")) { required = true }
+
+abbrev pub to_rule : Rule
+to_rule = record (new_rule (codes "to")) {
+  required = true;
+  range = Some (record { start_inclusive = 1; end_inclusive = 2 ^ 64 - 1 });
+}
+
+abbrev pub submit_app : App
+submit_app = with_rule (with_rule (new_app (codes "submit")) sender_rule) to_rule
+
+-- `qshape -l -s -b N -t MINUTES QUEUE..`
+abbrev pub flag_rule : Text → ℕ → Rule
+flag_rule id letter = record (new_rule id) { short = Some letter; action = Some SetTrue }
+
+abbrev pub buckets_rule : Rule
+buckets_rule = record (new_rule (codes "buckets")) {
+  short = Some 98;
+  parser = Some (Signed (pos 2) (pos 20));
+  defaults = codes "10" ∷ [];
+}
+
+abbrev pub minutes_rule : Rule
+minutes_rule = record (new_rule (codes "minutes")) {
+  short = Some 116;
+  parser = Some (Signed (pos 1) (pos 10000));
+  defaults = codes "5" ∷ [];
+}
+
+abbrev pub queues_rule : Rule
+queues_rule = record (new_rule (codes "queues")) {
+  range = Some (record { start_inclusive = 0; end_inclusive = 2 ^ 64 - 1 });
+}
+
+abbrev pub flags_app : App
+flags_app = with_rule (with_rule (new_app (codes "qshape")) (flag_rule (codes "linear") 108))
+    (flag_rule (codes "senders") 115)
+
+abbrev pub qshape_app : App
+qshape_app = with_rule (with_rule (with_rule flags_app buckets_rule) minutes_rule) queues_rule
+
+-- clap refuses the words for another cause than memory
+abbrev pub is_fault : App → List Text → Bool
+is_fault app words = nat_lt 0 (length (fault_of app words))

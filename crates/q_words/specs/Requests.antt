@@ -1,0 +1,91 @@
+-- What the words of a command ask for.
+use Rattle.std.specs.List.{list_any}
+use Rattle.std.specs.Option.{option_and_then}
+use Rattle.std.specs.Prelude.{◌∷◌, ◌≡◌, [], Bool, bytes_eq, codes, false, if◌then◌else◌, List, Option, slice_get, Some, true, unwrap_or, ℕ}
+use Rattle.std.specs.Str.Parse.{digits_value, without_leading_plus}
+use Rattle.clap.specs.Words.{all_of, first_of, matches_of, one_of, Row, Text}
+use Rattle.q_model.specs.Lists.{has_none}
+use Rattle.q_shape.specs.Buckets.{IsShape}
+use Rattle.q_text.specs.Pieces.{one_or_more}
+use Rattle.q_text.specs.ValueTexts.{address_of, sender_of_text}
+use Rattle.q_words.specs.declared.request.Queues.{Queues}
+use Rattle.q_words.specs.declared.request.Request.{Request}
+use Rattle.q_words.specs.declared.request.Request.TheVariants as requests
+use Rattle.q_words.specs.declared.request.TableRequest.{TableRequest}
+use Rattle.q_words.specs.Commands.{qshape_app, submit_app}
+
+-- all words of an argument
+abbrev pub words_of : Text → List Row → List Text
+words_of id rows = unwrap_or (all_of id rows) []
+
+-- the sender, null where the word is `<>`; None where the word is no address
+abbrev pub sender_in : List Row → Option (Option Text)
+sender_in rows = option_and_then sender_of_text (first_of (codes "sender") rows)
+
+-- the recipients; None where a word is no address
+abbrev pub to_in : List Row → Option (List Text)
+to_in rows = one_or_more address_of (words_of (codes "to") rows)
+
+-- a word that names a queue
+abbrev pub is_queue : Text → Bool
+is_queue word = list_any (bytes_eq word)
+    (codes "incoming" ∷ codes "active" ∷ codes "deferred" ∷ codes "hold" ∷ [])
+
+-- the queues that are named; incoming and active where none is
+abbrev pub queues_of : List Text → Queues
+queues_of words =
+    if has_none words then record { incoming = true; active = true; deferred = false; hold = false }
+    else record {
+      incoming = list_any (bytes_eq (codes "incoming")) words;
+      active = list_any (bytes_eq (codes "active")) words;
+      deferred = list_any (bytes_eq (codes "deferred")) words;
+      hold = list_any (bytes_eq (codes "hold")) words;
+    }
+
+-- the flag is as its word says
+pub record IsFlag (rows : List Row) (id : Text) (flag : Bool) : Type 0 where
+  pub set : one_of id rows ≡ Some (codes "true") → flag ≡ true
+  pub unset : one_of id rows ≡ Some (codes "false") → flag ≡ false
+
+-- the number is that of the word
+pub record IsNumber (rows : List Row) (id : Text) (n : ℕ) : Type 0 where
+  pub text : Text
+  pub given : one_of id rows ≡ Some text
+  pub read : n ≡ digits_value 10 (without_leading_plus text)
+
+-- the table that the words of `qshape` ask for
+pub record IsTableRequest (rows : List Row) (t : TableRequest) : Type 0 where
+  pub senders : IsFlag rows (codes "senders") t.senders
+  pub linear : IsFlag rows (codes "linear") t.shape.linear
+  pub buckets : IsNumber rows (codes "buckets") t.shape.buckets
+  pub minutes : IsNumber rows (codes "minutes") t.shape.minutes
+  pub shape : IsShape t.shape
+  pub queues : t.queues ≡ queues_of (words_of (codes "queues") rows)
+
+-- the sender and the recipients that the words of `submit` name
+pub record IsSubmission (rows : List Row) (sender : Option Text) (to : List Text) : Type 0 where
+  pub from : sender_in rows ≡ Some sender
+  pub recipients : to_in rows ≡ Some to
+
+-- the request is that of `submit`
+abbrev pub IsSubmit : List Row → Request → Type 0
+IsSubmit rows (requests.Submit sender to) = IsSubmission rows sender to
+IsSubmit rows request = ⊥
+
+-- the request is that of `qshape`
+abbrev pub IsQshape : List Row → Request → Type 0
+IsQshape rows (requests.Qshape table) = IsTableRequest rows table
+IsQshape rows request = ⊥
+
+-- the word in front, which names a command
+abbrev pub command_of : List Text → Option Text
+command_of words = slice_get words 0
+
+-- what the words ask for, the command in front
+abbrev pub IsRequest : List Text → Request → Type 0
+IsRequest words requests.Replay = command_of words ≡ Some (codes "replay")
+IsRequest words requests.Queue = command_of words ≡ Some (codes "queue")
+IsRequest words (requests.Submit sender to) =
+    (command_of words ≡ Some (codes "submit")) × IsSubmission (matches_of submit_app words) sender to
+IsRequest words (requests.Qshape table) =
+    (command_of words ≡ Some (codes "qshape")) × IsTableRequest (matches_of qshape_app words) table

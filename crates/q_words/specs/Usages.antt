@@ -1,0 +1,50 @@
+-- Which words are refused, and which answers say so.
+use Rattle.std.specs.List.{list_all}
+use Rattle.std.specs.Option.{option_map_or}
+use Rattle.std.specs.Prelude.{◌||◌, ◌≡◌, Bool, bytes_eq, codes, Err, false, if◌then◌else◌, is_none, List, not, Ok, Result, true}
+use Rattle.clap.specs.Words.{matches_of, new_app, Row, Text}
+use Rattle.q_words.specs.declared.error.WordsError.{WordsError}
+use Rattle.q_words.specs.declared.error.WordsError.TheVariants as errors
+use Rattle.q_words.specs.Commands.{is_fault, qshape_app, submit_app}
+use Rattle.q_words.specs.Requests.{command_of, is_queue, sender_in, to_in, words_of}
+
+-- a word of `submit` is no address
+abbrev pub has_no_address : List Row → Bool
+has_no_address rows = is_none (sender_in rows) || is_none (to_in rows)
+
+-- a word of `qshape` is no queue
+abbrev pub has_no_queue : List Row → Bool
+has_no_queue rows = not (list_all is_queue (words_of (codes "queues") rows))
+
+abbrev pub is_submit_usage : List Text → Bool
+is_submit_usage words = is_fault submit_app words || has_no_address (matches_of submit_app words)
+
+abbrev pub is_qshape_usage : List Text → Bool
+is_qshape_usage words = is_fault qshape_app words || has_no_queue (matches_of qshape_app words)
+
+-- a command that takes no words
+abbrev pub is_plain_usage : Text → List Text → Bool
+is_plain_usage command words = is_fault (new_app command) words
+
+abbrev pub is_usage_of : List Text → Text → Bool
+is_usage_of words command =
+    if bytes_eq command (codes "replay") then is_plain_usage (codes "replay") words
+    else if bytes_eq command (codes "submit") then is_submit_usage words
+    else if bytes_eq command (codes "qshape") then is_qshape_usage words
+    else if bytes_eq command (codes "queue") then is_plain_usage (codes "queue") words
+    else true
+
+-- The words are refused: the first is no command, or the command refuses them.
+abbrev pub is_usage : List Text → Bool
+is_usage words = option_map_or (is_usage_of words) (command_of words) true
+
+-- the error is of words, and not want of memory
+abbrev pub IsUsageError : WordsError → Type 0
+IsUsageError errors.NoMemory = ⊥
+IsUsageError error = Unit {0}
+
+-- An answer is given to words that aren't refused, and says what they say; an error of words
+-- comes only to words that are.
+abbrev pub IsAnswer : {T : Type 0} → Bool → (T → Type 0) → Result T WordsError → Type 0
+IsAnswer usage says (Ok answer) = (usage ≡ false) × says answer
+IsAnswer usage says (Err error) = IsUsageError error → usage ≡ true

@@ -1,0 +1,123 @@
+//! The commands as clap reads their words.
+ghost use Rattle.std.specs.Prelude.{◌≡◌, false, map, IfOk, string_bytes};
+ghost use Rattle.clap.specs.Words.{app_of, fault_of, FailsBy, found_of, matches_of, rows_of, rule_of, new_app};
+ghost use Rattle.q_words.specs.Commands.{submit_app, qshape_app, flags_app};
+ghost use Rattle.q_words.specs.Commands.{flag_rule, sender_rule, to_rule};
+ghost use Rattle.q_words.specs.Commands.{buckets_rule, minutes_rule, queues_rule};
+
+use clap::{Arg, ArgAction, ArgMatches, Command, Error, value_parser};
+use std::alloc::{AllocError, Global};
+
+/// A flag that takes no value.
+fn flag<'a>(alloc: Global, id: &'a str, letter: char) -> Arg<'a>
+    ensures rule { rule_of result ≡ flag_rule id.entry.now letter }
+    ensures local { result.global ≡ false }
+{
+    Arg::new(alloc, id).short(letter).action(ArgAction::SetTrue)
+}
+
+fn sender<'a>(alloc: Global) -> Arg<'a>
+    ensures rule { rule_of result ≡ sender_rule }
+    ensures local { result.global ≡ false }
+{
+    Arg::new(alloc, "sender").required(true)
+}
+
+fn to<'a>(alloc: Global) -> Arg<'a>
+    ensures rule { rule_of result ≡ to_rule }
+    ensures local { result.global ≡ false }
+{
+    Arg::new(alloc, "to").required(true).num_args(1..)
+}
+
+fn buckets<'a>(alloc: Global) -> Arg<'a>
+    ensures rule { rule_of result ≡ buckets_rule }
+    ensures local { result.global ≡ false }
+{
+    Arg::new(alloc, "buckets")
+        .short('b')
+        .value_parser(value_parser!(u8).range(2..=20))
+        .default_value("10")
+}
+
+fn minutes<'a>(alloc: Global) -> Arg<'a>
+    ensures rule { rule_of result ≡ minutes_rule }
+    ensures local { result.global ≡ false }
+{
+    Arg::new(alloc, "minutes")
+        .short('t')
+        .value_parser(value_parser!(u32).range(1..=10_000))
+        .default_value("5")
+}
+
+fn queues<'a>(alloc: Global) -> Arg<'a>
+    ensures rule { rule_of result ≡ queues_rule }
+    ensures local { result.global ≡ false }
+{
+    Arg::new(alloc, "queues").num_args(0..)
+}
+
+fn submit<'a>(alloc: Global) -> Result<Command<'a>, AllocError>
+    ensures { IfOk result (λ c. app_of c ≡ submit_app) }
+{
+    Command::new(alloc, "submit")
+        .arg(sender(alloc))?
+        .arg(to(alloc))
+}
+
+/// The flags of `qshape`.
+fn with_flags<'a>(alloc: Global) -> Result<Command<'a>, AllocError>
+    ensures { IfOk result (λ c. app_of c ≡ flags_app) }
+{
+    Command::new(alloc, "qshape")
+        .arg(flag(alloc, "linear", 'l'))?
+        .arg(flag(alloc, "senders", 's'))
+}
+
+fn qshape<'a>(alloc: Global) -> Result<Command<'a>, AllocError>
+    ensures { IfOk result (λ c. app_of c ≡ qshape_app) }
+{
+    with_flags(alloc)?
+        .arg(buckets(alloc))?
+        .arg(minutes(alloc))?
+        .arg(queues(alloc))
+}
+
+/// What the words of `submit` give, the command in front. They are refused exactly where they break
+/// its form.
+pub(crate) fn submit_matches<'a>(
+    alloc: Global,
+    words: &'a [String],
+) -> Result<ArgMatches<'a>, Error>
+    ensures refused { FailsBy (fault_of submit_app (map string_bytes words.entry.now)) result }
+    ensures found { IfOk result (λ m. rows_of (found_of m)
+        ≡ matches_of submit_app (map string_bytes words.entry.now)) }
+{
+    let command = submit(alloc)?;
+    command.try_get_matches_from(words)
+}
+
+/// The same of `qshape`.
+pub(crate) fn qshape_matches<'a>(
+    alloc: Global,
+    words: &'a [String],
+) -> Result<ArgMatches<'a>, Error>
+    ensures refused { FailsBy (fault_of qshape_app (map string_bytes words.entry.now)) result }
+    ensures found { IfOk result (λ m. rows_of (found_of m)
+        ≡ matches_of qshape_app (map string_bytes words.entry.now)) }
+{
+    let command = qshape(alloc)?;
+    command.try_get_matches_from(words)
+}
+
+/// The same of a command that takes no words.
+pub(crate) fn plain_matches<'a>(
+    alloc: Global,
+    name: &'a str,
+    words: &'a [String],
+) -> Result<ArgMatches<'a>, Error>
+    ensures refused { FailsBy
+        (fault_of (new_app name.entry.now) (map string_bytes words.entry.now)) result }
+{
+    Command::new(alloc, name).try_get_matches_from(words)
+}

@@ -1,0 +1,46 @@
+//! Why words are refused.
+ghost use Rattle.std.specs.Prelude.{◌≢◌};
+ghost use Rattle.clap.specs.Words.{kind_of};
+ghost use Rattle.clap.specs.declared.error.kind.ErrorKind.TheVariants.{OutOfMemory};
+ghost use Rattle.q_words.specs.Usages.{IsUsageError};
+
+use clap::error::ErrorKind;
+use q_model::NoMemory;
+use thiserror::Error;
+
+/// Why the words of a command are refused, or want of memory. `Display` is a text for the user.
+#[derive(Debug, Drop, Error)]
+pub enum WordsError {
+    #[error("no memory")]
+    NoMemory,
+    #[error("error: the first word is none of replay, submit, qshape, queue")]
+    NoCommand,
+    /// clap's reason, and the usage of the command.
+    #[error("{0}")]
+    Refused(clap::Error),
+    #[error("error: a word is no address\n\nUsage: submit <SENDER> <RECIPIENT>...")]
+    NoAddress,
+    #[error("error: a word is none of incoming, active, deferred, hold\n\nUsage: qshape [OPTIONS] [QUEUE]...")]
+    NoQueue,
+}
+
+impl From<NoMemory> for WordsError {
+    ghost use Rattle.std.specs.Prelude.{◌≡◌};
+    ghost use Rattle.q_words.specs.declared.error.WordsError.TheVariants.{NoMemory as OfMemory};
+
+    ghost from_gives = { λ _ e. e ≡ OfMemory };
+
+    fn from(_: NoMemory) -> Self {
+        WordsError::NoMemory
+    }
+}
+
+/// What clap's error is to the reader of words.
+pub(crate) fn refused(error: clap::Error) -> WordsError
+    ensures { IsUsageError result → kind_of error ≢ OutOfMemory }
+{
+    match error.kind() {
+        ErrorKind::OutOfMemory => WordsError::NoMemory,
+        _ => WordsError::Refused(error),
+    }
+}

@@ -1,0 +1,77 @@
+//! Reading the words of a command.
+ghost use Rattle.std.specs.Prelude.{◌≡◌, map, Some, string_bytes};
+ghost use Rattle.clap.specs.Words.{matches_of};
+ghost use Rattle.q_words.specs.Commands.{qshape_app};
+ghost use Rattle.q_words.specs.Requests.{command_of, IsQshape, IsRequest};
+ghost use Rattle.q_words.specs.Usages.{is_plain_usage, is_qshape_usage, is_usage, is_usage_of};
+ghost use Rattle.q_words.specs.Usages.{IsAnswer};
+
+use crate::commands::plain_matches;
+use crate::error::{WordsError, refused};
+use crate::request::Request;
+use crate::submission::read_submission;
+use crate::tables::read_table;
+use std::alloc::Global;
+
+/// Whether a command without words takes these, the command in front.
+fn read_none(
+    alloc: Global,
+    name: &str,
+    words: &[String],
+    request: Request,
+) -> Result<Request, WordsError>
+    ensures { IsAnswer (is_plain_usage name.now (map string_bytes words.now))
+        (λ r. r ≡ request) result }
+{
+    match plain_matches(alloc, name, words) {
+        Ok(_) => Ok(request),
+        Err(error) => Err(refused(error)),
+    }
+}
+
+/// What `qshape` is asked for.
+fn read_qshape(alloc: Global, words: &[String]) -> Result<Request, WordsError>
+    ensures { IsAnswer (is_qshape_usage (map string_bytes words.now))
+        (IsQshape (matches_of qshape_app (map string_bytes words.now))) result }
+{
+    match read_table(alloc, words) {
+        Ok(table) => Ok(Request::Qshape(table)),
+        Err(error) => Err(error),
+    }
+}
+
+/// What the words of this command ask for.
+fn read_command(alloc: Global, command: &[u8], words: &[String]) -> Result<Request, WordsError>
+    requires { command_of (map string_bytes words.now) ≡ Some command.now }
+    ensures { IsAnswer (is_usage_of (map string_bytes words.now) command.now)
+        (IsRequest (map string_bytes words.now)) result }
+{
+    if command == b"replay".as_slice() {
+        return read_none(alloc, "replay", words, Request::Replay);
+    }
+    if command == b"submit".as_slice() {
+        return read_submission(alloc, words);
+    }
+    if command == b"qshape".as_slice() {
+        return read_qshape(alloc, words);
+    }
+    if command == b"queue".as_slice() {
+        return read_none(alloc, "queue", words, Request::Queue);
+    }
+    Err(WordsError::NoCommand)
+}
+
+/// What the words ask for, the command in front. They are refused exactly where the first is no
+/// command, the command's words break its form as clap states it (a request for help is a refusal
+/// too), a word of `submit` is no address, or one of `qshape` is no queue. What is answered is what
+/// the words say: each option's value, or its default where none is given, and of the queues those
+/// that are named, incoming and active where none is.
+pub fn read_words(alloc: Global, words: &[String]) -> Result<Request, WordsError>
+    ensures { IsAnswer (is_usage (map string_bytes words.now))
+        (IsRequest (map string_bytes words.now)) result }
+{
+    match words.first() {
+        Some(command) => read_command(alloc, command.as_bytes(), words),
+        None => Err(WordsError::NoCommand),
+    }
+}

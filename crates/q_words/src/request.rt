@@ -1,0 +1,37 @@
+//! What the words of a command ask for.
+use q_model::{Address, Addresses};
+use q_shape::ShapeOptions;
+
+/// What the words of a command ask for.
+#[derive(Debug, Drop)]
+pub enum Request {
+    /// Run an event list.
+    Replay,
+    /// Take in one message; `None` is the null sender.
+    Submit {
+        sender: Option<Address>,
+        to: Addresses,
+    },
+    /// Tell the ages of mail.
+    Qshape(TableRequest),
+    /// Tell what the queues hold.
+    Queue,
+}
+
+/// A table of ages.
+#[derive(Clone, Copy, Debug, PartialEq, Eq)]
+pub struct TableRequest {
+    /// Messages count under the domains of their senders, in place of recipients under their own.
+    pub senders: bool,
+    pub queues: Queues,
+    pub shape: ShapeOptions,
+}
+
+/// Which queues are told of.
+#[derive(Clone, Copy, Debug, PartialEq, Eq)]
+pub struct Queues {
+    pub incoming: bool,
+    pub active: bool,
+    pub deferred: bool,
+    pub hold: bool,
+}
