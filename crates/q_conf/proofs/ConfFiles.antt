@@ -1,0 +1,79 @@
+-- A file of conf is read piece by piece, and what its bytes say is what a command goes by.
+use Rattle.std.proofs.Common.{◌≡◌, ◌≤◌, ◌<◌, ℕ, List, [], ◌∷◌, ◌++◌, length, take, drop, Option, Some, None, Result, Ok, Err, refl, sym, ap, ◌∙◌, subst, append_assoc, append-nil, arith, IsTrue, length-append, Bool}
+use Rattle.std.specs.Option.{IfSome, IsSome, option_map_or}
+use Rattle.std.specs.Prelude.{codes}
+use Rattle.std.proofs.Math.Seq.{drop-append_seam}
+use Rattle.std.proofs.lemmas.List.{take-append-drop}
+use Rattle.q_host.specs.Calls.{Stays}
+use Rattle.q_model.specs.SpoolFiles.{Files}
+use Rattle.q_host.specs.Reads.{IsRead}
+use Rattle.q_host.specs.View.{View}
+use Rattle.q_model.specs.Settings.{Settings}
+use Rattle.q_params.specs.ParameterFile.{settings_of_file as params_of}
+use Rattle.q_params.specs.Ranges.{IsInRange}
+use Rattle.q_params.specs.declared.error.ParamError.{ParamError}
+use Rattle.q_transport.specs.TableFile.{table_of_file as contents_of}
+use Rattle.q_conf.specs.ConfReads.{GivesParams, GivesTable}
+use Rattle.q_conf.specs.Confs.{at_fault, conf_bytes, conf_of, goes_by, IsConfFault, conf_line_of, with_params, with_table, world_of}
+use Rattle.q_conf.specs.declared.conf.Conf.{Conf}
+use Rattle.q_conf.specs.declared.error.ConfError.{ConfError}
+use Rattle.q_conf.specs.declared.error.ConfError.TheVariants as errors
+
+-- these bytes are the first of the file
+abbrev pub ReadSo : Option (List ℕ) → List ℕ → Type 0
+ReadSo o bytes = IfSome o (λ file. (rest : List ℕ) × (file ≡ bytes ++ rest))
+
+pub read_none : (o : Option (List ℕ)) (bytes : List ℕ) → bytes ≡ [] → ReadSo o bytes
+read_none None bytes h = tt
+read_none (Some file) bytes h = (file, sym (ap (λ (x : List ℕ). x ++ file) h))
+
+pub read_more : (o : Option (List ℕ)) (bytes more old new : List ℕ) (n : ℕ) → IfSome o (λ file. IsRead file (length bytes) old new n) → more ≡ take n new → ReadSo o bytes → ReadSo o (bytes ++ more)
+read_more None bytes more old new n r is so = tt
+read_more (Some file) bytes more old new n r is (rest, all) =
+    let reading_behind : drop (length bytes) file ≡ rest = ap (drop (length bytes)) all ∙ drop-append_seam bytes rest in
+    let same : more ≡ take n rest = is ∙ r.bytes ∙ ap (take n) reading_behind in
+    (drop n rest, all ∙ ap (λ (x : List ℕ). bytes ++ x) (sym (take-append-drop n rest)) ∙ sym (append_assoc bytes (take n rest) (drop n rest)) ∙ ap (λ (x : List ℕ). (bytes ++ x) ++ drop n rest) (sym same))
+
+nothing_left : (bytes rest file : List ℕ) (size : ℕ) → file ≡ bytes ++ rest → size ≡ length file → size ≤ length bytes → rest ≡ []
+nothing_left bytes [] file size all is le = refl
+nothing_left bytes (b ∷ rest) file size all is le = absurd (omega (arith, is, le, ap length all, length-append bytes (b ∷ rest)))
+
+pub read_all : (o : Option (List ℕ)) (bytes : List ℕ) (size : ℕ) → IsSome o → IfSome o (λ file. size ≡ length file) → size ≤ length bytes → ReadSo o bytes → bytes ≡ option_map_or (λ x. x) o []
+read_all None bytes size there is le so = absurd cc
+read_all (Some file) bytes size there is le (rest, all) = sym (all ∙ ap (λ (x : List ℕ). bytes ++ x) (nothing_left bytes rest file size all is le) ∙ append-nil bytes)
+
+pub read_stuck : (o : Option (List ℕ)) (bytes old new : List ℕ) (size n : ℕ) → IsSome o → IfSome o (λ file. size ≡ length file) → length bytes < size → 0 < length old → n ≡ 0 → IfSome o (λ file. IsRead file (length bytes) old new n) → ⊥
+read_stuck None bytes old new size n there is less some none r = cc
+read_stuck (Some file) bytes old new size n there is less some none r = omega (arith, is, less, some, none, r.count)
+
+-- ---- what the two files say
+
+pub params_fault : (tells : Bool) (f : Files) (bytes : List ℕ) (error : ConfError) → GivesParams (Err error) (params_of bytes) → (IsTrue tells → bytes ≡ conf_bytes f (codes "params")) → IsConfFault tells (conf_of f) error
+unfolding conf_of
+params_fault tells f bytes error (e, read, is) there =
+    subst (λ s. IsConfFault tells (conf_of f) s) (sym is) (λ t. ap (λ (r : Result Settings ParamError). with_params r (conf_bytes f (codes "transport"))) (ap params_of (sym (there t)) ∙ read))
+
+-- the parameters, and what the table makes of them
+both : (f : Files) (first second : List ℕ) (settings : Settings) → params_of first ≡ Ok settings → first ≡ conf_bytes f (codes "params") → second ≡ conf_bytes f (codes "transport") → conf_of f ≡ with_table settings (contents_of second)
+unfolding conf_of
+both f first second settings read is then_is =
+    ap (λ (r : Result Settings ParamError). with_params r (conf_bytes f (codes "transport"))) (ap params_of (sym is) ∙ read) ∙ ap (λ (x : List ℕ). with_table settings (contents_of x)) (sym then_is)
+
+pub table_fault : (tells : Bool) (f : Files) (first second : List ℕ) (settings : Settings) (error : ConfError) → GivesTable (Err error) (contents_of second) → params_of first ≡ Ok settings → (IsTrue tells → first ≡ conf_bytes f (codes "params")) → (IsTrue tells → second ≡ conf_bytes f (codes "transport"))
+    → IsConfFault tells (conf_of f) error
+table_fault tells f first second settings (errors.BadLine file line) (e, read, is_table, is_line) params is then_is =
+    λ t. both f first second settings params (is t) (then_is t) ∙ ap (with_table settings) read ∙ ap (λ x. at_fault x (conf_line_of e)) (sym is_table) ∙ ap (at_fault file) (sym is_line)
+table_fault tells f first second settings errors.NoMemory gives params is then_is = tt
+table_fault tells f first second settings errors.Disk gives params is then_is = absurd gives
+
+pub conf_read : (f : Files) (first second : List ℕ) (conf : Conf) → params_of first ≡ Ok conf.params → contents_of second ≡ Ok conf.table → first ≡ conf_bytes f (codes "params") → second ≡ conf_bytes f (codes "transport") → conf_of f ≡ goes_by (world_of conf)
+unfolding world_of
+conf_read f first second conf params contents is then_is = both f first second conf.params params is then_is ∙ ap (with_table conf.params) contents
+
+pub conf_range : (conf : Conf) → IsInRange conf.params → IsInRange (world_of conf).settings
+unfolding world_of
+conf_range conf h = h
+
+-- the second file is read after the first
+pub second_bytes : (before mid : View) (bytes name other : List ℕ) → Stays before mid → name ≡ other → bytes ≡ conf_bytes mid.files name → bytes ≡ conf_bytes before.files other
+second_bytes before mid bytes name other still same is = is ∙ ap (λ (f : Files). conf_bytes f name) still.files ∙ ap (conf_bytes before.files) same

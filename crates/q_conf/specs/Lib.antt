@@ -1,0 +1,2 @@
+pub mod ConfReads
+pub mod Confs
