@@ -10,6 +10,7 @@ pub mod DecisionLoops
 pub mod Delayed
 pub mod DoneMessages
 pub mod EndedLives
+pub mod EventForms
 pub mod FailureFlags
 pub mod FirstOutcomes
 pub mod HeardEvents

@@ -67,7 +67,7 @@ pub(crate) fn table_of(alloc: Global, table: &str) -> Result<Table, Stop> {
 }
 
 /// The engine after an item, which is not the end.
-#[tactic(auto, using(crate::proofs::EventForms::form))]
+#[tactic(auto, using(q_engine::proofs::EventForms::form))]
 fn turn(
     alloc: Global,
     host: &mut SilentHost,

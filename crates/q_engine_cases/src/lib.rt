@@ -1,4 +1,4 @@
-//! Tests by public calls alone of the engine and of the crates right below it: worked cases, which
+//! Tests by public calls alone of the engine and of the crates right at it: worked cases, which
 //! are event lists with the lines that are told, stops and faults in their midst, refusals, and that
 //! calls answer where memory is ample. They say what no contract says: texts and bytes written out by
 //! hand.
@@ -16,6 +16,8 @@ mod openings;
 mod places_kept;
 #[cfg(test)]
 mod refusals;
+#[cfg(test)]
+mod replays;
 #[cfg(test)]
 mod scans;
 #[cfg(test)]

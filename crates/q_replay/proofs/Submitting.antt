@@ -1,0 +1,74 @@
+-- A submission, item after item.
+use Rattle.std.proofs.Common.{◌≡◌, ◌≤◌, inl, inr, arith, ℕ, false, true, List, [], ◌∷◌, ◌++◌, Some, None, sym, ◌∙◌, subst}
+use Rattle.std.specs.Prelude.{Err, IfErr, IfOk, Ok, Result}
+use Rattle.q_books.specs.HostStands.{HostStands, TellsCrashes}
+use Rattle.q_engine.specs.Stands.{EngineStands}
+use Rattle.q_engine.specs.declared.engine.Engine.{Engine}
+use Rattle.q_events.specs.Readings.{is_list_end}
+use Rattle.q_events.specs.declared.item.Item.{Item as ListItem}
+use Rattle.q_host.specs.View.{View}
+use Rattle.q_model.specs.Book.{Book}
+use Rattle.q_model.specs.FaultCounts.{Rose}
+use Rattle.q_model.specs.Ledger.{Ledger, opening}
+use Rattle.q_model.specs.Settings.{World}
+use Rattle.q_model.specs.declared.event.LifeEvent.{LifeEvent}
+use Rattle.q_model.specs.declared.event.Mode.{Mode}
+use Rattle.q_replay.specs.Listings.{gives, Listing}
+use Rattle.q_replay.specs.Reading.{event_of, read_items, TakenItems}
+use Rattle.q_replay.specs.RunEnds.{IsTold, RunEnds}
+use Rattle.q_replay.specs.Takings.{GivesUpItem, NotTaken, TakesItem, TookItem}
+use Rattle.q_replay.specs.declared.error.ReplayError.{ReplayError}
+use Rattle.q_replay.proofs.Readings.{ledger_more, ledger_none, ledger_on}
+use Rattle.q_replay.proofs.RunSteps.{at_first, IsAt, last_ends, none_told, taken_next, told_more, untaken_ends}
+
+-- these items were taken, and this one stands next
+pub record HasGone (w : World) (mode : Mode) (b : Book) (taken : TakenItems) (item : ListItem) (n : ℕ) (more : Listing) (engine : Engine) (u v : View) : Type 0 where
+  pub items : List LifeEvent
+  pub told : IsTold w mode b items u v
+  pub stands : EngineStands w engine v (ledger_on w mode b items)
+  pub next : IsAt w mode b taken items item n more
+
+-- an item more
+pub gone_on : (w : World) (mode : Mode) (b : Book) (taken : TakenItems) (items : List LifeEvent) (item next_item : ListItem) (n k : ℕ) (more : Listing) (engine : Engine) (u v x : View)
+    → IsTold w mode b items u v → IsAt w mode b taken items item n (gives next_item k more) → is_list_end item ≡ false → TookItem w (ledger_on w mode b items) item (Some engine) v x → HasGone w mode b taken next_item k more engine u x
+gone_on w mode b taken items item next_item n k more engine u v x told at going took = record {
+  items = items ++ event_of item ∷ [];
+  told = told_more w mode b items (event_of item) u v x told took.plays;
+  stands = subst (EngineStands w engine x) (sym (ledger_more w mode b items (event_of item))) took.stands;
+  next = record { is = taken_next w mode b taken items item n (gives next_item k more) at going took.accepted };
+}
+
+pub gone_first : (w : World) (mode : Mode) (b : Book) (first next_item : ListItem) (n k : ℕ) (more : Listing) (engine : Engine) (u x : View) → TellsCrashes u → HostStands u b → is_list_end first ≡ false → TookItem w (opening mode b) first (Some engine) u x
+    → HasGone w mode b (read_items w (opening mode b) (gives first n (gives next_item k more))) next_item k more engine u x
+gone_first w mode b first next_item n k more engine u x lawful h going took =
+    gone_on w mode b (read_items w (opening mode b) (gives first n (gives next_item k more))) [] first next_item n k more engine u u x (none_told w mode b u lawful h) (at_first w mode b first n (gives next_item k more)) going
+    (subst (λ (l : Ledger). TookItem w l first (Some engine) u x) (sym (ledger_none w mode b)) took)
+
+-- the first item wasn't taken
+pub never_gone : (w : World) (mode : Mode) (b : Book) (first : ListItem) (n : ℕ) (more : Listing) (u x : View) (error : ReplayError) → TellsCrashes u → HostStands u b → NotTaken w (opening mode b) first n error u x
+    → RunEnds w mode b (read_items w (opening mode b) (gives first n more)) u x (Err error)
+never_gone w mode b first n more u x error lawful h r =
+    untaken_ends w mode b (read_items w (opening mode b) (gives first n more)) [] first n more (at_first w mode b first n more) u u (none_told w mode b u lawful h) x error
+    (subst (λ (l : Ledger). NotTaken w l first n error u x) (sym (ledger_none w mode b)) r)
+
+module _ (w : World) (mode : Mode) (b : Book) (taken : TakenItems) (item : ListItem) (n : ℕ) (more : Listing) (engine : Engine) (u v : View) (gone : HasGone w mode b taken item n more engine u v) where
+  pub gone_up : (x : View) (error : ReplayError) → GivesUpItem engine item n error v x → RunEnds w mode b taken u x (Err error)
+  gone_up x error up = untaken_ends w mode b taken gone.items item n more gone.next u v gone.told x error (up w (ledger_on w mode b gone.items) gone.stands)
+
+  pub gone_last : (x : View) (done : Unit {0}) → is_list_end item ≡ true → TakesItem engine item None v x → RunEnds w mode b taken u x (Ok done)
+  gone_last x done last takes = last_ends w mode b taken gone.items item n more gone.next u v gone.told x done last (takes w (ledger_on w mode b gone.items) gone.stands)
+
+pub gone_further : (w : World) (mode : Mode) (b : Book) (taken : TakenItems) (item next_item : ListItem) (n k : ℕ) (more : Listing) (engine next : Engine) (u v x : View) → HasGone w mode b taken item n (gives next_item k more) engine u v → is_list_end item ≡ false
+    → TakesItem engine item (Some next) v x → HasGone w mode b taken next_item k more next u x
+gone_further w mode b taken item next_item n k more engine next u v x gone going takes =
+    gone_on w mode b taken gone.items item next_item n k more next u v x gone.told gone.next going (takes w (ledger_on w mode b gone.items) gone.stands)
+
+-- what holds of an answer, whichever it is
+pub ends_so : {P : Unit {0} → Type 0} {Q : ReplayError → Type 0} (r : Result (Unit {0}) ReplayError) (R : Result (Unit {0}) ReplayError → Type 0) → ((done : Unit {0}) → P done → R (Ok done)) → ((error : ReplayError) → Q error → R (Err error)) → IfOk r P → IfErr r Q → R r
+ends_so (Ok done) R ok err p q = ok done p
+ends_so (Err error) R ok err p q = err error q
+
+-- a count that rose later rose
+pub rose_later : (a b c : ℕ) → a ≤ b → Rose b c → Rose a c
+rose_later a b c le (inl less) = inl (omega (arith, le, less))
+rose_later a b c le (inr full) = inr full

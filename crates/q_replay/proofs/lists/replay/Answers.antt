@@ -1,0 +1,129 @@
+use Rattle.std.proofs.Common.{◌≡◌, ◌∙◌, ap, arith, false, None, Option, Some, subst, sym, true}
+use Rattle.std.specs.Prelude.{is_none}
+use Rattle.q_books.specs.HostStands.{TellsCrashes}
+use Rattle.q_engine.specs.declared.engine.Engine.{Engine}
+use Rattle.q_events.specs.Readings.{is_list_end}
+use Rattle.q_events.specs.States.{EventsState, text_left, unread_list}
+use Rattle.q_model.specs.Ledger.{opening}
+use Rattle.q_model.specs.declared.event.Mode.TheVariants.{Deliver}
+use Rattle.q_replay.specs.ReplayEnds.{ReplayEnds}
+use Rattle.q_replay.specs.Takings.{NotTaken, TookItem}
+use Rattle.q_replay.specs.declared.error.ReplayError.TheVariants as errors
+use Rattle.q_replay.proofs.Readings.{ledger_on}
+use Rattle.q_replay.proofs.Replaying.{delivers, ends_done, ends_unbegun, ends_unread, ends_untaken, for_each, for_text, IsGivenTo, may_begin, passed_as, same_new, some_given, went_begins, went_on}
+use Rattle.q_replay.proofs.lists.replay.Goals as goal
+
+pub loop-item-init : goal.loop-item-init
+loop-item-init g c =
+    let u = g.H.Host.view c.args.host.now in
+    let text = g.S.Source.left c.args.source.now in
+    let new : c.in-Ok.events ≡ unread_list = same_new c.new.result c.in-Ok.events c.in-Ok.is c.new.ensures in
+    let lawful : TellsCrashes u = record { only = g.met.H.Host.only_now c.args.host.now; told = g.met.H.Host.told_stays c.args.host.now } in
+    record {
+      went = λ t w b given. went_begins w b u lawful given.host text c.in-Ok.events c.in_ok-engine.engine (g.H.Host.view c.begin_life.new.host) new (c.in_ok-engine.ensures.ok t w (opening Deliver b) (may_begin c.args.params c.args.table Deliver w b u given));
+      some = λ t. some_given c.args.params c.args.table u (c.requires.spool t) (c.in_ok-engine.ensures.undamaged t);
+      ready = c.in_ok-engine.ensures.ready;
+      going = ap (λ (e : EventsState). e.ended) new;
+      disk_later = omega (arith, c.begin_life.ensures.cause.disk_later);
+      tell_later = omega (arith, c.begin_life.ensures.cause.tell_later);
+      source_later = omega arith;
+    }
+
+pub take-requires-clause-stands : goal.take-requires-clause-stands
+take-requires-clause-stands g c t =
+    let old = c.loop-item in
+    let (w, b, given) = old.invariant.some t in
+    let went = old.invariant.went t w b given in
+    (w, ledger_on w Deliver b went.items, went.stands)
+
+pub loop-item-preserved : goal.loop-item-preserved
+loop-item-preserved g c =
+    let old = c.loop-item in
+    let view = g.H.Host.view in
+    let left = g.S.Source.left in
+    let item = c.in-Ok-read_event.item in
+    let more : is_list_end item ≡ false = sym c.in_ok-next.ensures.ended ∙ ap is_none c.in-Some.is in
+    record {
+      went = λ t w b given.
+          let went = old.invariant.went t w b given in
+          let l = ledger_on w Deliver b went.items in
+          let took : TookItem w l item (Some c.in-Some.next) (view old.host) (view c.take.new.host) =
+          subst (λ (o : Option Engine). TookItem w l item o (view old.host) (view c.take.new.host)) c.in-Some.is (c.in_ok-next.ensures.ok t w l went.stands given.settings (delivers w b went.items)) in
+          went_on w b (text_left old.events.buffered (left old.source)) old.events old.invariant.going old.engine (view c.args.host.now) (view old.host) (left c.args.source.now)
+          (text_left c.read_event.new.self.buffered (left c.read_event.new.source)) c.read_event.new.self c.in-Some.next (view c.take.new.host) item went c.in-Ok-read_event.ensures.exact more took;
+      some = old.invariant.some;
+      ready = rw c.in-Some.is at c.in_ok-next.ensures.ready;
+      going = c.in-Ok-read_event.ensures.ended ∙ more;
+      disk_later = omega (arith, old.invariant.disk_later, c.take.ensures.cause.disk_later);
+      tell_later = omega (arith, old.invariant.tell_later, c.take.ensures.cause.tell_later);
+      source_later = omega (arith, old.invariant.source_later, c.read_event.ensures.later);
+    }
+
+pub returns-in_err-engine-clause-ends : goal.returns-in_err-engine-clause-ends
+returns-in_err-engine-clause-ends g c t b h orderly w settings table_is =
+    let u = g.H.Host.view c.args.host.now in
+    let x = g.H.Host.view c.begin_life.new.host in
+    let left = g.S.Source.left c.args.source.now in
+    let given : IsGivenTo c.args.params c.args.table w b u = record { host = h; orderly = orderly; settings = settings; table_is = table_is } in
+    let lawful : TellsCrashes u = record { only = g.met.H.Host.only_now c.args.host.now; told = g.met.H.Host.told_stays c.args.host.now } in
+    for_each _ (λ bytes. passed_as c.from_residual.result c.in_err-engine.field-0.0 (ReplayEnds w b bytes left u x) c.from_residual.ensures.1
+    (ends_unbegun w b u lawful h bytes left x c.in_err-engine.field-0.0 (c.in_err-engine.ensures.err t w (opening Deliver b) (may_begin c.args.params c.args.table Deliver w b u given)))) left
+
+pub returns-in-Err-clause-ends : goal.returns-in-Err-clause-ends
+returns-in-Err-clause-ends g c t b h orderly w settings table_is =
+    let old = c.loop-item in
+    let view = g.H.Host.view in
+    let left = g.S.Source.left in
+    let u = view c.args.host.now in
+    let given : IsGivenTo c.args.params c.args.table w b u = record { host = h; orderly = orderly; settings = settings; table_is = table_is } in
+    let went = old.invariant.went t w b given in
+    let at = text_left old.events.buffered (left old.source) in
+    for_text w b (left c.args.source.now) at old.events old.engine u (view old.host) _ went (λ bytes so.
+    rw c.list_error.ensures.exact (ends_unread w b at old.events old.invariant.going old.engine u (view old.host) bytes went.items went.told so c.read_event.new.self (text_left c.read_event.new.self.buffered (left c.read_event.new.source)) (left c.read_event.new.source)
+    c.in-Err.error c.in-Err.ensures.exact))
+
+pub returns-in_err-next-clause-ends : goal.returns-in_err-next-clause-ends
+returns-in_err-next-clause-ends g c t b h orderly w settings table_is =
+    let old = c.loop-item in
+    let view = g.H.Host.view in
+    let left = g.S.Source.left in
+    let u = view c.args.host.now in
+    let given : IsGivenTo c.args.params c.args.table w b u = record { host = h; orderly = orderly; settings = settings; table_is = table_is } in
+    let went = old.invariant.went t w b given in
+    let at = text_left old.events.buffered (left old.source) in
+    let l = ledger_on w Deliver b went.items in
+    let error = c.in_err-next.field-0.0 in
+    let events' = c.read_event.new.self in
+    let up : NotTaken w l c.in-Ok-read_event.item events'.lines error (view old.host) (view c.take.new.host) =
+    subst (λ n. NotTaken w l c.in-Ok-read_event.item n error (view old.host) (view c.take.new.host)) c.lines.ensures (c.in_err-next.ensures.err t w l went.stands given.settings (delivers w b went.items)) in
+    for_text w b (left c.args.source.now) at old.events old.engine u (view old.host) _ went (λ bytes so.
+    passed_as c.from_residual-in_err-next.result error (ReplayEnds w b bytes (left c.read_event.new.source) u (view c.take.new.host)) c.from_residual-in_err-next.ensures.1
+    (ends_untaken w b at old.events old.invariant.going old.engine u (view old.host) bytes went.items went.told so (text_left events'.buffered (left c.read_event.new.source)) (left c.read_event.new.source) events' c.in-Ok-read_event.item (view c.take.new.host) error c.in-Ok-read_event.ensures.exact up))
+
+pub returns-in-None-clause-ends : goal.returns-in-None-clause-ends
+returns-in-None-clause-ends g c t b h orderly w settings table_is =
+    let old = c.loop-item in
+    let view = g.H.Host.view in
+    let left = g.S.Source.left in
+    let u = view c.args.host.now in
+    let item = c.in-Ok-read_event.item in
+    let given : IsGivenTo c.args.params c.args.table w b u = record { host = h; orderly = orderly; settings = settings; table_is = table_is } in
+    let went = old.invariant.went t w b given in
+    let at = text_left old.events.buffered (left old.source) in
+    let l = ledger_on w Deliver b went.items in
+    let events' = c.read_event.new.self in
+    let last : is_list_end item ≡ true = sym c.in_ok-next.ensures.ended ∙ ap is_none c.in-None.is in
+    let took : TookItem w l item None (view old.host) (view c.take.new.host) =
+    subst (λ (o : Option Engine). TookItem w l item o (view old.host) (view c.take.new.host)) c.in-None.is (c.in_ok-next.ensures.ok t w l went.stands given.settings (delivers w b went.items)) in
+    for_text w b (left c.args.source.now) at old.events old.engine u (view old.host) _ went (λ bytes so.
+    ends_done w b at old.events old.invariant.going old.engine u (view old.host) bytes went.items went.told so (text_left events'.buffered (left c.read_event.new.source)) (left c.read_event.new.source) events' item (view c.take.new.host) tt c.in-Ok-read_event.ensures.exact last took)
+
+pub returns-in-Err-clause-cause : goal.returns-in-Err-clause-cause
+returns-in-Err-clause-cause g c =
+    let old = c.loop-item in
+    record {
+      disk_later = old.invariant.disk_later;
+      tell_later = old.invariant.tell_later;
+      disk = λ is. let same : c.list_error.result ≡ errors.Disk = cc in absurd (c.list_error.ensures.no_disk same);
+      tell = λ is. let same : c.list_error.result ≡ errors.Tell = cc in absurd (c.list_error.ensures.no_tell same);
+    }

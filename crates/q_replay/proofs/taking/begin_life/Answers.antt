@@ -1,0 +1,32 @@
+use Rattle.std.proofs.Common.{refl}
+use Rattle.q_books.specs.HostStands.{TellsCrashes}
+use Rattle.q_engine.specs.Refusals.{refusal_of}
+use Rattle.q_engine.specs.declared.error.EngineError.TheVariants as engine_errors
+use Rattle.q_replay.proofs.Takings.{error_is, never_begins, took_life}
+use Rattle.q_restart.proofs.OneSight.{sound-undamaged}
+use Rattle.q_replay.proofs.taking.begin_life.Goals as goal
+
+pub returns-in-Ok-clause-ok : goal.returns-in-Ok-clause-ok
+returns-in-Ok-clause-ok g c t w l may =
+    let v = g.H.Host.view c.args.host.now in
+    let lawful : TellsCrashes v = record { only = g.met.H.Host.only_now c.args.host.now; told = g.met.H.Host.told_stays c.args.host.now } in
+    took_life c.args.params c.args.table c.args.mode w l v may lawful c.in-Ok.engine (g.H.Host.view c.begin.new.host) (c.in-Ok.ensures.ok t)
+
+pub returns-in-Ok-clause-undamaged : goal.returns-in-Ok-clause-undamaged
+returns-in-Ok-clause-undamaged g c t area name damage =
+    let whole = (c.in-Ok.ensures.opened t).whole in
+    sound-undamaged (g.H.Host.view c.args.host.now).files whole.boot whole.walk area name whole.shows whole.sound damage
+
+pub returns-in-Err-clause-err : goal.returns-in-Err-clause-err
+returns-in-Err-clause-err g c t w l may =
+    let v = g.H.Host.view c.args.host.now in
+    let error = c.in-Err.error in
+    let lawful : TellsCrashes v = record { only = g.met.H.Host.only_now c.args.host.now; told = g.met.H.Host.told_stays c.args.host.now } in
+    rw c.replay_error.ensures.exact (never_begins c.args.params c.args.table c.args.mode w l v may lawful c.args.line error (g.H.Host.view c.begin.new.host) (record {
+      kinds = c.in-Err.ensures.kinds error refl;
+      stops = λ fault is. c.in-Err.ensures.err fault (error_is error (refusal_of fault) is) t;
+      untouched = λ of. c.in-Err.ensures.untouched error refl of t;
+      damage = λ area name is. c.in-Err.ensures.damaged t area name (error_is error (engine_errors.Damaged area name) is);
+      limit = λ bound is. c.in-Err.ensures.limit bound (error_is error (engine_errors.Limit bound) is);
+      orderly = λ below. c.in-Err.ensures.orderly t l.book may.host may.orderly below error refl;
+    }))

@@ -1,0 +1,18 @@
+use Rattle.std.proofs.Common.{refl}
+use Rattle.q_books.specs.HostStands.{TellsCrashes}
+use Rattle.q_engine.specs.Refusals.{refusal_of}
+use Rattle.q_replay.proofs.Takings.{error_is, never_ends, took_end}
+use Rattle.q_replay.proofs.taking.end.Goals as goal
+
+pub returns-in-Ok-clause-ok : goal.returns-in-Ok-clause-ok
+returns-in-Ok-clause-ok g c t w l h =
+    let v = g.H.Host.view c.args.host.now in
+    let lawful : TellsCrashes v = record { only = g.met.H.Host.only_now c.args.host.now; told = g.met.H.Host.told_stays c.args.host.now } in
+    took_end w l c.args.engine v h lawful (g.H.Host.view c.finish.new.host) (c.in-Ok.ensures.ok t)
+
+pub returns-in-Err-clause-err : goal.returns-in-Err-clause-err
+returns-in-Err-clause-err g c t w l h =
+    let v = g.H.Host.view c.args.host.now in
+    let error = c.in-Err.error in
+    let lawful : TellsCrashes v = record { only = g.met.H.Host.only_now c.args.host.now; told = g.met.H.Host.told_stays c.args.host.now } in
+    rw c.replay_error.ensures.exact (never_ends w l c.args.engine v h lawful c.args.line error (g.H.Host.view c.finish.new.host) (c.in-Err.ensures.kinds error refl) (λ fault is. c.in-Err.ensures.err fault (error_is error (refusal_of fault) is) t))

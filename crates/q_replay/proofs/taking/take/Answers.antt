@@ -1,0 +1,36 @@
+use Rattle.std.proofs.Common.{None, Some}
+use Rattle.q_events.specs.declared.item.Item.TheVariants.{End, Step}
+use Rattle.q_replay.proofs.Takings.{for_item, for_item_up, never_restarts, passed_on, restarts}
+use Rattle.q_replay.proofs.taking.take.Goals as goal
+
+pub returns-in_ok-hear-in-Step-clause-ok : goal.returns-in_ok-hear-in-Step-clause-ok
+returns-in_ok-hear-in-Step-clause-ok g c t =
+    for_item c.args.params c.args.engine (Step c.in-Step.event c.in-Step.line) c.args.item (Some c.in_ok-hear-in-Step.field-0) (g.H.Host.view c.args.host.now) (g.H.Host.view c.hear.new.host) c.in-Step.is (c.in_ok-hear-in-Step.ensures.ok c.in-Step.line t)
+
+pub returns-in_ok-begin_life-in-Restart-clause-ok : goal.returns-in_ok-begin_life-in-Restart-clause-ok
+returns-in_ok-begin_life-in-Restart-clause-ok g c t =
+    restarts c.args.params c.release-table.result c.args.engine c.in_ok-begin_life-in-Restart.field-0 c.args.item (g.H.Host.view c.args.host.now) (g.H.Host.view c.begin_life.new.host) c.in-Restart.is c.release-table.ensures (c.in_ok-begin_life-in-Restart.ensures.ok t)
+
+pub returns-in_err-hear-in-Step-clause-err : goal.returns-in_err-hear-in-Step-clause-err
+returns-in_err-hear-in-Step-clause-err g c =
+    let error = c.in_err-hear-in-Step.field-0.0 in
+    passed_on c.from_residual.result error _ c.from_residual.ensures.1 (λ t.
+    for_item_up c.args.params c.args.engine (Step c.in-Step.event c.in-Step.line) c.args.item c.args.line error (g.H.Host.view c.args.host.now) (g.H.Host.view c.hear.new.host) c.in-Step.is (c.in_err-hear-in-Step.ensures.err c.in-Step.line t))
+
+pub returns-in_err-begin_life-in-Restart-clause-err : goal.returns-in_err-begin_life-in-Restart-clause-err
+returns-in_err-begin_life-in-Restart-clause-err g c =
+    let error = c.in_err-begin_life-in-Restart.field-0.0 in
+    let r = c.from_residual-in_err-begin_life-in-Restart in
+    passed_on r.result error _ r.ensures.1 (λ t.
+    never_restarts c.args.params c.release-table.result c.args.engine c.args.item c.args.line error (g.H.Host.view c.args.host.now) (g.H.Host.view c.begin_life.new.host) c.in-Restart.is c.release-table.ensures (c.in_err-begin_life-in-Restart.ensures.err t))
+
+pub returns-in_err-end-in-End-clause-err : goal.returns-in_err-end-in-End-clause-err
+returns-in_err-end-in-End-clause-err g c =
+    let error = c.in_err-end-in-End.field-0.0 in
+    let r = c.from_residual-in_err-end-in-End in
+    passed_on r.result error _ r.ensures.1 (λ t.
+    for_item_up c.args.params c.args.engine End c.args.item c.args.line error (g.H.Host.view c.args.host.now) (g.H.Host.view c.end.new.host) c.in-End.is (c.in_err-end-in-End.ensures.err t))
+
+pub returns-in_ok-end-in-End-clause-ok : goal.returns-in_ok-end-in-End-clause-ok
+returns-in_ok-end-in-End-clause-ok g c t =
+    for_item c.args.params c.args.engine End c.args.item None (g.H.Host.view c.args.host.now) (g.H.Host.view c.end.new.host) c.in-End.is (c.in_ok-end-in-End.ensures.ok t)

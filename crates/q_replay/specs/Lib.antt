@@ -1,0 +1,6 @@
+pub mod Listings
+pub mod Reading
+pub mod ReplayEnds
+pub mod RunEnds
+pub mod Submissions
+pub mod Takings

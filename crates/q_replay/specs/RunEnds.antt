@@ -1,0 +1,56 @@
+-- How a command ends that takes items through lives: what its answer says of them, and of what was
+-- told.
+use Rattle.std.specs.Prelude.{◌≡◌, ◌++◌, Err, List, Ok, Result, ℕ}
+use Rattle.q_entries.specs.Runs.{HaltsRun, PlaysRun}
+use Rattle.q_host.specs.View.{View}
+use Rattle.q_host.specs.declared.error.HostError.{HostError}
+use Rattle.q_host.specs.declared.error.HostError.TheVariants as faults
+use Rattle.q_model.specs.Book.{Book}
+use Rattle.q_model.specs.Ledger.{opening}
+use Rattle.q_model.specs.Run.{run}
+use Rattle.q_model.specs.Settings.{World}
+use Rattle.q_model.specs.declared.entry.Entry.{Entry}
+use Rattle.q_model.specs.declared.event.LifeEvent.{LifeEvent}
+use Rattle.q_model.specs.declared.event.Mode.{Mode}
+use Rattle.q_replay.specs.Reading.{ended, faulty, items_in, limited, TakenItems}
+use Rattle.q_replay.specs.declared.error.ReplayError.{ReplayError}
+use Rattle.q_replay.specs.declared.error.ReplayError.TheVariants as errors
+use Rattle.q_restart.specs.Damages.{IsDamage}
+
+-- the entries of these items, the first of which begins a life in this mode on the book
+abbrev pub entries_on : World → Mode → Book → List LifeEvent → List Entry
+entries_on w mode b items = run w (opening mode b) items
+
+-- they were carried out and told
+abbrev pub IsTold : World → Mode → Book → List LifeEvent → View → View → Type 0
+IsTold w mode b items u v = PlaysRun w (opening mode b) (entries_on w mode b items) u v
+
+-- they were up to one that was given up
+abbrev pub IsToldInPart : World → Mode → Book → List LifeEvent → HostError → View → View → Type 0
+IsToldInPart w mode b items fault u v =
+    HaltsRun w (opening mode b) (entries_on w mode b items) fault u v
+
+-- these items are the first of those that are taken
+abbrev pub IsFrontOf : TakenItems → List LifeEvent → Type 0
+IsFrontOf taken items = (more : List LifeEvent) × (items_in taken ≡ items ++ more)
+
+-- the host gave up somewhere in the items that are taken
+abbrev pub HaltsIn : World → Mode → Book → TakenItems → HostError → View → View → Type 0
+HaltsIn w mode b taken fault u v =
+    (items : List LifeEvent) × IsFrontOf taken items × IsToldInPart w mode b items fault u v
+
+-- By each answer: all items were taken through `end`, up to the line that is named, or up to the limit;
+-- or the host gave up; or the spool that a life should begin on was found damaged.
+abbrev pub RunEnds : World → Mode → Book → TakenItems → View → View → Result (Unit {0}) ReplayError → Type 0
+RunEnds w mode b taken u v (Ok done) =
+    (items : List LifeEvent) × (taken ≡ ended items) × IsTold w mode b items u v
+RunEnds w mode b taken u v (Err (errors.BadEvent line)) =
+    (items : List LifeEvent) × (taken ≡ faulty items line) × IsTold w mode b items u v
+RunEnds w mode b taken u v (Err (errors.Limit bound)) =
+    (items : List LifeEvent) × (taken ≡ limited items bound) × IsTold w mode b items u v
+RunEnds w mode b taken u v (Err errors.Disk) = HaltsIn w mode b taken faults.Disk u v
+RunEnds w mode b taken u v (Err errors.Tell) = HaltsIn w mode b taken faults.Tell u v
+RunEnds w mode b taken u v (Err errors.NoMemory) = HaltsIn w mode b taken faults.NoMemory u v
+RunEnds w mode b taken u v (Err errors.Source) = ⊥
+RunEnds w mode b taken u v (Err (errors.Damaged area name)) = (items : List LifeEvent)
+    × IsFrontOf taken items × IsTold w mode b items u v × IsDamage v.files area name

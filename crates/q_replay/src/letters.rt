@@ -1,0 +1,67 @@
+//! One intake life, which takes one message.
+ghost use Rattle.std.specs.Prelude.{◌≡◌, ◌≤◌, IfErr, IfOk, IsTrue, length};
+ghost use Rattle.q_events.specs.Forms.{IsMailInForm};
+ghost use Rattle.q_host.specs.View.{Told};
+ghost use Rattle.q_model.specs.declared.event.Mode.TheVariants as modes;
+ghost use Rattle.q_params.specs.Ranges.{IsInRange};
+ghost use Rattle.q_replay.specs.ReplayEnds.{ForOrderly, IsFitSpool};
+ghost use Rattle.q_replay.specs.RunEnds.{RunEnds};
+ghost use Rattle.q_replay.specs.Submissions.{submitted};
+ghost use Rattle.q_replay.specs.Takings.{ReplayCause};
+
+use crate::error::ReplayError;
+use crate::taking::{begin_life, end, hear};
+use q_host::Host;
+use q_model::{Address, Addresses, Bytes, Event, Mode, Moment};
+use q_params::Params;
+use q_transport::Table;
+use std::alloc::Global;
+
+/// A message that is handed in: its sender, none for the null sender, at least one recipient, and
+/// its content.
+#[derive(Debug, Drop)]
+pub struct Letter {
+    pub sender: Option<Address>,
+    pub to: Addresses,
+    pub content: Bytes,
+}
+
+/// Begins an intake life on the spool of a host, takes the message at this moment, and ends the life:
+/// with Ok it stands in incoming, and no crash takes it away.
+///
+/// `Limit` comes for content above 10,240,000 bytes, for more than 50,000 recipients, and where no
+/// generation is left; `Damaged` for a spool that can't be opened; in all three nothing is stored.
+pub fn submit<H: Host>(
+    alloc: Global,
+    host: &mut H,
+    params: Params,
+    table: Table,
+    moment: Moment,
+    letter: Letter,
+) -> Result<(), ReplayError>
+    requires range { IsInRange params }
+    requires moment { moment ≤ 999990000000 }
+    requires form { IsMailInForm letter.sender letter.to }
+    // Where the host tells its files, they stand for an orderly book, or show a damage.
+    requires spool { IsTrue H.tells → IsFitSpool (H.view host.old) }
+
+    // How far it went, for each orderly book for which the host stood.
+    ensures ends { Told H.tells H.view host.old host.new (λ v x. ForOrderly params table v (λ w b.
+        RunEnds w modes.Intake b (submitted w b moment letter) v x result)) }
+    ensures cause { ReplayCause (H.faults host.old) (H.faults host.new) result }
+{
+    let begun = begin_life(alloc, host, params, table, Mode::Intake, 0)?;
+    let timed = hear(alloc, host, begun, Event::At { moment }, 1)?;
+    let Letter {
+        sender,
+        to,
+        content,
+    } = letter;
+    let mail = Event::Mail {
+        sender,
+        to,
+        content,
+    };
+    let taken = hear(alloc, host, timed, mail, 2)?;
+    end(alloc, host, taken, 3)
+}

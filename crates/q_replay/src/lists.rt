@@ -1,0 +1,60 @@
+//! Lives on a spool that take the events of a list.
+ghost use Rattle.std.specs.Prelude.{◌≡◌, Err, IfSome, IsTrue};
+ghost use Rattle.q_events.specs.Forms.{IsItemInForm};
+ghost use Rattle.q_host.specs.View.{Told};
+ghost use Rattle.q_model.specs.FaultCounts.{Rose};
+ghost use Rattle.q_params.specs.Ranges.{IsInRange};
+ghost use Rattle.q_replay.specs.ReplayEnds.{ForOrderly, IsFitSpool, ReplayEnds};
+ghost use Rattle.q_replay.specs.Takings.{ReplayCause};
+
+use crate::error::{ReplayError, list_error};
+use crate::taking::{begin_life, take};
+use q_events::Events;
+use q_host::Host;
+use q_model::Mode;
+use q_params::Params;
+use q_stream::Source;
+use q_transport::Table;
+use std::alloc::Global;
+
+/// Begins a life on the spool of a host, and takes the event list of the source through it, and
+/// through one more at each `restart`. Each entry is told after the disk holds what it says.
+///
+/// `BadEvent` names the first line that can't be taken. `Limit` comes for content above 10,240,000
+/// bytes, for more than 50,000 recipients, for a message beyond the last serial of its life, for a
+/// life beyond the last generation, and for a list that goes on behind its first 2^40 bytes.
+/// `Damaged` comes for a spool that can't be opened, before anything is told. `Disk`, `Tell` and
+/// `Source` come where the host or the source failed, `NoMemory` where memory ran out.
+pub fn replay<H: Host, S: Source>(
+    alloc: Global,
+    source: &mut S,
+    host: &mut H,
+    params: Params,
+    table: Table,
+) -> Result<(), ReplayError>
+    requires range { IsInRange params }
+    // Where the host tells its files, they stand for an orderly book, or show a damage.
+    requires spool { IsTrue H.tells → IsFitSpool (H.view host.old) }
+
+    // How far it went, by the text of the source, for each orderly book for which the host stood.
+    ensures ends { Told H.tells H.view host.old host.new (λ v x. ForOrderly params table v (λ w b.
+        IfSome (S.left source.old) (λ bytes. ReplayEnds w b bytes (S.left source.new) v x result))) }
+    ensures cause { ReplayCause (H.faults host.old) (H.faults host.new) result }
+    ensures source { result ≡ Err ReplayError.Source
+        → Rose (S.faults source.old) (S.faults source.new) }
+{
+    let Ok(mut events) = Events::new(alloc) else {
+        return Err(ReplayError::NoMemory);
+    };
+    let mut engine = begin_life(alloc, host, params, table, Mode::Deliver, 0)?;
+    loop {
+        let item = match events.read_event(alloc, source) {
+            Ok(item) => item,
+            Err(error) => return Err(list_error(error)),
+        };
+        match take(alloc, host, params, engine, item, events.lines())? {
+            Some(next) => engine = next,
+            None => return Ok(()),
+        }
+    }
+}
