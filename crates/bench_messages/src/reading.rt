@@ -17,6 +17,6 @@ pub(crate) fn read_through<H: Host>(alloc: Global, host: &mut H, spot: Spot) -> 
         position: 0,
         at: head.first_at,
     };
-    read_recipients(host, spot, &head, first, most, &mut batch).ok()?;
+    read_recipients(host, spot, head.recipients, first, most, &mut batch).ok()?;
     Some(batch.len())
 }

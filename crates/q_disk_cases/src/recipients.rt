@@ -44,7 +44,7 @@ fn taken(
         at: file.first_at,
     };
     let mut batch = Batch::new(alloc, max)?;
-    let end = read_recipients(host, spot, &file, start, max, &mut batch)?;
+    let end = read_recipients(host, spot, file.recipients, start, max, &mut batch)?;
     Ok((batch, end))
 }
 

@@ -21,7 +21,6 @@ use Rattle.q_books.specs.Spots.{IsMarkAt}
 use Rattle.q_laws.specs.Consistency.{IsConsistent}
 use Rattle.q_lives.specs.Standing.{is_remove_of}
 use Rattle.q_lives.proofs.AsArrived.{after_like}
-use Rattle.q_message.specs.FileHeads.{head_of}
 use Rattle.q_message.specs.Pending.{cursor_at}
 use Rattle.q_places.specs.Kept.{IsFewer, IsPutIn, kept_file, kept_mark, kept_progress}
 use Rattle.q_places.specs.declared.places.KeptFile.{KeptFile}
@@ -96,7 +95,7 @@ placed_more old new b id m read taken there is each put h = record {
 
 -- the same, of a message as its file says it
 record IsRead (p : Progress) (m : FileMessage) : Type 0 where
-  head : record p.head { marked = 0 } ≡ record (head_of m) { marked = 0 }
+  count : p.recipients ≡ length m.recipients
   place : p.next ≡ cursor_at m p.next.position
   within : p.next.position ≤ length m.recipients
 
@@ -104,15 +103,19 @@ record IsRead (p : Progress) (m : FileMessage) : Type 0 where
 pub read_to : (p : Progress) (m : Message) (bytes : List ℕ) → queue_file bytes ≡ Some (file_message m) → HasProgress p bytes → IsReadTo p m
 read_to p m bytes reads h =
     let same : h.message ≡ file_message m = same_some h.message (file_message m) (sym h.reads ∙ reads) in
-    let by = subst (λ (x : FileMessage). IsRead p x) same (record { head = h.head; place = h.place; within = h.within }) in
-    record { head = by.head; place = by.place; within = subst (λ (n : ℕ). p.next.position ≤ n) (length-map m.recipients as_filed) by.within }
+    let by = subst (λ (x : FileMessage). IsRead p x) same (record { count = h.count; place = h.place; within = h.within }) in
+    record {
+      count = by.count ∙ length-map m.recipients as_filed;
+      place = by.place;
+      within = subst (λ (n : ℕ). p.next.position ≤ n) (length-map m.recipients as_filed) by.within;
+    }
 
 -- and the other way round
 pub progress_of : (p : Progress) (m : Message) (bytes : List ℕ) → queue_file bytes ≡ Some (file_message m) → IsReadTo p m → HasProgress p bytes
 progress_of p m bytes reads h = record {
   message = file_message m;
   reads = reads;
-  head = h.head;
+  count = h.count ∙ sym (length-map m.recipients as_filed);
   place = h.place;
   within = subst (λ (n : ℕ). p.next.position ≤ n) (sym (length-map m.recipients as_filed)) h.within;
 }

@@ -9,10 +9,8 @@ use Rattle.q_model.specs.Marks.{is_marked}
 use Rattle.q_model.specs.Message.{Message, Recipient}
 use Rattle.q_model.specs.QueueFile.{FileRecipient}
 use Rattle.q_model.specs.QueueFileBytes.{recipient_at}
-use Rattle.q_model.specs.Values.{FileHead}
 use Rattle.q_books.specs.Spots.{IsMarkAt}
 use Rattle.q_lives.proofs.AsArrived.{IsLike}
-use Rattle.q_message.specs.FileHeads.{head_of}
 use Rattle.q_message.specs.Pending.{cursor_at}
 use Rattle.q_places.specs.declared.places.Progress.{Progress}
 use Rattle.q_engine.specs.KeptPlaces.{IsReadTo}
@@ -55,32 +53,6 @@ same_mark_at m n position at h is = record {
   offset = is.offset ∙ ap (λ (k : ℕ). k + 5) (sym (same_offset m n position h));
 }
 
--- the head but for its marks, by the parts of a message
-abbrev head_by : Option (List ℕ) → ℕ → ℕ → ℕ → ℕ → ℕ → FileHead
-head_by sender arrival count first content_at content_len = record {
-  version = 1;
-  head = record { sender = sender; arrival = arrival };
-  recipients = count;
-  marked = 0;
-  first_at = first;
-  content_at = content_at;
-  content_len = content_len;
-}
-
-filed_count : (m : Message) → length (file_message m).recipients ≡ length m.recipients
-filed_count m = length-map m.recipients as_filed
-
--- the head but for its marks stays
-same_head : (m n : Message) → IsLike m n → record (head_of (file_message n)) { marked = 0 } ≡ record (head_of (file_message m)) { marked = 0 }
-same_head m n h =
-    let count : length (file_message n).recipients ≡ length (file_message m).recipients = filed_count n ∙ same_count m n h ∙ sym (filed_count m) in
-    let content : recipient_at (file_message n) (length (file_message n).recipients) ≡ recipient_at (file_message m) (length (file_message m).recipients) = ap (recipient_at (file_message n)) count ∙ same_offset m n (length (file_message m).recipients) h in
-    ap (λ (s : Option (List ℕ)). head_by s n.arrival (length (file_message n).recipients) (35 + length (unwrap_or s [])) (recipient_at (file_message n) (length (file_message n).recipients) + 5) (length n.content)) h.sender
-    ∙ ap (λ (t : ℕ). head_by m.sender t (length (file_message n).recipients) (35 + length (unwrap_or m.sender [])) (recipient_at (file_message n) (length (file_message n).recipients) + 5) (length n.content)) h.arrival
-    ∙ ap (λ (k : ℕ). head_by m.sender m.arrival k (35 + length (unwrap_or m.sender [])) (recipient_at (file_message n) (length (file_message n).recipients) + 5) (length n.content)) count
-    ∙ ap (λ (k : ℕ). head_by m.sender m.arrival (length (file_message m).recipients) (35 + length (unwrap_or m.sender [])) (k + 5) (length n.content)) content
-    ∙ ap (λ (c : List ℕ). head_by m.sender m.arrival (length (file_message m).recipients) (35 + length (unwrap_or m.sender [])) (recipient_at (file_message m) (length (file_message m).recipients) + 5) (length c)) h.content
-
 same_cursor : (m n : Message) (position : ℕ) → IsLike m n → cursor_at (file_message n) position ≡ cursor_at (file_message m) position
 same_cursor m n position h = ap (λ (k : ℕ). cursor_of position k) (same_offset m n position h)
   where
@@ -90,7 +62,7 @@ same_cursor m n position h = ap (λ (k : ℕ). cursor_of position k) (same_offse
 -- how far a message was read stays
 pub same_progress : (m n : Message) (p : Progress) → IsLike m n → IsReadTo p m → IsReadTo p n
 same_progress m n p h is = record {
-  head = is.head ∙ sym (same_head m n h);
+  count = is.count ∙ sym (same_count m n h);
   place = is.place ∙ sym (same_cursor m n p.next.position h);
   within = subst (λ (k : ℕ). p.next.position ≤ k) (sym (same_count m n h)) is.within;
 }

@@ -15,7 +15,7 @@ use Rattle.q_laws.proofs.Places.{place_is}
 use Rattle.q_model.specs.declared.file_head.Cursor.{Cursor}
 use Rattle.q_model.specs.Lists.{places_from}
 use Rattle.q_model.specs.QueueFile.{FileMessage, FileRecipient, queue_file}
-use Rattle.q_model.specs.Values.{FileHead, Taken}
+use Rattle.q_model.specs.Values.{Taken}
 use Rattle.q_message.specs.FileHeads.{IsFault}
 use Rattle.q_message.proofs.PendingLaws.{next_cursor}
 use Rattle.q_message.specs.Pending.{AreTaken, cursor_at, HasCursor, IsPlaceBehind, position_behind, taken_at, taken_from, unmarked_from}
@@ -216,20 +216,19 @@ abbrev upto : List ℕ → ℕ → ℕ → ℕ
 upto xs max end = option_map_or (λ p. p + 1) (slice_get xs (max - 1)) end
 
 -- what was read from such a place on
-pub are_read : (o : Option (List ℕ)) (file : FileHead) (place next : Cursor) (from max room : ℕ) (items : List Taken) → 1 ≤ room → room ≡ min max (min (file.recipients + 1) (2 ^ 32 - 1)) → max ≤ 2 ^ 32 - 1
-    → IfSome o (λ bytes. HasCursor bytes file place) → IfSome o (AreTaken place.position room items) → IfSome o (IsPlaceBehind place.position room next) → IfSome o (LeavesFrom from place.position) → IfSome o (AreRead from max items next.position)
-are_read None file place next from max room items some is fits h taken behind leaves = tt
-are_read (Some bytes) file place next from max room items some is fits h taken behind leaves =
+pub are_read : (o : Option (List ℕ)) (count : ℕ) (place next : Cursor) (from max room : ℕ) (items : List Taken) → 1 ≤ room → room ≡ min max (min (count + 1) (2 ^ 32 - 1)) → max ≤ 2 ^ 32 - 1
+    → IfSome o (λ bytes. HasCursor bytes count place) → IfSome o (AreTaken place.position room items) → IfSome o (IsPlaceBehind place.position room next) → IfSome o (LeavesFrom from place.position) → IfSome o (AreRead from max items next.position)
+are_read None count place next from max room items some is fits h taken behind leaves = tt
+are_read (Some bytes) count place next from max room items some is fits h taken behind leaves =
     let m = h.message in
     let xs = unmarked_from m place.position in
     let items_are = subst (λ (x : Option FileMessage). IfSome x (λ k. items ≡ taken_from k place.position room)) h.reads taken in
     let next_is = subst (λ (x : Option FileMessage). IfSome x (λ k. next ≡ cursor_at k (position_behind k place.position room))) h.reads behind in
     let these = subst (λ (x : Option FileMessage). IfSome x (λ k. unmarked_from k place.position ≡ open_from k from)) h.reads leaves in
-    let count : file.recipients ≡ length m.recipients = ap (λ (f : FileHead). f.recipients) h.head in
     let few = few_places (λ i (r : FileRecipient). not r.marked) place.position (drop place.position m.recipients) in
     let short : length xs ≤ length m.recipients = omega (arith, few, length-drop place.position m.recipients) in
     let enough : 1 ≤ max = omega (arith, some, is) in
-    let fit = roomy xs (length m.recipients) max room short enough (which file.recipients (length m.recipients) max room count is fits) in
+    let fit = roomy xs (length m.recipients) max room short enough (which count (length m.recipients) max room h.count is fits) in
     subst (λ (x : Option FileMessage). IfSome x (λ k. IsReadUpTo k from max items next.position)) (sym h.reads) (record {
       some = enough;
       taken_are = items_are ∙ ap (map (taken_at m)) (fit.0 ∙ ap (take max) these);
@@ -272,9 +271,9 @@ none_behind xs n from past t h = absurd (none_some t (sym (slice_get_past xs n p
     none_some x k = cc
 
 -- the place behind a batch is one of the file
-pub cursor_behind : (o : Option (List ℕ)) (file : FileHead) (c next : Cursor) (max : ℕ) → IfSome o (λ bytes. HasCursor bytes file c) → IfSome o (IsPlaceBehind c.position max next) → IfSome o (λ bytes. HasCursor bytes file next)
-cursor_behind None file c next max h is = tt
-cursor_behind (Some bytes) file c next max h is = next_cursor bytes file c next max h is
+pub cursor_behind : (o : Option (List ℕ)) (count : ℕ) (c next : Cursor) (max : ℕ) → IfSome o (λ bytes. HasCursor bytes count c) → IfSome o (IsPlaceBehind c.position max next) → IfSome o (λ bytes. HasCursor bytes count next)
+cursor_behind None count c next max h is = tt
+cursor_behind (Some bytes) count c next max h is = next_cursor bytes count c next max h is
 
 -- a file at fault is no queue file
 pub no_file : (o : Option (List ℕ)) (place : ℕ) → IfSome o (IsFault place) → IfSome o (λ bytes. queue_file bytes ≡ None)

@@ -5,7 +5,6 @@ use Rattle.q_model.specs.Book.{Book, message_of}
 use Rattle.q_model.specs.FilesStand.{file_message}
 use Rattle.q_model.specs.Message.{Message}
 use Rattle.q_books.specs.Spots.{IsMarkAt}
-use Rattle.q_message.specs.FileHeads.{head_of}
 use Rattle.q_message.specs.Pending.{cursor_at, HasCursor}
 use Rattle.q_places.specs.Kept.{kept_file, kept_mark, kept_progress}
 use Rattle.q_places.specs.declared.places.Places.{Places}
@@ -18,16 +17,15 @@ use Rattle.q_engine.specs.declared.engine.Engine.{Engine}
 abbrev pub OfMessage : Book → Id → (Message → Type 0) → Type 0
 OfMessage b id P = (m : Message) × (message_of b id ≡ Some m) × P m
 
--- The head is that of the message's file, but for its marks, and the message was read up to one of
--- its recipients or to their end.
+-- the message has so many recipients, and was read up to one of them or to their end
 pub record IsReadTo (p : Progress) (m : Message) : Type 0 where
-  pub head : record p.head { marked = 0 } ≡ record (head_of (file_message m)) { marked = 0 }
+  pub count : p.recipients ≡ length m.recipients
   pub place : p.next ≡ cursor_at (file_message m) p.next.position
   pub within : p.next.position ≤ length m.recipients
 
 -- the same, of the bytes of a file
 abbrev pub HasProgress : Progress → List ℕ → Type 0
-HasProgress p bytes = HasCursor bytes p.head p.next
+HasProgress p bytes = HasCursor bytes p.recipients p.next
 
 -- each message of which something is kept stands in the book, and it is true of that message
 pub record ArePlaced (places : Places) (b : Book) : Type 0 where

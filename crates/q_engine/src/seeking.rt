@@ -1,8 +1,8 @@
 //! The recipients of a queue file that aren't in memory yet.
 //!
-//! A file is read from the place on up to which it was read before, where that is kept. Else it is
-//! read from its first recipient on, in batches, and what stands before the first recipient to be
-//! read is passed over. No address outlives its batch.
+//! A file is read on from the place up to which it was read before, where that is kept and is where
+//! to go on. Else its head is read again, and what stands before the first recipient to be read is
+//! passed over, in batches. No address outlives its batch.
 ghost use Rattle.std.specs.List.{list_all};
 ghost use Rattle.std.specs.Prelude.{◌≡◌, ◌≤◌, IfNone, IfOk, IfSome, IsTrue, length, min, nat_lt, None, slice_get, Some, take, true, false, ℕ};
 ghost use Rattle.q_engine.specs.KeptPlaces.{HasProgress};
@@ -53,7 +53,7 @@ fn count_below(batch: &Batch, from: u32) -> usize
 fn place_behind<H: Host>(
     host: &mut H,
     spot: Spot,
-    file: &FileHead,
+    recipients: u32,
     cursor: Cursor,
     next: Cursor,
     below: usize,
@@ -63,7 +63,7 @@ fn place_behind<H: Host>(
     requires some { 1 ≤ below }
     requires room { batch.old.room ≡ 256 }
     requires reading { TellsOf H.tells (H.view host.old) spot
-        (λ bytes. HasCursor bytes file.now cursor) }
+        (λ bytes. HasCursor bytes recipients cursor) }
     requires whole { TellsOf H.tells (H.view host.old) spot
         (IsPlaceBehind cursor.position 256 next) }
     ensures place { IfOk result (λ place. TellsOf H.tells (H.view host.old) spot
@@ -77,7 +77,7 @@ fn place_behind<H: Host>(
         return Ok(next);
     }
     batch.clear();
-    read_recipients(host, spot, file, cursor, below as u32, batch)
+    read_recipients(host, spot, recipients, cursor, below as u32, batch)
 }
 
 /// A place in the file behind which the recipients whose mark isn't set are those from a position
@@ -92,7 +92,7 @@ fn place_from<H: Host>(
     requires there { IsThere H.tells (H.view host.old) spot }
     requires reading { TellsOf H.tells (H.view host.old) spot (λ bytes. HasHead bytes file.now) }
     ensures cursor { IfOk result (λ place. TellsOf H.tells (H.view host.old) spot
-        (λ bytes. HasCursor bytes file.now place)) }
+        (λ bytes. HasCursor bytes file.now.recipients place)) }
     ensures leaves { IfOk result (λ place. TellsOf H.tells (H.view host.old) spot
         (LeavesFrom from place.position)) }
     ensures no_message { OnNoMessage result (λ _. IsTrue H.tells → ⊥) }
@@ -106,12 +106,12 @@ fn place_from<H: Host>(
     };
     for _ in 0..u64::MAX {
         batch.clear();
-        let next = read_recipients(host, spot, file, cursor, ROOM, &mut batch)?;
+        let next = read_recipients(host, spot, file.recipients, cursor, ROOM, &mut batch)?;
         let below = count_below(&batch, from);
         if below == 0 {
             return Ok(cursor);
         }
-        cursor = place_behind(host, spot, file, cursor, next, below, &mut batch)?;
+        cursor = place_behind(host, spot, file.recipients, cursor, next, below, &mut batch)?;
     }
     Err(MessageError::NoMemory)
 }
@@ -122,13 +122,13 @@ fn read_on<H: Host>(
     alloc: Global,
     host: &mut H,
     spot: Spot,
-    file: &FileHead,
+    recipients: u32,
     place: Cursor,
     max: u32,
 ) -> Result<Reading, MessageError>
     requires there { IsThere H.tells (H.view host.old) spot }
     requires reading { TellsOf H.tells (H.view host.old) spot
-        (λ bytes. HasCursor bytes file.now place) }
+        (λ bytes. HasCursor bytes recipients place) }
     ensures taken { IfOk result (λ r. (from : ℕ) → TellsOf H.tells (H.view host.old) spot
         (LeavesFrom from place.position)
         → TellsOf H.tells (H.view host.old) spot
@@ -139,16 +139,16 @@ fn read_on<H: Host>(
     ensures stays { IsTrue H.tells → Stays (H.view host.old) (H.view host.new) }
     ensures cause { ReadCause (H.faults host.old) (H.faults host.new) result }
 {
-    let room = max.min(file.recipients.saturating_add(1));
+    let room = max.min(recipients.saturating_add(1));
     if room == 0 {
         // A read asks for one recipient at least where the host tells its files.
         return Err(MessageError::NoMemory);
     }
     let mut taken = Batch::new(alloc, room)?;
-    let next = read_recipients(host, spot, file, place, room, &mut taken)?;
+    let next = read_recipients(host, spot, recipients, place, room, &mut taken)?;
     Ok(Reading {
         taken,
-        progress: Progress { head: *file, next },
+        progress: Progress { recipients, next },
     })
 }
 
@@ -172,11 +172,11 @@ fn read_whole<H: Host>(
 {
     let file = read_head(host, spot)?;
     let place = place_from(alloc, host, spot, &file, from)?;
-    read_on(alloc, host, spot, &file, place, max)
+    read_on(alloc, host, spot, file.recipients, place, max)
 }
 
-/// Reads the recipients whose mark isn't set, from a position on: the first `max`. The message was
-/// read before, and if it was read up to that position, it is read on from there.
+/// Reads the recipients whose mark isn't set, from a position on: the first `max`. If the message
+/// was read up to that position before, it is read on from there; else its head is read again.
 fn read_known<H: Host>(
     alloc: Global,
     host: &mut H,
@@ -191,15 +191,15 @@ fn read_known<H: Host>(
         (AreRead from max r.taken.items r.progress.next.position)) }
     ensures progress { IfOk result (λ r. TellsOf H.tells (H.view host.old) spot
         (HasProgress r.progress)) }
-    ensures no_message { OnNoMessage result (λ _. IsTrue H.tells → ⊥) }
+    ensures no_message { OnNoMessage result (λ _. TellsOf H.tells (H.view host.old) spot
+        (λ bytes. queue_file bytes ≡ None)) }
     ensures stays { IsTrue H.tells → Stays (H.view host.old) (H.view host.new) }
     ensures cause { ReadCause (H.faults host.old) (H.faults host.new) result }
 {
     if known.next.position == from {
-        return read_on(alloc, host, spot, &known.head, known.next, max);
+        return read_on(alloc, host, spot, known.recipients, known.next, max);
     }
-    let place = place_from(alloc, host, spot, &known.head, from)?;
-    read_on(alloc, host, spot, &known.head, place, max)
+    read_whole(alloc, host, spot, from, max)
 }
 
 /// The same, whether it is known how far the message was read or not.
@@ -230,7 +230,7 @@ fn read_next<H: Host>(
 }
 
 /// Reads the recipients of a queue file whose mark isn't set, from a position on: the first `max`.
-/// Where it is known how far the message was read, it is read on from there. None where a record
+/// Where it is known that the message was read up to there, it is read on. None where a record
 /// can't be read: where the host tells its files, only where the file is no queue file.
 pub(crate) fn read_pending<H: Host>(
     alloc: Global,

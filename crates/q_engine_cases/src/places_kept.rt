@@ -1,5 +1,5 @@
 //! Places in queue files that are kept in memory.
-use q_model::{Address, Batch, Cursor, FileHead, Head, Id, NoMemory, Taken};
+use q_model::{Address, Batch, Cursor, Id, NoMemory, Taken};
 use q_places::{Places, Progress};
 use std::alloc::Global;
 use std::test::Fail;
@@ -15,18 +15,7 @@ fn id_of(serial: u32) -> Id {
 /// A message to two recipients that was read up to a position.
 fn progress_to(position: u32, at: u64) -> Progress {
     Progress {
-        head: FileHead {
-            version: 1,
-            head: Head {
-                sender: None,
-                arrival: 1000,
-            },
-            recipients: 2,
-            marked: 0,
-            first_at: 35,
-            content_at: 80,
-            content_len: 0,
-        },
+        recipients: 2,
         next: Cursor { position, at },
     }
 }

@@ -155,16 +155,13 @@ place_passed m c k p none ahead before within =
 
 -- ---- the file, where there is one
 
-recipients_are : (bytes : List ℕ) (file : FileHead) (c : Cursor) (h : HasCursor bytes file c) → file.recipients ≡ length h.message.recipients
-recipients_are bytes file c h = ap (λ (f : FileHead). f.recipients) h.head
-
 -- at the first recipient
-pub cursor-first : (o : Option (List ℕ)) (file : FileHead) (at : ℕ) → at ≡ file.first_at → IfSome o (λ bytes. HasHead bytes file) → IfSome o (λ bytes. HasCursor bytes file (record { position = 0; at = at }))
+pub cursor-first : (o : Option (List ℕ)) (file : FileHead) (at : ℕ) → at ≡ file.first_at → IfSome o (λ bytes. HasHead bytes file) → IfSome o (λ bytes. HasCursor bytes file.recipients (record { position = 0; at = at }))
 cursor-first None file at is h = tt
 cursor-first (Some bytes) file at is h = record {
   message = h.message;
   reads = h.reads;
-  head = h.head;
+  count = ap (λ (f : FileHead). f.recipients) h.head;
   place = ap (λ (n : ℕ). record { position = 0; at = n }) (is ∙ ap (λ (f : FileHead). f.first_at) h.head ∙ plus_none (first_at h.message));
   within = omega arith;
 }
@@ -180,9 +177,9 @@ place-none (Some bytes) file p h past =
     subst (λ (x : Option FileMessage). IfSome x (λ m. None ≡ mark_place m p)) (sym h.reads) (sym (none_by h.message p None (slice_get_past h.message.recipients p (omega (arith, past, count))) (λ r e. absurd cc)))
 
 -- the batch has it
-pub place-found : (o : Option (List ℕ)) (file : FileHead) (c : Cursor) (p at : ℕ) (items : List Taken) → IfSome o (λ bytes. HasCursor bytes file c) → IfSome o (AreTaken c.position 256 items) → option_map (λ (taken : Taken). taken.mark_at) (has p items) ≡ Some at → IfSome o (IsMarkPlace p (Some at))
-place-found None file c p at items h taken e = tt
-place-found (Some bytes) file c p at items h taken e =
+pub place-found : (o : Option (List ℕ)) (count : ℕ) (c : Cursor) (p at : ℕ) (items : List Taken) → IfSome o (λ bytes. HasCursor bytes count c) → IfSome o (AreTaken c.position 256 items) → option_map (λ (taken : Taken). taken.mark_at) (has p items) ≡ Some at → IfSome o (IsMarkPlace p (Some at))
+place-found None count c p at items h taken e = tt
+place-found (Some bytes) count c p at items h taken e =
     let items_are = subst (λ (x : Option FileMessage). IfSome x (λ m. items ≡ taken_from m c.position 256)) h.reads taken in
     let read : option_map (λ (t : Taken). t.mark_at) (has p (taken_from h.message c.position 256)) ≡ Some at = ap (λ (ts : List Taken). option_map (λ (t : Taken). t.mark_at) (has p ts)) (sym items_are) ∙ e in
     subst (λ (x : Option FileMessage). IfSome x (λ m. Some at ≡ mark_place m p)) (sym h.reads) (by h.message (has p (taken_from h.message c.position 256)) refl read)
@@ -196,10 +193,10 @@ none_found None e = refl
 none_found (Some t) e = absurd cc
 
 -- the batch hasn't, and goes past it
-pub place-passed : (o : Option (List ℕ)) (file : FileHead) (c next : Cursor) (p : ℕ) (items : List Taken) → IfSome o (λ bytes. HasCursor bytes file c) → IfSome o (AreTaken c.position 256 items) → IfSome o (IsPlaceBehind c.position 256 next)
+pub place-passed : (o : Option (List ℕ)) (count : ℕ) (c next : Cursor) (p : ℕ) (items : List Taken) → IfSome o (λ bytes. HasCursor bytes count c) → IfSome o (AreTaken c.position 256 items) → IfSome o (IsPlaceBehind c.position 256 next)
     → option_map (λ (taken : Taken). taken.mark_at) (has p items) ≡ None → c.position ≤ p → p < next.position → IfSome o (IsMarkPlace p None)
-place-passed None file c next p items h taken behind e ahead past = tt
-place-passed (Some bytes) file c next p items h taken behind e ahead past =
+place-passed None count c next p items h taken behind e ahead past = tt
+place-passed (Some bytes) count c next p items h taken behind e ahead past =
     let items_are = subst (λ (x : Option FileMessage). IfSome x (λ m. items ≡ taken_from m c.position 256)) h.reads taken in
     let next_is = subst (λ (x : Option FileMessage). IfSome x (λ m. next ≡ cursor_at m (position_behind m c.position 256))) h.reads behind in
     let none : has p (taken_from h.message c.position 256) ≡ None = ap (has p) (sym items_are) ∙ none_found (has p items) e in
@@ -207,16 +204,16 @@ place-passed (Some bytes) file c next p items h taken behind e ahead past =
     subst (λ (x : Option FileMessage). IfSome x (λ m. None ≡ mark_place m p)) (sym h.reads) (sym (place_passed h.message c.position 255 p none ahead before h.within))
 
 -- and stands before it still
-pub cursor-on : (o : Option (List ℕ)) (file : FileHead) (c next : Cursor) (p : ℕ) → IfSome o (λ bytes. HasCursor bytes file c) → IfSome o (IsPlaceBehind c.position 256 next) → next.position ≤ p → p < file.recipients → IfSome o (λ bytes. HasCursor bytes file next)
-cursor-on None file c next p h behind before within = tt
-cursor-on (Some bytes) file c next p h behind before within =
+pub cursor-on : (o : Option (List ℕ)) (count : ℕ) (c next : Cursor) (p : ℕ) → IfSome o (λ bytes. HasCursor bytes count c) → IfSome o (IsPlaceBehind c.position 256 next) → next.position ≤ p → p < count → IfSome o (λ bytes. HasCursor bytes count next)
+cursor-on None count c next p h behind before within = tt
+cursor-on (Some bytes) count c next p h behind before within =
     let next_is = subst (λ (x : Option FileMessage). IfSome x (λ m. next ≡ cursor_at m (position_behind m c.position 256))) h.reads behind in
     record {
       message = h.message;
       reads = h.reads;
-      head = h.head;
+      count = h.count;
       place = next_is ∙ ap (cursor_at h.message) (ap (λ (x : Cursor). x.position) (sym next_is));
-      within = omega (arith, before, within, recipients_are bytes file c h);
+      within = omega (arith, before, within, h.count);
     }
 
 -- ---- the batch is searched

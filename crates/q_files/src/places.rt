@@ -63,7 +63,7 @@ pub fn mark_place<H: Host>(
     };
     for _ in 0..u64::MAX {
         batch.clear();
-        let next = read_recipients(host, spot, file, cursor, ROOM, &mut batch)?;
+        let next = read_recipients(host, spot, file.recipients, cursor, ROOM, &mut batch)?;
         if let Some(at) = offset_in(&batch, position) {
             return Ok(Some(at));
         }

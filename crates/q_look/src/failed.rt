@@ -126,7 +126,7 @@ fn first_unmarked<H: Host>(
         position: 0,
         at: head.first_at,
     };
-    match read_recipients(host, spot, head, first, unmarked, &mut batch) {
+    match read_recipients(host, spot, head.recipients, first, unmarked, &mut batch) {
         Ok(_) => {}
         Err(error) => return unreadable(error),
     }

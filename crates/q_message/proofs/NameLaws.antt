@@ -105,11 +105,13 @@ head_after a b s head stays h = subst (λ (f : Files). IfSome (f s.area s.name) 
         let m = map_some head_of (queue_file bytes) head h in
         record { message = m.0; reads = m.1; head = ap (λ (f : FileHead). record f { marked = 0 }) (sym m.2) }
 
-pub first_after : (a b : View) (s : Spot) (head : FileHead) (at : ℕ) → Stays a b → at ≡ head.first_at → IfSome (a.files s.area s.name) (λ file. option_map head_of (queue_file file) ≡ Some head) → IfSome (b.files s.area s.name) (λ bytes. HasCursor bytes head (cursor_with 0 at))
-first_after a b s head at stays is h =
-    subst (λ (n : ℕ). IfSome (b.files s.area s.name) (λ bytes. HasCursor bytes head (cursor_with 0 n))) (sym is)
-    (subst (λ (f : Files). IfSome (f s.area s.name) (λ bytes. HasCursor bytes head (cursor_with 0 head.first_at))) (sym stays.files) (by (a.files s.area s.name) h))
+pub first_after : (a b : View) (s : Spot) (head : FileHead) (count at : ℕ) → Stays a b → count ≡ head.recipients → at ≡ head.first_at → IfSome (a.files s.area s.name) (λ file. option_map head_of (queue_file file) ≡ Some head)
+    → IfSome (b.files s.area s.name) (λ bytes. HasCursor bytes count (cursor_with 0 at))
+first_after a b s head count at stays many is h =
+    subst (λ (k : ℕ). IfSome (b.files s.area s.name) (λ bytes. HasCursor bytes k (cursor_with 0 at))) (sym many)
+    (subst (λ (n : ℕ). IfSome (b.files s.area s.name) (λ bytes. HasCursor bytes head.recipients (cursor_with 0 n))) (sym is)
+    (subst (λ (f : Files). IfSome (f s.area s.name) (λ bytes. HasCursor bytes head.recipients (cursor_with 0 head.first_at))) (sym stays.files) (by (a.files s.area s.name) h)))
   where
-    by : (o : Option (List ℕ)) → IfSome o (λ file. option_map head_of (queue_file file) ≡ Some head) → IfSome o (λ bytes. HasCursor bytes head (cursor_with 0 head.first_at))
+    by : (o : Option (List ℕ)) → IfSome o (λ file. option_map head_of (queue_file file) ≡ Some head) → IfSome o (λ bytes. HasCursor bytes head.recipients (cursor_with 0 head.first_at))
     by None h = tt
     by (Some bytes) h = first_cursor bytes head h

@@ -262,16 +262,16 @@ pub record IsReading (bytes : List ℕ) (m : FileMessage) (from max : ℕ) (w : 
   pub left : IsLeft m from max items pos
 
 -- the cursor of the file that is there
-cursor_of : (o : Option (List ℕ)) (bytes : List ℕ) (file : FileHead) (cursor : Cursor) → IfSome o (λ bytes. HasCursor bytes file cursor) → o ≡ Some bytes → HasCursor bytes file cursor
-cursor_of o bytes file cursor h e = subst (λ (o : Option (List ℕ)). IfSome o (λ bytes. HasCursor bytes file cursor)) e h
+cursor_of : (o : Option (List ℕ)) (bytes : List ℕ) (count : ℕ) (cursor : Cursor) → IfSome o (λ bytes. HasCursor bytes count cursor) → o ≡ Some bytes → HasCursor bytes count cursor
+cursor_of o bytes count cursor h e = subst (λ (o : Option (List ℕ)). IfSome o (λ bytes. HasCursor bytes count cursor)) e h
 
-same_message : (bytes : List ℕ) (m : FileMessage) (file : FileHead) (cursor : Cursor) (h : HasCursor bytes file cursor) → queue_file bytes ≡ Some m → h.message ≡ m
-same_message bytes m file cursor h given = of_some (sym h.reads ∙ given)
+same_message : (bytes : List ℕ) (m : FileMessage) (count : ℕ) (cursor : Cursor) (h : HasCursor bytes count cursor) → queue_file bytes ≡ Some m → h.message ≡ m
+same_message bytes m count cursor h given = of_some (sym h.reads ∙ given)
 
-pub recipients_of : (o : Option (List ℕ)) (bytes : List ℕ) (m : FileMessage) (file : FileHead) (cursor : Cursor) → IfSome o (λ bytes. HasCursor bytes file cursor) → o ≡ Some bytes → queue_file bytes ≡ Some m → file.recipients ≡ length m.recipients
-recipients_of o bytes m file cursor h e given =
-    let k = cursor_of o bytes file cursor h e in
-    ap (λ (f : FileHead). f.recipients) k.head ∙ ap (λ (x : FileMessage). length x.recipients) (same_message bytes m file cursor k given)
+pub recipients_of : (o : Option (List ℕ)) (bytes : List ℕ) (m : FileMessage) (count : ℕ) (cursor : Cursor) → IfSome o (λ bytes. HasCursor bytes count cursor) → o ≡ Some bytes → queue_file bytes ≡ Some m → count ≡ length m.recipients
+recipients_of o bytes m count cursor h e given =
+    let k = cursor_of o bytes count cursor h e in
+    k.count ∙ ap (λ (x : FileMessage). length x.recipients) (same_message bytes m count cursor k given)
 
 pub nothing_shown : (bytes : List ℕ) (at : ℕ) → Shows bytes (record { at = at; bytes = []; ended = false })
 nothing_shown bytes at = record { same = refl; all = λ e. absurd (not_so e) }
@@ -279,11 +279,11 @@ nothing_shown bytes at = record { same = refl; all = λ e. absurd (not_so e) }
     not_so : false ≡ true → ⊥
     not_so e = cc
 
-pub reading_begins : (o : Option (List ℕ)) (bytes : List ℕ) (m : FileMessage) (file : FileHead) (cursor : Cursor) (max : ℕ) (w : Seen) → IfSome o (λ bytes. HasCursor bytes file cursor) → o ≡ Some bytes → queue_file bytes ≡ Some m
+pub reading_begins : (o : Option (List ℕ)) (bytes : List ℕ) (m : FileMessage) (count : ℕ) (cursor : Cursor) (max : ℕ) (w : Seen) → IfSome o (λ bytes. HasCursor bytes count cursor) → o ≡ Some bytes → queue_file bytes ≡ Some m
     → w ≡ record { at = cursor.at; bytes = []; ended = false } → 1 ≤ max → IsReading bytes m cursor.position max w [] cursor.position
-reading_begins o bytes m file cursor max w h e given is some =
-    let k = cursor_of o bytes file cursor h e in
-    let same = same_message bytes m file cursor k given in
+reading_begins o bytes m count cursor max w h e given is some =
+    let k = cursor_of o bytes count cursor h e in
+    let same = same_message bytes m count cursor k given in
     record {
       shows = subst (Shows bytes) (sym is) (nothing_shown bytes cursor.at);
       place = ap (λ (w : Seen). w.at) is ∙ ap (λ (c : Cursor). c.at) k.place ∙ ap (λ (x : FileMessage). recipient_at x cursor.position) same;
@@ -317,9 +317,9 @@ abbrev pub cursor_with : ℕ → ℕ → Cursor
 cursor_with position at = record { position = position; at = at }
 
 -- the file that is there, with the message that it says
-pub told : (o : Option (List ℕ)) (file : FileHead) (cursor : Cursor) → IsSome o → IfSome o (λ bytes. HasCursor bytes file cursor) → (bytes : List ℕ) × (o ≡ Some bytes) × HasCursor bytes file cursor
-told None file cursor there h = absurd cc
-told (Some bytes) file cursor there h = (bytes, refl, h)
+pub told : (o : Option (List ℕ)) (count : ℕ) (cursor : Cursor) → IsSome o → IfSome o (λ bytes. HasCursor bytes count cursor) → (bytes : List ℕ) × (o ≡ Some bytes) × HasCursor bytes count cursor
+told None count cursor there h = absurd cc
+told (Some bytes) count cursor there h = (bytes, refl, h)
 
 pub each_told : (o : Option (List ℕ)) (P : List ℕ → FileMessage → Type 0) → ((bytes : List ℕ) → o ≡ Some bytes → (m : FileMessage) → queue_file bytes ≡ Some m → P bytes m) → IfSome o (λ bytes. IfSome (queue_file bytes) (P bytes))
 each_told None P each = tt
@@ -348,14 +348,14 @@ few_more xs ys t max is room = omega (arith, room, ap length is, length-append x
 -- ---- the places from which recipients are read
 
 -- the place of the first recipient
-pub first_cursor : (bytes : List ℕ) (head : FileHead) → option_map head_of (queue_file bytes) ≡ Some head → HasCursor bytes head (cursor_with 0 head.first_at)
+pub first_cursor : (bytes : List ℕ) (head : FileHead) → option_map head_of (queue_file bytes) ≡ Some head → HasCursor bytes head.recipients (cursor_with 0 head.first_at)
 first_cursor bytes head e =
     let m = map_some head_of (queue_file bytes) head e in
     let first : head.first_at ≡ first_at m.0 + 0 = ap (λ (f : FileHead). f.first_at) (sym m.2) ∙ no_more (first_at m.0) in
     record {
       message = m.0;
       reads = m.1;
-      head = ap (λ (f : FileHead). record f { marked = 0 }) (sym m.2);
+      count = ap (λ (f : FileHead). f.recipients) (sym m.2);
       place = ap (cursor_with 0) first;
       within = omega arith;
     }
@@ -383,15 +383,15 @@ behind_within m from max within = by (slice_get (unmarked_from m from) (max - 1)
     by (Some p) e = omega (arith, places_below from (drop from m.recipients) (max - 1) p e, length-drop from m.recipients)
 
 -- the place behind those that were taken
-pub next_cursor : (bytes : List ℕ) (file : FileHead) (cursor next : Cursor) (max : ℕ) → HasCursor bytes file cursor → IfSome (queue_file bytes) (λ m. next ≡ cursor_at m (position_behind m cursor.position max)) → HasCursor bytes file next
-next_cursor bytes file cursor next max h is =
+pub next_cursor : (bytes : List ℕ) (count : ℕ) (cursor next : Cursor) (max : ℕ) → HasCursor bytes count cursor → IfSome (queue_file bytes) (λ m. next ≡ cursor_at m (position_behind m cursor.position max)) → HasCursor bytes count next
+next_cursor bytes count cursor next max h is =
     let m = h.message in
     let found_next : next ≡ cursor_at h.message (position_behind h.message cursor.position max) = subst (λ (o : Option FileMessage). IfSome o (λ m. next ≡ cursor_at m (position_behind m cursor.position max))) h.reads is in
     let position : next.position ≡ position_behind h.message cursor.position max = ap (λ (c : Cursor). c.position) found_next in
     record {
       message = m;
       reads = h.reads;
-      head = h.head;
+      count = h.count;
       place = found_next ∙ ap (cursor_at m) (sym position);
       within = subst (λ (k : ℕ). k ≤ length m.recipients) (sym position) (behind_within m cursor.position max h.within);
     }

@@ -5,8 +5,7 @@ use Rattle.q_model.specs.declared.file_head.Cursor.{Cursor}
 use Rattle.q_model.specs.Lists.{places_from}
 use Rattle.q_model.specs.QueueFile.{FileMessage, queue_file}
 use Rattle.q_model.specs.QueueFileBytes.{mark_at, recipient_at}
-use Rattle.q_model.specs.Values.{FileHead, Taken}
-use Rattle.q_message.specs.FileHeads.{head_of}
+use Rattle.q_model.specs.Values.{Taken}
 use Rattle.q_message.specs.Names.{address_in}
 
 -- the positions from one on whose mark isn't set
@@ -34,12 +33,12 @@ position_behind m from max =
 abbrev pub cursor_at : FileMessage → ℕ → Cursor
 cursor_at m position = record { position = position; at = recipient_at m position }
 
--- The bytes are a queue file with this head, but for its marks, and the cursor is the place of one of
--- its recipients or of their end.
-pub record HasCursor (bytes : List ℕ) (file : FileHead) (cursor : Cursor) : Type 0 where
+-- The bytes are a queue file of so many recipients, and the cursor is the place of one of them or of
+-- their end.
+pub record HasCursor (bytes : List ℕ) (recipients : ℕ) (cursor : Cursor) : Type 0 where
   pub message : FileMessage
   pub reads : queue_file bytes ≡ Some message
-  pub head : record file { marked = 0 } ≡ record (head_of message) { marked = 0 }
+  pub count : recipients ≡ length message.recipients
   pub place : cursor ≡ cursor_at message cursor.position
   pub within : cursor.position ≤ length message.recipients
 

@@ -4,7 +4,8 @@
 //! an end. A reader passes over it by a window of 65,536 bytes, so that a call takes no memory for a
 //! message of any size. A mark is one byte of a recipient's record, written in place; so a reader of
 //! the head counts marks, and a reader of recipients leaves out those that are marked. It is an
-//! error to read a file that isn't there, or with a head or a cursor that aren't of the file.
+//! error to read a file that isn't there, or with a head, a number of recipients or a cursor that
+//! aren't of the file.
 #![tactic(auto)]
 
 mod body;

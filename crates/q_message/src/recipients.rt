@@ -11,7 +11,7 @@ use crate::error::MessageError;
 use crate::front::front_body;
 use crate::window::Window;
 use q_host::Host;
-use q_model::{Batch, Cursor, FileHead, Spot, Taken};
+use q_model::{Batch, Cursor, Spot, Taken};
 
 /// The offset of the mark byte in the record of a recipient.
 const MARK_AT: u64 = 5;
@@ -36,13 +36,13 @@ pub(crate) fn recipient_size(recipient: &Recipient) -> u32
 /// room for `max`. The answer is the place behind the last one that was taken where `max` were
 /// taken, else the place behind the last recipient.
 ///
-/// The head is that of the file, but for its number of marked recipients, and the cursor is the
-/// place of one of its recipients or of their end. The file is read 65,536 bytes at a time. Where
-/// the host tells its files, `NotAMessage` never comes.
+/// `recipients` is how many the file has, and the cursor is the place of one of them or of their
+/// end. The file is read 65,536 bytes at a time. Where the host tells its files, `NotAMessage`
+/// never comes.
 pub fn read_recipients<H: Host>(
     host: &mut H,
     spot: Spot,
-    file: &FileHead,
+    recipients: u32,
     cursor: Cursor,
     max: u32,
     out: &mut Batch,
@@ -52,7 +52,7 @@ pub fn read_recipients<H: Host>(
     requires empty { out.old.items ≡ [] }
     requires room { max ≤ out.old.room }
     requires reading { TellsOf H.tells (H.view host.old) spot
-        (λ bytes. HasCursor bytes file.now cursor) }
+        (λ bytes. HasCursor bytes recipients cursor) }
     ensures taken { OnOk result (TellsOf H.tells (H.view host.old) spot
         (AreTaken cursor.position max out.new.items)) }
     ensures next { IfOk result (λ next. TellsOf H.tells (H.view host.old) spot
@@ -63,7 +63,6 @@ pub fn read_recipients<H: Host>(
     ensures cause { ReadCause (H.faults host.old) (H.faults host.new) result }
 {
     let mut window = Window::new(cursor.at);
-    let recipients = file.recipients;
     let mut position = cursor.position;
     while position < recipients && out.len() < max as usize {
         window.fill(host, spot)?;

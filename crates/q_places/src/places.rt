@@ -6,15 +6,15 @@ ghost use Rattle.std.specs.Prelude.{◌≡◌, cond, None, Some, ℕ};
 ghost use Rattle.q_model.specs.declared.id.Id.{Id as Ids};
 ghost use Rattle.q_places.specs.Kept.{AddsMarks, IsFewer, IsPutIn, kept_file, kept_mark, kept_order, kept_progress};
 
-use q_model::{Batch, Cursor, FileHead, Id};
+use q_model::{Batch, Cursor, Id};
 use std::alloc::Global;
 use std::collections::BTreeMap;
 
-/// How far the recipients of a message were read: the head of its queue file, and the place behind
-/// the last recipient that was read.
+/// How far the recipients of a message were read: how many its queue file has, and the place behind
+/// the last that was read.
 #[derive(Debug, Drop)]
 pub struct Progress {
-    pub head: FileHead,
+    pub recipients: u32,
     pub next: Cursor,
 }
 

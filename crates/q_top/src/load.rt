@@ -46,7 +46,7 @@ pub(crate) fn recipient<H: Host>(alloc: Global, host: &mut H) -> Result<Option<T
         position: 0,
         at: head.first_at,
     };
-    match read_recipients(host, spot, &head, first, 1, &mut batch) {
+    match read_recipients(host, spot, head.recipients, first, 1, &mut batch) {
         Ok(_) => {}
         Err(error) => return unread(error),
     }

@@ -26,7 +26,7 @@ loop-preserved g c =
     let place = λ (t : IsTrue g.H.Host.tells). subst (λ (f : Files). IfSome (f spot.area spot.name) (IsPlaceBehind loop.cursor.position (min below.result 256) c.in_ok-cursor.cursor)) ((c.in_ok-next.ensures.stays t).files ∙ (loop.invariant.stays t).files) (c.in_ok-cursor.ensures.place t) in
     record {
       room = c.in_ok-cursor.ensures.room;
-      reading = λ t. cursor_behind (v.files spot.area spot.name) c.args.file.now loop.cursor c.in_ok-cursor.cursor (min below.result 256) (loop.invariant.reading t) (place t);
+      reading = λ t. cursor_behind (v.files spot.area spot.name) c.args.file.now.recipients loop.cursor c.in_ok-cursor.cursor (min below.result 256) (loop.invariant.reading t) (place t);
       below = λ t.
           let taken = subst (λ (f : Files). IfSome (f spot.area spot.name) (AreTaken loop.cursor.position 256 items)) (loop.invariant.stays t).files (c.in_ok-next.ensures.taken t) in
           passes_more (v.files spot.area spot.name) c.args.from below.result loop.cursor c.in_ok-cursor.cursor items some (loop.invariant.below t) taken (place t) below.ensures.below;

@@ -13,7 +13,7 @@ invariant-loop g l =
     let faults = g.H.Host.faults in
     record {
       room : l.batch.room ≡ 256;
-      reading : IsTrue g.H.Host.tells → IfSome (bytes_at (view l.fn.host) l.spot) (λ bytes. HasCursor bytes l.file l.cursor);
+      reading : IsTrue g.H.Host.tells → IfSome (bytes_at (view l.fn.host) l.spot) (λ bytes. HasCursor bytes l.file.recipients l.cursor);
       below : IsTrue g.H.Host.tells → IfSome (bytes_at (view l.fn.host) l.spot) (PassesBelow l.from l.cursor.position);
       stays : IsTrue g.H.Host.tells → Stays (view l.fn.host) (view l.host);
       disk_later : (faults l.fn.host).disk ≤ (faults l.host).disk;

@@ -12,7 +12,7 @@ returns-in-Some-clause-place g c t =
     let v = g.H.Host.view c.args.host.now in
     let items = c.read_recipients.new.out.items in
     let taken = subst (λ (f : Files). IfSome (f c.args.spot.area c.args.spot.name) (AreTaken loop.cursor.position 256 items)) (loop.invariant.stays t).files (c.in_ok-next.ensures.taken t) in
-    place-found (v.files c.args.spot.area c.args.spot.name) c.args.file.now loop.cursor c.args.position c.in-Some.at items (loop.invariant.reading t) taken (sym c.offset_in.ensures ∙ c.in-Some.is)
+    place-found (v.files c.args.spot.area c.args.spot.name) c.args.file.now.recipients loop.cursor c.args.position c.in-Some.at items (loop.invariant.reading t) taken (sym c.offset_in.ensures ∙ c.in-Some.is)
 
 pub returns-then-next-position-clause-place : goal.returns-then-next-position-clause-place
 returns-then-next-position-clause-place g c t =
@@ -21,7 +21,7 @@ returns-then-next-position-clause-place g c t =
     let items = c.read_recipients.new.out.items in
     let taken = subst (λ (f : Files). IfSome (f c.args.spot.area c.args.spot.name) (AreTaken loop.cursor.position 256 items)) (loop.invariant.stays t).files (c.in_ok-next.ensures.taken t) in
     let behind = subst (λ (f : Files). IfSome (f c.args.spot.area c.args.spot.name) (IsPlaceBehind loop.cursor.position 256 c.in_ok-next.next)) (loop.invariant.stays t).files (c.in_ok-next.ensures.next t) in
-    place-passed (v.files c.args.spot.area c.args.spot.name) c.args.file.now loop.cursor c.in_ok-next.next c.args.position items (loop.invariant.reading t) taken behind (sym c.offset_in.ensures ∙ c.in_default.is) (loop.invariant.before t) c.if-next-position.true
+    place-passed (v.files c.args.spot.area c.args.spot.name) c.args.file.now.recipients loop.cursor c.in_ok-next.next c.args.position items (loop.invariant.reading t) taken behind (sym c.offset_in.ensures ∙ c.in_default.is) (loop.invariant.before t) c.if-next-position.true
 
 pub returns-in-Some-clause-mark : goal.returns-in-Some-clause-mark
 returns-in-Some-clause-mark g c t = finds-mark (g.H.Host.view c.args.host.now).files c.args.spot c.args.position (Some c.in-Some.at) (returns-in-Some-clause-place g c t)

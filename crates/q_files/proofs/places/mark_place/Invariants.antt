@@ -13,7 +13,7 @@ invariant-loop g l =
     record {
       room : l.batch.room ≡ 256;
       before : IsTrue g.H.Host.tells → l.cursor.position ≤ l.position;
-      reading : IsTrue g.H.Host.tells → IfSome (bytes_at (view l.fn.host) l.spot) (λ bytes. HasCursor bytes l.file l.cursor);
+      reading : IsTrue g.H.Host.tells → IfSome (bytes_at (view l.fn.host) l.spot) (λ bytes. HasCursor bytes l.file.recipients l.cursor);
       stays : IsTrue g.H.Host.tells → Stays (view l.fn.host) (view l.host);
       disk_later : (faults l.fn.host).disk ≤ (faults l.host).disk;
       tell_later : (faults l.fn.host).tell ≤ (faults l.host).tell;

@@ -1,7 +1,7 @@
 use Rattle.std.proofs.Common.{◌≡◌, ◌+◌, ◌<◌, ◌≤◌, ◌∷◌, ◌++◌, [], List, ℕ, Some, ap, arith, length, slice_get, subst, sym, ◌∙◌}
 use Rattle.q_model.specs.QueueFile.{FileRecipient}
 use Rattle.q_model.specs.QueueFileBytes.{recipient_at}
-use Rattle.q_model.specs.Values.{Batch, FileHead, Taken}
+use Rattle.q_model.specs.Values.{Batch, Taken}
 use Rattle.q_model.specs.SpoolFiles.{Files}
 use Rattle.q_message.specs.Pending.{cursor_at, position_behind, taken_at, taken_from}
 use Rattle.q_message.specs.Readings.{front_recipient}
@@ -14,11 +14,10 @@ use Rattle.q_message.proofs.recipients.read_recipients.Goals.{then-not-recipient
 pub returns-in_default-clause-no_message : goal.returns-in_default-clause-no_message
 returns-in_default-clause-no_message g c place is t =
     let loop = c.loop-position in
-    let k = told ((g.H.Host.view c.args.host.now).files c.args.spot.area c.args.spot.name) c.args.file.now c.args.cursor (c.requires.there t) (c.requires.reading t) in
+    let k = told ((g.H.Host.view c.args.host.now).files c.args.spot.area c.args.spot.name) c.args.recipients c.args.cursor (c.requires.there t) (c.requires.reading t) in
     let m = k.2.message in
     let r = loop.invariant.reads t k.0 k.1 m k.2.reads in
-    let many = recipients_of ((g.H.Host.view c.args.host.now).files c.args.spot.area c.args.spot.name) k.0 m c.args.file.now c.args.cursor (c.requires.reading t) k.1 k.2.reads in
-    let inside : c.file.inside.recipients ≡ c.args.file.now.recipients = ap (λ (f : FileHead). f.recipients) c.file.view_is in
+    let many = recipients_of ((g.H.Host.view c.args.host.now).files c.args.spot.area c.args.spot.name) k.0 m c.args.recipients c.args.cursor (c.requires.reading t) k.1 k.2.reads in
     let within : c.loop-position.position < length k.2.message.recipients = omega arith in
     let front = c.in_ok-fill.ensures.front t k.0 (ap (λ (f : Files). f c.args.spot.area c.args.spot.name) (loop.invariant.stays t).files ∙ k.1) r.shows in
     recipient_missing k.0 m loop.position loop.window.at c.fill.new.self.bytes k.2.reads r.place within front (sym (c.front_recipient.ensures ∙ ap front_recipient c.bytes.ensures) ∙ c.in_default.is)
@@ -40,8 +39,7 @@ loop-position-preserved g c =
       ];
       reads = λ t bytes here m given.
           let r = loop.invariant.reads t bytes here m given in
-          let many = recipients_of ((g.H.Host.view c.args.host.now).files c.args.spot.area c.args.spot.name) bytes m c.args.file.now c.args.cursor (c.requires.reading t) here given in
-          let inside : c.file.inside.recipients ≡ c.args.file.now.recipients = ap (λ (f : FileHead). f.recipients) c.file.view_is in
+          let many = recipients_of ((g.H.Host.view c.args.host.now).files c.args.spot.area c.args.spot.name) bytes m c.args.recipients c.args.cursor (c.requires.reading t) here given in
           let within : c.loop-position.position < length m.recipients = omega arith in
           let there = ap (λ (f : Files). f c.args.spot.area c.args.spot.name) (loop.invariant.stays t).files ∙ here in
           let front = c.in_ok-fill.ensures.front t bytes there r.shows in
@@ -77,8 +75,7 @@ pub returns-clause-taken : goal.returns-clause-taken
 returns-clause-taken g c t = each_told ((g.H.Host.view c.args.host.now).files c.args.spot.area c.args.spot.name) (λ bytes m. c.loop-position.out.items ≡ taken_from m c.args.cursor.position c.args.max) (λ bytes here m given.
     let r = c.loop-position.invariant.reads t bytes here m given in
     let within = r.within in
-    let many = recipients_of ((g.H.Host.view c.args.host.now).files c.args.spot.area c.args.spot.name) bytes m c.args.file.now c.args.cursor (c.requires.reading t) here given in
-    let inside : c.file.inside.recipients ≡ c.args.file.now.recipients = ap (λ (f : FileHead). f.recipients) c.file.view_is in
+    let many = recipients_of ((g.H.Host.view c.args.host.now).files c.args.spot.area c.args.spot.name) bytes m c.args.recipients c.args.cursor (c.requires.reading t) here given in
     elim c.loop-position-test.branch [
       | then-loop-position-test+else-len-max w ↦ (left_none m c.args.cursor.position c.args.max c.loop-position.out.items c.loop-position.position (omega (arith, w.if-len-max.false, w.len.ensures)) r.left).0
       | else-loop-position-test w ↦ (left_end m c.args.cursor.position c.args.max c.loop-position.out.items c.loop-position.position (omega (arith, w.loop-position-test.false)) r.left).0
@@ -88,8 +85,7 @@ pub returns-clause-next : goal.returns-clause-next
 returns-clause-next g c t = each_told ((g.H.Host.view c.args.host.now).files c.args.spot.area c.args.spot.name) (λ bytes m. cursor_with c.loop-position.position c.at.result ≡ cursor_at m (position_behind m c.args.cursor.position c.args.max)) (λ bytes here m given.
     let r = c.loop-position.invariant.reads t bytes here m given in
     let within = r.within in
-    let many = recipients_of ((g.H.Host.view c.args.host.now).files c.args.spot.area c.args.spot.name) bytes m c.args.file.now c.args.cursor (c.requires.reading t) here given in
-    let inside : c.file.inside.recipients ≡ c.args.file.now.recipients = ap (λ (f : FileHead). f.recipients) c.file.view_is in
+    let many = recipients_of ((g.H.Host.view c.args.host.now).files c.args.spot.area c.args.spot.name) bytes m c.args.recipients c.args.cursor (c.requires.reading t) here given in
     cursor_is m c.loop-position.position c.at.result (position_behind m c.args.cursor.position c.args.max) (c.at.ensures ∙ r.place)
     (elim c.loop-position-test.branch [
       | then-loop-position-test+else-len-max w ↦ (left_none m c.args.cursor.position c.args.max c.loop-position.out.items c.loop-position.position (omega (arith, w.if-len-max.false, w.len.ensures)) r.left).1

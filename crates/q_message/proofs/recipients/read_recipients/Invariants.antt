@@ -19,4 +19,4 @@ invariant-loop-position g l =
     }
 
 abbrev pub decreases-loop-position : goal.decreases-loop-position
-decreases-loop-position g l = l.file.recipients - l.position
+decreases-loop-position g l = l.recipients - l.position
