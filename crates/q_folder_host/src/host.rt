@@ -1,16 +1,15 @@
 //! The calls of a host, on folders and an output.
-ghost use Rattle.std.specs.Prelude.{◌≡◌, ◌≤◌, OnOk, OnErr, IfOk, IsErrOf, Ok};
+ghost use Rattle.std.specs.Prelude.{◌≡◌, ◌≤◌, OnErr, IfOk, IsErrOf, Ok};
 ghost use Rattle.q_model.specs.FaultCounts.{Rose};
-ghost use Rattle.q_host.specs.declared.error.HostError.TheVariants.{Disk, NoMemory, Tell};
+ghost use Rattle.q_host.specs.declared.error.HostError.TheVariants.{Disk};
 
-use crate::folders::Folders;
-use crate::names::names_of;
-use crate::opening::{lock_root, open_folders};
-use crate::{OpenFault, files};
+use crate::OpenFault;
+use crate::folders::Folder;
+use crate::names::list_names;
+use crate::system::System;
 use q_host::{Host, HostError};
 use q_model::{Area, Name, Names};
 use std::alloc::{AllocError, Global};
-use std::collections::BTreeSet;
 use std::fs::File;
 use std::io::ErrorKind;
 use std::rt::Files;
@@ -20,10 +19,10 @@ use std::{fs, io};
 /// has failed, which stops at 2^64 - 1. A call that answers `Disk` or `Tell` counts one fault.
 #[derive(Drop)]
 pub struct FolderHost<F: Files<File = File> + Drop, P: Print + Drop> {
-    alloc: Global,
-    files: F,
+    system: System<F>,
     output: P,
-    folders: Folders,
+    // in the order of the areas
+    folders: [Folder; 10],
     // holds the lock until it is closed
     lock: File,
     disk_faults: u64,
@@ -31,20 +30,19 @@ pub struct FolderHost<F: Files<File = File> + Drop, P: Print + Drop> {
 }
 
 impl<F: Files<File = File> + Drop, P: Print + Drop> FolderHost<F, P> {
-    /// Makes the folders below the root that are missing, the root too, and locks it. The folder
-    /// above the root has to be there.
-    pub fn open(
-        alloc: Global,
-        files: F,
-        output: P,
-        root: &str,
-    ) -> Result<FolderHost<F, P>, OpenFault> {
-        let lock = lock_root(&files, alloc, root)?;
-        let folders = open_folders(&files, alloc, root)?;
-        lock.sync_all().map_err(OpenFault::Root)?;
-        Ok(FolderHost {
+    /// Makes the folders below the root that are missing, the root too, for their owner alone, and
+    /// locks the root. The folder above it has to be there.
+    pub fn open(alloc: Global, files: F, output: P, root: &str) -> Result<Self, OpenFault> {
+        let mut system = System {
             alloc,
             files,
+            syncs: 0,
+        };
+        let lock = system.lock_root(root)?;
+        let folders = system.open_folders(root)?;
+        system.sync(&lock).map_err(OpenFault::Root)?;
+        Ok(FolderHost {
+            system,
             output,
             folders,
             lock,
@@ -53,10 +51,15 @@ impl<F: Files<File = File> + Drop, P: Print + Drop> FolderHost<F, P> {
         })
     }
 
+    /// How often the system was asked to sync a file or a folder (fsync(2), fdatasync(2)), while
+    /// the host was opened too. It stops at 2^64 - 1.
+    pub fn syncs(&self) -> u64 {
+        self.system.syncs
+    }
+
     // The path of a file. A name has no slash, so no path leaves its folder.
     fn path(&self, area: Area, name: Name) -> Result<String, AllocError> {
-        let folder = self.folders.at(area).path();
-        format!(in self.alloc; "{folder}/{name}")
+        format!(in self.system.alloc; "{}/{name}", self.folders[area as usize].path)
     }
 
     // The answer of the system, with its fault counted.
@@ -64,63 +67,14 @@ impl<F: Files<File = File> + Drop, P: Print + Drop> FolderHost<F, P> {
         ensures tell { self.new.tell_faults ≡ self.old.tell_faults }
         ensures disk { self.old.disk_faults ≤ self.new.disk_faults }
         ensures ok { IfOk result (λ value. answer ≡ Ok value) }
-        ensures kept { OnOk result (self.new.disk_faults ≡ self.old.disk_faults) }
         ensures rose { OnErr result (Rose self.old.disk_faults self.new.disk_faults) }
         ensures err { OnErr result (IsErrOf result Disk) }
     {
-        match answer {
-            Ok(value) => Ok(value),
-            Err(_) => {
-                self.disk_faults = self.disk_faults.saturating_add(1);
-                Err(HostError::Disk)
-            }
+        if let Ok(value) = answer {
+            return Ok(value);
         }
-    }
-
-    // The names that stand in an area's folder.
-    fn names(&self, area: Area) -> io::Result<BTreeSet<Name>> {
-        let mut names = self.files.open_dir(self.folders.at(area).path())?;
-        names_of(self.alloc, &mut names)
-    }
-
-    // Lists an area's folder, and remembers the names.
-    fn list(&mut self, area: Area) -> Result<(), HostError>
-        ensures tell { self.new.tell_faults ≡ self.old.tell_faults }
-        ensures disk { self.old.disk_faults ≤ self.new.disk_faults }
-        ensures kept { OnOk result (self.new.disk_faults ≡ self.old.disk_faults) }
-        ensures rose { IsErrOf result Disk → Rose self.old.disk_faults self.new.disk_faults }
-        ensures memory { IsErrOf result NoMemory → self.new.disk_faults ≡ self.old.disk_faults }
-        ensures no_tell { IsErrOf result Tell → ⊥ }
-    {
-        let names = match self.names(area) {
-            Err(e) if e.kind() == ErrorKind::OutOfMemory => return Err(HostError::NoMemory),
-            names => self.counted(names)?,
-        };
-        self.folders.at_mut(area).listed(names);
-        Ok(())
-    }
-
-    // An empty file, in place of any. It is synced, so that what stood there is gone for sure;
-    // nothing rests on a file in tmp.
-    fn make(&self, area: Area, path: &str) -> io::Result<()> {
-        let file = File::create(&self.files, path)?;
-        if area == Area::Tmp {
-            return Ok(());
-        }
-        file.sync_all()?;
-        self.folders.at(area).sync()
-    }
-
-    // The new place first: until both are durable a crash may leave the file at both, never at none.
-    fn relocate(&self, area: Area, path: &str, to: Area, onto: &str) -> io::Result<()> {
-        fs::rename(&self.files, path, onto)?;
-        self.folders.at(to).sync()?;
-        self.folders.at(area).sync()
-    }
-
-    fn discard(&self, area: Area, path: &str) -> io::Result<()> {
-        fs::remove_file(&self.files, path)?;
-        self.folders.at(area).sync()
+        self.disk_faults = self.disk_faults.saturating_add(1);
+        Err(HostError::Disk)
     }
 }
 
@@ -152,23 +106,24 @@ impl<F: Files<File = File> + Drop, P: Print + Drop> Host for FolderHost<F, P> {
         after: Option<Name>,
         out: &mut Names,
     ) -> Result<(), HostError> {
-        if !self.folders.at(area).is_listed() {
-            self.list(area)?;
+        let folder = &mut self.folders[area as usize];
+        match self.system.list(folder) {
+            Ok(()) => Ok(list_names(&folder.names, &after, out)?),
+            Err(e) if e.kind() == ErrorKind::OutOfMemory => Err(HostError::NoMemory),
+            Err(e) => self.counted(Err(e)),
         }
-        self.folders.at(area).list_after(&after, out)?;
-        Ok(())
     }
 
     fn has(&mut self, area: Area, name: Name) -> Result<bool, HostError> {
         let path = self.path(area, name)?;
-        let found = fs::exists(&self.files, path.as_str());
+        let found = fs::exists(&self.system.files, &path);
         self.counted(found)
     }
 
     fn size(&mut self, area: Area, name: Name) -> Result<u64, HostError> {
         let path = self.path(area, name)?;
-        let size = fs::metadata(&self.files, path.as_str()).map(|file| file.len());
-        self.counted(size)
+        let file = fs::metadata(&self.system.files, &path);
+        self.counted(file.map(|file| file.len()))
     }
 
     fn read(
@@ -179,52 +134,55 @@ impl<F: Files<File = File> + Drop, P: Print + Drop> Host for FolderHost<F, P> {
         buf: &mut [u8],
     ) -> Result<usize, HostError> {
         let path = self.path(area, name)?;
-        let count = files::read(&self.files, path.as_str(), at, buf);
+        let count = self.system.read(path.as_str(), at, buf);
         self.counted(count)
     }
 
     fn create(&mut self, area: Area, name: Name) -> Result<(), HostError> {
         let path = self.path(area, name)?;
-        let made = self.make(area, path.as_str());
-        self.folders.at_mut(area).came(name, made.is_ok());
+        let folder = &mut self.folders[area as usize];
+        let made = self.system.create(area, path.as_str(), &folder.handle);
+        folder.came(name, made.is_ok());
         self.counted(made)
     }
 
     fn write_at(&mut self, area: Area, name: Name, at: u64, bytes: &[u8]) -> Result<(), HostError> {
         let path = self.path(area, name)?;
-        let written = files::write_at(&self.files, path.as_str(), at, bytes);
+        let written = self.system.write_at(path.as_str(), at, bytes);
         self.counted(written)
     }
 
     fn sync(&mut self, area: Area, name: Name) -> Result<(), HostError> {
         let path = self.path(area, name)?;
-        let synced = files::sync(&self.files, path.as_str());
+        let synced = self.system.sync_bytes(path.as_str());
         self.counted(synced)
     }
 
     fn rename(&mut self, area: Area, name: Name, to: Area, new: Name) -> Result<(), HostError> {
         let path = self.path(area, name)?;
         let onto = self.path(to, new)?;
-        let moved = self.relocate(area, path.as_str(), to, onto.as_str());
-        self.folders.at_mut(area).left(name, moved.is_ok());
-        self.folders.at_mut(to).came(new, moved.is_ok());
+        let folders = &self.folders;
+        let from = &folders[area as usize].handle;
+        let into = &folders[to as usize].handle;
+        let moved = self.system.rename(path.as_str(), from, onto.as_str(), into);
+        self.folders[area as usize].left(name, moved.is_ok());
+        self.folders[to as usize].came(new, moved.is_ok());
         self.counted(moved)
     }
 
     fn remove(&mut self, area: Area, name: Name) -> Result<(), HostError> {
         let path = self.path(area, name)?;
-        let removed = self.discard(area, path.as_str());
-        self.folders.at_mut(area).left(name, removed.is_ok());
+        let folder = &mut self.folders[area as usize];
+        let removed = self.system.remove(path.as_str(), &folder.handle);
+        folder.left(name, removed.is_ok());
         self.counted(removed)
     }
 
     fn tell(&mut self, bytes: &[u8]) -> Result<(), HostError> {
-        match self.output.write_all(bytes) {
-            Ok(()) => Ok(()),
-            Err(_) => {
-                self.tell_faults = self.tell_faults.saturating_add(1);
-                Err(HostError::Tell)
-            }
+        if self.output.write_all(bytes).is_ok() {
+            return Ok(());
         }
+        self.tell_faults = self.tell_faults.saturating_add(1);
+        Err(HostError::Tell)
     }
 }

@@ -7,6 +7,7 @@
 //! - What reads give of names when the host is opened is durable, since it syncs all folders. Bytes
 //!   that a killed process left unsynced are not: opening a spool syncs failure logs, and the first
 //!   sync of a message left in active comes before anything rests on its marks.
+//! - Folders are made for their owner alone (mode 700). One that is there already keeps its mode.
 //! - One process at a time: the root is locked (flock(2)) as long as the host lives.
 //!
 //! It is an error to change the files of these folders by hand while a host is open: names that it
@@ -14,11 +15,11 @@
 #![tactic(auto)]
 
 mod fault;
-mod files;
 mod folders;
 mod host;
 mod names;
 mod opening;
+mod system;
 
 pub use fault::OpenFault;
 pub use host::FolderHost;

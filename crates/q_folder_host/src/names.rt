@@ -1,5 +1,5 @@
 //! The names of a folder, in order.
-ghost use Rattle.std.specs.Prelude.{◌≡◌, ◌≤◌, ◌↔◌, [], length, OnOk, IsTrue};
+ghost use Rattle.std.specs.Prelude.{◌≤◌, ◌↔◌, length, OnOk, IsTrue};
 ghost use Rattle.q_host.specs.Reads.{IsAfter, Rise};
 
 use q_model::{Name, Names, NoMemory};
@@ -16,10 +16,8 @@ const PIECE: usize = 4096;
 // Adds the names that stand in these bytes, each ended by a NUL. A text that is no `Name`, as `.`
 // and `..`, is passed over.
 fn add_names(known: &mut BTreeSet<Name>, bytes: &[u8]) -> Result<(), AllocError> {
-    for text in bytes.split(|byte| *byte == 0) {
-        if let Some(name) = Name::new(text) {
-            known.insert(name)?;
-        }
+    for name in bytes.split(|byte| *byte == 0).filter_map(Name::new) {
+        known.insert(name)?;
     }
     Ok(())
 }
@@ -48,16 +46,16 @@ fn is_after(after: &Option<Name>, name: &Name) -> bool
     }
 }
 
-/// Puts the 64 least of the names after one, or all, into an empty list.
+/// Puts the 64 least of the names after one, or all, in place of what stood in `out`.
 pub(crate) fn list_names(
     known: &BTreeSet<Name>,
     after: &Option<Name>,
     out: &mut Names,
 ) -> Result<(), NoMemory>
-    requires { out.old ≡ [] }
     ensures form { OnOk result (Rise after.now out.new) }
     ensures few { OnOk result (length out.new ≤ 64) }
 {
+    out.clear();
     let mut last = *after;
     let start = after.map_or(Bound::Unbounded, Bound::Excluded);
     for name in known.range((start, Bound::Unbounded)) {

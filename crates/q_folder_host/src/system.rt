@@ -1,0 +1,106 @@
+//! The system's calls on files and folders. Those on bytes go on where a signal interrupts them
+//! (EINTR).
+ghost use Rattle.std.specs.Prelude.{◌≤◌, length, IfOk};
+ghost use Rattle.q_model.specs.FaultCounts.{Rose};
+
+use crate::folders::Folder;
+use crate::names::names_of;
+use q_model::Area;
+use std::alloc::Global;
+use std::fs::{File, OpenOptions};
+use std::io::ErrorKind;
+use std::os::unix::fs::FileExt;
+use std::rt::Files;
+use std::{fs, io};
+
+/// The system, and how often it was asked to sync a file or a folder.
+#[derive(Drop)]
+pub(crate) struct System<F: Files<File = File> + Drop> {
+    pub(crate) alloc: Global,
+    pub(crate) files: F,
+    pub(crate) syncs: u64,
+}
+
+impl<F: Files<File = File> + Drop> System<F> {
+    /// Makes durable what a file holds, or what was made, renamed and removed in a folder.
+    pub(crate) fn sync(&mut self, file: &File) -> io::Result<()>
+        ensures { Rose self.old.syncs self.new.syncs }
+    {
+        self.syncs = self.syncs.saturating_add(1);
+        file.sync_all()
+    }
+
+    /// Makes a file's bytes and its length durable.
+    pub(crate) fn sync_bytes(&mut self, path: &str) -> io::Result<()> {
+        let file = File::open(&self.files, path)?;
+        self.syncs = self.syncs.saturating_add(1);
+        file.sync_data()
+    }
+
+    /// Reads from an offset on until the buffer is full or the file ends.
+    pub(crate) fn read(&self, path: &str, at: u64, buf: &mut [u8]) -> io::Result<usize>
+        ensures within { IfOk result (λ count. count ≤ length buf.new) }
+    {
+        let file = File::open(&self.files, path)?;
+        let mut done = 0;
+        for _ in 0..u64::MAX {
+            if done >= buf.len() {
+                break;
+            }
+            match file.read_at(&mut buf[done..], at.saturating_add(done as u64)) {
+                Ok(0) => break,
+                Ok(count) => done += count,
+                Err(e) if e.kind() == ErrorKind::Interrupted => {}
+                Err(e) => return Err(e),
+            }
+        }
+        Ok(done)
+    }
+
+    /// Writes all bytes from an offset on, over what is there. No file is made.
+    pub(crate) fn write_at(&self, path: &str, at: u64, bytes: &[u8]) -> io::Result<()> {
+        let file = OpenOptions::new().write(true).open(&self.files, path)?;
+        file.write_all_at(bytes, at)
+    }
+
+    /// Reads the names that stand in a folder, where they aren't known.
+    pub(crate) fn list(&self, folder: &mut Folder) -> io::Result<()> {
+        if !folder.is_listed {
+            let mut listing = self.files.open_dir(folder.path.as_str())?;
+            folder.names = names_of(self.alloc, &mut listing)?;
+            folder.is_listed = true;
+        }
+        Ok(())
+    }
+
+    /// Makes an empty file, in place of any. It is synced, so that what stood there is gone for
+    /// sure; nothing rests on a file in tmp.
+    pub(crate) fn create(&mut self, area: Area, path: &str, folder: &File) -> io::Result<()> {
+        let file = File::create(&self.files, path)?;
+        if area == Area::Tmp {
+            return Ok(());
+        }
+        self.sync(&file)?;
+        self.sync(folder)
+    }
+
+    /// Moves a file. The new folder is synced first: until both are, a crash may leave the file in
+    /// both, never in none.
+    pub(crate) fn rename(
+        &mut self,
+        path: &str,
+        from: &File,
+        onto: &str,
+        into: &File,
+    ) -> io::Result<()> {
+        fs::rename(&self.files, path, onto)?;
+        self.sync(into)?;
+        self.sync(from)
+    }
+
+    /// Takes a file away.
+    pub(crate) fn remove(&mut self, path: &str, folder: &File) -> io::Result<()> {
+        fs::remove_file(&self.files, path)?;
+        self.sync(folder)
+    }
+}
