@@ -1,0 +1,4 @@
+pub mod Ordered
+pub mod Held
+pub mod Leading
+pub mod Reading

@@ -1,0 +1,5 @@
+pub mod Listed
+pub mod Orders
+pub mod Queues
+pub mod Steps
+pub mod Walks
