@@ -1,0 +1,18 @@
+use Rattle.std.proofs.Common.{◌≤◌, IsTrue, List, ℕ}
+use Rattle.q_host.specs.Calls.{Stays}
+use Rattle.q_model.specs.Message.{Message}
+use Rattle.q_pending.specs.Readings.{IsPendingAhead, IsReading}
+use Rattle.q_ages.proofs.AddingLaws.{HasLeft}
+use Rattle.q_ages.proofs.counting.count_recipients.Given as goal
+
+abbrev pub invariant-loop : goal.invariant-loop
+invariant-loop g l =
+    let view = g.H.Host.view in
+    let faults = g.H.Host.faults in
+    record {
+      reading : IsTrue g.H.Host.tells → IsReading (view l.fn.host).files l.pending;
+      left : IsTrue g.H.Host.tells → (m : Message) (positions : List ℕ) → IsPendingAhead (view l.fn.host).files m l.fn.pending positions → HasLeft (view l.fn.host).files m l.fn.age l.fn.table l.table l.pending positions;
+      stays : IsTrue g.H.Host.tells → Stays (view l.fn.host) (view l.host);
+      disk_later : (faults l.fn.host).disk ≤ (faults l.host).disk;
+      tell_later : (faults l.fn.host).tell ≤ (faults l.host).tell;
+    }

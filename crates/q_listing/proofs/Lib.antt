@@ -1,0 +1,5 @@
+mod CodeLaws
+mod MessageLaws
+mod RecipientLaws
+mod ToldLaws
+mod WholeFiles

@@ -1,0 +1,18 @@
+use Rattle.std.proofs.Common.{◌≤◌, IsTrue, List}
+use Rattle.q_model.specs.Book.{Book}
+use Rattle.q_model.specs.FilesStand.{Stands}
+use Rattle.q_model.specs.Message.{Message}
+use Rattle.q_walk.specs.Walks.{IsAhead}
+use Rattle.q_listing.proofs.MessageLaws.{AreToldTo}
+use Rattle.q_listing.proofs.listing.tell_messages.Given as goal
+
+abbrev pub invariant-loop-messages : goal.invariant-loop-messages
+invariant-loop-messages g l =
+    let view = g.H.Host.view in
+    let faults = g.H.Host.faults in
+    record {
+      told : IsTrue g.H.Host.tells → (b : Book) → (ms : List Message) → Stands (view l.fn.host).files b → IsAhead (view l.fn.host).files b l.fn.walk ms
+          → AreToldTo (view l.fn.host).files b ms l.walk l.messages l.recipients (view l.fn.host) (view l.host);
+      disk_later : (faults l.fn.host).disk ≤ (faults l.host).disk;
+      tell_later : (faults l.fn.host).tell ≤ (faults l.host).tell;
+    }
