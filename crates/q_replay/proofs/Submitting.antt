@@ -1,5 +1,5 @@
 -- A submission, item after item.
-use Rattle.std.proofs.Common.{◌≡◌, ◌≤◌, inl, inr, arith, ℕ, false, true, List, [], ◌∷◌, ◌++◌, Some, None, sym, ◌∙◌, subst}
+use Rattle.std.proofs.Common.{◌≡◌, ◌≤◌, inl, inr, arith, ℕ, false, true, List, [], ◌∷◌, ◌++◌, Some, None, sym, subst}
 use Rattle.std.specs.Prelude.{Err, IfErr, IfOk, Ok, Result}
 use Rattle.q_books.specs.HostStands.{HostStands, TellsCrashes}
 use Rattle.q_engine.specs.Stands.{EngineStands}

@@ -1,3 +1,4 @@
+pub mod DamagedSpools
 pub mod Listings
 pub mod Reading
 pub mod ReplayEnds

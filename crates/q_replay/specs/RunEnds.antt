@@ -1,6 +1,6 @@
 -- How a command ends that takes items through lives: what its answer says of them, and of what was
 -- told.
-use Rattle.std.specs.Prelude.{◌≡◌, ◌++◌, Err, List, Ok, Result, ℕ}
+use Rattle.std.specs.Prelude.{◌≡◌, ◌++◌, Err, List, Ok, Result}
 use Rattle.q_entries.specs.Runs.{HaltsRun, PlaysRun}
 use Rattle.q_host.specs.View.{View}
 use Rattle.q_host.specs.declared.error.HostError.{HostError}

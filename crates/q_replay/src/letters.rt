@@ -1,9 +1,10 @@
 //! One intake life, which takes one message.
-ghost use Rattle.std.specs.Prelude.{◌≡◌, ◌≤◌, IfErr, IfOk, IsTrue, length};
+ghost use Rattle.std.specs.Prelude.{◌≤◌, IsErrOf, IsTrue};
 ghost use Rattle.q_events.specs.Forms.{IsMailInForm};
 ghost use Rattle.q_host.specs.View.{Told};
 ghost use Rattle.q_model.specs.declared.event.Mode.TheVariants as modes;
 ghost use Rattle.q_params.specs.Ranges.{IsInRange};
+ghost use Rattle.q_replay.specs.DamagedSpools.{FindsDamage, NamesOnlyDamage};
 ghost use Rattle.q_replay.specs.ReplayEnds.{ForOrderly, IsFitSpool};
 ghost use Rattle.q_replay.specs.RunEnds.{RunEnds};
 ghost use Rattle.q_replay.specs.Submissions.{submitted};
@@ -48,6 +49,10 @@ pub fn submit<H: Host>(
     // How far it went, for each orderly book for which the host stood.
     ensures ends { Told H.tells H.view host.old host.new (λ v x. ForOrderly params table v (λ w b.
         RunEnds w modes.Intake b (submitted w b moment letter) v x result)) }
+    ensures no_source { IsErrOf result ReplayError.Source → ⊥ }
+    // A spool that shows a damage is found so, and nothing is changed; only a damage is called one.
+    ensures damaged { Told H.tells H.view host.old host.new (λ u v. FindsDamage u v result) }
+    ensures only_damaged { IsTrue H.tells → NamesOnlyDamage (H.view host.new) result }
     ensures cause { ReplayCause (H.faults host.old) (H.faults host.new) result }
 {
     let begun = begin_life(alloc, host, params, table, Mode::Intake, 0)?;

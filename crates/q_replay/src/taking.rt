@@ -8,6 +8,7 @@ ghost use Rattle.q_events.specs.declared.item.Item.TheVariants as items;
 ghost use Rattle.q_host.specs.View.{Told};
 ghost use Rattle.q_params.specs.Ranges.{IsInRange};
 ghost use Rattle.q_restart.specs.Damages.{IsUndamaged};
+ghost use Rattle.q_replay.specs.DamagedSpools.{FindsDamage, NamesOnlyDamage};
 ghost use Rattle.q_replay.specs.Takings.{BeginsAnew, GivesUpItem, GivesUpNext, NeverBegins, ReplayCause, TakesItem, TakesNext};
 
 use crate::error::{ReplayError, replay_error};
@@ -35,6 +36,8 @@ pub(crate) fn begin_life<H: Host>(
     ensures ready { IfOk result IsReady }
     ensures err { IfErr result (λ error. Told H.tells H.view host.old host.new
         (NeverBegins params table mode line error)) }
+    ensures damaged { Told H.tells H.view host.old host.new (λ u v. FindsDamage u v result) }
+    ensures only_damaged { IsTrue H.tells → NamesOnlyDamage (H.view host.new) result }
     ensures no_source { IsErrOf result ReplayError.Source → ⊥ }
     ensures cause { ReplayCause (H.faults host.old) (H.faults host.new) result }
 {

@@ -10,6 +10,7 @@ use Rattle.q_replay.specs.Submissions.{submitted}
 use Rattle.q_replay.proofs.Readings.{ledger_on}
 use Rattle.q_replay.proofs.Replaying.{IsGivenTo, may_begin, passed_as, some_given}
 use Rattle.q_replay.proofs.Submitting.{ends_so, gone_first, gone_further, gone_last, gone_up, never_gone, rose_later}
+use Rattle.q_replay.proofs.DamagedSpools.{ends_only, only_passed, refused_passed}
 use Rattle.q_replay.proofs.letters.submit.Goals as goal
 
 pub returns-in_err-begun-clause-ends : goal.returns-in_err-begun-clause-ends
@@ -118,3 +119,38 @@ returns-clause-cause g c =
       disk = λ is. rose_later _ (g.H.Host.faults c.hear-2.new.host).disk _ (omega (arith, first.disk_later, second.disk_later, third.disk_later)) (last.disk is);
       tell = λ is. rose_later _ (g.H.Host.faults c.hear-2.new.host).tell _ (omega (arith, first.tell_later, second.tell_later, third.tell_later)) (last.tell is);
     }
+
+pub returns-in_err-begun-clause-damaged : goal.returns-in_err-begun-clause-damaged
+returns-in_err-begun-clause-damaged g c t area name damage =
+    refused_passed (g.H.Host.view c.args.host.now) (g.H.Host.view c.begin_life.new.host) area name c.from_residual.result c.in_err-begun.field-0.0 c.from_residual.ensures.1 (c.in_err-begun.ensures.damaged t area name damage)
+
+pub returns-in_err-begun-clause-only_damaged : goal.returns-in_err-begun-clause-only_damaged
+returns-in_err-begun-clause-only_damaged g c t =
+    only_passed (g.H.Host.view c.begin_life.new.host) c.from_residual.result c.in_err-begun.field-0.0 c.from_residual.ensures.1 (c.in_err-begun.ensures.only_damaged t)
+
+pub returns-in_err-timed-clause-damaged : goal.returns-in_err-timed-clause-damaged
+returns-in_err-timed-clause-damaged g c t area name damage = absurd (c.in_ok-begun.ensures.undamaged t area name damage)
+
+pub returns-in_err-timed-clause-only_damaged : goal.returns-in_err-timed-clause-only_damaged
+returns-in_err-timed-clause-only_damaged g c t =
+    let u = g.H.Host.view c.args.host.now in
+    let (w, b, given) = some_given c.args.params c.args.table u (c.requires.spool t) (c.in_ok-begun.ensures.undamaged t) in
+    ends_only w Intake b (submitted w b c.args.moment c.args.letter) u (g.H.Host.view c.hear.new.host) c.from_residual-in_err-timed.result (returns-in_err-timed-clause-ends g c t b given.host given.orderly w given.settings given.table_is)
+
+pub returns-in_err-taken-clause-damaged : goal.returns-in_err-taken-clause-damaged
+returns-in_err-taken-clause-damaged g c t area name damage = absurd (c.in_ok-begun.ensures.undamaged t area name damage)
+
+pub returns-in_err-taken-clause-only_damaged : goal.returns-in_err-taken-clause-only_damaged
+returns-in_err-taken-clause-only_damaged g c t =
+    let u = g.H.Host.view c.args.host.now in
+    let (w, b, given) = some_given c.args.params c.args.table u (c.requires.spool t) (c.in_ok-begun.ensures.undamaged t) in
+    ends_only w Intake b (submitted w b c.args.moment c.args.letter) u (g.H.Host.view c.hear-2.new.host) c.from_residual-in_err-taken.result (returns-in_err-taken-clause-ends g c t b given.host given.orderly w given.settings given.table_is)
+
+pub returns-clause-damaged : goal.returns-clause-damaged
+returns-clause-damaged g c t area name damage = absurd (c.in_ok-begun.ensures.undamaged t area name damage)
+
+pub returns-clause-only_damaged : goal.returns-clause-only_damaged
+returns-clause-only_damaged g c t =
+    let u = g.H.Host.view c.args.host.now in
+    let (w, b, given) = some_given c.args.params c.args.table u (c.requires.spool t) (c.in_ok-begun.ensures.undamaged t) in
+    ends_only w Intake b (submitted w b c.args.moment c.args.letter) u (g.H.Host.view c.end.new.host) c.end.result (returns-clause-ends g c t b given.host given.orderly w given.settings given.table_is)

@@ -11,6 +11,7 @@ use Rattle.q_replay.specs.Takings.{NotTaken, TookItem}
 use Rattle.q_replay.specs.declared.error.ReplayError.TheVariants as errors
 use Rattle.q_replay.proofs.Readings.{ledger_on}
 use Rattle.q_replay.proofs.Replaying.{delivers, ends_done, ends_unbegun, ends_unread, ends_untaken, for_each, for_text, IsGivenTo, may_begin, passed_as, same_new, some_given, went_begins, went_on}
+use Rattle.q_replay.proofs.DamagedSpools.{none_only, only_passed, refused_passed, unread_only, untaken_only}
 use Rattle.q_replay.proofs.lists.replay.Goals as goal
 
 pub loop-item-init : goal.loop-item-init
@@ -22,6 +23,7 @@ loop-item-init g c =
     record {
       went = λ t w b given. went_begins w b u lawful given.host text c.in-Ok.events c.in_ok-engine.engine (g.H.Host.view c.begin_life.new.host) new (c.in_ok-engine.ensures.ok t w (opening Deliver b) (may_begin c.args.params c.args.table Deliver w b u given));
       some = λ t. some_given c.args.params c.args.table u (c.requires.spool t) (c.in_ok-engine.ensures.undamaged t);
+      whole = c.in_ok-engine.ensures.undamaged;
       ready = c.in_ok-engine.ensures.ready;
       going = ap (λ (e : EventsState). e.ended) new;
       disk_later = omega (arith, c.begin_life.ensures.cause.disk_later);
@@ -52,6 +54,7 @@ loop-item-preserved g c =
           went_on w b (text_left old.events.buffered (left old.source)) old.events old.invariant.going old.engine (view c.args.host.now) (view old.host) (left c.args.source.now)
           (text_left c.read_event.new.self.buffered (left c.read_event.new.source)) c.read_event.new.self c.in-Some.next (view c.take.new.host) item went c.in-Ok-read_event.ensures.exact more took;
       some = old.invariant.some;
+      whole = old.invariant.whole;
       ready = rw c.in-Some.is at c.in_ok-next.ensures.ready;
       going = c.in-Ok-read_event.ensures.ended ∙ more;
       disk_later = omega (arith, old.invariant.disk_later, c.take.ensures.cause.disk_later);
@@ -127,3 +130,36 @@ returns-in-Err-clause-cause g c =
       disk = λ is. let same : c.list_error.result ≡ errors.Disk = cc in absurd (c.list_error.ensures.no_disk same);
       tell = λ is. let same : c.list_error.result ≡ errors.Tell = cc in absurd (c.list_error.ensures.no_tell same);
     }
+
+pub returns-in_err-engine-clause-damaged : goal.returns-in_err-engine-clause-damaged
+returns-in_err-engine-clause-damaged g c t area name damage =
+    let v = g.H.Host.view c.args.host.now in
+    refused_passed v (g.H.Host.view c.begin_life.new.host) area name c.from_residual.result c.in_err-engine.field-0.0 c.from_residual.ensures.1 (c.in_err-engine.ensures.damaged t area name damage)
+
+pub returns-in_err-engine-clause-only_damaged : goal.returns-in_err-engine-clause-only_damaged
+returns-in_err-engine-clause-only_damaged g c t =
+    only_passed (g.H.Host.view c.begin_life.new.host) c.from_residual.result c.in_err-engine.field-0.0 c.from_residual.ensures.1 (c.in_err-engine.ensures.only_damaged t)
+
+pub returns-in-Err-clause-damaged : goal.returns-in-Err-clause-damaged
+returns-in-Err-clause-damaged g c t area name damage = absurd (c.loop-item.invariant.whole t area name damage)
+
+pub returns-in-Err-clause-only_damaged : goal.returns-in-Err-clause-only_damaged
+returns-in-Err-clause-only_damaged g c t = rw c.list_error.ensures.exact (unread_only (g.H.Host.view c.loop-item.host) c.in-Err.error)
+
+pub returns-in_err-next-clause-damaged : goal.returns-in_err-next-clause-damaged
+returns-in_err-next-clause-damaged g c t area name damage = absurd (c.loop-item.invariant.whole t area name damage)
+
+pub returns-in_err-next-clause-only_damaged : goal.returns-in_err-next-clause-only_damaged
+returns-in_err-next-clause-only_damaged g c t =
+    let old = c.loop-item in
+    let (w, b, given) = old.invariant.some t in
+    let went = old.invariant.went t w b given in
+    let error = c.in_err-next.field-0.0 in
+    only_passed {S = Unit {0}} (g.H.Host.view c.take.new.host) c.from_residual-in_err-next.result error c.from_residual-in_err-next.ensures.1
+    (untaken_only {T = Unit {0}} w (ledger_on w Deliver b went.items) c.in-Ok-read_event.item c.lines.result error (g.H.Host.view old.host) (g.H.Host.view c.take.new.host) (c.in_err-next.ensures.err t w (ledger_on w Deliver b went.items) went.stands given.settings (delivers w b went.items)))
+
+pub returns-in-None-clause-damaged : goal.returns-in-None-clause-damaged
+returns-in-None-clause-damaged g c t area name damage = absurd (c.loop-item.invariant.whole t area name damage)
+
+pub returns-in-None-clause-only_damaged : goal.returns-in-None-clause-only_damaged
+returns-in-None-clause-only_damaged g c t = none_only (g.H.Host.view c.take.new.host) tt

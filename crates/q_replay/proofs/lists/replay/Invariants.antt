@@ -4,6 +4,7 @@ use Rattle.q_events.specs.States.{text_left}
 use Rattle.q_model.specs.Book.{Book}
 use Rattle.q_model.specs.Settings.{World}
 use Rattle.q_replay.proofs.Replaying.{IsGivenTo, Went}
+use Rattle.q_restart.specs.Damages.{IsUndamaged}
 use Rattle.q_replay.proofs.lists.replay.Given as goal
 
 abbrev pub invariant-loop-item : goal.invariant-loop-item
@@ -16,6 +17,7 @@ invariant-loop-item g l =
       went : IsTrue g.H.Host.tells → (w : World) → (b : Book) → IsGivenTo l.params l.fn.table w b (view l.fn.host)
           → Went w b (left l.fn.source) (text_left l.events.buffered (left l.source)) l.events l.engine (view l.fn.host) (view l.host);
       some : IsTrue g.H.Host.tells → (w : World) × (b : Book) × IsGivenTo l.params l.fn.table w b (view l.fn.host);
+      whole : IsTrue g.H.Host.tells → IsUndamaged (view l.fn.host).files;
       ready : IsReady l.engine;
       going : l.events.ended ≡ false;
       disk_later : (faults l.fn.host).disk ≤ (faults l.host).disk;

@@ -2,6 +2,7 @@ use Rattle.std.proofs.Common.{refl}
 use Rattle.q_books.specs.HostStands.{TellsCrashes}
 use Rattle.q_engine.specs.Refusals.{refusal_of}
 use Rattle.q_engine.specs.declared.error.EngineError.TheVariants as engine_errors
+use Rattle.q_replay.proofs.DamagedSpools.{begun_damaged, begun_only, none_only, Unbegun}
 use Rattle.q_replay.proofs.Takings.{error_is, never_begins, took_life}
 use Rattle.q_restart.proofs.OneSight.{sound-undamaged}
 use Rattle.q_replay.proofs.taking.begin_life.Goals as goal
@@ -30,3 +31,37 @@ returns-in-Err-clause-err g c t w l may =
       limit = λ bound is. c.in-Err.ensures.limit bound (error_is error (engine_errors.Limit bound) is);
       orderly = λ below. c.in-Err.ensures.orderly t l.book may.host may.orderly below error refl;
     }))
+
+pub returns-in-Ok-clause-damaged : goal.returns-in-Ok-clause-damaged
+returns-in-Ok-clause-damaged g c t area name damage =
+    let whole = (c.in-Ok.ensures.opened t).whole in
+    absurd (sound-undamaged (g.H.Host.view c.args.host.now).files whole.boot whole.walk area name whole.shows whole.sound damage)
+
+pub returns-in-Ok-clause-only_damaged : goal.returns-in-Ok-clause-only_damaged
+returns-in-Ok-clause-only_damaged g c t = none_only (g.H.Host.view c.begin.new.host) c.in-Ok.engine
+
+pub returns-in-Err-clause-damaged : goal.returns-in-Err-clause-damaged
+returns-in-Err-clause-damaged g c t area name damage =
+    let v = g.H.Host.view c.args.host.now in
+    let x = g.H.Host.view c.begin.new.host in
+    let error = c.in-Err.error in
+    let u : Unbegun error v x = record {
+      kinds = c.in-Err.ensures.kinds error refl;
+      damage = λ a n is. c.in-Err.ensures.damaged t a n (error_is error (engine_errors.Damaged a n) is);
+      spent = λ bound is. c.in-Err.ensures.spent bound (error_is error (engine_errors.Limit bound) is) t;
+      untouched = λ of. c.in-Err.ensures.untouched error refl of t;
+    } in
+    rw c.replay_error.ensures.exact (begun_damaged v x c.args.line area name damage error u)
+
+pub returns-in-Err-clause-only_damaged : goal.returns-in-Err-clause-only_damaged
+returns-in-Err-clause-only_damaged g c t =
+    let v = g.H.Host.view c.args.host.now in
+    let x = g.H.Host.view c.begin.new.host in
+    let error = c.in-Err.error in
+    let u : Unbegun error v x = record {
+      kinds = c.in-Err.ensures.kinds error refl;
+      damage = λ a n is. c.in-Err.ensures.damaged t a n (error_is error (engine_errors.Damaged a n) is);
+      spent = λ bound is. c.in-Err.ensures.spent bound (error_is error (engine_errors.Limit bound) is) t;
+      untouched = λ of. c.in-Err.ensures.untouched error refl of t;
+    } in
+    rw c.replay_error.ensures.exact (begun_only v x c.args.line error u)
