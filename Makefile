@@ -1,11 +1,18 @@
-# Two commands on a machine that has the kit: `make demo` and `make test`.
+# Commands on a machine that has the kit: `make demo`, `make build`, `make test`.
 
-.PHONY: demo test
+.PHONY: demo build test
 
-# Builds the program (without proving it anew) and replays an event list on a fresh spool, showing
-# the trace.
+# Shows what the program does on a fresh spool in a folder of its own, before anything is proved. What
+# the tools say is kept apart, and shown where they fail.
 demo:
-	@cd crates/qmgr && rt try -- spool replay < ../../examples/first.events
+	@log=$$(mktemp) && if (cd crates/demo_spool && rt try) >$$log.out 2>$$log; \
+	then grep -v -e '^checked: ' -e '^run=' $$log.out; status=0; else cat $$log.out $$log; status=1; fi; \
+	rm -f $$log $$log.out; exit $$status
+
+# Proves what the program stands on, without tests and refused edits, and leaves it as build/qmgr.
+build:
+	cd crates/qmgr && rt run -- --version
+	mkdir -p build && cp crates/qmgr/out/qmgr build/qmgr
 
 # Proves everything and runs every test: the gate.
 test:

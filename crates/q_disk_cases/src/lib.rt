@@ -14,6 +14,8 @@ mod mem_host;
 #[cfg(test)]
 mod names;
 #[cfg(test)]
+mod new_logs;
+#[cfg(test)]
 mod queue_files;
 #[cfg(test)]
 mod recipients;

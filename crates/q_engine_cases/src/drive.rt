@@ -4,15 +4,14 @@ ghost use Rattle.q_engine.specs.Stands.{IsReady};
 ghost use Rattle.q_events.specs.Forms.{IsItemInForm};
 ghost use Rattle.q_params.specs.Ranges.{IsInRange};
 
-use crate::silent_host::SilentHost;
 use q_engine::{Engine, EngineError, begin};
 use q_events::{EventError, Events, Item};
 use q_model::{Mode, NoMemory};
 use q_params::{Params, read_params};
+use q_silent_host::SilentHost;
 use q_stream::MemSource;
 use q_transport::{Table, read_table};
 use std::alloc::{AllocError, Global};
-use std::test::Fail;
 
 /// Why a list doesn't go to its end.
 #[derive(Clone, Copy, Debug, PartialEq, Eq)]
@@ -129,27 +128,6 @@ pub(crate) fn live(
     let table = table_of(alloc, table)?;
     let engine = begin(alloc, host, params, table, Mode::Deliver)?;
     turns(alloc, host, params, engine, source)
-}
-
-/// Takes a list through lives on a host, to its end.
-pub(crate) fn play(
-    alloc: Global,
-    host: &mut SilentHost,
-    settings: &str,
-    list: &str,
-) -> Result<(), Stop> {
-    let mut source = MemSource::new(alloc, list.as_bytes(), 4096, &[])?;
-    let engine = live(alloc, host, settings, "", &mut source)?;
-    engine.finish(alloc, host)?;
-    Ok(())
-}
-
-/// The same of a list that is taken to its end.
-pub(crate) fn play_through(alloc: Global, host: &mut SilentHost, list: &str) -> Result<(), Fail> {
-    match play(alloc, host, "", list) {
-        Ok(()) => Ok(()),
-        Err(_) => Err(Fail::from("a list that stops")),
-    }
 }
 
 /// The reply that all recipients of the delivery were reached, as a list says it.

@@ -1,10 +1,9 @@
 //! The three looks, each where memory is ample.
-use crate::silent_host::SilentHost;
-use crate::spools::{FILE, FIRST, SECOND, name};
 use q_core::{Core, FileFacts, Found};
 use q_look::{look_active, look_deferred, look_incoming};
 use q_model::{Area, DeferredName, Id, Mode, Moment};
 use q_params::Params;
+use q_silent_host::{FILE, FIRST, SECOND, SilentHost, name};
 use std::alloc::Global;
 use std::process::Abort;
 use std::test::Fail;

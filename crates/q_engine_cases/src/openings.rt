@@ -1,8 +1,8 @@
 //! Damages of a spool, by the name that is at fault.
-use crate::spools::{BOUNCE, FIRST, name};
 use q_mem_host::MemHost;
 use q_model::Area;
 use q_restart::open_spool;
+use q_silent_host::{BOUNCE, FIRST, name};
 use std::alloc::Global;
 use std::test::Fail;
 

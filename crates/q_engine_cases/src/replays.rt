@@ -3,9 +3,9 @@ ghost use Rattle.std.specs.Prelude.{IfOk};
 ghost use Rattle.q_events.specs.Forms.{IsMailInForm};
 
 use crate::drive::{Stop, params_of, table_of};
-use crate::silent_host::SilentHost;
 use q_model::{Address, Addresses, Bytes};
 use q_replay::{Letter, ReplayError, replay, submit};
+use q_silent_host::SilentHost;
 use q_stream::MemSource;
 use std::alloc::Global;
 use std::test::Fail;

@@ -1,7 +1,7 @@
 //! A walk of more names than are listed at once.
-use crate::silent_host::SilentHost;
 use q_model::{Area, Id, Name, due_name};
 use q_scan::Scan;
+use q_silent_host::SilentHost;
 use std::alloc::Global;
 use std::test::Fail;
 

@@ -1,11 +1,10 @@
 //! The calls that change a spool, each where memory is ample.
-use crate::silent_host::SilentHost;
-use crate::spools::{FILE, FIRST, name, places};
 use q_files::{
     drop_notes, mark, mark_place, move_to, remove, store_failure, store_note, submit, sync_marks,
 };
 use q_message::read_head;
 use q_model::{Address, Addresses, Area, Failure, Head, Id, Note, Spot, Why};
+use q_silent_host::{FILE, FIRST, SilentHost, name, places};
 use std::alloc::Global;
 use std::process::Abort;
 use std::test::Fail;

@@ -1,12 +1,20 @@
--- The number of each status, and the status of a refusal of the host or of a reader of events.
-use Rattle.std.specs.Prelude.{ℕ}
+-- The number of each status, and the status by which a command ends.
+use Rattle.std.specs.Prelude.{Err, Ok, Result, ℕ}
+use Rattle.q_conf.specs.declared.error.ConfError.{ConfError}
+use Rattle.q_conf.specs.declared.error.ConfError.TheVariants as conf_errors
+use Rattle.q_conf.specs.declared.error.ConfFile.{ConfFile}
+use Rattle.q_conf.specs.declared.error.ConfFile.TheVariants as conf_files
+use Rattle.q_events.specs.declared.error.Bound.TheVariants as bounds
 use Rattle.q_host.specs.declared.error.HostError.{HostError}
-use Rattle.q_host.specs.declared.error.HostError.TheVariants as errors
-use Rattle.q_events.specs.declared.error.EventError.{EventError}
-use Rattle.q_events.specs.declared.error.EventError.TheVariants as event_errors
-use Rattle.q_top.specs.declared.status.InputFile.TheVariants.{Events}
+use Rattle.q_host.specs.declared.error.HostError.TheVariants as faults
+use Rattle.q_replay.specs.declared.error.ReplayError.{ReplayError}
+use Rattle.q_replay.specs.declared.error.ReplayError.TheVariants as errors
+use Rattle.q_top.specs.declared.content.ContentError.{ContentError}
+use Rattle.q_top.specs.declared.content.ContentError.TheVariants as content_errors
+use Rattle.q_top.specs.declared.status.InputFile.{InputFile}
+use Rattle.q_top.specs.declared.status.InputFile.TheVariants.{Events, Parameters, Table}
 use Rattle.q_top.specs.declared.status.Status.{Status}
-use Rattle.q_top.specs.declared.status.Status.TheVariants.{Done, Usage, BadInput, Disk, Tell, Source, Damaged, Limit, NoMemory}
+use Rattle.q_top.specs.declared.status.Status.TheVariants.{BadInput, Damaged, Disk, Done, Limit, NoMemory, Source, Tell, Usage}
 
 -- the exit status of a program
 abbrev pub status_number : Status → ℕ
@@ -20,15 +28,41 @@ status_number (Damaged area name) = 6
 status_number (Limit bound) = 8
 status_number NoMemory = 9
 
--- how a command ends where the host refused a call
-abbrev pub status_of : HostError → Status
-status_of errors.Disk = Disk
-status_of errors.Tell = Tell
-status_of errors.NoMemory = NoMemory
+-- how a command ends whose lives ended so
+abbrev pub replay_status : ReplayError → Status
+replay_status errors.Disk = Disk
+replay_status errors.Tell = Tell
+replay_status errors.Source = Source
+replay_status errors.NoMemory = NoMemory
+replay_status (errors.BadEvent line) = BadInput Events line
+replay_status (errors.Limit bound) = Limit bound
+replay_status (errors.Damaged area name) = Damaged area name
 
--- how a replay ends where there is no next item
-abbrev pub unread : EventError → Status
-unread event_errors.NoMemory = NoMemory
-unread event_errors.Source = Source
-unread (event_errors.BadEvent line) = BadInput Events line
-unread (event_errors.Limit bound) = Limit bound
+-- how a command ends by how lives ended
+abbrev pub status_of : Result (Unit {0}) ReplayError → Status
+status_of (Ok done) = Done
+status_of (Err error) = replay_status error
+
+-- a file of conf among the files of input
+abbrev pub input_of : ConfFile → InputFile
+input_of conf_files.Parameters = Parameters
+input_of conf_files.Table = Table
+
+-- how a command ends that can't go by the files of conf
+abbrev pub conf_status : ConfError → Status
+conf_status conf_errors.Disk = Disk
+conf_status conf_errors.NoMemory = NoMemory
+conf_status (conf_errors.BadLine file line) = BadInput (input_of file) line
+
+-- how a command ends that only tells
+abbrev pub telling_status : Result (Unit {0}) HostError → Status
+telling_status (Ok done) = Done
+telling_status (Err faults.Disk) = Disk
+telling_status (Err faults.Tell) = Tell
+telling_status (Err faults.NoMemory) = NoMemory
+
+-- how a command ends that has no content
+abbrev pub content_status : ContentError → Status
+content_status content_errors.TooLong = Limit bounds.Content
+content_status content_errors.Source = Source
+content_status content_errors.NoMemory = NoMemory

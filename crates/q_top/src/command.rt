@@ -1,94 +1,97 @@
-//! The words of a command, and what each does.
-ghost use Rattle.std.specs.Prelude.{◌≡◌, IsFalse};
-ghost use Rattle.q_model.specs.FaultCounts.{Rose};
-ghost use Rattle.q_top.specs.Commands.{is_replay, texts};
-ghost use Rattle.q_top.specs.Qmgr.{AnswersByText, EndsAsSaid, EndsOnBook, IsRunWhenDone, IsUsage, LeavesBook, NamesFaultyConf, NamesFirstFile, TurnsAway};
+//! A command, from its words to its status.
+ghost use Rattle.std.specs.Prelude.{◌≡◌, ◌≢◌, IsTrue, false, true};
+ghost use Rattle.q_host.specs.View.{Told};
+ghost use Rattle.q_replay.specs.ReplayEnds.{IsFitSpool};
+ghost use Rattle.q_top.specs.Causes.{HasHostCause, HasSourceCause};
+ghost use Rattle.q_top.specs.Courses.{Moments, Texts};
+ghost use Rattle.q_top.specs.Qmgr.{Does, HasForm, MayCarryOut, RefusesWords, texts_of, words_status};
+ghost use Rattle.q_words.specs.Requests.{IsRequest};
+ghost use Rattle.q_words.specs.Usages.{is_usage};
 
-use crate::conf::read_conf;
-use crate::replay::replay;
-use crate::spool::first_file;
-use crate::status::{Status, status_of};
+use crate::replaying::replay_list;
+use crate::status::Status;
+use crate::submitting::submit_content;
+use crate::telling::{list_queues, table_ages};
 use q_host::Host;
-use q_stream::Source;
+use q_stream::{Clock, Source};
+use q_words::{Request, WordsError, read_words};
 use std::alloc::Global;
 
-/// Whether the words are `replay` alone.
-fn is_replay(words: &[String]) -> bool
-    ensures { result ≡ is_replay (texts words.now) }
+/// The status of words that are refused, or that memory is wanting for.
+fn words_status(error: WordsError) -> Status
+    ensures { result ≡ words_status error }
 {
-    let [word] = words else {
-        return false;
-    };
-    word.as_str() == "replay"
+    match error {
+        WordsError::NoMemory => Status::NoMemory,
+        _ => Status::Usage,
+    }
+}
+
+/// Carries out what the words ask for.
+fn carry_out<H: Host, S: Source, C: Clock>(
+    alloc: Global,
+    request: Request,
+    source: &mut S,
+    host: &mut H,
+    clock: &mut C,
+) -> Status
+    requires form { HasForm request }
+    requires spool { IsTrue H.tells → IsFitSpool (H.view host.old) }
+    ensures does { Told H.tells H.view host.old host.new (Does request
+        (record { before = S.left source.old; after = S.left source.new })
+        (record { before = C.given clock.old; after = C.given clock.new }) result) }
+    ensures host { HasHostCause (H.faults host.old) (H.faults host.new) result }
+    ensures source { HasSourceCause (S.faults source.old) (S.faults source.new) result }
+    ensures no_usage { result ≢ Status.Usage }
+{
+    match request {
+        Request::Replay => replay_list(alloc, source, host),
+        Request::Submit { sender, to } => submit_content(alloc, source, host, clock, sender, to),
+        Request::Qshape(table) => table_ages(alloc, host, clock, &table),
+        Request::Queue => list_queues(alloc, host),
+    }
 }
 
 /// Runs a command on the spool of a host.
 ///
-/// The one command so far is `replay`: it reads the files `params` and `transport` of conf, then an
-/// event list from the source, takes its events through the spool, and tells each decision. A
-/// missing file of conf says as much as an empty one. The spool has to be empty: no generation, no
-/// message in `incoming`, `active`, `deferred`, `hold` or `corrupt`. Each line of the trace is
-/// told after the disk holds what it says, so what was told before a refusal stands.
+/// `replay` reads the files `params` and `transport` of conf, then an event list from the source,
+/// and takes its events through lives on the spool; each line of the trace is told after the disk
+/// holds what it says. `submit SENDER RECIPIENT..` reads a message's content from the source, then the files of
+/// conf, and takes the message in at the clock's moment. A missing file of conf says as much as an
+/// empty one. `queue` tells the listing of the queues, `qshape` the ages of their mail; these two read no
+/// conf, begin no life and change nothing.
 ///
-/// `Usage` comes for other words, then `BadInput` for the first fault of the parameters, then of the
-/// table, and then `Damaged` for a spool that isn't empty, with its first file: all three before
-/// the source is read or anything is changed. On a host that doesn't tell its files `Damaged` comes
-/// also for a message that was admitted and can't be read again. Of the list `BadInput` names the
-/// first line that is none of an event list or whose event can't be taken, or the one behind the
-/// last where `end` is missing; `Limit` comes where it goes on behind its first 2^40 bytes. `Disk`,
-/// `Tell` and `Source` come where the host or the source failed, `NoMemory` where memory ran out.
-pub fn qmgr<H: Host, S: Source>(
+/// `Usage` comes for words that are none of a command. Of `submit`, `Limit` of content comes next.
+/// Then `BadInput` names the first fault of the parameters, then of the table; `Damaged` the file for
+/// which the spool can't be opened, and `Limit` of generation says that no life is left: in all these
+/// nothing is changed or told. Of an event list `BadInput` names the first line that is none of one or
+/// whose event can't be taken, or the one behind the last where `end` is missing; `Limit` says which
+/// limit an event passes. `Disk`, `Tell` and `Source` come where the host or the source failed,
+/// `NoMemory` where memory ran out. What was told before a refusal stands on disk.
+pub fn qmgr<H: Host, S: Source, C: Clock>(
     alloc: Global,
     words: &[String],
     source: &mut S,
     host: &mut H,
+    clock: &mut C,
 ) -> Status
-    // Where the parameters or the table are at fault, their first faulty line is named, and nothing
-    // else is read, told or changed.
-    ensures conf { NamesFaultyConf H.tells H.view host.old host.new
-        (texts words.now) source.old source.new result }
-    // Else all that follows goes by them. With `Done` the source's bytes are an event list, and its
-    // run was told.
-    ensures done { IsRunWhenDone H.tells H.view host.old host.new
-        (texts words.now) (S.left source.old) result }
-    // How far each other status says that the run went.
-    ensures ends { EndsAsSaid H.tells H.view host.old host.new (texts words.now)
-        S.left source.old source.new result }
-    // At its end the files stand for the book after the entries that were told, or after these and
-    // the next one.
-    ensures book { EndsOnBook H.tells H.view host.old host.new
-        (texts words.now) (S.left source.old) }
-    // A crash at any moment leaves such files too, but for marks that weren't synced, and no part
-    // of a line whose entry the files don't have.
-    ensures any_moment { LeavesBook H.tells H.view host.old host.new
-        (texts words.now) (S.left source.old) }
-    // Where nothing fails, the text alone says how the replay ends, if memory suffices.
-    ensures answers { AnswersByText H.tells (H.view host.old).files (texts words.now)
-        (S.left source.old) result }
-    ensures usage { IsFalse (is_replay (texts words.now))
-        → IsUsage host.old host.new source.old source.new result }
-    ensures only_usage { result ≡ Status.Usage → IsFalse (is_replay (texts words.now)) }
-    // A spool with a file in an area that is looked at is turned away.
-    ensures in_the_way { TurnsAway H.tells H.view host.old host.new
-        (texts words.now) source.old source.new result }
-    ensures only_in_the_way { NamesFirstFile H.tells (H.view host.old).files result }
-    ensures disk { result ≡ Status.Disk → Rose (H.faults host.old).disk (H.faults host.new).disk }
-    ensures tell { result ≡ Status.Tell → Rose (H.faults host.old).tell (H.faults host.new).tell }
-    ensures source { result ≡ Status.Source → Rose (S.faults source.old) (S.faults source.new) }
+    // Where the host tells its files, they stand for an orderly book, or show a damage.
+    requires spool { IsTrue H.tells → IsFitSpool (H.view host.old) }
+    // Words are refused that break the form of their command, and nothing else is.
+    ensures usage { is_usage (texts_of words.now) ≡ true
+        → RefusesWords host.old host.new source.old source.new clock.old clock.new result }
+    ensures only_usage { result ≡ Status.Usage → is_usage (texts_of words.now) ≡ true }
+    // Else the command that they ask for is carried out as its definition says.
+    ensures carries_out { is_usage (texts_of words.now) ≡ false
+        → Told H.tells H.view host.old host.new (MayCarryOut (texts_of words.now)
+        (record { before = S.left source.old; after = S.left source.new })
+        (record { before = C.given clock.old; after = C.given clock.new }) result) }
+    // A fault comes only where its count rose.
+    ensures host { HasHostCause (H.faults host.old) (H.faults host.new) result }
+    ensures source { HasSourceCause (S.faults source.old) (S.faults source.new) result }
 {
-    if !is_replay(words) {
-        return Status::Usage;
-    }
-    let conf = match read_conf(alloc, host) {
-        Ok(conf) => conf,
-        Err(status) => return status,
-    };
-    match first_file(alloc, host) {
-        Ok(None) => replay(alloc, source, host, &conf),
-        Ok(Some(spot)) => Status::Damaged {
-            area: spot.area,
-            name: spot.name,
-        },
-        Err(error) => status_of(error),
+    match read_words(alloc, words) {
+        Ok(request) => carry_out(alloc, request, source, host, clock),
+        Err(error) => words_status(error),
     }
 }

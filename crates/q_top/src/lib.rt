@@ -1,17 +1,17 @@
-//! The commands of the queue manager. So far `replay` alone: it takes an event list with one
-//! message to one recipient through a spool that is empty.
+//! The commands of the queue manager on a spool: `submit` and `replay` run lives, `qshape` and `queue`
+//! look at what the queues hold.
+//!
+//! `qmgr` reads the words of a command and carries it out. It is no error to give any words, text or
+//! files of conf: what is wrong with them is a status of its own. On a host that tells its files, the
+//! spool has to be one that lives may be begun on, or one that shows a damage.
 #![tactic(auto)]
 
 mod command;
-mod conf;
-mod life;
-mod load;
-mod queue_file;
-mod replay;
-mod spool;
+mod content;
+mod replaying;
 mod status;
-mod step;
-mod tell;
+mod submitting;
+mod telling;
 
 pub use command::qmgr;
 pub use q_events::Bound;

@@ -1,29 +1,35 @@
 //! How a command ended.
-ghost use Rattle.std.specs.Prelude.{◌≡◌};
-ghost use Rattle.q_top.specs.Statuses.{status_number, status_of, unread};
+ghost use Rattle.std.specs.Prelude.{◌≡◌, ◌≢◌};
+ghost use Rattle.q_top.specs.Statuses.{conf_status, input_of, replay_status, status_number, status_of, telling_status};
 
-use q_events::{Bound, EventError};
+use q_conf::{ConfError, ConfFile};
+use q_events::Bound;
 use q_host::HostError;
 use q_model::{Area, Name};
+use q_replay::ReplayError;
 use std::fmt;
 
 /// A file of input that has a grammar.
 #[derive(Clone, Copy, Debug, PartialEq, Eq)]
 pub enum InputFile {
+    /// The event list, from the source.
     Events,
+    /// The parameters, in the file `params` of conf.
     Parameters,
+    /// The transport table, in the file `transport` of conf.
     Table,
 }
 
 /// How a command ended. Everything but `Done` is a refusal.
-#[derive(Debug, Drop)]
+#[derive(Clone, Copy, Debug, PartialEq, Eq)]
 pub enum Status {
-    /// The input was read through `end`, and all text was told.
+    /// The input was read through `end`, or to its end, and all text was told.
     Done,
-    /// The words are no command.
+    /// The words are no command, or break its form.
     Usage,
     /// The file leaves its grammar at this line (counted from 1), or a reply names no delivery in
-    /// flight, an event comes before the first `at`, or the list lacks its `end`.
+    /// flight or has a wrong number of outcomes, an event comes before the first `at` of its life, or
+    /// the list lacks its `end`.
     BadInput { file: InputFile, line: u64 },
     /// A call on the disk failed.
     Disk,
@@ -31,10 +37,9 @@ pub enum Status {
     Tell,
     /// A call on the input failed.
     Source,
-    /// The spool isn't one that this program can open. This is the first file that stands in the
-    /// way.
+    /// The spool can't be opened: this name in this area is at fault.
     Damaged { area: Area, name: Name },
-    /// This limit was reached: the list has more than 2^40 bytes, and no `end` in them.
+    /// This limit was reached.
     Limit { bound: Bound },
     /// Memory ran out.
     NoMemory,
@@ -59,29 +64,70 @@ impl Status {
     }
 }
 
-/// The status of a refusal of the host.
-pub(crate) fn status_of(error: HostError) -> Status
-    ensures { result ≡ status_of error }
+/// How a command ends whose lives ended so.
+fn replay_status(error: ReplayError) -> Status
+    ensures exact { result ≡ replay_status error }
+    ensures no_usage { result ≢ Status.Usage }
 {
     match error {
-        HostError::Disk => Status::Disk,
-        HostError::Tell => Status::Tell,
-        HostError::NoMemory => Status::NoMemory,
-    }
-}
-
-/// The status where a list has no next item.
-pub(crate) fn unread(error: EventError) -> Status
-    ensures { result ≡ unread error }
-{
-    match error {
-        EventError::NoMemory => Status::NoMemory,
-        EventError::Source => Status::Source,
-        EventError::BadEvent { line } => Status::BadInput {
+        ReplayError::Disk => Status::Disk,
+        ReplayError::Tell => Status::Tell,
+        ReplayError::Source => Status::Source,
+        ReplayError::NoMemory => Status::NoMemory,
+        ReplayError::BadEvent { line } => Status::BadInput {
             file: InputFile::Events,
             line,
         },
-        EventError::Limit { bound } => Status::Limit { bound },
+        ReplayError::Limit { bound } => Status::Limit { bound },
+        ReplayError::Damaged { area, name } => Status::Damaged { area, name },
+    }
+}
+
+/// How a command ends by how lives ended.
+pub(crate) fn status_of(end: Result<(), ReplayError>) -> Status
+    ensures exact { result ≡ status_of end }
+    ensures no_usage { result ≢ Status.Usage }
+{
+    match end {
+        Ok(()) => Status::Done,
+        Err(error) => replay_status(error),
+    }
+}
+
+fn input_of(file: ConfFile) -> InputFile
+    ensures { result ≡ input_of file }
+{
+    match file {
+        ConfFile::Parameters => InputFile::Parameters,
+        ConfFile::Table => InputFile::Table,
+    }
+}
+
+/// How a command ends that can't go by the files of conf.
+pub(crate) fn conf_status(error: ConfError) -> Status
+    ensures exact { result ≡ conf_status error }
+    ensures no_usage { result ≢ Status.Usage }
+{
+    match error {
+        ConfError::Disk => Status::Disk,
+        ConfError::NoMemory => Status::NoMemory,
+        ConfError::BadLine { file, line } => Status::BadInput {
+            file: input_of(file),
+            line,
+        },
+    }
+}
+
+/// How a command ends that only tells.
+pub(crate) fn telling_status(told: Result<(), HostError>) -> Status
+    ensures exact { result ≡ telling_status told }
+    ensures no_usage { result ≢ Status.Usage }
+{
+    match told {
+        Ok(()) => Status::Done,
+        Err(HostError::Disk) => Status::Disk,
+        Err(HostError::Tell) => Status::Tell,
+        Err(HostError::NoMemory) => Status::NoMemory,
     }
 }
 

@@ -1,36 +1,82 @@
-//! The queue manager: `qmgr SPOOL replay` replays the event list of standard input on the spool
-//! and shows the trace.
+//! The queue manager: `qmgr SPOOL COMMAND ..` runs a command on the spool in a folder. Standard input
+//! has what the command reads, standard output is what it tells, and standard error says why it ends
+//! with another status than 0.
 //!
-//! The spool is one in memory so far: the word that names it is passed over, and each run begins
-//! with an empty one.
+//! The folder is locked while the command runs, so that a second process is refused.
 #![tactic(auto)]
 
-#[cfg(test)]
-mod log_tests;
-#[cfg(test)]
-mod tests;
+mod help;
 
-use q_mem_host::MemHost;
-use q_stream::StdSource;
+use help::{HELP, USAGE, VERSION};
+use q_folder_host::{FolderHost, OpenFault};
+use q_stream::{RealClock, StdSource};
 use q_top::{Status, qmgr};
+use q_words::read_words;
 use std::process::ExitCode;
 use std::{env, io};
 
-/// The place of the command among the words: behind the program's name and the spool.
-const COMMAND: usize = 2;
+/// Says why words are refused, with the usage of their command.
+fn explain(rt: HostRuntime, words: &[String]) -> io::Result<()> {
+    match read_words(rt.alloc(), words) {
+        Ok(_) => Ok(()),
+        Err(error) => eprintln!(rt; "{error}"),
+    }
+}
+
+/// Says why a command ended as it did, and answers the exit status.
+fn report(rt: HostRuntime, words: &[String], status: Status) -> io::Result<u8> {
+    if status != Status::Done {
+        eprintln!(rt; "qmgr: {status}")?;
+    }
+    if status == Status::Usage {
+        explain(rt, words)?;
+    }
+    Ok(status.number())
+}
+
+/// Says why a folder can't be a spool, and answers the exit status.
+fn refuse(rt: HostRuntime, fault: OpenFault) -> io::Result<u8> {
+    let status = match fault {
+        OpenFault::NoMemory(_) => Status::NoMemory,
+        _ => Status::Disk,
+    };
+    eprintln!(rt; "qmgr: {status}: {fault}")?;
+    Ok(status.number())
+}
+
+/// Runs a command on the spool in a folder.
+fn run(rt: HostRuntime, folder: &str, words: &[String]) -> io::Result<u8> {
+    let mut host = match FolderHost::open(rt.alloc(), rt, rt, folder) {
+        Ok(host) => host,
+        Err(fault) => return refuse(rt, fault),
+    };
+    let mut source = StdSource::new(rt.reader());
+    let mut clock = RealClock::new(rt);
+    let status = qmgr(rt.alloc(), words, &mut source, &mut host, &mut clock);
+    report(rt, words, status)
+}
+
+/// Runs what the words of the program say, and answers the exit status.
+fn obey(rt: HostRuntime, words: &[String]) -> io::Result<u8> {
+    let Some((first, rest)) = words.split_first() else {
+        eprintln!(rt; "qmgr: wrong words\n{USAGE}")?;
+        return Ok(Status::Usage.number());
+    };
+    if !rest.is_empty() {
+        return run(rt, first.as_str(), rest);
+    }
+    match first.as_str() {
+        "--help" => println!(rt; "{HELP}")?,
+        "--version" => println!(rt; "{VERSION}")?,
+        folder => return run(rt, folder, rest),
+    }
+    Ok(Status::Done.number())
+}
 
 fn main(rt: HostRuntime) -> io::Result<ExitCode> {
     let mut words = Vec::new(rt.alloc());
-    for word in env::args(&rt)?.skip(COMMAND) {
+    for word in env::args(&rt)?.skip(1) {
         words.push(word)?;
     }
-    let mut source = StdSource::new(rt.reader());
-    let mut host = MemHost::new(rt.alloc());
-    let status = qmgr(rt.alloc(), &words, &mut source, &mut host);
-    rt.write_all(host.told())?;
-    let number = status.number();
-    if number != 0 {
-        eprintln!(rt; "qmgr: {status}")?;
-    }
-    Ok(ExitCode::from(number))
+    Ok(ExitCode::from(obey(rt, &words)?))
 }

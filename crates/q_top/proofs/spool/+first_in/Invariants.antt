@@ -1,5 +1,0 @@
-use Rattle.std.proofs.Common.{length}
-use Rattle.q_top.proofs.spool.+first_in.Given as goal
-
-abbrev pub decreases-first_in : goal.decreases-first_in
-decreases-first_in g l = length l.areas.now

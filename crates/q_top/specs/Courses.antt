@@ -1,0 +1,26 @@
+-- What a command found, and what it left.
+use Rattle.std.specs.Prelude.{◌≡◌, List, Option, true, ℕ}
+use Rattle.q_books.specs.HostStands.{HostStands}
+use Rattle.q_conf.specs.Confs.{conf_of, goes_by}
+use Rattle.q_host.specs.View.{View}
+use Rattle.q_model.specs.Book.{Book}
+use Rattle.q_model.specs.Orderly.{is_orderly}
+use Rattle.q_model.specs.Settings.{World}
+
+-- what a source had left, and has left now
+pub record Texts : Type 0 where
+  pub before : Option (List ℕ)
+  pub after : Option (List ℕ)
+
+-- the moments that a clock had given, and has given now
+pub record Moments : Type 0 where
+  pub before : Option (List ℕ)
+  pub after : Option (List ℕ)
+
+-- in the world that the files of conf say to go by
+abbrev pub InWorld : View → (World → Type 0) → Type 0
+InWorld u says = (w : World) → conf_of u.files ≡ goes_by w → says w
+
+-- and of each orderly book for which the host stands
+abbrev pub ForBooks : View → (World → Book → Type 0) → Type 0
+ForBooks u says = InWorld u (λ w. (b : Book) → HostStands u b → is_orderly b ≡ true → says w b)

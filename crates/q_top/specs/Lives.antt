@@ -1,0 +1,108 @@
+-- How a command ends that runs lives, by its status.
+use Rattle.std.specs.Prelude.{◌≡◌, ◌<◌, ◌≤◌, ◌⊎◌, IfSome, length, List, Option, Result, ℕ}
+use Rattle.q_conf.specs.Confs.{at_fault, conf_of}
+use Rattle.q_conf.specs.declared.error.ConfFile.{ConfFile}
+use Rattle.q_events.specs.declared.error.Bound.TheVariants.{Content}
+use Rattle.q_host.specs.Calls.{Stays}
+use Rattle.q_host.specs.View.{View}
+use Rattle.q_model.specs.Book.{Book}
+use Rattle.q_model.specs.Settings.{World}
+use Rattle.q_model.specs.declared.event.Mode.TheVariants.{Intake}
+use Rattle.q_model.specs.declared.spot.Area.{Area}
+use Rattle.q_replay.specs.ReplayEnds.{ReplayEnds}
+use Rattle.q_replay.specs.RunEnds.{RunEnds}
+use Rattle.q_replay.specs.Submissions.{submitted}
+use Rattle.q_replay.specs.declared.error.ReplayError.{ReplayError}
+use Rattle.q_replay.specs.declared.letters.Letter.{Letter}
+use Rattle.q_restart.specs.Damages.{IsDamage}
+use Rattle.q_stream.specs.Clocks.{AddsMoment}
+use Rattle.q_top.specs.Contents.{most_content}
+use Rattle.q_top.specs.Courses.{ForBooks, InWorld, Moments, Texts}
+use Rattle.q_top.specs.Statuses.{input_of, status_of}
+use Rattle.q_top.specs.declared.status.Status.{Status}
+use Rattle.q_top.specs.declared.status.Status.TheVariants as status
+
+-- ---- refusals before a life
+
+-- the host failed, or memory ran out
+abbrev pub IsGivenUp : Status → Type 0
+IsGivenUp s = (s ≡ status.Disk) ⊎ (s ≡ status.Tell) ⊎ (s ≡ status.NoMemory)
+
+-- a faulty line of conf is named, and nothing was told or changed
+pub record RefusesConf (file : ConfFile) (line : ℕ) (u v : View) (s : Status) : Type 0 where
+  pub names : (s ≡ status.BadInput (input_of file) line) ⊎ IsGivenUp s
+  pub stays : Stays u v
+
+-- a damaged spool is found so, and nothing was told or changed
+abbrev pub FindsDamage : Area → List ℕ → View → View → Status → Type 0
+FindsDamage area name u v s = ((s ≡ status.Damaged area name) × Stays u v) ⊎ IsGivenUp s
+
+-- What refuses a command before its first life: a faulty line of conf, or else a damage; and only such
+-- a damage is called one.
+pub record RefusesFirst (u v : View) (s : Status) : Type 0 where
+  pub conf : (file : ConfFile) (line : ℕ) → conf_of u.files ≡ at_fault file line
+      → RefusesConf file line u v s
+  pub damage : InWorld u (λ w. (area : Area) (name : List ℕ) → IsDamage u.files area name
+      → FindsDamage area name u v s)
+  pub only_damage : (area : Area) (name : List ℕ) → s ≡ status.Damaged area name
+      → IsDamage v.files area name
+
+-- ---- replay
+
+-- the status says how far the replay of a text went on a book
+pub record EndsReplay (w : World) (b : Book) (bytes : List ℕ) (left : Option (List ℕ)) (u v : View) (s : Status)
+    : Type 0 where
+  pub result : Result (Unit {0}) ReplayError
+  pub says : s ≡ status_of result
+  pub ends : ReplayEnds w b bytes left u v result
+
+-- `replay`: by conf and the spool it is refused, or the lives of the text are run. Behind a faulty
+-- line of conf nothing of the text is taken.
+pub record Replays (texts : Texts) (u v : View) (s : Status) : Type 0 where
+  pub refused : RefusesFirst u v s
+  pub unread : (file : ConfFile) (line : ℕ) → conf_of u.files ≡ at_fault file line
+      → texts.after ≡ texts.before
+  pub run : ForBooks u (λ w b. IfSome texts.before (λ bytes.
+      EndsReplay w b bytes texts.after u v s))
+
+-- ---- submit
+
+-- the status says how far the submission of a letter went on a book, at this moment
+pub record EndsSubmission (w : World) (b : Book) (moment : ℕ) (letter : Letter) (u v : View) (s : Status)
+    : Type 0 where
+  pub result : Result (Unit {0}) ReplayError
+  pub says : s ≡ status_of result
+  pub ends : RunEnds w Intake b (submitted w b moment letter) u v result
+
+-- A letter at a moment: by conf and the spool it is refused, or the life that takes it is run.
+pub record SubmitsAt (moment : ℕ) (letter : Letter) (u v : View) (s : Status) : Type 0 where
+  pub refused : RefusesFirst u v s
+  pub run : ForBooks u (λ w b. EndsSubmission w b moment letter u v s)
+
+-- the content can't be read, and nothing was told or changed
+pub record HasNoContent (u v : View) (s : Status) : Type 0 where
+  pub names : (s ≡ status.Source) ⊎ (s ≡ status.NoMemory)
+  pub stays : Stays u v
+
+-- a content that is too long is refused first, and nothing was told or changed
+pub record RefusesContent (u v : View) (s : Status) : Type 0 where
+  pub names : (s ≡ status.Limit Content) ⊎ (s ≡ status.Source) ⊎ (s ≡ status.NoMemory)
+  pub stays : Stays u v
+
+-- a letter is submitted at the clock's one moment
+pub record SubmitsNow (letter : Letter) (moments : Moments) (u v : View) (s : Status) : Type 0 where
+  pub moment : ℕ
+  pub given : AddsMoment moments.before moments.after moment
+  pub submits : SubmitsAt moment letter u v s
+
+-- a message as it is handed in
+abbrev pub letter_of : Option (List ℕ) → List (List ℕ) → List ℕ → Letter
+letter_of sender to content = record { sender = sender; to = to; content = content }
+
+-- `submit`: the content is all that the source has. It is refused by its length or can't be read,
+-- or the message is submitted.
+pub record Submits (sender : Option (List ℕ)) (to : List (List ℕ)) (texts : Texts) (moments : Moments)
+    (u v : View) (s : Status) : Type 0 where
+  pub long : IfSome texts.before (λ bytes. most_content < length bytes → RefusesContent u v s)
+  pub run : IfSome texts.before (λ bytes. length bytes ≤ most_content
+      → HasNoContent u v s ⊎ SubmitsNow (letter_of sender to bytes) moments u v s)

@@ -1,0 +1,33 @@
+-- How a command ends that only tells, by its status.
+use Rattle.std.specs.Prelude.{◌≡◌, ◌⊎◌, ℕ}
+use Rattle.q_ages.specs.Tables.{MayTellTable, TellsTable}
+use Rattle.q_host.specs.View.{View}
+use Rattle.q_listing.specs.Listings.{listing}
+use Rattle.q_model.specs.Book.{Book}
+use Rattle.q_model.specs.FilesStand.{Stands}
+use Rattle.q_stream.specs.Clocks.{AddsMoment}
+use Rattle.q_telling.specs.Telling.{TellsFront, TellsMore}
+use Rattle.q_top.specs.Courses.{Moments}
+use Rattle.q_top.specs.Lives.{IsGivenUp}
+use Rattle.q_top.specs.declared.status.Status.{Status}
+use Rattle.q_top.specs.declared.status.Status.TheVariants.{Done}
+use Rattle.q_words.specs.declared.request.TableRequest.{TableRequest}
+
+-- With Done all was told; else the host failed or memory ran out, and some first part was.
+abbrev pub EndsTelling : Type 0 → Type 0 → Status → Type 0
+EndsTelling all part s = ((s ≡ Done) × all) ⊎ (IsGivenUp s × part)
+
+-- `queue`: the listing of the book is told, and no file is changed.
+abbrev pub Lists : View → View → Status → Type 0
+Lists u v s = (b : Book) → Stands u.files b
+    → EndsTelling (TellsMore (listing u.files b) u v) (TellsFront (listing u.files b) u v) s
+
+-- the table of ages at this moment is told
+abbrev pub EndsTable : ℕ → TableRequest → Book → View → View → Status → Type 0
+EndsTable now request b u v s =
+    EndsTelling (TellsTable now request b u v) (MayTellTable now request b u v) s
+
+-- `qshape`: the table of ages at the clock's one moment is told, and no file is changed.
+abbrev pub TellsAges : TableRequest → Moments → View → View → Status → Type 0
+TellsAges request moments u v s = (b : Book) → Stands u.files b
+    → (now : ℕ) × AddsMoment moments.before moments.after now × EndsTable now request b u v s

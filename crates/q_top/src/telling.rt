@@ -1,0 +1,43 @@
+//! `queue` and `qshape`: what the queues hold.
+ghost use Rattle.q_host.specs.View.{Told};
+ghost use Rattle.q_shape.specs.Buckets.{IsShape};
+ghost use Rattle.q_top.specs.Causes.{HasHostCause};
+ghost use Rattle.q_top.specs.Courses.{Moments};
+ghost use Rattle.q_top.specs.Tellings.{Lists, TellsAges};
+ghost use Rattle.std.specs.Prelude.{◌≢◌};
+
+use crate::status::{Status, telling_status};
+use q_ages::tell_ages;
+use q_host::Host;
+use q_listing::tell_listing;
+use q_stream::Clock;
+use q_words::TableRequest;
+use std::alloc::Global;
+
+/// Tells the listing of the queues.
+pub(crate) fn list_queues<H: Host>(alloc: Global, host: &mut H) -> Status
+    ensures lists { Told H.tells H.view host.old host.new (λ u v. Lists u v result) }
+    ensures host { HasHostCause (H.faults host.old) (H.faults host.new) result }
+    ensures no_source { result ≢ Status.Source }
+    ensures no_usage { result ≢ Status.Usage }
+{
+    telling_status(tell_listing(alloc, host))
+}
+
+/// Tells the table of ages at the clock's moment.
+pub(crate) fn table_ages<H: Host, C: Clock>(
+    alloc: Global,
+    host: &mut H,
+    clock: &mut C,
+    request: &TableRequest,
+) -> Status
+    requires { IsShape request.now.shape }
+    ensures tells { Told H.tells H.view host.old host.new (λ u v. TellsAges request.now
+        (record { before = C.given clock.old; after = C.given clock.new }) u v result) }
+    ensures host { HasHostCause (H.faults host.old) (H.faults host.new) result }
+    ensures no_source { result ≢ Status.Source }
+    ensures no_usage { result ≢ Status.Usage }
+{
+    let now = clock.now();
+    telling_status(tell_ages(alloc, host, now, request))
+}

@@ -1,0 +1,36 @@
+//! What the program says of itself.
+
+/// How the program is called.
+pub(crate) const USAGE: &str = "
+Usage: qmgr SPOOL COMMAND [WORD]...
+       qmgr --help | --version";
+
+/// What `--version` prints.
+pub(crate) const VERSION: &str = "qmgr 0.1";
+
+/// What `--help` prints.
+pub(crate) const HELP: &str = "\
+qmgr, the queue manager of a mail server
+
+Usage: qmgr SPOOL COMMAND [WORD]...
+       qmgr --help | --version
+
+SPOOL is the folder of the spool. It is made where it is missing, and locked while a command runs.
+
+Commands:
+  submit SENDER RECIPIENT...    take in one message, whose content is standard input; <> is the
+                                null sender
+  replay                        run the event list of standard input and tell each decision
+  queue                         list the messages in incoming, active, deferred and hold
+  qshape [-s] [-l] [-b N] [-t MINUTES] [QUEUE]...
+                                tell the ages of mail by domain: of recipients, or with -s of
+                                senders; N buckets (2 to 20, default 10), the first of so many
+                                minutes (1 to 10000, default 5), each twice the one before or with
+                                -l as much above it; QUEUE is incoming, active, deferred or hold,
+                                by default the first two
+
+The files conf/params and conf/transport of the spool say the parameters and the transport table.
+
+Exit status: 0 done, 1 wrong words, 2 bad input (the file and its line are named), 3 disk fault,
+4 output fault, 5 input fault, 6 damaged spool (the file is named), 8 limit reached, 9 no memory.
+Standard error has one line of it, but for 0.";
