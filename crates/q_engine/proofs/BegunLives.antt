@@ -19,7 +19,7 @@ use Rattle.q_books.specs.HostStands.{HostStands, OwnLogs}
 use Rattle.q_core.specs.Agrees.{AgreesIfOrderly, ForFirst}
 use Rattle.q_entries.specs.Entries.{DoesEntry, StopsEntry}
 use Rattle.q_entries.proofs.Lines.{changed_does, changed_stops}
-use Rattle.q_restart.specs.Openings.{begun, IsRefusal, Opens}
+use Rattle.q_restart.specs.Openings.{begun, IsRefusal, KeepsOwnNotes, Opens}
 use Rattle.q_restart.specs.declared.error.OpenError.{OpenError}
 use Rattle.q_restart.specs.declared.error.OpenError.TheVariants as open_errors
 use Rattle.q_restart.specs.declared.opening.Spool.{Spool}
@@ -29,7 +29,6 @@ use Rattle.q_engine.specs.declared.error.EngineError.TheVariants as errors
 use Rattle.q_transport.specs.Contents.{Contents}
 use Rattle.q_transport.specs.Routing.{table_of}
 use Rattle.q_engine.specs.Beginnings.{BeganLife, is_of_spool, opening_refusal}
-use Rattle.q_engine.specs.KeptNotes.{was_admitted}
 use Rattle.q_engine.specs.Refusals.{refusal_of}
 use Rattle.q_model.specs.declared.id.Id.{Id}
 use Rattle.q_places.specs.Kept.{kept_file}
@@ -62,9 +61,6 @@ first_book w mode b = (after_is w (opening mode b) (entries.Life (b.generation +
 first_past : (w : World) (mode : Mode) (b : Book) → (opened_ledger w mode b).past ≡ entries.Life (b.generation + 1) mode ∷ []
 first_past w mode b = (after_is w (opening mode b) (entries.Life (b.generation + 1) mode)).past
 
-none_admitted : (w : World) (mode : Mode) (b : Book) (id : Id) → was_admitted id (opened_ledger w mode b).past ≡ true → ⊥
-none_admitted w mode b id was = let bad : true ≡ false = sym was ∙ ap (was_admitted id) (first_past w mode b) in absurd cc
-
 counted_none : (test : Entry → Bool) (e : Entry) → test e ≡ false → count_by test (e ∷ []) ≡ 0
 counted_none test e h = sum_by-cons (λ x. if test x then 1 else 0) e [] ∙ ap (λ (t : Bool). (if t then 1 else 0) + count_by test []) h
 
@@ -91,8 +87,8 @@ module _ (params : Settings) (table : Contents) (mode : Mode) (b : Book) (genera
   told_first does = subst (λ (g : ℕ). DoesEntry (table_of table) (entries.Life g mode) (begun b) (begun b) u x) opens.is_next does
 
   pub began : (engine : Engine) → IsNewEngine table generation engine → ForFirst params (length (table_of table).transports) mode (λ w book l. AgreesIfOrderly w engine.core book l)
-      → DoesEntry (table_of table) (entries.Life generation mode) (begun b) (begun b) u x → BeganLife params table mode b engine v x
-  began engine new core does =
+      → DoesEntry (table_of table) (entries.Life generation mode) (begun b) (begun b) u x → x.files ≡ u.files → BeganLife params table mode b engine v x
+  began engine new core does same =
       let done = changed_does (table_of table) (entries.Life (b.generation + 1) mode) b (begun b) v u x opens.takes (told_first does) in
       record {
         does = done;
@@ -104,7 +100,7 @@ module _ (params : Settings) (table : Contents) (mode : Mode) (b : Book) (genera
           logs = subst (OwnLogs x.files) (sym (first_book w mode b)) (does.logs opens.logs);
           places = placed_none engine.places (opened_ledger w mode b).book new.empty;
         };
-        notes = λ w id form was. absurd (none_admitted w mode b id was);
+        logs = subst (KeepsOwnNotes b v.files) (sym same) opens.notes;
       }
 
   pub not_begun : (error : HostError) → StopsEntry (table_of table) (entries.Life generation mode) (begun b) (begun b) error u x → StopsEntry (table_of table) (entries.Life (b.generation + 1) mode) b (begun b) error v x

@@ -122,7 +122,7 @@ module _ (w : World) (l : Ledger) (id : Id) (from max : ℕ) (engine : Engine) (
           logs = done.logs h.stands.logs;
           places = subst (ArePlaced places) (same_book to) placed;
         };
-        notes = plain_notes w l e v x refl refl keeps;
+        notes = plain_notes w l e v x refl keeps;
       }
 
   stopped_at : (to : ℕ) (error : HostError) (x : View) → next w l ≡ Some (entries.Load id from to) → StopsEntry lines (entries.Load id from to) l.book l.book error v x → WasGivenUp w l error v x

@@ -1,4 +1,5 @@
 pub mod Accepted
+pub mod Admissions
 pub mod BegunLives
 pub mod Bounced
 pub mod CarriedLoads

@@ -12,15 +12,13 @@ use Rattle.q_model.specs.declared.outcome.SiteState.{SiteState}
 use Rattle.q_model.specs.declared.rows.Delivery.{Delivery}
 use Rattle.q_model.specs.declared.rows.Row.{Row}
 use Rattle.q_model.specs.declared.spot.Area.TheVariants as areas
-use Rattle.q_model.specs.Book.{message_of}
 use Rattle.q_model.specs.Deliveries.{flight_of}
 use Rattle.q_model.specs.IdTexts.{id_text, IsId}
 use Rattle.q_model.specs.Ledger.{Ledger}
 use Rattle.q_model.specs.Memory.{is_admitted}
-use Rattle.q_model.specs.Replies.{fits_state, landed, may_reply, replied}
+use Rattle.q_model.specs.Replies.{fits_state, may_reply}
 use Rattle.q_model.specs.SiteRecords.{is_dead_site}
 use Rattle.q_model.specs.Settings.{World}
-use Rattle.q_model.specs.Settling.{needs_of, with_outcomes}
 use Rattle.q_model.specs.Skips.{unqueued}
 use Rattle.q_model.specs.Starts.{is_row}
 use Rattle.q_model.specs.Step.{after, change}
@@ -43,18 +41,12 @@ use Rattle.q_engine.specs.Delays.{AddsDelays, row_outcomes}
 use Rattle.q_engine.specs.KeptNotes.{StoresNotes}
 use Rattle.q_engine.specs.Stands.{EngineStands, HasDecided}
 use Rattle.q_engine.specs.declared.engine.Engine.{Engine}
+use Rattle.q_engine.proofs.Admissions.{outcomes_admitted, reply_admitted}
 use Rattle.q_engine.proofs.Delayed.{delays_same}
 use Rattle.q_engine.proofs.QuietEvents.{reply_book, skip_book}
 use Rattle.q_engine.proofs.StoredNotes.{files_keep, message_form, reply_notes, skip_notes}
 
 -- ---- who is in memory
-
-option_admitted : {A : Type 0} (id : Id) (k l : Ledger) (f : A → Ledger) → ((x : A) → is_admitted (f x) id ≡ is_admitted l id) → is_admitted k id ≡ is_admitted l id → (o : Option A) → is_admitted (option_map_or f o k) id ≡ is_admitted l id
-option_admitted id k l f h none None = none
-option_admitted id k l f h none (Some x) = h x
-
-outcomes_admitted : (w : World) (i id : Id) (ps : List ℕ) (os : List Outcome) (l : Ledger) → is_admitted (with_outcomes w id ps os l) i ≡ is_admitted l i
-outcomes_admitted w i id ps os l = option_admitted i l l (λ m. record l { unsettled = l.unsettled ++ needs_of w l.now m ps os }) (λ m. refl) refl (message_of l.book id)
 
 -- the id of a message in memory names a file
 admitted_form : (w : World) (l : Ledger) (id : Id) (v : View) → IsConsistent w l → HostStands v l.book → is_admitted l id ≡ true → IsId id
@@ -75,7 +67,7 @@ module _ (w : World) (l : Ledger) (id : Id) (site : Site) (ps : List ℕ) (d : D
       let k = after w l e in
       let still : is_admitted k id ≡ true = (after_is w l e).admitted id ∙ outcomes_admitted w id id ps (row_outcomes ps) (unqueued l id site ps) ∙ skip_here in
       let delays = delays_same w l k id ps (row_outcomes ps) ((after_is w l e).book ∙ sym (skip_book w l id site ps)) (inner_now w l e refl) in
-      skip_notes w l id v m x (admitted_form w l id v h.was.consistent h.host skip_here) others (files_keep m x same) site ps
+      skip_notes w l id v m x (admitted_form w l id v h.was.consistent h.host skip_here) others (files_keep m x same) skip_here site ps
       (λ notes has. subst (λ (ns : List Note). HasNotes (notes ++ ns) (m.files areas.Defer (id_text id))) delays (adds w k h.core still notes has))
 
 -- ---- reply
@@ -114,10 +106,10 @@ module _ (w : World) (l : Ledger) (number : ℕ) (state : SiteState) (os : List 
       let e = entries.Reply number state os in
       let k = after w l e in
       let id = flight.id in
-      let changed : is_admitted (change w l e) id ≡ is_admitted l id = option_admitted id l l (λ f. replied w l state os f) (λ f. outcomes_admitted w id f.row.id f.row.positions os (landed w l state f)) refl (flight_of l number) in
+      let changed : is_admitted (change w l e) id ≡ is_admitted l id = reply_admitted w l state os id (flight_of l number) in
       let still : is_admitted k id ≡ true = (after_is w l e).admitted id ∙ changed ∙ reply_here in
       let delays = delays_same w l k id ps os ((after_is w l e).book ∙ sym (reply_book w l number state os)) (inner_now w l e refl) in
       let own : (notes : List Note) → HasNotes notes (v.files areas.Defer (id_text id)) → HasNotes (notes ++ delays_at w l id ps os) (m.files areas.Defer (id_text id)) =
       λ notes has. subst (λ (ns : List Note). HasNotes (notes ++ ns) (m.files areas.Defer (id_text id))) delays (adds w k agrees still notes has) in
-      reply_notes w l id v m x (admitted_form w l id v h.core.consistent h.host reply_here) others (files_keep m x same) number state os found.delivery found.there found.named
+      reply_notes w l id v m x (admitted_form w l id v h.core.consistent h.host reply_here) others (files_keep m x same) reply_here number state os found.delivery found.there found.named
       (subst (λ (qs : List ℕ). (notes : List Note) → HasNotes notes (v.files areas.Defer (id_text id)) → HasNotes (notes ++ delays_at w l id qs os) (m.files areas.Defer (id_text id))) (sym found.positions) own)

@@ -1,9 +1,8 @@
 -- The beginning of a life on a spool, and its end.
-use Rattle.std.specs.Prelude.{◌≡◌, ◌+◌, [], Bool, false, true}
+use Rattle.std.specs.Prelude.{◌≡◌, ◌+◌, Bool, false, true}
 use Rattle.q_model.specs.declared.entry.Entry.{Entry}
 use Rattle.q_model.specs.declared.entry.Entry.TheVariants as entries
 use Rattle.q_model.specs.declared.event.Mode.{Mode}
-use Rattle.q_model.specs.declared.id.Id.{Id}
 use Rattle.q_model.specs.Book.{all_ids, Book}
 use Rattle.q_model.specs.Ids.{are_distinct}
 use Rattle.q_model.specs.Orderly.{is_orderly}
@@ -15,12 +14,11 @@ use Rattle.q_host.specs.declared.error.HostError.{HostError}
 use Rattle.q_books.specs.HostStands.{HostStands}
 use Rattle.q_entries.specs.Entries.{DoesEntry, StopsEntry}
 use Rattle.q_laws.specs.Laws.{opened_ledger}
-use Rattle.q_restart.specs.Openings.{begun}
+use Rattle.q_restart.specs.Openings.{begun, KeepsOwnNotes}
 use Rattle.q_restart.specs.declared.error.OpenError.{OpenError}
 use Rattle.q_restart.specs.declared.error.OpenError.TheVariants as open_errors
 use Rattle.q_transport.specs.Contents.{Contents}
 use Rattle.q_transport.specs.Routing.{table_of}
-use Rattle.q_engine.specs.KeptNotes.{ReadsAsNotes}
 use Rattle.q_engine.specs.Looks.{ForStands}
 use Rattle.q_engine.specs.Stands.{EngineStands}
 use Rattle.q_engine.specs.declared.engine.Engine.{Engine}
@@ -59,8 +57,7 @@ pub record BeganLife (params : Settings) (table : Contents) (mode : Mode) (b : B
   pub does : DoesEntry (table_of table) (first_entry b mode) b (begun b) v x
   pub stands : IfOrderly b (InWorlds params table
       (λ w. EngineStands w engine x (opened_ledger w mode b)))
-  -- nobody was admitted yet, so any log reads as no notes
-  pub notes : (w : World) → (id : Id) → ReadsAsNotes (opened_ledger w mode b) id [] x.files
+  pub logs : KeepsOwnNotes b v.files x.files
 
 -- the same of each book for which the host stood
 abbrev pub BeginsLife : Settings → Contents → Mode → Engine → View → View → Type 0

@@ -81,6 +81,7 @@ fn tell_life<H: Host>(
         (H.view host.old) (H.view host.new) }
     ensures spool { (error : EngineRefusal) → IsErrOf result error → is_of_spool error ≡ false }
     ensures kinds { (error : EngineRefusal) → IsErrOf result error → is_of_host error ≡ true }
+    ensures files { IsTrue H.tells → (H.view host.new).files ≡ (H.view host.old).files }
     ensures cause { EngineCause (H.faults host.old) (H.faults host.new) result }
 {
     let Ok(core) = Core::new(alloc, params, table.transports(), mode) else {

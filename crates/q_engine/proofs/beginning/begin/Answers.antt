@@ -13,7 +13,7 @@ returns-in-Ok-clause-ok g c = by_four c.tell_life.result (λ engine told core ma
     let u = g.H.Host.view c.open_spool.new.host in
     let opens = c.in-Ok.ensures.ok t b h in
     began c.args.params c.args.table c.args.mode b c.in-Ok.spool.generation v u (g.H.Host.view c.tell_life.new.host) opens engine
-    (new_engine c.args.table c.in-Ok.spool.generation engine made empty) core (told t (begun b) opens.takes.stands)) c.tell_life.ensures.ok c.tell_life.ensures.core c.tell_life.ensures.made c.tell_life.ensures.places
+    (new_engine c.args.table c.in-Ok.spool.generation engine made empty) core (told t (begun b) opens.takes.stands) (c.tell_life.ensures.files t)) c.tell_life.ensures.ok c.tell_life.ensures.core c.tell_life.ensures.made c.tell_life.ensures.places
 
 pub returns-in-Ok-clause-err : goal.returns-in-Ok-clause-err
 returns-in-Ok-clause-err g c error is t b h =

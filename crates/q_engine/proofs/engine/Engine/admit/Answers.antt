@@ -10,7 +10,7 @@ use Rattle.q_model.specs.declared.rows.Place.TheVariants as places
 use Rattle.q_model.specs.declared.spot.Area.TheVariants as areas
 use Rattle.q_engine.proofs.CarriedOut.{carried_behind, given_up_behind, refused, untouched}
 use Rattle.q_engine.proofs.Moves.{admit_moves, apart, dropped_only, moved_there}
-use Rattle.q_engine.proofs.StoredNotes.{admit_notes, files_keep, keeps_then, no_log_spot, placed_form}
+use Rattle.q_engine.proofs.StoredNotes.{admit_notes, files_keep, keeps_then, no_log_spot, placed_form, placed_found}
 use Rattle.q_engine.proofs.engine.Engine.admit.Goals as goal
 
 pub returns-then-not-may_become_active-clause-err : goal.returns-then-not-may_become_active-clause-err
@@ -54,7 +54,7 @@ returns-clause-ok g c = on_ok c.tell.result (λ told t w l n.
     let x = g.H.Host.view c.move_to.new.host in
     let takes = kept_takes l.book k v u x kept (c.in_ok-move_to.ensures.ok t l.book k kept.stands m.moves) in
     carried_behind w l (decisions.Admit c.args.id c.args.place) (entries.Admit c.args.id) c.args.self.now v m.decided k x (g.H.Host.view c.tell.new.host) (record { life = refl; arrive = refl; preempt = refl; stays = λ id. refl }) refl takes (told t k takes.stands) (admit_notes w l c.args.id v u (g.H.Host.view c.tell.new.host) (placed_form v l.book c.args.id c.args.place n.1.host n.1.placed) (c.in_ok-drop_notes.ensures.notes t)
-    (keeps_then u x (g.H.Host.view c.tell.new.host) (c.in_ok-move_to.ensures.notes t (no_log_spot c.file_spot.result c.args.place c.args.id c.file_spot.ensures) (no_log_spot c.file_spot-2.result places.Active c.args.id c.file_spot-2.ensures)) (files_keep x (g.H.Host.view c.tell.new.host) (c.tell.ensures.files t))) (c.in_ok-drop_notes.ensures.gone t))) c.tell.ensures.ok
+    (keeps_then u x (g.H.Host.view c.tell.new.host) (c.in_ok-move_to.ensures.notes t (no_log_spot c.file_spot.result c.args.place c.args.id c.file_spot.ensures) (no_log_spot c.file_spot-2.result places.Active c.args.id c.file_spot-2.ensures)) (files_keep x (g.H.Host.view c.tell.new.host) (c.tell.ensures.files t))) (placed_found l.book c.args.id c.args.place n.1.placed) (c.in_ok-drop_notes.ensures.gone t))) c.tell.ensures.ok
 
 pub returns-clause-err : goal.returns-clause-err
 returns-clause-err g c error is t w l n =

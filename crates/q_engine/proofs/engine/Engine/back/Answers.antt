@@ -33,7 +33,7 @@ returns-clause-ok g c = on_ok c.tell.result (λ told t w l n.
     let m = back_moves w l c.args.id c.args.self.now (g.H.Host.view c.args.host.now) c.file_spot.result c.file_spot-2.result n c.file_spot.ensures c.file_spot-2.ensures in
     let k = (change w l (entries.Back c.args.id)).book in
     let takes = c.in_ok-move_to.ensures.ok t l.book k m.decided.host m.moves in
-    carried_behind w l (decisions.Back c.args.id) (entries.Back c.args.id) c.args.self.now (g.H.Host.view c.args.host.now) m.decided k (g.H.Host.view c.move_to.new.host) (g.H.Host.view c.tell.new.host) (record { life = refl; arrive = refl; preempt = refl; stays = λ id. refl }) refl takes (told t k takes.stands) (plain_told w l (entries.Back c.args.id) (g.H.Host.view c.args.host.now) (g.H.Host.view c.move_to.new.host) (g.H.Host.view c.tell.new.host) refl refl (c.in_ok-move_to.ensures.notes t (no_log_spot c.file_spot.result places.Active c.args.id c.file_spot.ensures) (no_log_spot c.file_spot-2.result places.Incoming c.args.id c.file_spot-2.ensures)) (c.tell.ensures.files t))) c.tell.ensures.ok
+    carried_behind w l (decisions.Back c.args.id) (entries.Back c.args.id) c.args.self.now (g.H.Host.view c.args.host.now) m.decided k (g.H.Host.view c.move_to.new.host) (g.H.Host.view c.tell.new.host) (record { life = refl; arrive = refl; preempt = refl; stays = λ id. refl }) refl takes (told t k takes.stands) (plain_told w l (entries.Back c.args.id) (g.H.Host.view c.args.host.now) (g.H.Host.view c.move_to.new.host) (g.H.Host.view c.tell.new.host) refl (c.in_ok-move_to.ensures.notes t (no_log_spot c.file_spot.result places.Active c.args.id c.file_spot.ensures) (no_log_spot c.file_spot-2.result places.Incoming c.args.id c.file_spot-2.ensures)) (c.tell.ensures.files t))) c.tell.ensures.ok
 
 pub returns-clause-err : goal.returns-clause-err
 returns-clause-err g c error is t w l n =

@@ -41,7 +41,7 @@ returns-clause-ok g c = on_ok c.tell.result (λ told t w l n.
     let at = c.now.ensures.ledger w (after w l e) h.core ∙ inner_now w l e refl in
     let adds = bounce_changes w l c.args.id engine v h c.file_spot-spot.result c.file_spot-spot.ensures c.now.result at in
     let takes = c.in_ok-store_bounce.ensures.ok t l.book k h.host adds in
-    carried_behind w l d e engine v h k (g.H.Host.view c.store_bounce.new.host) (g.H.Host.view c.tell.new.host) (record { life = refl; arrive = refl; preempt = refl; stays = λ id. refl }) refl takes (told t k takes.stands) (plain_told w l e v (g.H.Host.view c.store_bounce.new.host) (g.H.Host.view c.tell.new.host) refl refl (c.in_ok-store_bounce.ensures.notes t) (c.tell.ensures.files t))) c.tell.ensures.ok
+    carried_behind w l d e engine v h k (g.H.Host.view c.store_bounce.new.host) (g.H.Host.view c.tell.new.host) (record { life = refl; arrive = refl; preempt = refl; stays = λ id. refl }) refl takes (told t k takes.stands) (plain_told w l e v (g.H.Host.view c.store_bounce.new.host) (g.H.Host.view c.tell.new.host) refl (c.in_ok-store_bounce.ensures.notes t) (c.tell.ensures.files t))) c.tell.ensures.ok
 
 pub returns-clause-err : goal.returns-clause-err
 returns-clause-err g c error is t w l n =

@@ -46,7 +46,7 @@ returns-clause-ok g c = on_ok c.tell.result (λ told t w l h.
     let left : Engine = record engine { core = c.event.new.self; arrivals = engine.arrivals + 1 } in
     subst (λ (j : Id). WasDone w l (entries.Arrive j c.args.sender c.args.to c.args.content) left v x) (mail_next w l engine v h)
     (done w l e engine v h left k x refl refl (λ id. refl) core (counts_arrival w l e engine c.event.new.self (engine.arrivals + 1) refl refl refl refl h.counts) refl
-    (changed_does (table_of engine.table) e l.book k v m x takes (told t k takes.stands)) (plain_told w l e v m x refl refl (c.in_ok-store.ensures.notes t) (c.tell.ensures.files t)))) c.tell.ensures.ok
+    (changed_does (table_of engine.table) e l.book k v m x takes (told t k takes.stands)) (plain_told w l e v m x refl (c.in_ok-store.ensures.notes t) (c.tell.ensures.files t)))) c.tell.ensures.ok
 
 pub returns-clause-err : goal.returns-clause-err
 returns-clause-err g c error is t w l h =

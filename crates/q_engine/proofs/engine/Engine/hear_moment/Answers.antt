@@ -27,7 +27,7 @@ returns-clause-ok g c = on_ok c.tell.result (λ told t w l h.
     let does = subst (λ (m : ℕ). DoesEntry (table_of engine.table) (entries.At m) l.book l.book v x) latest (told t l.book h.host) in
     let core = c.in_ok-event.ensures.ok w l h.core e (ap (λ (m : ℕ). entries.At m) (sym latest)) (allowed_by w l e h.core.living later) in
     done w l e engine v h (record engine { core = c.event.new.self }) l.book x refl refl (λ id. refl) core
-    (counts_stay w l e (record engine { core = c.event.new.self }) refl refl refl (counts_core engine c.event.new.self l h.counts)) (moment_book w l n) does (plain_notes w l e v x refl refl (files_keep v x (c.tell.ensures.files t)))) c.tell.ensures.ok
+    (counts_stay w l e (record engine { core = c.event.new.self }) refl refl refl (counts_core engine c.event.new.self l h.counts)) (moment_book w l n) does (plain_notes w l e v x refl (files_keep v x (c.tell.ensures.files t)))) c.tell.ensures.ok
 
 pub returns-clause-err : goal.returns-clause-err
 returns-clause-err g c error is t w l h =

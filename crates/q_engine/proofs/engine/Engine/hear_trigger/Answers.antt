@@ -18,7 +18,7 @@ returns-clause-ok g c = on_ok c.tell.result (λ told t w l h.
     let core = c.in_ok-event.ensures.ok w l h.core e refl (allowed_by w l e h.core.living (sym h.core.matches.parts.timed ∙ c.requires.timed)) in
     done w l e engine (g.H.Host.view c.args.host.now) h (record engine { core = c.event.new.self }) l.book (g.H.Host.view c.tell.new.host) refl refl (λ id. refl) core
     (counts_stay w l e (record engine { core = c.event.new.self }) refl refl refl (counts_core engine c.event.new.self l h.counts)) (trigger_book w l c.args.kind) (told t l.book h.host)
-    (plain_notes w l e (g.H.Host.view c.args.host.now) (g.H.Host.view c.tell.new.host) refl refl (files_keep (g.H.Host.view c.args.host.now) (g.H.Host.view c.tell.new.host) (c.tell.ensures.files t)))) c.tell.ensures.ok
+    (plain_notes w l e (g.H.Host.view c.args.host.now) (g.H.Host.view c.tell.new.host) refl (files_keep (g.H.Host.view c.args.host.now) (g.H.Host.view c.tell.new.host) (c.tell.ensures.files t)))) c.tell.ensures.ok
 
 pub returns-clause-err : goal.returns-clause-err
 returns-clause-err g c error is t w l h =

@@ -36,7 +36,7 @@ returns-clause-ok g c = on_ok c.tell.result (λ told t w l n.
     let h = subst (λ (x : Entry). HasDecided w l d x c.args.self.now v) n.1.of n.1 in
     let k = (change w l e).book in
     let takes = c.in_ok-store_failure.ensures.ok t l.book k h.host (log_changes w l c.args.id c.args.failure c.args.self.now v h) in
-    carried_behind w l d e c.args.self.now v h k (g.H.Host.view c.store_failure.new.host) (g.H.Host.view c.tell.new.host) (record { life = refl; arrive = refl; preempt = refl; stays = λ id. refl }) refl takes (told t k takes.stands) (plain_told w l e v (g.H.Host.view c.store_failure.new.host) (g.H.Host.view c.tell.new.host) refl refl (c.in_ok-store_failure.ensures.notes t) (c.tell.ensures.files t))) c.tell.ensures.ok
+    carried_behind w l d e c.args.self.now v h k (g.H.Host.view c.store_failure.new.host) (g.H.Host.view c.tell.new.host) (record { life = refl; arrive = refl; preempt = refl; stays = λ id. refl }) refl takes (told t k takes.stands) (plain_told w l e v (g.H.Host.view c.store_failure.new.host) (g.H.Host.view c.tell.new.host) refl (c.in_ok-store_failure.ensures.notes t) (c.tell.ensures.files t))) c.tell.ensures.ok
 
 pub returns-clause-err : goal.returns-clause-err
 returns-clause-err g c error is t w l n =

@@ -75,7 +75,7 @@ returns-clause-ok g c = on_ok c.tell.result (λ told t w l n.
     let x = g.H.Host.view c.mark.new.host in
     let takes = kept_takes l.book k v m x keeps (c.in_ok-mark.ensures.ok t l.book k keeps.stands changes) in
     carried_behind w l d e (record engine { places = c.take_mark-kept.new.self }) v (decided_fewer w l d e engine v c.take_mark-kept.new.self c.take_mark-kept.ensures.rest h) k x (g.H.Host.view c.tell.new.host) (record { life = refl; arrive = refl; preempt = refl; stays = λ id. refl }) refl takes (told t k takes.stands)
-    (plain_told w l e v x (g.H.Host.view c.tell.new.host) refl refl (keeps_then v m x (files_keep v m (c.in_ok-at.ensures.stays t).files) (c.in_ok-mark.ensures.notes t (no_log_spot c.file_spot-spot.result places.Active c.args.id c.file_spot-spot.ensures))) (c.tell.ensures.files t))) c.tell.ensures.ok
+    (plain_told w l e v x (g.H.Host.view c.tell.new.host) refl (keeps_then v m x (files_keep v m (c.in_ok-at.ensures.stays t).files) (c.in_ok-mark.ensures.notes t (no_log_spot c.file_spot-spot.result places.Active c.args.id c.file_spot-spot.ensures))) (c.tell.ensures.files t))) c.tell.ensures.ok
 
 pub returns-clause-err : goal.returns-clause-err
 returns-clause-err g c error is t w l n =

@@ -18,7 +18,7 @@ returns-clause-ok g c = on_ok c.tell.result (λ told t w l n.
     let e = entries.Start c.args.number c.args.id c.args.site c.in_ok-positions.positions in
     let tells : TellsPositions c.args.self.now c.args.number c.in_ok-positions.positions = (λ u k a. ap (λ (p : List ℕ). Some p) c.in_ok-positions.ensures ∙ c.in-Some.ensures u k a) in
     let h = start_decided w l c.args.number c.args.id c.args.site c.args.self.now (g.H.Host.view c.args.host.now) c.in_ok-positions.positions tells n in
-    carried w l d e c.args.self.now (g.H.Host.view c.args.host.now) h l.book (g.H.Host.view c.tell.new.host) (record { life = refl; arrive = refl; preempt = refl; stays = λ id. refl }) refl (told t l.book h.host) (plain_notes w l e (g.H.Host.view c.args.host.now) (g.H.Host.view c.tell.new.host) refl refl (files_keep (g.H.Host.view c.args.host.now) (g.H.Host.view c.tell.new.host) (c.tell.ensures.files t)))) c.tell.ensures.ok
+    carried w l d e c.args.self.now (g.H.Host.view c.args.host.now) h l.book (g.H.Host.view c.tell.new.host) (record { life = refl; arrive = refl; preempt = refl; stays = λ id. refl }) refl (told t l.book h.host) (plain_notes w l e (g.H.Host.view c.args.host.now) (g.H.Host.view c.tell.new.host) refl (files_keep (g.H.Host.view c.args.host.now) (g.H.Host.view c.tell.new.host) (c.tell.ensures.files t)))) c.tell.ensures.ok
 
 pub returns-clause-err : goal.returns-clause-err
 returns-clause-err g c error is t w l n =

@@ -36,7 +36,7 @@ returns-clause-ok g c = on_ok c.tell.result (λ told t w l n.
     let a = sync_speaks w l c.args.id h.was.consistent h.following in
     let k = (change w l e).book in
     let takes = c.in_ok-sync_marks.ensures.ok t l.book k h.host (record { id = c.args.id; message = a.0; file = in_active l c.args.id a.0 a.1 c.file_spot.result c.file_spot.ensures; changed = refl }) in
-    carried_behind w l d e c.args.self.now v h k (g.H.Host.view c.sync_marks.new.host) (g.H.Host.view c.tell.new.host) (record { life = refl; arrive = refl; preempt = refl; stays = λ id. refl }) refl takes (told t k takes.stands) (plain_told w l e v (g.H.Host.view c.sync_marks.new.host) (g.H.Host.view c.tell.new.host) refl refl (c.in_ok-sync_marks.ensures.notes t) (c.tell.ensures.files t))) c.tell.ensures.ok
+    carried_behind w l d e c.args.self.now v h k (g.H.Host.view c.sync_marks.new.host) (g.H.Host.view c.tell.new.host) (record { life = refl; arrive = refl; preempt = refl; stays = λ id. refl }) refl takes (told t k takes.stands) (plain_told w l e v (g.H.Host.view c.sync_marks.new.host) (g.H.Host.view c.tell.new.host) refl (c.in_ok-sync_marks.ensures.notes t) (c.tell.ensures.files t))) c.tell.ensures.ok
 
 pub returns-clause-err : goal.returns-clause-err
 returns-clause-err g c error is t w l n =
