@@ -3,6 +3,7 @@ use Rattle.std.proofs.Common.{◌≡◌, ℕ, ◌+◌, true, false, List, [], �
 use Rattle.std.specs.Result.{IsErrAnd}
 use Rattle.std.specs.Prelude.{Err, IfSome, Ok, Result}
 use Rattle.q_books.specs.HostStands.{HostStands, TellsCrashes}
+use Rattle.q_engine.specs.KeptNotes.{AddsAllNotes}
 use Rattle.q_engine.specs.Stands.{EngineStands}
 use Rattle.q_engine.specs.declared.engine.Engine.{Engine}
 use Rattle.q_entries.specs.Runs.{PlaysRun}
@@ -91,14 +92,16 @@ module _ (w : World) (b : Book) (u : View) (lawful : TellsCrashes u) (h : HostSt
   begun_reading None accepted = tt
   begun_reading (Some bytes) accepted = ([], bytes, refl, reading_begins w b bytes accepted)
 
-  first_told : (x : View) → PlaysRun w (opening Deliver b) (turn w (opening Deliver b) Begin) u x → IsTold w Deliver b (Begin ∷ []) u x
-  first_told x p = told_more w Deliver b [] Begin u u x (none_told w Deliver b u lawful h) (subst (λ (l : Ledger). PlaysRun w l (turn w l Begin) u x) (sym (ledger_none w Deliver b)) p)
+  first_told : (x : View) → PlaysRun w (opening Deliver b) (turn w (opening Deliver b) Begin) u x → AddsAllNotes w (opening Deliver b) (turn w (opening Deliver b) Begin) u.files x.files → IsTold w Deliver b (Begin ∷ []) u x
+  first_told x p adds =
+      told_more w Deliver b [] Begin u u x (none_told w Deliver b u lawful h) (subst (λ (l : Ledger). PlaysRun w l (turn w l Begin) u x) (sym (ledger_none w Deliver b)) p)
+      (subst (λ (l : Ledger). AddsAllNotes w l (turn w l Begin) u.files x.files) (sym (ledger_none w Deliver b)) adds)
 
   pub went_begins : (text : Option (List ℕ)) (events : EventsState) (engine : Engine) (x : View) → events ≡ unread_list → TookItem w (opening Deliver b) Restart (Some engine) u x → Went w b text (text_left events.buffered text) events engine u x
   went_begins text events engine x new took =
       subst (λ (e : EventsState). Went w b text (text_left e.buffered text) e engine u x) (sym new) (record {
         items = Begin ∷ [];
-        told = first_told x took.plays;
+        told = first_told x took.plays took.notes;
         stands = subst (EngineStands w engine x) (sym (ledger_more w Deliver b [] Begin ∙ ap (λ (l : Ledger). after_all w l (turn w l Begin)) (ledger_none w Deliver b))) took.stands;
         reading = begun_reading text took.accepted;
       })
@@ -132,7 +135,7 @@ module _ (w : World) (b : Book) (left : Option (List ℕ)) (events : EventsState
   pub went_on : (text left' : Option (List ℕ)) (events' : EventsState) (next : Engine) (x : View) (item : ListItem) (went : Went w b text left events engine u v) → ItemGiven events left events' left' item → is_list_end item ≡ false → TookItem w (ledger_on w Deliver b went.items) item (Some next) v x → Went w b text left' events' next u x
   went_on text left' events' next x item went given more took = record {
     items = went.items ++ event_of item ∷ [];
-    told = told_more w Deliver b went.items (event_of item) u v x went.told took.plays;
+    told = told_more w Deliver b went.items (event_of item) u v x went.told took.plays took.notes;
     stands = subst (EngineStands w next x) (sym (ledger_more w Deliver b went.items (event_of item))) took.stands;
     reading = taken_reading text left' events' went.items item given more took.accepted went.reading;
   }

@@ -3,6 +3,7 @@ use Rattle.std.proofs.Common.{◌≡◌, ℕ, Bool, true, false, List, [], ◌�
 use Rattle.std.specs.Option.{option_map_or}
 use Rattle.std.specs.Prelude.{Err, Ok}
 use Rattle.q_books.specs.HostStands.{HostStands, TellsCrashes}
+use Rattle.q_engine.specs.KeptNotes.{AddsAllNotes}
 use Rattle.q_engine.specs.declared.error.EngineError.{EngineError}
 use Rattle.q_engine.specs.declared.error.EngineError.TheVariants as engine_errors
 use Rattle.q_entries.specs.Runs.{HaltsRun, PlaysRun}
@@ -23,36 +24,54 @@ use Rattle.q_model.specs.declared.event.LifeEvent.{LifeEvent}
 use Rattle.q_model.specs.declared.event.Mode.{Mode}
 use Rattle.q_replay.specs.Listings.{gives, Listing}
 use Rattle.q_replay.specs.Reading.{ended, event_of, faulty, items_in, limited, read_items, reading_behind, refusal_at, refused_in, TakenItems}
-use Rattle.q_replay.specs.RunEnds.{entries_on, HaltsIn, IsFrontOf, IsTold, IsToldInPart, RunEnds}
+use Rattle.q_replay.specs.RunEnds.{entries_on, HaltsIn, IsFrontOf, IsTold, IsToldInPart, NotesStand, RunEnds}
 use Rattle.q_replay.specs.Takings.{entries_at, HaltsItem, NotTaken, replay_error, TookItem}
 use Rattle.q_replay.specs.declared.error.ReplayError.{ReplayError}
 use Rattle.q_replay.specs.declared.error.ReplayError.TheVariants as errors
 use Rattle.q_replay.proofs.Readings.{behind_both, behind_none, comes_to_end, entries_more, entries_none, goes_on, ledger_more, ledger_none, ledger_on, refused_item, taken_item}
+use Rattle.q_replay.proofs.RunNotes.{notes_none, notes_then}
 
 -- ---- runs
 
-pub told_more : (w : World) (mode : Mode) (b : Book) (items : List LifeEvent) (item : LifeEvent) (u v x : View) → IsTold w mode b items u v → PlaysRun w (ledger_on w mode b items) (turn w (ledger_on w mode b items) item) v x → IsTold w mode b (items ++ item ∷ []) u x
-told_more w mode b items item u v x p q =
-    subst (λ (es : List Entry). PlaysRun w (opening mode b) es u x) (sym (entries_more w mode b items item)) (plays_then w (opening mode b) (entries_on w mode b items) (turn w (ledger_on w mode b items) item) u v x p q)
+pub told_more : (w : World) (mode : Mode) (b : Book) (items : List LifeEvent) (item : LifeEvent) (u v x : View) → IsTold w mode b items u v → PlaysRun w (ledger_on w mode b items) (turn w (ledger_on w mode b items) item) v x
+    → AddsAllNotes w (ledger_on w mode b items) (turn w (ledger_on w mode b items) item) v.files x.files → IsTold w mode b (items ++ item ∷ []) u x
+told_more w mode b items item u v x p q adds =
+    let es = entries_on w mode b items in
+    let fs = turn w (ledger_on w mode b items) item in
+    let all : es ++ fs ≡ entries_on w mode b (items ++ item ∷ []) = sym (entries_more w mode b items item) in
+    record {
+      plays = subst (λ (xs : List Entry). PlaysRun w (opening mode b) xs u x) all (plays_then w (opening mode b) es fs u v x p.plays q);
+      notes = subst (λ (xs : List Entry). NotesStand w (opening mode b) xs x.files) all (notes_then w (opening mode b) es fs v.files x.files p.notes adds);
+    }
 
-pub told_still : (w : World) (mode : Mode) (b : Book) (items : List LifeEvent) (u v x : View) → IsTold w mode b items u v → PlaysRun w (ledger_on w mode b items) [] v x → IsTold w mode b items u x
-told_still w mode b items u v x p q =
-    subst (λ (es : List Entry). PlaysRun w (opening mode b) es u x) (append-nil (entries_on w mode b items)) (plays_then w (opening mode b) (entries_on w mode b items) [] u v x p q)
+pub told_still : (w : World) (mode : Mode) (b : Book) (items : List LifeEvent) (u v x : View) → IsTold w mode b items u v → PlaysRun w (ledger_on w mode b items) [] v x → x.files ≡ v.files → IsTold w mode b items u x
+told_still w mode b items u v x p q same =
+    let es = entries_on w mode b items in
+    record {
+      plays = subst (λ (xs : List Entry). PlaysRun w (opening mode b) xs u x) (append-nil es) (plays_then w (opening mode b) es [] u v x p.plays q);
+      notes = subst (NotesStand w (opening mode b) es) (sym same) p.notes;
+    }
 
 pub halted_more : (w : World) (mode : Mode) (b : Book) (items : List LifeEvent) (item : LifeEvent) (error : HostError) (u v x : View) → IsTold w mode b items u v → HaltsRun w (ledger_on w mode b items) (turn w (ledger_on w mode b items) item) error v x → IsToldInPart w mode b (items ++ item ∷ []) error u x
 halted_more w mode b items item error u v x p q =
-    subst (λ (es : List Entry). HaltsRun w (opening mode b) es error u x) (sym (entries_more w mode b items item)) (halts_behind w (opening mode b) (entries_on w mode b items) (turn w (ledger_on w mode b items) item) error u v x p q)
+    subst (λ (es : List Entry). HaltsRun w (opening mode b) es error u x) (sym (entries_more w mode b items item)) (halts_behind w (opening mode b) (entries_on w mode b items) (turn w (ledger_on w mode b items) item) error u v x p.plays q)
 
 pub halted_still : (w : World) (mode : Mode) (b : Book) (items : List LifeEvent) (error : HostError) (u v x : View) → IsTold w mode b items u v → HaltsRun w (ledger_on w mode b items) [] error v x → IsToldInPart w mode b items error u x
 halted_still w mode b items error u v x p q =
-    subst (λ (es : List Entry). HaltsRun w (opening mode b) es error u x) (append-nil (entries_on w mode b items)) (halts_behind w (opening mode b) (entries_on w mode b items) [] error u v x p q)
+    subst (λ (es : List Entry). HaltsRun w (opening mode b) es error u x) (append-nil (entries_on w mode b items)) (halts_behind w (opening mode b) (entries_on w mode b items) [] error u v x p.plays q)
 
 pub given_up : (w : World) (mode : Mode) (b : Book) (items : List LifeEvent) (error : HostError) (u v : View) → IsTold w mode b items u v → IsToldInPart w mode b items error u v
 given_up w mode b items error u v p =
-    subst (λ (es : List Entry). HaltsRun w (opening mode b) es error u v) (append-nil (entries_on w mode b items)) (plays_given_up w (opening mode b) (entries_on w mode b items) [] error u v p)
+    subst (λ (es : List Entry). HaltsRun w (opening mode b) es error u v) (append-nil (entries_on w mode b items)) (plays_given_up w (opening mode b) (entries_on w mode b items) [] error u v p.plays)
+
+pub none_noted : (w : World) (mode : Mode) (b : Book) (v : View) → NotesStand w (opening mode b) (entries_on w mode b []) v.files
+none_noted w mode b v = subst (λ (es : List Entry). NotesStand w (opening mode b) es v.files) (sym (entries_none w mode b)) (notes_none w (opening mode b) v.files)
 
 pub none_told : (w : World) (mode : Mode) (b : Book) (u : View) → TellsCrashes u → HostStands u b → IsTold w mode b [] u u
-none_told w mode b u lawful h = subst (λ (es : List Entry). PlaysRun w (opening mode b) es u u) (sym (entries_none w mode b)) (plays_none w (opening mode b) u lawful h)
+none_told w mode b u lawful h = record {
+  plays = subst (λ (es : List Entry). PlaysRun w (opening mode b) es u u) (sym (entries_none w mode b)) (plays_none w (opening mode b) u lawful h);
+  notes = none_noted w mode b u;
+}
 
 -- ---- refusals
 
@@ -136,11 +155,11 @@ module _ (w : World) (mode : Mode) (b : Book) (taken : TakenItems) (items : List
     untaken_ends x errors.NoMemory r = halted_at faults.NoMemory x (refusal_at l item) refl r
     untaken_ends x errors.Source r = absurd r
     untaken_ends x (errors.BadEvent line) r =
-        (items, refused_taken r.why r.refused ∙ ap (reading_behind items) (bad_names n r.why line r.names) ∙ ap (λ (xs : List LifeEvent). faulty xs line) (append-nil items), told_still w mode b items u v x told r.stays)
+        (items, refused_taken r.why r.refused ∙ ap (reading_behind items) (bad_names n r.why line r.names) ∙ ap (λ (xs : List LifeEvent). faulty xs line) (append-nil items), told_still w mode b items u v x told r.stays r.files)
     untaken_ends x (errors.Limit bound) r =
-        (items, refused_taken r.why r.refused ∙ ap (reading_behind items) (limit_names n r.why bound r.names) ∙ ap (λ (xs : List LifeEvent). limited xs bound) (append-nil items), told_still w mode b items u v x told r.stays)
-    untaken_ends x (errors.Damaged area name) r = (items, front_so_far, told_still w mode b items u v x told r.stays, r.damage)
+        (items, refused_taken r.why r.refused ∙ ap (reading_behind items) (limit_names n r.why bound r.names) ∙ ap (λ (xs : List LifeEvent). limited xs bound) (append-nil items), told_still w mode b items u v x told r.stays r.files)
+    untaken_ends x (errors.Damaged area name) r = (items, front_so_far, told_still w mode b items u v x told r.stays r.files, r.damage)
 
     -- the last item was taken
     pub last_ends : (x : View) (done : Unit {0}) → is_list_end item ≡ true → TookItem w l item None v x → RunEnds w mode b taken u x (Ok done)
-    last_ends x done last took = (items ++ event_of item ∷ [], taken_last last took.accepted, told_more w mode b items (event_of item) u v x told took.plays)
+    last_ends x done last took = (items ++ event_of item ∷ [], taken_last last took.accepted, told_more w mode b items (event_of item) u v x told took.plays took.notes)

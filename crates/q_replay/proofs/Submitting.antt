@@ -33,7 +33,7 @@ pub gone_on : (w : World) (mode : Mode) (b : Book) (taken : TakenItems) (items :
     → IsTold w mode b items u v → IsAt w mode b taken items item n (gives next_item k more) → is_list_end item ≡ false → TookItem w (ledger_on w mode b items) item (Some engine) v x → HasGone w mode b taken next_item k more engine u x
 gone_on w mode b taken items item next_item n k more engine u v x told at going took = record {
   items = items ++ event_of item ∷ [];
-  told = told_more w mode b items (event_of item) u v x told took.plays;
+  told = told_more w mode b items (event_of item) u v x told took.plays took.notes;
   stands = subst (EngineStands w engine x) (sym (ledger_more w mode b items (event_of item))) took.stands;
   next = record { is = taken_next w mode b taken items item n (gives next_item k more) at going took.accepted };
 }

@@ -7,6 +7,8 @@ use Rattle.std.proofs.lemmas.Bool.{lt-ltb, ltb-true}
 use Rattle.q_books.specs.HostStands.{HostStands, IsLeftOf, TellsCrashes}
 use Rattle.q_books.proofs.Joining.{reads_keep}
 use Rattle.q_engine.specs.Beginnings.{BeginsLife, EndsLife, first_entry, is_of_spool, StopsBeginning, StopsEnding}
+use Rattle.q_engine.proofs.StoredNotes.{files_keep, life_notes, plain_notes}
+use Rattle.q_engine.specs.KeptNotes.{AddsAllNotes}
 use Rattle.q_engine.specs.Refusals.{is_of_event, is_of_host, refusal_of, refused_event}
 use Rattle.q_engine.specs.Stands.{EngineStands}
 use Rattle.q_engine.specs.Steps.{HaltsTurn, TakesTurn}
@@ -44,6 +46,7 @@ use Rattle.q_replay.specs.Reading.{is_spent, refusal_at}
 use Rattle.q_replay.specs.Takings.{BeginsAnew, entries_taken, GivesUpItem, GivesUpNext, HaltsItem, MayBegin, NeverBegins, NotTaken, RefusedItem, replay_error, TakesItem, TakesNext, TookItem}
 use Rattle.q_replay.specs.declared.error.ReplayError.{ReplayError}
 use Rattle.q_replay.proofs.Modes.{begins_on, begun_timed, untimed_quiet}
+use Rattle.q_replay.proofs.RunNotes.{adds_one}
 use Rattle.q_restart.specs.Damages.{IsDamage}
 use Rattle.q_restart.specs.Openings.{begun}
 use Rattle.q_transport.specs.Contents.{Contents}
@@ -124,6 +127,7 @@ module _ (params : Settings) (table : Contents) (mode : Mode) (w : World) (l : L
       record {
         accepted = accepted_fresh l (lt-ltb l.book.generation (2 ^ 32 - 1) below);
         plays = subst (λ (es : List Entry). PlaysRun w l es u v) (sym (turn_begin w l)) (plays_one w l own (begun l.book) u v book_is lawful may.host (told_own v began.does));
+        notes = subst (λ (es : List Entry). AddsAllNotes w l es u.files v.files) (sym (turn_begin w l)) (adds_one w l own u.files v.files (life_notes w l (l.book.generation + 1) l.mode u.files v.files began.logs));
         stands = subst (λ (es : List Entry). EngineStands w engine v (after_all w l es)) (sym (turn_begin w l)) (subst (EngineStands w engine v) ledger_is stands);
       }
 
@@ -232,11 +236,13 @@ module _ (params : Settings) (table : Contents) (mode : Mode) (w : World) (l : L
         refused = none;
         names = ap (λ (x : Bound). replay_error line (engine_errors.Limit x)) (h.limit bound refl);
         stays = looked w l u v lawful may.host (h.untouched refl);
+        files = (h.untouched refl).files;
       }
   never_begins line (engine_errors.Damaged area name) v h = record {
     damage = subst (λ f. IsDamage f area name) (sym (h.untouched refl).files) (h.damage area name refl);
     refused = (engine_errors.Limit Generation, refused_spent l (spent (engine_errors.Damaged area name) refl h.orderly));
     stays = looked w l u v lawful may.host (h.untouched refl);
+    files = (h.untouched refl).files;
   }
 
 -- ---- an event that is heard
@@ -245,7 +251,7 @@ module _ (w : World) (l : Ledger) (engine : Engine) (event : Event) (at : ℕ) (
   pub heard : (next : Engine) (v : View) → refused_event l event ≡ None → TakesTurn event engine next u v → TookItem w l (Step event at) (Some next) u v
   heard next v accepted turns =
       let took = turns w l stands in
-      record { accepted = accepted; plays = took.plays; stands = took.stands }
+      record { accepted = accepted; plays = took.plays; notes = took.notes.adds; stands = took.stands }
 
   -- what a step says of its refusal
   pub record IsNeverHeard (error : EngineError) (v : View) : Type 1 where
@@ -271,6 +277,7 @@ module _ (w : World) (l : Ledger) (engine : Engine) (event : Event) (at : ℕ) (
     refused = h.only of;
     names = refl;
     stays = still w l u v lawful stands.host (h.refused error (h.only of));
+    files = ap (λ (x : View). x.files) (h.refused error (h.only of));
   }
 
   pub never_heard : (line : ℕ) (error : EngineError) (v : View) → IsNeverHeard error v → NotTaken w l (Step event at) line (replay_error line error) u v
@@ -286,10 +293,11 @@ module _ (w : World) (l : Ledger) (engine : Engine) (event : Event) (at : ℕ) (
 -- ---- the end
 
 module _ (w : World) (l : Ledger) (engine : Engine) (u : View) (stands : EngineStands w engine u l) (lawful : TellsCrashes u) where
-  pub took_end : (v : View) → EndsLife engine u v → TookItem w l End None u v
-  took_end v ends = record {
+  pub took_end : (v : View) → EndsLife engine u v → v.files ≡ u.files → TookItem w l End None u v
+  took_end v ends same = record {
     accepted = refl;
     plays = subst (λ (es : List Entry). PlaysRun w l es u v) (sym (turn_end w l)) (plays_one w l entries.End (after w l entries.End).book u v refl lawful stands.host (ends w l stands));
+    notes = subst (λ (es : List Entry). AddsAllNotes w l es u.files v.files) (sym (turn_end w l)) (adds_one w l entries.End u.files v.files (plain_notes w l entries.End u v refl (files_keep u v same)).adds);
     stands = tt;
   }
 

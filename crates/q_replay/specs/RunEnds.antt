@@ -1,17 +1,22 @@
 -- How a command ends that takes items through lives: what its answer says of them, and of what was
 -- told.
-use Rattle.std.specs.Prelude.{◌≡◌, ◌++◌, Err, List, Ok, Result}
+use Rattle.std.specs.Prelude.{◌≡◌, ◌++◌, [], Err, List, Ok, Result}
+use Rattle.q_books.specs.Notes.{notes_after}
+use Rattle.q_engine.specs.KeptNotes.{ReadsAsNotes, was_admitted}
 use Rattle.q_entries.specs.Runs.{HaltsRun, PlaysRun}
 use Rattle.q_host.specs.View.{View}
 use Rattle.q_host.specs.declared.error.HostError.{HostError}
 use Rattle.q_host.specs.declared.error.HostError.TheVariants as faults
 use Rattle.q_model.specs.Book.{Book}
-use Rattle.q_model.specs.Ledger.{opening}
+use Rattle.q_model.specs.Ledger.{Ledger, opening}
 use Rattle.q_model.specs.Run.{run}
 use Rattle.q_model.specs.Settings.{World}
+use Rattle.q_model.specs.SpoolFiles.{Files}
+use Rattle.q_model.specs.Step.{after_all}
 use Rattle.q_model.specs.declared.entry.Entry.{Entry}
 use Rattle.q_model.specs.declared.event.LifeEvent.{LifeEvent}
 use Rattle.q_model.specs.declared.event.Mode.{Mode}
+use Rattle.q_model.specs.declared.id.Id.{Id}
 use Rattle.q_replay.specs.Reading.{ended, faulty, items_in, limited, TakenItems}
 use Rattle.q_replay.specs.declared.error.ReplayError.{ReplayError}
 use Rattle.q_replay.specs.declared.error.ReplayError.TheVariants as errors
@@ -21,9 +26,16 @@ use Rattle.q_restart.specs.Damages.{IsDamage}
 abbrev pub entries_on : World → Mode → Book → List LifeEvent → List Entry
 entries_on w mode b items = run w (opening mode b) items
 
--- they were carried out and told
-abbrev pub IsTold : World → Mode → Book → List LifeEvent → View → View → Type 0
-IsTold w mode b items u v = PlaysRun w (opening mode b) (entries_on w mode b items) u v
+-- Each message that these entries admitted and removed no more stands in the book, and its deferral
+-- log reads as its notes: the delays since its last admission, in order.
+abbrev pub NotesStand : World → Ledger → List Entry → Files → Type 0
+NotesStand w l es f = (id : Id)
+    → ReadsAsNotes (after_all w l es).book (was_admitted es id) id (notes_after w l es id []) f
+
+-- they were carried out and told, and the notes of each message were stored
+pub record IsTold (w : World) (mode : Mode) (b : Book) (items : List LifeEvent) (u v : View) : Type 0 where
+  pub plays : PlaysRun w (opening mode b) (entries_on w mode b items) u v
+  pub notes : NotesStand w (opening mode b) (entries_on w mode b items) v.files
 
 -- they were up to one that was given up
 abbrev pub IsToldInPart : World → Mode → Book → List LifeEvent → HostError → View → View → Type 0

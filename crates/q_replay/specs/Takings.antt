@@ -2,6 +2,7 @@
 use Rattle.std.specs.Option.{option_map_or}
 use Rattle.std.specs.Prelude.{◌≡◌, ◌≤◌, [], IfSome, IsErrOf, List, None, Option, Result, Some, true, ℕ}
 use Rattle.q_books.specs.HostStands.{HostStands}
+use Rattle.q_engine.specs.KeptNotes.{AddsAllNotes}
 use Rattle.q_engine.specs.Looks.{ForStands}
 use Rattle.q_engine.specs.Stands.{EngineStands}
 use Rattle.q_engine.specs.declared.engine.Engine.{Engine}
@@ -54,6 +55,7 @@ pub record TookItem (w : World) (l : Ledger) (item : ListItem) (next : Option En
     : Type 0 where
   pub accepted : refusal_at l item ≡ None
   pub plays : PlaysRun w l (entries_at w l item) u v
+  pub notes : AddsAllNotes w l (entries_at w l item) u.files v.files
   pub stands : IfSome next
       (λ engine. EngineStands w engine v (after_all w l (entries_at w l item)))
 
@@ -64,6 +66,7 @@ pub record RefusedItem (w : World) (l : Ledger) (item : ListItem) (line : ℕ) (
   pub refused : refusal_at l item ≡ Some why
   pub names : error ≡ replay_error line why
   pub stays : PlaysRun w l [] u v
+  pub files : v.files ≡ u.files
 
 -- the entries of an item that isn't refused
 abbrev pub entries_taken : World → Ledger → ListItem → List Entry
@@ -80,6 +83,7 @@ pub record FoundDamaged (w : World) (l : Ledger) (item : ListItem) (area : Area)
   pub damage : IsDamage v.files area name
   pub refused : (why : EngineError) × (refusal_at l item ≡ Some why)
   pub stays : PlaysRun w l [] u v
+  pub files : v.files ≡ u.files
 
 -- the item wasn't taken, or not whole
 abbrev pub NotTaken : World → Ledger → ListItem → ℕ → ReplayError → View → View → Type 0

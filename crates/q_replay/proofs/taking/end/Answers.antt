@@ -8,7 +8,7 @@ pub returns-in-Ok-clause-ok : goal.returns-in-Ok-clause-ok
 returns-in-Ok-clause-ok g c t w l h =
     let v = g.H.Host.view c.args.host.now in
     let lawful : TellsCrashes v = record { only = g.met.H.Host.only_now c.args.host.now; told = g.met.H.Host.told_stays c.args.host.now } in
-    took_end w l c.args.engine v h lawful (g.H.Host.view c.finish.new.host) (c.in-Ok.ensures.ok t)
+    took_end w l c.args.engine v h lawful (g.H.Host.view c.finish.new.host) (c.in-Ok.ensures.ok t) (c.finish.ensures.files t)
 
 pub returns-in-Err-clause-err : goal.returns-in-Err-clause-err
 returns-in-Err-clause-err g c t w l h =
