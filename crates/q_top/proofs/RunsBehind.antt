@@ -25,7 +25,7 @@ use Rattle.q_replay.specs.declared.error.ReplayError.{ReplayError}
 use Rattle.q_replay.specs.declared.error.ReplayError.TheVariants as errors
 use Rattle.q_restart.specs.Damages.{IsDamage}
 use Rattle.q_replay.proofs.Readings.{entries_none}
-use Rattle.q_replay.proofs.RunSteps.{given_up}
+use Rattle.q_replay.proofs.RunSteps.{given_up, none_noted}
 use Rattle.q_replay.proofs.Takings.{looked}
 
 pub still_stands : (u m : View) → TellsCrashes u → Stays u m → (b : Book) → HostStands u b → HostStands m b
@@ -42,7 +42,10 @@ module _ (w : World) (mode : Mode) (b : Book) (u m : View) (lawful : TellsCrashe
   looked_first = looked w (opening mode b) u m lawful h stays
 
   none_yet : IsTold w mode b [] u m
-  none_yet = subst (λ (es : List Entry). PlaysRun w (opening mode b) es u m) (sym (entries_none w mode b)) looked_first
+  none_yet = record {
+    plays = subst (λ (es : List Entry). PlaysRun w (opening mode b) es u m) (sym (entries_none w mode b)) looked_first;
+    notes = none_noted w mode b m;
+  }
 
   -- and then the host failed, or memory ran out
   pub halts_first : (taken : TakenItems) (fault : HostError) → HaltsIn w mode b taken fault u m
@@ -51,7 +54,10 @@ module _ (w : World) (mode : Mode) (b : Book) (u m : View) (lawful : TellsCrashe
   module _ (v : View) where
     told_behind : (items : List LifeEvent) → IsTold w mode b items m v → IsTold w mode b items u v
     unfolding after_all
-    told_behind items told = plays_then w (opening mode b) [] (entries_on w mode b items) u m v looked_first told
+    told_behind items told = record {
+      plays = plays_then w (opening mode b) [] (entries_on w mode b items) u m v looked_first told.plays;
+      notes = told.notes;
+    }
 
     part_behind : (items : List LifeEvent) (fault : HostError) → IsToldInPart w mode b items fault m v → IsToldInPart w mode b items fault u v
     unfolding after_all
