@@ -32,8 +32,8 @@ admitted_after (e ∷ es) id was = admitted_after es id (next_admitted e id was)
 abbrev pub was_admitted : List Entry → Id → Bool
 was_admitted es id = admitted_after es id false
 
--- A message that was admitted and not removed since stands in the book, and its deferral log reads as
--- these notes.
+-- A message that was admitted and not removed since stands in the book, and its deferral log reads
+-- as these notes.
 abbrev pub ReadsAsNotes : Book → Bool → Id → List Note → Files → Type 0
 ReadsAsNotes b was id notes f = IsId id → was ≡ true
     → (is_some (message_of b id) ≡ true) × HasNotes notes (f areas.Defer (id_text id))
@@ -48,7 +48,8 @@ AddsNotes w l e f g = (id : Id) → (was : Bool) → (notes : List Note)
 abbrev pub AddsAllNotes : World → Ledger → List Entry → Files → Files → Type 0
 AddsAllNotes w l es f g = (id : Id) → (was : Bool) → (notes : List Note)
     → ReadsAsNotes l.book was id notes f
-    → ReadsAsNotes (after_all w l es).book (admitted_after es id was) id (notes_after w l es id notes) g
+    → ReadsAsNotes (after_all w l es).book (admitted_after es id was) id
+    (notes_after w l es id notes) g
 
 -- the entry begins the message's log anew, or ends it
 abbrev pub is_reset : Id → Entry → Bool
@@ -56,7 +57,7 @@ is_reset id (entries.Admit other) = id_eq other id
 is_reset id (entries.Remove other) = id_eq other id
 is_reset id e = false
 
--- the log of each message that isn't in memory is as before, but where these entries begin or end it
+-- the log of each message that isn't in memory is as before, unless these entries begin or end it
 abbrev pub LeavesNotes : Ledger → List Entry → Files → Files → Type 0
 LeavesNotes l es f g = (id : Id) → IsId id → is_admitted l id ≡ false
     → list_any (is_reset id) es ≡ false → g areas.Defer (id_text id) ≡ f areas.Defer (id_text id)
