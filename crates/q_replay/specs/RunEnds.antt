@@ -33,7 +33,8 @@ NotesStand w l es f = (id : Id)
     → ReadsAsNotes (after_all w l es).book (was_admitted es id) id (notes_after w l es id []) f
 
 -- they were carried out and told, and the notes of each message were stored
-pub record IsTold (w : World) (mode : Mode) (b : Book) (items : List LifeEvent) (u v : View) : Type 0 where
+pub record IsTold (w : World) (mode : Mode) (b : Book) (items : List LifeEvent) (u v : View)
+    : Type 0 where
   pub plays : PlaysRun w (opening mode b) (entries_on w mode b items) u v
   pub notes : NotesStand w (opening mode b) (entries_on w mode b items) v.files
 

@@ -19,7 +19,9 @@ use q_transport::Table;
 use std::alloc::Global;
 
 /// Begins a life on the spool of a host, and takes the event list of the source through it, and
-/// through one more at each `restart`. Each entry is told after the disk holds what it says.
+/// through one more at each `restart`. Each entry is told after the disk holds what it says. With Ok
+/// the deferral log of each message that was admitted, and not removed since, reads as its delays
+/// since the last admission.
 ///
 /// `BadEvent` names the first line that can't be taken. `Limit` comes for content above 10,240,000
 /// bytes, for more than 50,000 recipients, for a message beyond the last serial of its life, for a

@@ -67,7 +67,9 @@ fn carry_out<H: Host, S: Source, C: Clock>(
 /// nothing is changed or told. Of an event list `BadInput` names the first line that is none of one or
 /// whose event can't be taken, or the one behind the last where `end` is missing; `Limit` says which
 /// limit an event passes. `Disk`, `Tell` and `Source` come where the host or the source failed,
-/// `NoMemory` where memory ran out. What was told before a refusal stands on disk.
+/// `NoMemory` where memory ran out. What was told before a refusal stands on disk. With `Done` the
+/// deferral log of each message that `replay` admitted, and didn't remove since, reads as its delays
+/// since the last admission.
 pub fn qmgr<H: Host, S: Source, C: Clock>(
     alloc: Global,
     words: &[String],
