@@ -1,0 +1,5 @@
+mod DialogueRows
+pub mod Endings
+pub mod SettledLists
+pub mod Rests
+pub mod Wholes
