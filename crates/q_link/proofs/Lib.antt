@@ -1,0 +1,8 @@
+mod HopsSteps
+mod LinkSteps
+mod Playbacks
+mod Results
+mod RouteReads
+mod RouteRows
+mod ScriptRows
+mod Telling

@@ -1,0 +1,10 @@
+pub mod Views
+pub mod Reads
+pub mod Records
+pub mod Routes
+pub mod Addresses
+pub mod Scripts
+pub mod Playback
+pub mod ScriptLinks
+pub mod ScriptHops
+pub mod ClosedLinks

@@ -1,0 +1,24 @@
+-- What is known of a link, and what one that tells tells.
+use Rattle.std.specs.Prelude.{Bool, List, Option, ℕ}
+
+-- Whether the last read or write answered `NotYet`, and no rest was given for it since.
+pub data Wait : Type 0 where
+  NoWait : Wait
+  ForRead : Wait
+  ForWrite : Wait
+
+-- The next hop that its connect was given, the bytes received and sent, how often it answered
+-- `NotYet`, and how many rests its hops had told at its connect.
+pub record Told : Type 0 where
+  pub hop : List ℕ
+  pub received : List ℕ
+  pub sent : List ℕ
+  pub not_yets : ℕ
+  pub rests_before : ℕ
+
+-- a link: how often it failed, whether it waits, whether it answered `End`, and what it tells
+pub record View : Type 0 where
+  pub faults : ℕ
+  pub wait : Wait
+  pub ended : Bool
+  pub told : Option Told
