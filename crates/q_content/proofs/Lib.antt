@@ -1,0 +1,4 @@
+pub mod EncodingLaws
+pub mod RunLaws
+pub mod FrontLaws
+pub mod LineLaws
