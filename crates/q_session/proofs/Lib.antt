@@ -1,0 +1,13 @@
+pub mod Acting
+pub mod Beginnings
+pub mod Commands
+pub mod ContentFills
+pub mod ContentPlaces
+pub mod Dialogues
+pub mod Hearings
+pub mod Inboxes
+pub mod Outboxes
+pub mod Polling
+pub mod Sendings
+pub mod Standing
+pub mod Traffic

@@ -1,0 +1,89 @@
+use Rattle.std.proofs.Common.{arith, subst}
+use Rattle.q_model.specs.declared.outcome.SiteState.{SiteState}
+use Rattle.q_model.specs.declared.outcome.SiteState.TheVariants.{Down, Up}
+use Rattle.q_session.proofs.Polling.{along_step, awaits_along, over_down, over_late, over_up, same_on, same_site, steps_along}
+use Rattle.q_session.proofs.Standing.{stands_still, stays_on}
+use Rattle.q_session.specs.Mails.{Mail, StandsAt}
+use Rattle.q_session.specs.Polls.{IsOver}
+use Rattle.q_session.specs.Steps.{StaysSound, Steps}
+use Rattle.q_session.specs.declared.steps.Step.{Step}
+use Rattle.q_session.specs.declared.steps.Step.TheVariants.{Lost, Settles, Waits}
+use Rattle.q_session.proofs.delivery.Delivery.poll.Goals as goal
+
+pub loop-self-preserved : goal.loop-self-preserved
+loop-self-preserved g c =
+    let tells = g.H.Host.tells in
+    let first = g.H.Host.view c.args.host.now in
+    let here = g.H.Host.view c.loop-self.host in
+    let i = c.loop-self.invariant in
+    let e = c.in_ok-step.ensures in
+    let still : (mail : Mail) → StandsAt tells first c.args.self.now.content.spot mail → StandsAt tells here c.loop-self.self.content.spot mail = λ mail is. stands_still tells first here c.args.self.now.content.spot c.loop-self.self.content.spot mail i.stays i.along.same.spot is in
+    let step = subst (λ (s : Step). Steps tells (StandsAt tells here c.loop-self.self.content.spot) c.loop-self.self c.step.new.self (g.L.Link.view c.loop-self.link) (g.L.Link.view c.step.new.link) s) c.in-Onward.is e.steps in
+    let sound = subst (λ (s : Step). StaysSound c.step.new.self s) c.in-Onward.is e.sound in
+    record {
+      along = along_step c.step.new.self (g.L.Link.view c.step.new.link) i.along still sound e.same step;
+      stays = λ t. stays_on first here (g.H.Host.view c.step.new.host) (i.stays t) (e.stays t);
+      disk = omega (arith, i.disk, e.cause.disk_later);
+      tell = omega (arith, i.tell, e.cause.tell_later);
+    }
+
+pub returns-in-Waits-clause-serves : goal.returns-in-Waits-clause-serves
+returns-in-Waits-clause-serves g c =
+    let tells = g.H.Host.tells in
+    let first = g.H.Host.view c.args.host.now in
+    let here = g.H.Host.view c.loop-self.host in
+    let i = c.loop-self.invariant in
+    let e = c.in_ok-step.ensures in
+    let still : (mail : Mail) → StandsAt tells first c.args.self.now.content.spot mail → StandsAt tells here c.loop-self.self.content.spot mail = λ mail is. stands_still tells first here c.args.self.now.content.spot c.loop-self.self.content.spot mail i.stays i.along.same.spot is in
+    let step = subst (λ (s : Step). Steps tells (StandsAt tells here c.loop-self.self.content.spot) c.loop-self.self c.step.new.self (g.L.Link.view c.loop-self.link) (g.L.Link.view c.step.new.link) s) c.in-Waits.is e.steps in
+    λ _ mail is serves t told. ((steps_along c.step.new.self (g.L.Link.view c.step.new.link) Waits i.along still step).becomes mail is serves t told).0
+
+pub returns-in-Waits-clause-awaits : goal.returns-in-Waits-clause-awaits
+returns-in-Waits-clause-awaits g c =
+    let tells = g.H.Host.tells in
+    let first = g.H.Host.view c.args.host.now in
+    let here = g.H.Host.view c.loop-self.host in
+    let i = c.loop-self.invariant in
+    let e = c.in_ok-step.ensures in
+    let still : (mail : Mail) → StandsAt tells first c.args.self.now.content.spot mail → StandsAt tells here c.loop-self.self.content.spot mail = λ mail is. stands_still tells first here c.args.self.now.content.spot c.loop-self.self.content.spot mail i.stays i.along.same.spot is in
+    let step = subst (λ (s : Step). Steps tells (StandsAt tells here c.loop-self.self.content.spot) c.loop-self.self c.step.new.self (g.L.Link.view c.loop-self.link) (g.L.Link.view c.step.new.link) s) c.in-Waits.is e.steps in
+    λ _ mail is serves t told. awaits_along (same_on c.args.self.now c.loop-self.self c.step.new.self i.along.same e.same) (steps_along c.step.new.self (g.L.Link.view c.step.new.link) Waits i.along still step) mail is serves t told
+
+pub returns-in-Lost-clause-over : goal.returns-in-Lost-clause-over
+returns-in-Lost-clause-over g c =
+    let tells = g.H.Host.tells in
+    let first = g.H.Host.view c.args.host.now in
+    let here = g.H.Host.view c.loop-self.host in
+    let i = c.loop-self.invariant in
+    let e = c.in_ok-step.ensures in
+    let still : (mail : Mail) → StandsAt tells first c.args.self.now.content.spot mail → StandsAt tells here c.loop-self.self.content.spot mail = λ mail is. stands_still tells first here c.args.self.now.content.spot c.loop-self.self.content.spot mail i.stays i.along.same.spot is in
+    let step = subst (λ (s : Step). Steps tells (StandsAt tells here c.loop-self.self.content.spot) c.loop-self.self c.step.new.self (g.L.Link.view c.loop-self.link) (g.L.Link.view c.step.new.link) s) c.in-Lost.is e.steps in
+    let a = steps_along c.step.new.self (g.L.Link.view c.step.new.link) Lost i.along still step in
+    let new = c.give_up-in-Lost.new.self in
+    let before = g.L.Link.view c.args.link.now in
+    let v = g.L.Link.view c.step.new.link in
+    λ site e mail is serves t told. subst (λ (s : SiteState). IsOver tells s c.args.now mail new t before v) (same_site c.give_up-in-Lost.result Down site c.give_up-in-Lost.ensures.down e)
+    (over_down new c.args.now a c.give_up-in-Lost.ensures.keeps mail is serves t told)
+
+pub returns-in-Settles-clause-over : goal.returns-in-Settles-clause-over
+returns-in-Settles-clause-over g c =
+    let tells = g.H.Host.tells in
+    let first = g.H.Host.view c.args.host.now in
+    let here = g.H.Host.view c.loop-self.host in
+    let i = c.loop-self.invariant in
+    let e = c.in_ok-step.ensures in
+    let still : (mail : Mail) → StandsAt tells first c.args.self.now.content.spot mail → StandsAt tells here c.loop-self.self.content.spot mail = λ mail is. stands_still tells first here c.args.self.now.content.spot c.loop-self.self.content.spot mail i.stays i.along.same.spot is in
+    let step = subst (λ (s : Step). Steps tells (StandsAt tells here c.loop-self.self.content.spot) c.loop-self.self c.step.new.self (g.L.Link.view c.loop-self.link) (g.L.Link.view c.step.new.link) s) c.in-Settles.is e.steps in
+    let a = steps_along c.step.new.self (g.L.Link.view c.step.new.link) (Settles c.in-Settles.last) i.along still step in
+    let new = c.quit.new.self in
+    let before = g.L.Link.view c.args.link.now in
+    let w = g.L.Link.view c.quit.new.link in
+    λ site e mail is serves t told. subst (λ (s : SiteState). IsOver tells s c.args.now mail new t before w) (same_site c.quit.result Up site c.quit.ensures.up e)
+    (over_up new w c.in-Settles.last c.args.now a c.quit.ensures.keeps c.quit.ensures.outcomes c.quit.ensures.quits mail is serves t told)
+
+pub returns-then-saturating_sub-ge-PATIENCE-clause-over : goal.returns-then-saturating_sub-ge-PATIENCE-clause-over
+returns-then-saturating_sub-ge-PATIENCE-clause-over g c =
+    let new = c.give_up.new.self in
+    let v = g.L.Link.view c.args.link.now in
+    λ site e mail is serves t told. subst (λ (s : SiteState). IsOver g.H.Host.tells s c.args.now mail new t v v) (same_site c.give_up.result Down site c.give_up.ensures.down e)
+    (over_late c.args.self.now new c.args.now v c.give_up.ensures.keeps (omega (arith, c.if-saturating_sub-ge-PATIENCE.true, c.saturating_sub.ensures)) mail serves t told)

@@ -1,0 +1,17 @@
+use Rattle.std.proofs.Common.{◌≤◌, IsTrue}
+use Rattle.q_host.specs.Calls.{Stays}
+use Rattle.q_session.specs.Mails.{StandsAt}
+use Rattle.q_session.specs.Sending.{pieces_left}
+use Rattle.q_session.proofs.Sendings.{Sending}
+use Rattle.q_session.proofs.delivery.Delivery.send.Given as goal
+
+abbrev pub invariant-loop-self : goal.invariant-loop-self
+invariant-loop-self g l = record {
+  sending : Sending g.H.Host.tells (StandsAt g.H.Host.tells (g.H.Host.view l.fn.host) l.fn.self.content.spot) l.fn.self (g.L.Link.view l.fn.link) l.self (g.L.Link.view l.link);
+  stays : IsTrue g.H.Host.tells → Stays (g.H.Host.view l.fn.host) (g.H.Host.view l.host);
+  disk : (g.H.Host.faults l.fn.host).disk ≤ (g.H.Host.faults l.host).disk;
+  tell : (g.H.Host.faults l.fn.host).tell ≤ (g.H.Host.faults l.host).tell;
+}
+
+abbrev pub decreases-loop-self : goal.decreases-loop-self
+decreases-loop-self g l = pieces_left l.self.content

@@ -1,0 +1,19 @@
+use Rattle.std.proofs.Common.{arith}
+use Rattle.q_session.specs.Outgoing.{pending}
+use Rattle.q_session.proofs.Outboxes.{gives_no_more, gives_on}
+use Rattle.q_session.proofs.outbox.Outbox.flush.Goals as goal
+
+pub loop-self-preserved : goal.loop-self-preserved
+loop-self-preserved g c =
+    let now = c.loop-self.self-inside in
+    let view = g.L.Link.view in
+    let more = gives_on (pending c.args.self.now) now.bytes now.from now.to c.in-Gave.count (view c.args.link.now) (view c.loop-self.link) (view c.write.new.self)
+    c.loop-self.invariant.order c.in-Gave.ensures.writes.1 c.loop-self.invariant.link c.loop-self.invariant.gave c.in-Gave.ensures.writes.2 in
+    record { order = more.0; within = c.loop-self.invariant.within; size = c.loop-self.invariant.size; link = more.1; gave = more.2 }
+
+pub returns-in-NotYet-clause-link : goal.returns-in-NotYet-clause-link
+returns-in-NotYet-clause-link g c =
+    let now = c.loop-self.self-inside in
+    let view = g.L.Link.view in
+    gives_no_more now.bytes now.from now.to (view c.args.link.now) (view c.loop-self.link) (view c.write.new.self)
+    c.loop-self-test.true (omega (arith, c.loop-self.invariant.size, c.loop-self.invariant.within)) c.loop-self.invariant.link c.in-NotYet.ensures.writes

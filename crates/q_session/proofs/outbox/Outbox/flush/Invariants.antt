@@ -1,0 +1,19 @@
+use Rattle.std.proofs.Common.{◌-◌, ◌≡◌, ◌≤◌, length, take, drop}
+use Rattle.q_session.specs.Outgoing.{pending}
+use Rattle.q_session.specs.Traffic.{Gave, GoesOn, Tells}
+use Rattle.q_session.proofs.outbox.Outbox.flush.Given as goal
+
+abbrev pub invariant-loop-self : goal.invariant-loop-self
+invariant-loop-self g l =
+    let left = drop l.self-inside.from (take l.self-inside.to l.self-inside.bytes) in
+    record {
+      order : l.self-inside.from ≤ l.self-inside.to;
+      within : l.self-inside.to ≤ 6160;
+      size : length l.self-inside.bytes ≡ 6160;
+      link : GoesOn (g.L.Link.view l.fn.link) (g.L.Link.view l.link);
+      gave : Tells (Gave (pending l.fn.self) left 0) (g.L.Link.view l.fn.link) (g.L.Link.view l.link);
+    }
+
+-- how many bytes are left
+abbrev pub decreases-loop-self : goal.decreases-loop-self
+decreases-loop-self g l = l.self-inside.to - l.self-inside.from
