@@ -1,0 +1,11 @@
+pub mod Splits
+pub mod Rising
+pub mod SessionLaws
+pub mod SlotLaws
+pub mod SlotChanges
+pub mod ReadingLaws
+pub mod Beginning
+pub mod Kept
+pub mod PollLaws
+pub mod TurnLaws
+pub mod RequestLaws

@@ -1,0 +1,10 @@
+pub mod Sessions
+pub mod Requests
+pub mod Turns
+pub mod Answers
+pub mod Rests
+pub mod Readings
+pub mod Polling
+pub mod Slots
+pub mod Places
+pub mod Openings
