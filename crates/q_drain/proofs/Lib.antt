@@ -1,0 +1,20 @@
+pub mod Deciding
+pub mod Silent
+pub mod Naming
+pub mod Running
+pub mod Flying
+pub mod Timing
+pub mod Adding
+pub mod Numbering
+pub mod Waiting
+pub mod Replying
+pub mod Clocking
+pub mod Closing
+pub mod Pairing
+pub mod InFlight
+pub mod Working
+pub mod Opening
+pub mod Polling
+pub mod Turning
+pub mod Ending
+mod WorkedDrain

@@ -1,0 +1,12 @@
+pub mod Told
+pub mod Stories
+pub mod Cases
+pub mod Causes
+pub mod Turns
+pub mod Waits
+pub mod AllTold
+pub mod Drains
+pub mod Flights
+pub mod Works
+pub mod Driving
+pub mod Laws

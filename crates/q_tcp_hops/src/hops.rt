@@ -1,0 +1,115 @@
+//! Hops whose links are connections over TCP. It is an error to rest for a link that doesn't wait.
+ghost use Rattle.std.specs.Prelude.{◌≡◌, IfOk};
+ghost use Rattle.q_tcp_hops.specs.TcpLinks.{fresh, no_calls};
+
+use crate::TcpLink;
+use mio::event::Events;
+use mio::net::TcpStream;
+use mio::{Interest, Poll, Token};
+use q_link::{Hops, NoLink, address_of};
+use q_model::{Hop, NoMemory};
+use std::alloc::Global;
+use std::io;
+use std::marker::Model;
+use std::net::{Net, SocketAddr};
+use std::time::Duration;
+
+/// How long a rest waits at most, in milliseconds.
+const REST_MILLIS: u64 = 10;
+
+/// How many links that are ready one rest hears of; the next one hears of those left.
+const READY_LINKS: usize = 64;
+
+/// The next hops that connections are opened to. A contract sees their counts.
+#[derive(Drop)]
+pub struct TcpHops<N: Net + Drop> {
+    net: N,
+    // tells which links are ready; a link that is dropped leaves it by itself
+    poll: Poll,
+    events: Events,
+    connect_faults: u64,
+    rests: u64,
+    link_faults: u64,
+    link_ends: u64,
+}
+
+impl<N: Net + Drop> Model for TcpHops<N> {
+    ghost use Rattle.std.specs.Prelude.{None};
+    ghost use Rattle.q_link.specs.Records.{HopsView};
+
+    ghost Value = { HopsView };
+
+    ghost view = { λ h. record {
+      connect_faults = h.connect_faults;
+      rests = h.rests;
+      link_faults = h.link_faults;
+      link_ends = h.link_ends;
+      told = None;
+    } };
+}
+
+impl<N: Net + Drop> TcpHops<N> {
+    /// Hops without a link. An error is the system's, or want of memory.
+    pub fn new(alloc: Global, net: N) -> io::Result<TcpHops<N>>
+        ensures { IfOk result (λ hops. hops ≡ no_calls) }
+    {
+        let poll = Poll::new(&net)?;
+        let events = Events::with_capacity(alloc, READY_LINKS)?;
+        Ok(TcpHops {
+            net,
+            poll,
+            events,
+            connect_faults: 0,
+            rests: 0,
+            link_faults: 0,
+            link_ends: 0,
+        })
+    }
+
+    // Begins a connection, and doesn't wait for it.
+    fn open(&self, address: SocketAddr) -> io::Result<TcpLink>
+        ensures { IfOk result (λ link. link ≡ fresh) }
+    {
+        let mut stream = TcpStream::connect(&self.net, address)?;
+        // a command is sent at once, also behind one that the hop hasn't confirmed
+        stream.set_nodelay(true)?;
+        let both = Interest::READABLE | Interest::WRITABLE;
+        self.poll.registry().register(&mut stream, Token(0), both)?;
+        Ok(TcpLink::new(stream))
+    }
+}
+
+impl<N: Net + Drop> Hops for TcpHops<N> {
+    type Link = TcpLink;
+
+    ghost use Rattle.std.specs.Prelude.{None};
+
+    ghost view = { λ hops. record hops { told = None } };
+
+    fn connect(&mut self, _alloc: Global, hop: &Hop) -> Result<TcpLink, NoLink> {
+        let Some(address) = address_of(hop) else {
+            return Err(NoLink::NoRoute);
+        };
+        match self.open(SocketAddr::V4(address)) {
+            Ok(link) => Ok(link),
+            Err(_) => {
+                self.connect_faults = self.connect_faults.saturating_add(1);
+                Err(NoLink::Failed)
+            }
+        }
+    }
+
+    fn rest(&mut self, link: &mut TcpLink) {
+        link.rest();
+        self.rests = self.rests.saturating_add(1);
+        // One that fails is a short rest: the next calls ask each link anyway.
+        let longest = Some(Duration::from_millis(REST_MILLIS));
+        let _ = self.poll.poll(&mut self.events, longest);
+    }
+
+    fn close(&mut self, _alloc: Global, link: TcpLink) -> Result<(), NoMemory> {
+        self.link_faults = self.link_faults.saturating_add(link.faults);
+        self.link_ends = self.link_ends.saturating_add(u64::from(link.ended));
+        Ok(())
+    }
+}

@@ -1,0 +1,19 @@
+//! Connections over TCP, none of which waits for another: a connect, a read or a write that would
+//! wait answers at once, and a rest waits until any link is ready, ten milliseconds at most.
+//!
+//! What is proved: each answer is one that a link may give, and every count and state follows from
+//! the answers. That the bytes are those of the connection to the hop's address, that a rest ends
+//! when a link is ready, and that a closed connection is given back, rests on the system and on
+//! `mio`. So these links and hops tell nothing of what came and went.
+//!
+//! A connect only begins: that a hop refuses is told by the first read or write, as a failure of
+//! its link. It is an error to read into an empty buffer, to write no bytes, and to rest for a link
+//! that doesn't wait.
+#![tactic(auto)]
+
+mod hops;
+mod link;
+mod waiting;
+
+pub use hops::TcpHops;
+pub use link::TcpLink;

@@ -1,0 +1,126 @@
+//! A connection over TCP whose reads and writes answer at once. It is an error to read into an
+//! empty buffer, and to write no bytes.
+ghost use Rattle.std.specs.Prelude.{◌≡◌, ◌<◌, length};
+ghost use Rattle.q_link.specs.Reads.{Fails, Reads, Writes};
+ghost use Rattle.q_tcp_hops.specs.TcpLinks.{fresh, rested};
+
+use crate::waiting::Waiting;
+use mio::net::TcpStream;
+use q_link::{Got, Link, Put};
+use std::io;
+use std::io::{ErrorKind, Read, Write};
+use std::marker::Model;
+
+/// A connection. A contract sees how often it failed, for what it waits and whether it ended.
+#[derive(Drop)]
+pub struct TcpLink {
+    stream: TcpStream,
+    pub(crate) faults: u64,
+    waiting: Waiting,
+    pub(crate) ended: bool,
+}
+
+impl Model for TcpLink {
+    ghost use Rattle.std.specs.Prelude.{None};
+    ghost use Rattle.q_link.specs.Views.{View};
+    ghost use Rattle.q_tcp_hops.specs.Waits.{wait_of};
+
+    ghost Value = { View };
+
+    ghost view = { λ l. record {
+      faults = l.faults;
+      wait = wait_of l.waiting;
+      ended = l.ended;
+      told = None;
+    } };
+}
+
+// The connection isn't there yet, nothing came, there is no room for what is sent, or a signal came
+// first: another call may do.
+fn is_not_yet(error: &io::Error) -> bool {
+    matches!(
+        error.kind(),
+        ErrorKind::WouldBlock | ErrorKind::Interrupted | ErrorKind::NotConnected
+    )
+}
+
+impl TcpLink {
+    /// A link over a stream that doesn't block.
+    pub(crate) fn new(stream: TcpStream) -> TcpLink
+        ensures { result ≡ fresh }
+    {
+        TcpLink {
+            stream,
+            faults: 0,
+            waiting: Waiting::No,
+            ended: false,
+        }
+    }
+
+    /// Waits no more.
+    pub(crate) fn rest(&mut self)
+        ensures { self.new ≡ rested self.old }
+    {
+        self.waiting = Waiting::No;
+    }
+
+    fn fail(&mut self)
+        ensures { Fails self.old self.new }
+    {
+        self.waiting = Waiting::No;
+        self.faults = self.faults.saturating_add(1);
+    }
+}
+
+impl Link for TcpLink {
+    ghost view = { λ link. link };
+
+    fn read(&mut self, buf: &mut [u8]) -> Got
+        requires some { 0 < length buf.old }
+        ensures reads { Reads self.old self.new result buf.new }
+    {
+        match self.stream.read(buf) {
+            Ok(0) => {
+                self.waiting = Waiting::No;
+                self.ended = true;
+                Got::End
+            }
+            Ok(count) => {
+                self.waiting = Waiting::No;
+                Got::Took(count)
+            }
+            Err(error) if is_not_yet(&error) => {
+                self.waiting = Waiting::ForRead;
+                Got::NotYet
+            }
+            Err(_) => {
+                self.fail();
+                Got::Failed
+            }
+        }
+    }
+
+    fn write(&mut self, bytes: &[u8]) -> Put
+        requires some { 0 < length bytes.now }
+        ensures writes { Writes self.old self.new result bytes.now }
+    {
+        match self.stream.write(bytes) {
+            Ok(0) => {
+                self.waiting = Waiting::ForWrite;
+                Put::NotYet
+            }
+            Ok(count) => {
+                self.waiting = Waiting::No;
+                Put::Gave(count)
+            }
+            Err(error) if is_not_yet(&error) => {
+                self.waiting = Waiting::ForWrite;
+                Put::NotYet
+            }
+            Err(_) => {
+                self.fail();
+                Put::Failed
+            }
+        }
+    }
+}
