@@ -1,8 +1,8 @@
 //! A server for tests of the delivery agent. `q_hop REPLY..` listens on a free port of 127.0.0.1,
-//! prints that port on a line of its own, takes one connection and answers from its words, each with
-//! CRLF behind it: the first at once, each further one behind a line that came. Behind a 354 content
-//! comes, of which only the line `.` is answered. Behind the last reply it reads until the other
-//! side closes, and ends with 0.
+//! prints that port on a line of its own, takes one connection and answers from its words, each
+//! with CRLF behind it: the first at once, each further one behind a line that came. Behind a 354
+//! content comes, of which only the line `.` is answered. Behind the last reply it reads until the
+//! other side closes, and ends with 0.
 //!
 //! Without words it opens no port. An error of the system, and a connection that is closed before
 //! the last reply, ends it with 1 and a line on standard error.
