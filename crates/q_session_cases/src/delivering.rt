@@ -136,14 +136,11 @@ pub(crate) fn comes(hops: &mut ScriptHops, bytes: &[u8]) -> Result<(), NoMemory>
     hops.piece(bytes)
 }
 
-/// These bytes, of which there is at least one, come so often.
-pub(crate) fn comes_often(hops: &mut ScriptHops, bytes: &[u8], times: u64) -> Result<(), NoMemory>
-    requires begun { 0 < length hops.old.scripts }
-    requires some { 0 < length bytes.now }
-    ensures begun { 0 < length hops.new.scripts }
-{
+/// These bytes, so often.
+pub(crate) fn repeated(alloc: Global, bytes: &[u8], times: u64) -> Result<Vec<u8>, NoMemory> {
+    let mut all = Vec::new(alloc);
     for _ in 0..times {
-        hops.piece(bytes)?;
+        all.extend_from_slice(bytes)?;
     }
-    Ok(())
+    Ok(all)
 }

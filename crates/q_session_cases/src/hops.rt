@@ -1,15 +1,38 @@
 //! Servers that answer well, badly or not at all.
-use crate::delivering::{Case, Delivered, comes, comes_often, comes_slowly, deliver};
+use crate::delivering::{Case, Delivered, comes, comes_slowly, deliver, repeated};
 use q_link::ScriptHops;
 use q_model::{NoMemory, Outcome, SiteState};
 use std::process::Abort;
 use std::test::Fail;
 
-/// A server that sends these bytes, whether it ends the connection then, and what comes of a delivery.
+/// How a link goes on when all that its server says has come.
 #[derive(Clone, Copy)]
-struct Row {
-    says: &'static [u8],
-    ends: bool,
+enum Ending {
+    Waits,
+    Ends,
+    ReadFails,
+    /// Nothing can be written to it, from the beginning.
+    FirstWriteFails,
+}
+
+/// The pieces in which the bytes of a server come.
+#[derive(Clone, Copy)]
+enum Pieces {
+    One,
+    /// The first byte, and the rest.
+    Two,
+    /// Of one byte each, and behind each the link waits.
+    Bytes,
+}
+
+/// A server that sends these bytes, a content, and what comes of its delivery.
+#[derive(Clone, Copy)]
+struct Row<'a> {
+    says: &'a [u8],
+    ending: Ending,
+    /// For how many seconds nothing comes at all, where that matters.
+    silent_for: u64,
+    content: &'static [u8],
     site: SiteState,
     outcomes: &'static [Outcome],
     sent: &'static [u8],
@@ -40,62 +63,78 @@ const HELO: &[u8] = b"EHLO localhost\r\nHELO localhost\r\n";
 
 const BY_HELO: &[u8] = b"EHLO localhost\r\nHELO localhost\r\nMAIL FROM:<a@x.example>\r\nQUIT\r\n";
 
+const DOTTED: &[u8] = b"EHLO localhost\r\nMAIL FROM:<a@x.example>\r\n\
+    RCPT TO:<b@y.example>\r\nDATA\r\n..a\r\nb\r\n.\r\nQUIT\r\n";
+
 /// All but QUIT.
 const UNENDED: &[u8] = b"EHLO localhost\r\nMAIL FROM:<a@x.example>\r\n\
     RCPT TO:<b@y.example>\r\nRCPT TO:<c@y.example>\r\nDATA\r\nHello\r\n.\r\n";
 
-fn up(says: &'static [u8], outcomes: &'static [Outcome], sent: &'static [u8]) -> Row {
+fn up<'a>(says: &'a [u8], outcomes: &'static [Outcome], sent: &'static [u8]) -> Row<'a> {
     Row {
         says,
-        ends: false,
+        ending: Ending::Waits,
+        silent_for: 0,
+        content: b"Hello\n",
         site: SiteState::Up,
         outcomes,
         sent,
     }
 }
 
-fn down(says: &'static [u8], outcomes: &'static [Outcome], sent: &'static [u8]) -> Row {
+fn down<'a>(says: &'a [u8], outcomes: &'static [Outcome], sent: &'static [u8]) -> Row<'a> {
     Row {
-        says,
-        ends: true,
+        ending: Ending::Ends,
         site: SiteState::Down,
-        outcomes,
-        sent,
+        ..up(says, outcomes, sent)
     }
 }
 
-fn case(outcomes: &[Outcome], tick: u64) -> Case {
+fn case(row: Row<'_>) -> Case {
     Case {
-        content: b"Hello\n",
-        to: if outcomes.len() == 1 { ONE } else { BOTH },
-        tick,
+        content: row.content,
+        to: if row.outcomes.len() == 1 { ONE } else { BOTH },
+        tick: u64::from(row.silent_for > 0),
     }
 }
 
-// The script of a server's link: byte by byte with waits between, or at once.
-fn script(hops: &mut ScriptHops, row: Row, slowly: bool) -> Result<(), NoMemory> {
+// The script of a server's link.
+fn script(hops: &mut ScriptHops, row: Row<'_>, pieces: Pieces) -> Result<(), NoMemory> {
     hops.link()?;
-    if slowly {
-        comes_slowly(hops, row.says)?;
-    } else {
-        comes(hops, row.says)?;
+    match (pieces, row.says.split_first()) {
+        (Pieces::One, _) => comes(hops, row.says)?,
+        (Pieces::Two, Some((first, rest))) => {
+            hops.piece(&[*first])?;
+            comes(hops, rest)?;
+        }
+        (Pieces::Two, None) => {}
+        (Pieces::Bytes, _) => comes_slowly(hops, row.says)?,
     }
-    if row.ends {
-        hops.end()?;
+    match row.ending {
+        Ending::Waits => Ok(()),
+        Ending::Ends => hops.end(),
+        Ending::ReadFails => hops.fail(),
+        Ending::FirstWriteFails => hops.write_fails(1),
     }
-    Ok(())
 }
 
-fn check(rt: &impl Abort, delivered: Delivered, row: Row) {
+fn check(rt: &impl Abort, delivered: Delivered, row: Row<'_>) {
     assert_eq!(rt; delivered.site, row.site);
     assert_eq!(rt; delivered.outcomes.as_slice(), row.outcomes);
     assert_eq!(rt; delivered.sent.as_slice(), row.sent);
+    if row.silent_for > 0 {
+        assert_eq!(rt; delivered.polls.checked_sub(row.silent_for), Some(1));
+    }
 }
 
 #[test]
 fn servers_that_answer_and_that_do_not(rt: HostRuntime) -> Result<(), Fail> {
     use Outcome::{Later, Never, Ok as Accepted};
     let alloc = rt.alloc();
+    let mut line = [b'x'; 513];
+    line[..4].copy_from_slice(b"220 ");
+    line[512] = b'\n';
+    let lines = repeated(alloc, b"220-x\r\n", 101)?;
     let rows = [
         // Of two recipients the first is refused.
         up(
@@ -140,77 +179,58 @@ fn servers_that_answer_and_that_do_not(rt: HostRuntime) -> Result<(), Fail> {
         down(b"220 hi\r\n250 ok\r\n354 go\r\n", PUT_OFF, TO_MAIL),
         down(b"2x0 hi\r\n", PUT_OFF, b""),
         down(b"220 hi\r\n550 no\r\n550 no\r\n", PUT_OFF, HELO),
+        // A line of 513 bytes, and a reply of 101 lines.
+        Row {
+            ending: Ending::Waits,
+            ..down(&line, PUT_OFF, b"")
+        },
+        Row {
+            ending: Ending::Waits,
+            ..down(lines.as_slice(), PUT_OFF, b"")
+        },
+        // The read behind all fails, where the greeting comes in two pieces the third one; the first
+        // write fails; and nothing comes for 600 seconds.
+        Row {
+            ending: Ending::ReadFails,
+            ..down(b"220 hi\r\n", PUT_OFF, EHLO)
+        },
+        Row {
+            ending: Ending::FirstWriteFails,
+            ..down(b"220 hi\r\n", PUT_OFF, b"")
+        },
+        Row {
+            ending: Ending::Waits,
+            silent_for: 600,
+            ..down(b"", PUT_OFF, b"")
+        },
+        // Replies of two lines and of three bytes are taken; another code in the second line, a code
+        // that begins with 1, and two bytes alone are none.
+        up(
+            b"220 hi\r\n250-a\r\n250 b\r\n451 no\r\n",
+            &[Later(451)],
+            TO_QUIT,
+        ),
+        up(b"220\r\n250\r\n451\r\n", &[Later(451)], TO_QUIT),
+        down(b"220 hi\r\n250-a\r\n251 b\r\n", PUT_OFF, EHLO),
+        down(b"199 x", PUT_OFF, b""),
+        down(b"220 hi\r\n25", PUT_OFF, EHLO),
+        // The dot of a content is doubled, and its last line ends.
+        Row {
+            content: b".a\nb",
+            ..up(
+                b"220 hi\r\n250 ok\r\n250 ok\r\n250 ok\r\n354 go\r\n250 done\r\n",
+                &[Accepted],
+                DOTTED,
+            )
+        },
     ];
     for row in rows {
-        for slowly in [false, true] {
+        for pieces in [Pieces::One, Pieces::Two, Pieces::Bytes] {
             let mut hops = ScriptHops::new(alloc);
-            script(&mut hops, row, slowly)?;
-            check(&rt, deliver(alloc, case(row.outcomes, 0), &mut hops)?, row);
+            script(&mut hops, row, pieces)?;
+            check(&rt, deliver(alloc, case(row), &mut hops)?, row);
         }
     }
-    Ok(())
-}
-
-// The third read fails, or the first write.
-#[test]
-fn links_that_fail(rt: HostRuntime) -> Result<(), Fail> {
-    let alloc = rt.alloc();
-    let mut hops = ScriptHops::new(alloc);
-    hops.link()?;
-    hops.piece(b"2")?;
-    hops.piece(b"20 hi\r\n")?;
-    hops.fail()?;
-    check(
-        &rt,
-        deliver(alloc, case(PUT_OFF, 0), &mut hops)?,
-        down(b"", PUT_OFF, EHLO),
-    );
-    hops.link()?;
-    hops.piece(b"220 hi\r\n")?;
-    hops.write_fails(1)?;
-    check(
-        &rt,
-        deliver(alloc, case(PUT_OFF, 0), &mut hops)?,
-        down(b"", PUT_OFF, b""),
-    );
-    Ok(())
-}
-
-// A server that says nothing is given 600 seconds.
-#[test]
-fn a_silent_server(rt: HostRuntime) -> Result<(), Fail> {
-    let alloc = rt.alloc();
-    let mut hops = ScriptHops::new(alloc);
-    hops.link()?;
-    let delivered = deliver(alloc, case(PUT_OFF, 1), &mut hops)?;
-    assert_eq!(rt; delivered.polls, 601);
-    check(&rt, delivered, down(b"", PUT_OFF, b""));
-    Ok(())
-}
-
-// A line of 513 bytes, and a reply of 101 lines.
-#[test]
-fn replies_that_are_too_long(rt: HostRuntime) -> Result<(), Fail> {
-    let alloc = rt.alloc();
-    let mut hops = ScriptHops::new(alloc);
-    let mut line = [b'x'; 513];
-    line[..4].copy_from_slice(b"220 ");
-    line[512] = b'\n';
-    hops.link()?;
-    hops.piece(&line)?;
-    check(
-        &rt,
-        deliver(alloc, case(PUT_OFF, 0), &mut hops)?,
-        down(b"", PUT_OFF, b""),
-    );
-    hops.link()?;
-    comes_often(&mut hops, b"220-x\r\n", 100)?;
-    hops.piece(b"2")?;
-    check(
-        &rt,
-        deliver(alloc, case(PUT_OFF, 0), &mut hops)?,
-        down(b"", PUT_OFF, b""),
-    );
     Ok(())
 }
 
@@ -228,13 +248,13 @@ fn links_that_wait_to_write(rt: HostRuntime) -> Result<(), Fail> {
     comes(&mut hops, row.says)?;
     hops.write_not_yet(1)?;
     hops.write_not_yet(7)?;
-    let delivered = deliver(alloc, case(row.outcomes, 0), &mut hops)?;
+    let delivered = deliver(alloc, case(row), &mut hops)?;
     assert_eq!(rt; delivered.polls, 3);
     check(&rt, delivered, row);
     hops.link()?;
     comes(&mut hops, row.says)?;
     hops.write_not_yet(8)?;
-    let delivered = deliver(alloc, case(row.outcomes, 0), &mut hops)?;
+    let delivered = deliver(alloc, case(row), &mut hops)?;
     check(
         &rt,
         delivered,
