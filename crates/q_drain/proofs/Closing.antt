@@ -174,7 +174,7 @@ unlinked_case s connects c none down counts =
 
 -- ---- later
 
-some_later : (P Q : Closed → Type 0) → ((r : Closed) → P r → Q r) → (o : Option Closed) → IfSome o P → IfSome o Q
+pub some_later : (P Q : Closed → Type 0) → ((r : Closed) → P r → Q r) → (o : Option Closed) → IfSome o P → IfSome o Q
 some_later P Q f None h = tt
 some_later P Q f (Some r) h = f r h
 

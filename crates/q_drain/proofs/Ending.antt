@@ -1,7 +1,7 @@
 -- What a drain promises, from what holds between its calls.
-use Rattle.std.proofs.Common.{◌≡◌, ◌+◌, inl, inr, ℕ, List, [], ◌++◌, length, length-append, map, sym, ap, ◌∙◌, subst}
+use Rattle.std.proofs.Common.{◌≡◌, ◌+◌, inl, inr, ℕ, List, [], ◌++◌, length, length-append, map, sym, ap, ◌∙◌}
 use native.Mathlib.Omega.{arith}
-use Rattle.std.proofs.lemmas.List.{append-nil, map-append}
+use Rattle.std.proofs.lemmas.List.{append-nil, length-map, map-append}
 use Rattle.q_agent.specs.Sessions.{OpenSession}
 use Rattle.q_drain.proofs.Pairing.{pairs_none}
 use Rattle.q_drain.proofs.Replying.{all_cases}
@@ -9,8 +9,7 @@ use Rattle.q_drain.proofs.Waiting.{turns_end}
 use Rattle.q_drain.specs.Cases.{Case}
 use Rattle.q_drain.specs.Causes.{FewFailed}
 use Rattle.q_drain.specs.Drains.{Delivers, IsCut, IsQuiet, IsWhole}
-use Rattle.q_drain.specs.Driving.{AreConnected, Driving, FewCutOff}
-use Rattle.q_drain.specs.Flights.{flight}
+use Rattle.q_drain.specs.Driving.{AreConnected, Driving, FewCutOff, HasCases}
 use Rattle.q_drain.specs.Stories.{Story}
 use Rattle.q_drain.specs.Told.{Begun, begun}
 use Rattle.q_drain.specs.Turns.{AllConnected, SomeConnected}
@@ -27,15 +26,15 @@ few_failed cs fs os old new (inl h) = inl (omega (arith, h))
 few_failed cs fs os old new (inr h) = inr h
 
 -- at any time its deliveries are as promised
-pub drives_delivers : (w : World) (l : Ledger) (connects old new : ℕ) (Tells : Begun → Told → Type 0) (os : List OpenSession) (s : Story) → Driving w l connects old new Tells os s → Delivers w l connects old new s
-drives_delivers w l connects old new Tells os s d = record {
+pub cases_deliver : (w : World) (l : Ledger) (connects old new : ℕ) (fs : List Delivery) (os : List OpenSession) (s : Story) → HasCases w l connects old new fs os s → Delivers w l connects old new s
+cases_deliver w l connects old new fs os s d = record {
   cases = d.cases;
   are = all_cases w l s d.cases d.all;
   each = d.each;
-  failed = few_failed d.cases d.open_flights os old new d.failed;
+  failed = few_failed d.cases fs os old new d.failed;
 }
 
-all_begun : (s : Story) (early waiting : List Begun) → AreConnected s early waiting → length (begun s.told) ≡ length early + length waiting
+pub all_begun : (s : Story) (early waiting : List Begun) → AreConnected s early waiting → length (begun s.told) ≡ length early + length waiting
 all_begun s early waiting c = ap length c.begins ∙ length-append early waiting
 
 -- and where it was given up, the first deliveries were connected
@@ -43,15 +42,17 @@ pub some_connected : (s : Story) (early waiting : List Begun) → AreConnected s
 some_connected s early waiting c =
     let all = all_begun s early waiting c in
     let connects = c.connects in
+    let hops = ap length c.hops ∙ length-map early (λ (b : Begun). b.site.hop) in
     record {
       connects = omega (arith, all, connects);
+      few = omega (arith, hops, connects);
       hops = (map (λ (b : Begun). b.site.hop) waiting, ap (λ (bs : List Begun). map (λ (b : Begun). b.site.hop) bs) c.begins ∙ map-append (λ (b : Begun). b.site.hop) early waiting ∙ ap (λ (xs : List (List ℕ)). xs ++ map (λ (b : Begun). b.site.hop) waiting) (sym c.hops));
     }
 
-pub drives_cut : (w : World) (l : Ledger) (connects old new : ℕ) (Tells : Begun → Told → Type 0) (os : List OpenSession) (s : Story) → Driving w l connects old new Tells os s → IsCut s
-drives_cut w l connects old new Tells os s d = record {
+pub drives_cut : (w : World) (l : Ledger) (Tells : Begun → Told → Type 0) (early waiting : List Begun) (fs : List Delivery) (os : List OpenSession) (s : Story) → Driving w l Tells early waiting fs os s → IsCut s
+drives_cut w l Tells early waiting fs os s d = record {
   clocked = ([], sym (append-nil _ ∙ d.course.clocked));
-  connected = some_connected s d.early d.waiting d.connected;
+  connected = some_connected s early waiting d.connected;
 }
 
 all_connected : (s : Story) (early : List Begun) → AreConnected s early [] → AllConnected s
@@ -64,21 +65,17 @@ all_connected s early c =
     }
 
 -- where no delivery waits for its connect, and its last turn did nothing
-pub drives_whole : (w : World) (l : Ledger) (connects old new : ℕ) (Tells : Begun → Told → Type 0) (os : List OpenSession) (s : Story) → (d : Driving w l connects old new Tells os s) → d.waiting ≡ [] → Turns 1 s → IsWhole w l s
-drives_whole w l connects old new Tells os s d none turns =
+pub drives_whole : (w : World) (l : Ledger) (Tells : Begun → Told → Type 0) (early : List Begun) (fs : List Delivery) (os : List OpenSession) (s : Story) → Driving w l Tells early [] fs os s → Turns 1 s → IsWhole w l s
+drives_whole w l Tells early fs os s d turns =
     let counted = d.opened.counted in
-    let all = all_begun s d.early d.waiting d.connected in
+    let all = all_begun s early [] d.connected in
     record {
       told = d.course.run;
       clocked = d.course.clocked;
       rested = turns_end s turns (omega (arith, counted, all));
-      connected = all_connected s d.early (subst (AreConnected s d.early) none d.connected);
+      connected = all_connected s early d.connected;
     }
 
 -- and no session is open, no delivery is in flight
-pub drives_quiet : (w : World) (l : Ledger) (connects old new : ℕ) (Tells : Begun → Told → Type 0) (s : Story) → (d : Driving w l connects old new Tells [] s) → d.waiting ≡ [] → IsQuiet w l s
-drives_quiet w l connects old new Tells s d none =
-    d.opened.flights
-    ∙ ap (λ (bs : List Begun). d.open_flights ++ map flight bs) none
-    ∙ append-nil d.open_flights
-    ∙ pairs_none (IsSessionOf (after_all w l s.told).book s.told Tells) d.open_flights d.opened.sessions
+pub drives_quiet : (w : World) (l : Ledger) (Tells : Begun → Told → Type 0) (early : List Begun) (fs : List Delivery) (s : Story) → Driving w l Tells early [] fs [] s → IsQuiet w l s
+drives_quiet w l Tells early fs s d = d.opened.flights ∙ append-nil fs ∙ pairs_none (IsSessionOf (after_all w l s.told).book s.told Tells) fs d.opened.sessions

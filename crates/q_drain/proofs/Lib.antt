@@ -13,8 +13,21 @@ pub mod Closing
 pub mod Pairing
 pub mod InFlight
 pub mod Working
-pub mod Opening
+pub mod Connecting
 pub mod Polling
 pub mod Turning
 pub mod Ending
+pub mod Starting
+pub mod CuttingOff
+pub mod Continuing
+pub mod Moments
+pub mod Sessions
+pub mod Reports
+pub mod Cutting
+pub mod UnderWay
+pub mod Serving
+pub mod Concluding
+pub mod Requested
+pub mod OpeningAll
+pub mod ClockTurns
 mod WorkedDrain

@@ -44,7 +44,7 @@ retold book told P Q f o change h = record {
       o.work h.work;
 }
 
-same_flag : (n k : Counts) (start : Begun) (t : Told) → k.rests ≡ n.rests → k.moments ≡ n.moments → nat_le start.number k.polled ≡ nat_le start.number n.polled → IsLinkOf n start t → IsLinkOf k start t
+pub same_flag : (n k : Counts) (start : Begun) (t : Told) → k.rests ≡ n.rests → k.moments ≡ n.moments → nat_le start.number k.polled ≡ nat_le start.number n.polled → IsLinkOf n start t → IsLinkOf k start t
 same_flag n k start t rests moments flag h = record {
   hop = h.hop;
   waits = subst (λ r. Waits r k.moments t.rests_before t.not_yets (nat_le start.number k.polled)) (sym rests)

@@ -56,15 +56,16 @@ pub record AreOpen (w : World) (l : Ledger) (s : Story) (Tells : Begun → Told 
   pub below : AllByRecursion (λ o. o.number ≤ length early) os
   pub counted : length early ≡ length (ended s.told) + length os
 
--- Between two calls: `connects` were made before the first of them, and the count of connects that failed was `old` then and is `new`.
-pub record Driving (w : World) (l : Ledger) (connects old new : ℕ) (Tells : Begun → Told → Type 0) (os : List OpenSession) (s : Story) : Type 0 where
+-- Between two calls, whatever clock and hops tell.
+pub record Driving (w : World) (l : Ledger) (Tells : Begun → Told → Type 0) (early waiting : List Begun) (fs : List Delivery) (os : List OpenSession) (s : Story) : Type 0 where
   pub course : IsOnCourse w l s
-  pub early : List Begun
-  pub waiting : List Begun
   pub connected : AreConnected s early waiting
-  pub open_flights : List Delivery
-  pub opened : AreOpen w l s Tells early waiting open_flights os
+  pub opened : AreOpen w l s Tells early waiting fs os
+
+-- Where the hops tell: `connects` were made before the first call, and the count of connects that
+-- failed was `old` then and is `new`.
+pub record HasCases (w : World) (l : Ledger) (connects old new : ℕ) (fs : List Delivery) (os : List OpenSession) (s : Story) : Type 0 where
   pub cases : List Case
   pub all : AllTold w l s cases
   pub each : AllByRecursion (IsDelivery s connects) cases
-  pub failed : FewCutOff cases open_flights os old new
+  pub failed : FewCutOff cases fs os old new

@@ -9,4 +9,7 @@ pub mod Drains
 pub mod Flights
 pub mod Works
 pub mod Driving
+pub mod Standing
+pub mod Opened
+pub mod Heard
 pub mod Laws

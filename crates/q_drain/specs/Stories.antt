@@ -1,5 +1,5 @@
 -- What a call did: what it told, what its clock gave, and what was done with its hops.
-use Rattle.std.specs.Prelude.{◌+◌, ◌++◌, ◌≡◌, List, Option, Some, ℕ}
+use Rattle.std.specs.Prelude.{◌+◌, ◌++◌, ◌≡◌, [], List, Option, Some, ℕ, ◌∷◌}
 use Rattle.q_model.specs.declared.entry.Entry.{Entry}
 use Rattle.q_link.specs.Records.{Closed, HopsView, ToldHops}
 
@@ -25,3 +25,7 @@ pub record IsStory (clock_before clock_after : Option (List ℕ)) (old new : Hop
   pub clock : (given : List ℕ) × (clock_before ≡ Some given) × (clock_after ≡ Some (given ++ s.moments))
   pub told : old.told ≡ Some before
   pub done : (now : ToldHops) × (new.told ≡ Some now) × Did before now s
+
+-- a connect was made to this next hop
+abbrev pub with_request : Story → List ℕ → Story
+with_request s hop = record s { connects = s.connects + 1; hops = s.hops ++ hop ∷ [] }

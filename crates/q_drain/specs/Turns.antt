@@ -39,4 +39,5 @@ pub record AllConnected (s : Story) : Type 0 where
 -- the first of them were
 pub record SomeConnected (s : Story) : Type 0 where
   pub connects : s.connects ≤ length (begun s.told)
+  pub few : length s.hops ≤ s.connects
   pub hops : (rest : List (List ℕ)) × (hops_begun s ≡ s.hops ++ rest)

@@ -9,6 +9,9 @@
 //! of one is an error.
 #![tactic(auto)]
 
+mod hearing;
+mod opening;
+
 ghost use Rattle.std.specs.Prelude.{◌≤◌, List, ℕ};
 ghost use Rattle.q_drain.specs.Laws.{AddsFlights, OfLedgers, StaysOwnRun};
 ghost use Rattle.q_model.specs.declared.entry.Entry.{Entry};
@@ -16,6 +19,9 @@ ghost use Rattle.q_model.specs.declared.event.Event.TheVariants as events;
 ghost use Rattle.q_model.specs.declared.outcome.Outcome.{Outcome};
 ghost use Rattle.q_model.specs.declared.outcome.SiteState.{SiteState};
 ghost use Rattle.q_model.specs.Step.{after_all};
+
+pub use hearing::hear_clock;
+pub use opening::open_started;
 
 /// A turn names just its own event, and so entries that are the run of the events that they name
 /// stay so with the turn of a reply, and with that of a moment that isn't past.

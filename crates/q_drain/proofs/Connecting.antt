@@ -25,16 +25,12 @@ use Rattle.q_model.specs.Settings.{World}
 use Rattle.q_model.specs.Step.{after_all}
 use Rattle.q_session.specs.Mails.{StandsAt}
 use Rattle.q_drain.specs.Flights.{AreNumbered}
-use Rattle.q_drain.specs.Stories.{Story}
+use Rattle.q_drain.specs.Stories.{Story, with_request}
 use Rattle.q_drain.specs.Told.{Begun, begun}
 
 -- ---- connects
 
--- a connect was made for the first that waits
-abbrev pub with_request : Story → Begun → Story
-with_request s b = record s { connects = s.connects + 1; hops = s.hops ++ b.site.hop ∷ [] }
-
-pub connected_more : (s : Story) (early : List Begun) (b : Begun) (waiting : List Begun) → AreConnected s early (b ∷ waiting) → AreConnected (with_request s b) (early ++ b ∷ []) waiting
+pub connected_more : (s : Story) (early : List Begun) (b : Begun) (waiting : List Begun) → AreConnected s early (b ∷ waiting) → AreConnected (with_request s b.site.hop) (early ++ b ∷ []) waiting
 connected_more s early b waiting h =
     let one = length-append early (b ∷ []) in
     let connects = h.connects in
@@ -48,19 +44,19 @@ connected_more s early b waiting h =
 
 -- ---- the order of sessions
 
-abbrev pub AreBelow : ℕ → List OpenSession → Type 0
-AreBelow n os = AllByRecursion (λ (o : OpenSession). o.number ≤ n) os
+abbrev pub AreUpTo : ℕ → List OpenSession → Type 0
+AreUpTo n os = AllByRecursion (λ (o : OpenSession). o.number ≤ n) os
 
 put_behind : (o p : OpenSession) (ps : List OpenSession) (b : Bool) → nat_lt o.number p.number ≡ b → p.number < o.number → inserted o ps ≡ ps ++ o ∷ [] → (if b then o ∷ p ∷ ps else p ∷ inserted o ps) ≡ p ∷ (ps ++ o ∷ [])
 put_behind o p ps true is h rest = let less = ltb-true o.number p.number is in absurd (omega (arith, less, h))
 put_behind o p ps false is h rest = ap (λ (os : List OpenSession). p ∷ os) rest
 
 -- one with a greater number stands behind all
-pub inserted_last : (n : ℕ) (o : OpenSession) (os : List OpenSession) → o.number ≡ n + 1 → AreBelow n os → inserted o os ≡ os ++ o ∷ []
+pub inserted_last : (n : ℕ) (o : OpenSession) (os : List OpenSession) → o.number ≡ n + 1 → AreUpTo n os → inserted o os ≡ os ++ o ∷ []
 inserted_last n o [] is h = refl
 inserted_last n o (p ∷ ps) is h = let below = h.0 in put_behind o p ps (nat_lt o.number p.number) refl (omega (arith, below, is)) (inserted_last n o ps is h.1)
 
-pub below_more : (n : ℕ) (o : OpenSession) (os : List OpenSession) → o.number ≡ n + 1 → AreBelow n os → AreBelow (n + 1) (os ++ o ∷ [])
+pub below_more : (n : ℕ) (o : OpenSession) (os : List OpenSession) → o.number ≡ n + 1 → AreUpTo n os → AreUpTo (n + 1) (os ++ o ∷ [])
 below_more n o [] is h = (omega (arith, is), tt)
 below_more n o (p ∷ ps) is h = let below = h.0 in (omega (arith, below), below_more n o ps is h.1)
 
@@ -68,7 +64,7 @@ all_below : (m : ℕ) (o : OpenSession) (os : List OpenSession) → m < o.number
 all_below m o [] late h = (late, tt)
 all_below m o (p ∷ ps) late h = (h.0, all_below m o ps late h.1)
 
-pub rises_more : (n : ℕ) (o : OpenSession) (os : List OpenSession) → o.number ≡ n + 1 → AreBelow n os → Rises (map (λ (p : OpenSession). p.number) os) → Rises (map (λ (p : OpenSession). p.number) (os ++ o ∷ []))
+pub rises_more : (n : ℕ) (o : OpenSession) (os : List OpenSession) → o.number ≡ n + 1 → AreUpTo n os → Rises (map (λ (p : OpenSession). p.number) os) → Rises (map (λ (p : OpenSession). p.number) (os ++ o ∷ []))
 rises_more n o [] is h r = (tt, tt)
 rises_more n o (p ∷ ps) is h r = let below = h.0 in (all_below p.number o ps (omega (arith, below, is)) r.0, rises_more n o ps is h.1 r.1)
 
@@ -77,21 +73,21 @@ rises_more n o (p ∷ ps) is h r = let below = h.0 in (all_below p.number o ps (
 -- one more session stands for the delivery
 pub open_more : (w : World) (l : Ledger) (s : Story) (Tells : Begun → Told → Type 0) (early : List Begun) (b : Begun) (waiting : List Begun) (fs : List Delivery) (os : List OpenSession) (o : OpenSession)
     → AreConnected s early (b ∷ waiting) → AreOpen w l s Tells early (b ∷ waiting) fs os → IsSessionOf (after_all w l s.told).book s.told Tells (flight b) o
-    → AreOpen w l (with_request s b) Tells (early ++ b ∷ []) waiting (fs ++ flight b ∷ []) (inserted o os)
+    → AreOpen w l (with_request s b.site.hop) Tells (early ++ b ∷ []) waiting (fs ++ flight b ∷ []) (inserted o os)
 open_more w l s Tells early b waiting fs os o c h is =
     let one = length-append early (b ∷ []) in
     let more = length-append os (o ∷ []) in
     let counted = h.counted in
     let number : o.number ≡ length early + 1 = is.number ∙ c.numbers.0 in
     let last : inserted o os ≡ os ++ o ∷ [] = inserted_last (length early) o os number h.below in
-    let k : AreOpen w l (with_request s b) Tells (early ++ b ∷ []) waiting (fs ++ flight b ∷ []) (os ++ o ∷ []) = record {
+    let k : AreOpen w l (with_request s b.site.hop) Tells (early ++ b ∷ []) waiting (fs ++ flight b ∷ []) (os ++ o ∷ []) = record {
       flights = h.flights ∙ sym (append_assoc fs (flight b ∷ []) (map flight waiting));
       sessions = pairs_more (IsSessionOf (after_all w l s.told).book s.told Tells) fs os (flight b) o h.sessions is;
       rises = rises_more (length early) o os number h.below h.rises;
-      below = subst (λ m. AreBelow m (os ++ o ∷ [])) (sym one) (below_more (length early) o os number h.below);
+      below = subst (λ m. AreUpTo m (os ++ o ∷ [])) (sym one) (below_more (length early) o os number h.below);
       counted = omega (arith, one, more, counted);
     } in
-    subst (λ xs. AreOpen w l (with_request s b) Tells (early ++ b ∷ []) waiting (fs ++ flight b ∷ []) xs) (sym last) k
+    subst (λ xs. AreOpen w l (with_request s b.site.hop) Tells (early ++ b ∷ []) waiting (fs ++ flight b ∷ []) xs) (sym last) k
 
 -- what a request opens is the session of its delivery
 pub record IsReadyFor (host : HostView) (book : Book) (told : List Entry) (n : Counts) (b : Begun) (m : Message) : Type 0 where

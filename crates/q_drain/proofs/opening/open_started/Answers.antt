@@ -1,0 +1,69 @@
+use Rattle.std.proofs.Common.{◌∙◌, ◌++◌, arith, refl}
+use Rattle.q_books.specs.HostStands.{TellsCrashes}
+use Rattle.q_drain.proofs.OpeningAll.{may_open, some_all, some_begin, some_fails, some_more}
+use Rattle.q_drain.proofs.Requested.{always_err}
+use Rattle.q_drain.proofs.opening.open_started.Goals as goal
+
+pub loop-number-init : goal.loop-number-init
+loop-number-init g c =
+    let u = g.H.Host.view c.args.host.now in
+    let lawful : TellsCrashes u = record { only = g.met.H.Host.only_now c.args.host.now; told = g.met.H.Host.told_stays c.args.host.now } in
+    record {
+      some = c.requires.stands;
+      opened = λ t w l a clock early waiting fs s is h. some_begin w l a clock u c.args.engine.now (g.N.Hops.view c.args.hops.now) c.args.agent.now early waiting fs s c.args.known lawful is h;
+      below = c.requires.below;
+      known = omega arith;
+      polled = refl;
+      disk_later = omega arith;
+      tell_later = omega arith;
+    }
+
+pub open_next-requires-clause-below : goal.open_next-requires-clause-below
+open_next-requires-clause-below g c = c.loop-number.invariant.below
+
+pub open_next-requires-clause-first : goal.open_next-requires-clause-first
+open_next-requires-clause-first g c t =
+    let loop = c.loop-number in
+    let (clock, m) = loop.invariant.some t in
+    let o = loop.invariant.opened t m.world m.ledger m.first clock m.early m.waiting m.flights m.story m.known_is m.serving in
+    (clock, may_open m.world m.ledger m.first clock (g.H.Host.view c.args.host.now) (g.H.Host.view loop.host) c.args.engine.now (g.N.Hops.view loop.hops) loop.agent (m.early ++ m.waiting) m.story loop.number c.last_number-last.result c.last_number-last.ensures o c.loop-number-test.true)
+
+pub loop-number-preserved : goal.loop-number-preserved
+loop-number-preserved g c =
+    let loop = c.loop-number in
+    let v = g.H.Host.view loop.host in
+    let lawful : TellsCrashes v = record { only = g.met.H.Host.only_now loop.host; told = g.met.H.Host.told_stays loop.host } in
+    record {
+      some = loop.invariant.some;
+      opened = λ t w l a clock early waiting fs s is h. some_more w l a clock (g.H.Host.view c.args.host.now) v c.args.engine.now (g.N.Hops.view loop.hops) loop.agent (early ++ waiting) s loop.number c.last_number-last.result c.last_number-last.ensures
+          (loop.invariant.opened t w l a clock early waiting fs s is h) (g.H.Host.view c.open_next.new.host) (g.N.Hops.view c.open_next.new.hops) c.open_next.new.agent c.loop-number-test.true lawful (c.open_next.ensures.stays t) (c.in_ok-open_next.ensures.ok t);
+      below = c.in_ok-open_next.ensures.below;
+      known = omega (arith, loop.invariant.known);
+      polled = c.open_next.ensures.polled ∙ loop.invariant.polled;
+      disk_later = omega (arith, loop.invariant.disk_later, c.open_next.ensures.cause.disk_later);
+      tell_later = omega (arith, loop.invariant.tell_later, c.open_next.ensures.cause.tell_later);
+    }
+
+pub returns-in_err-open_next-clause-polled : goal.returns-in_err-open_next-clause-polled
+returns-in_err-open_next-clause-polled g c = c.open_next.ensures.polled ∙ c.loop-number.invariant.polled
+
+pub returns-in_err-open_next-clause-err : goal.returns-in_err-open_next-clause-err
+returns-in_err-open_next-clause-err g c =
+    let loop = c.loop-number in
+    let v = g.H.Host.view loop.host in
+    let lawful : TellsCrashes v = record { only = g.met.H.Host.only_now loop.host; told = g.met.H.Host.told_stays loop.host } in
+    always_err c.from_residual.result _ (λ t w l a clock early waiting fs s is h.
+    some_fails w l a clock (g.H.Host.view c.args.host.now) v c.args.engine.now (g.N.Hops.view loop.hops) loop.agent (early ++ waiting) s loop.number c.last_number-last.result c.last_number-last.ensures
+    (loop.invariant.opened t w l a clock early waiting fs s is h) (g.H.Host.view c.open_next.new.host) (g.N.Hops.view c.open_next.new.hops) c.loop-number-test.true lawful (c.open_next.ensures.stays t) (c.in_err-open_next.ensures.err t))
+
+pub returns-clause-ok : goal.returns-clause-ok
+returns-clause-ok g c t w l a clock early waiting fs s is h =
+    let loop = c.loop-number in
+    let v = g.H.Host.view loop.host in
+    some_all w l a clock (g.H.Host.view c.args.host.now) v c.args.engine.now (g.N.Hops.view loop.hops) loop.agent (early ++ waiting) s loop.number c.last_number-last.result c.last_number-last.ensures (loop.invariant.opened t w l a clock early waiting fs s is h) c.loop-number-test.false
+
+pub returns-clause-last : goal.returns-clause-last
+returns-clause-last g c = (c.loop-number.invariant.known, c.loop-number.invariant.below)
+
+pub returns-clause-polled : goal.returns-clause-polled
+returns-clause-polled g c = c.loop-number.invariant.polled

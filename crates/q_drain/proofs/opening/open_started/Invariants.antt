@@ -1,0 +1,23 @@
+use Rattle.std.proofs.Common.{◌≡◌, ◌≤◌, ◌+◌, ◌-◌, ◌++◌, IsTrue, length, List, Option, ℕ}
+use Rattle.q_drain.proofs.OpeningAll.{OpenedSome}
+use Rattle.q_drain.specs.Opened.{AreBelow, ForServing, IsServing, MayOpenAll}
+use Rattle.q_drain.proofs.opening.open_started.Given as goal
+
+abbrev pub invariant-loop-number : goal.invariant-loop-number
+invariant-loop-number g l =
+    let view = g.H.Host.view in
+    let hops = g.N.Hops.view in
+    let faults = g.H.Host.faults in
+    record {
+      some : IsTrue g.H.Host.tells → (clock : Option (List ℕ)) × MayOpenAll clock (view l.fn.host) (hops l.fn.hops) l.engine l.fn.agent l.known;
+      opened : IsTrue g.H.Host.tells → ForServing (λ w l2 a clock early waiting fs s. length early ≡ l.known → IsServing w l2 a (record { clock = clock; hops = hops l.fn.hops }) (view l.fn.host) l.engine l.fn.agent early waiting fs s
+          → OpenedSome w l2 a clock (view l.fn.host) (view l.host) l.engine (hops l.hops) l.agent (early ++ waiting) s l.number);
+      below : AreBelow (l.number + 1) l.agent.listed;
+      known : l.known ≤ l.number;
+      polled : l.agent.polled ≡ l.fn.agent.polled;
+      disk_later : (faults l.fn.host).disk ≤ (faults l.host).disk;
+      tell_later : (faults l.fn.host).tell ≤ (faults l.host).tell;
+    }
+
+abbrev pub decreases-loop-number : goal.decreases-loop-number
+decreases-loop-number g l = l.last - l.number

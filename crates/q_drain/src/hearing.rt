@@ -1,0 +1,54 @@
+//! The moments of a clock.
+ghost use Rattle.std.specs.Prelude.{◌≡◌, IfOk, IsErrOf, IsTrue};
+ghost use Rattle.q_drain.specs.Heard.{HearsClock, StopsHearingClock, fault_of};
+ghost use Rattle.q_engine.specs.Stands.{IsReady};
+ghost use Rattle.q_engine.specs.Steps.{StandsForSome};
+ghost use Rattle.q_entries.specs.Causes.{HostCause};
+ghost use Rattle.q_host.specs.declared.error.HostError.{HostError as Fault};
+
+use q_engine::{Engine, EngineError};
+use q_host::{Host, HostError};
+use q_model::Event;
+use q_stream::Clock;
+use std::alloc::Global;
+
+/// An engine's refusal as one of its host. One of an event comes on hosts alone that don't tell their
+/// files, and is taken for want of memory.
+fn fault_of(error: EngineError) -> HostError
+    ensures { result ≡ fault_of error }
+{
+    match error {
+        EngineError::Disk => HostError::Disk,
+        EngineError::Tell => HostError::Tell,
+        _ => HostError::NoMemory,
+    }
+}
+
+/// Gives the engine the moment of the clock, where it is the first or past those before it: its turn
+/// is carried out and told.
+pub fn hear_clock<H: Host, C: Clock>(
+    alloc: Global,
+    engine: Engine,
+    host: &mut H,
+    clock: &mut C,
+    first: bool,
+) -> Result<Engine, HostError>
+    requires ready { IsReady engine }
+    requires stands { IsTrue H.tells → StandsForSome engine (H.view host.old) }
+    ensures ok { IfOk result (λ next. IsTrue H.tells → HearsClock first (H.view host.old)
+        (H.view host.new) (C.given clock.old) (C.given clock.new) engine next) }
+    ensures ready { IfOk result (λ next. IsReady next) }
+    ensures err { (error : Fault) → IsErrOf result error → IsTrue H.tells
+        → StopsHearingClock first (H.view host.old) (H.view host.new) (C.given clock.old)
+        (C.given clock.new) engine error }
+    ensures cause { HostCause (H.faults host.old) (H.faults host.new) result }
+{
+    let moment = clock.now();
+    if !first && moment <= engine.now() {
+        return Ok(engine);
+    }
+    match engine.step(alloc, host, Event::At { moment }) {
+        Ok(next) => Ok(next),
+        Err(error) => Err(fault_of(error)),
+    }
+}

@@ -1,0 +1,84 @@
+//! The sessions of deliveries that have begun.
+ghost use Rattle.std.specs.Prelude.{◌≡◌, ◌≤◌, ◌+◌, IfOk, IsTrue, List, Option, ℕ, OnErr, OnOk};
+ghost use Rattle.q_drain.specs.Opened.{
+  AreBelow,
+  FailsToOpen,
+  FailsToOpenAll,
+  MayOpen,
+  MayOpenAll,
+  OpensAll,
+  OpensFirst,
+};
+ghost use Rattle.q_host.specs.Calls.{Stays};
+ghost use Rattle.q_host.specs.Faults.{DiskCause};
+
+use q_agent::{Agent, Request};
+use q_engine::Engine;
+use q_host::{Host, HostError};
+use q_link::{Hops, Link};
+use q_model::Positions;
+use std::alloc::Global;
+
+/// Opens the session of the delivery of this number, the first in flight that has none. After an
+/// error none was opened, and a connection may have been made.
+fn open_next<L: Link, H: Host, N: Hops<Link = L>>(
+    alloc: Global,
+    engine: &Engine,
+    agent: &mut Agent<L>,
+    host: &mut H,
+    hops: &mut N,
+    number: u64,
+) -> Result<(), HostError>
+    requires below { AreBelow number agent.old.listed }
+    requires first { IsTrue H.tells → (clock : Option (List ℕ))
+        × MayOpen clock (H.view host.old) (N.view hops.old) engine.now agent.old number }
+    ensures ok { OnOk result (IsTrue H.tells → OpensFirst engine.now (H.view host.old)
+        (H.view host.new) (N.view hops.old) (N.view hops.new) agent.old agent.new number) }
+    ensures below { OnOk result (AreBelow (number + 1) agent.new.listed) }
+    ensures polled { agent.new.polled ≡ agent.old.polled }
+    ensures err { OnErr result (IsTrue H.tells → FailsToOpen engine.now (H.view host.old)
+        (N.view hops.old) (N.view hops.new) agent.old number) }
+    ensures stays { IsTrue H.tells → Stays (H.view host.old) (H.view host.new) }
+    ensures cause { DiskCause (H.faults host.old) (H.faults host.new) result }
+{
+    let (Some(flight), Some(positions)) = (engine.flight(number), engine.positions(number)) else {
+        return Err(HostError::NoMemory);
+    };
+    let to = Positions::from_vec(positions.to_vec(alloc)?);
+    let request = Request {
+        number,
+        id: flight.id,
+        site: flight.site,
+    };
+    agent.request(alloc, host, hops, request, &to, engine.now())
+}
+
+/// Opens the sessions of all deliveries behind the first `known`, which have theirs. The answer is
+/// the number of the last one. After an error some may be open.
+pub fn open_started<L: Link, H: Host, N: Hops<Link = L>>(
+    alloc: Global,
+    engine: &Engine,
+    agent: &mut Agent<L>,
+    host: &mut H,
+    hops: &mut N,
+    known: u64,
+) -> Result<u64, HostError>
+    requires below { AreBelow (known + 1) agent.old.listed }
+    requires stands { IsTrue H.tells → (clock : Option (List ℕ))
+        × MayOpenAll clock (H.view host.old) (N.view hops.old) engine.now agent.old known }
+    ensures ok { IfOk result (λ last. IsTrue H.tells → OpensAll engine.now (H.view host.old)
+        (H.view host.new) (N.view hops.old) (N.view hops.new) agent.old agent.new known last) }
+    ensures last { IfOk result (λ last. known ≤ last × AreBelow (last + 1) agent.new.listed) }
+    ensures polled { agent.new.polled ≡ agent.old.polled }
+    ensures err { OnErr result (IsTrue H.tells → FailsToOpenAll engine.now (H.view host.old)
+        (H.view host.new) (N.view hops.old) (N.view hops.new) agent.old known) }
+    ensures cause { DiskCause (H.faults host.old) (H.faults host.new) result }
+{
+    let last = engine.last_number();
+    let mut number = known;
+    while number < last {
+        number += 1;
+        open_next(alloc, engine, agent, host, hops, number)?;
+    }
+    Ok(number)
+}
