@@ -25,7 +25,9 @@ fn fault_of(error: EngineError) -> HostError
 }
 
 /// Gives the engine the moment of the clock, where it is the first or past those before it: its turn
-/// is carried out and told.
+/// is carried out and told. Another moment is passed over. `first` says that this drain has heard
+/// none yet. `Disk` and `Tell` come where the host failed, `NoMemory` where memory ran out; then some
+/// first part of the turn was carried out.
 pub fn hear_clock<H: Host, C: Clock>(
     alloc: Global,
     engine: Engine,

@@ -4,9 +4,15 @@
 //! The definitions stand in `specs`. `Drains` is the promise as a whole, over the `Story` of a call:
 //! what it told, the moments that its clock gave, and what was done with its hops. `Cases` says which
 //! deliveries came to their replies, and `Causes` what is known of each of them. `Driving` holds
-//! between any two calls of the agent, and the lemmas in `proofs` carry it from one to the next. The
-//! laws below are over ledgers alone. Each is the contract of a function with nothing to do; no call
-//! of one is an error.
+//! between any two calls of the agent, and the lemmas in `proofs` carry it from one to the next.
+//! `Standing` joins it with the engine, the clock and the hops.
+//!
+//! A turn begins with `hear_clock` and `open_started`. It is an error to call either with an engine
+//! and a host that stand for no ledger, and to open sessions where a delivery up to the number that
+//! is given has none, or one behind it has one.
+//!
+//! The laws below are over ledgers alone. Each is the contract of a function with nothing to do; no
+//! call of one is an error.
 #![tactic(auto)]
 
 mod hearing;
