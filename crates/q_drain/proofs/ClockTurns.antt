@@ -1,6 +1,6 @@
 -- What comes of the next moment of a clock.
 use native.Mathlib.Omega.{arith}
-use Rattle.std.proofs.Common.{◌≡◌, ◌≤◌, ◌<◌, ◌⊎◌, inl, inr, ℕ, Bool, true, false, List, [], ◌∷◌, ◌++◌, length-append, Option, Some, None, refl, sym, ap, ◌∙◌, subst}
+use Rattle.std.proofs.Common.{◌≡◌, ◌≤◌, ◌<◌, ◌⊎◌, inl, inr, ℕ, Bool, true, false, List, [], ◌∷◌, ◌++◌, length, length-append, Option, Some, None, refl, sym, ap, ◌∙◌, subst}
 use Rattle.std.proofs.lemmas.Bool.{le-ltb, lt-ltb}
 use Rattle.std.proofs.lemmas.List.{append-nil}
 use Rattle.std.specs.Prelude.{◌||◌}
@@ -9,16 +9,22 @@ use Rattle.q_books.specs.HostStands.{TellsCrashes}
 use Rattle.q_drain.proofs.Cutting.{cases_front, cut_turn, front_replies}
 use Rattle.q_drain.proofs.Ending.{cases_deliver}
 use Rattle.q_drain.proofs.Moments.{begun_behind}
-use Rattle.q_drain.proofs.Naming.{at_turn}
+use Rattle.q_drain.proofs.GivingUp.{gives_up_part}
+use Rattle.q_drain.proofs.Naming.{at_names_turn, at_turn}
 use Rattle.q_drain.proofs.Silent.{decisions_inside, no_replies}
 use Rattle.q_drain.proofs.Turning.{at_entries, course_first, course_later, course_same, with_moment}
 use Rattle.q_drain.proofs.UnderWay.{at_under_way, did_still, given_more, same_under_way}
+use Rattle.q_drain.specs.Drains.{IsOwnRun}
 use Rattle.q_drain.specs.Driving.{IsOnCourse}
-use Rattle.q_drain.specs.Heard.{Heard, HeardInPart, IsBetween, IsFirst, fault_of}
+use Rattle.q_drain.specs.Faults.{fault_of}
+use Rattle.q_drain.specs.GivenUp.{GivesUp}
+use Rattle.q_drain.specs.Heard.{Heard, IsBetween, IsFirst}
 use Rattle.q_drain.specs.Opened.{IsServing}
 use Rattle.q_drain.specs.Standing.{Outside}
 use Rattle.q_drain.specs.Stories.{Story}
 use Rattle.q_drain.specs.Told.{Begun, ended, moment_after}
+use Rattle.q_engine.proofs.StoredNotes.{stores_none}
+use Rattle.q_engine.specs.KeptNotes.{AddsAllNotes}
 use Rattle.q_engine.specs.Refusals.{ForAgreed, is_of_event, is_of_host, refusal_of, refused_event}
 use Rattle.q_engine.specs.Steps.{TookTurn}
 use Rattle.q_engine.specs.declared.engine.Engine.{Engine}
@@ -60,6 +66,7 @@ heard_same w l a old new hops u engine early fs os s t now lawful some adds says
       entries_told = [];
       waiting = [];
       plays = plays_none w k u lawful h.stands.host;
+      adds = (stores_none w k u.files).adds;
       serving = subst (λ told. IsServing w l a (record { clock = new; hops = hops }) u engine (record { listed = os; polled = 0 }) early [] fs (record s { told = told; moments = s.moments ++ t ∷ [] })) (sym (append-nil s.told)) serving;
     }
 
@@ -103,41 +110,39 @@ heard_at w l a old new hops u x engine next early fs os s first t f adds late b 
       entries_told = at_entries w k t;
       waiting = begun_behind w l s (entries.At t) t;
       plays = subst (λ xs. PlaysRun w k xs u x) (at_turn w k t (omega (arith, least))) took.plays;
+      adds = subst (λ xs. AddsAllNotes w k xs u.files x.files) (at_turn w k t (omega (arith, least))) took.notes.adds;
       serving = record { under_way = at_under_way w l a z u early fs os s b.0 engine next x new t h b.1 adds least c.0 took; polled = omega arith; some = omega (arith, more) };
     }
 
 -- its turn was given up
 pub heard_part : (w : World) (l : Ledger) (a : Outside) (old new : Option (List ℕ)) (hops : HopsView) (u x : HostView) (engine : Engine) (early : List Begun) (fs : List Delivery) (os : List OpenSession) (s : Story) (first : Bool) (t : ℕ) (error : HostError)
     → IsFirst first s → AddsMoment old new t → IsNew first s t
-    → (b : IsBetween w l a (record { clock = old; hops = hops }) u engine early fs os s) → HaltsRun w (after_all w l s.told) (turn w (after_all w l s.told) (IsHeardEvent (events.At t))) error u x → HeardInPart w l a (record { clock = new; hops = hops }) u x error s
+    → (b : IsBetween w l a (record { clock = old; hops = hops }) u engine early fs os s) → HaltsRun w (after_all w l s.told) (turn w (after_all w l s.told) (IsHeardEvent (events.At t))) error u x → GivesUp w l a (record { clock = new; hops = hops }) u x error s
 heard_part w l a old new hops u x engine early fs os s first t error f adds late b halts =
     let k : Ledger = after_all w l s.told in
     let h = b.2 in
     let c = course_on w l s first t f late h.driving.course in
     let least = c.1 in
-    let es : List Entry = at_entries w k t in
-    let run : HaltsRun w k es error u x = subst (λ xs. HaltsRun w k xs error u x) (at_turn w k t (omega (arith, least))) halts in
-    let r : Story = record s { told = s.told ++ run.done; moments = s.moments ++ t ∷ [] } in
-    let quiet : ended run.done ≡ [] = front_replies es run.done run.rest run.all (no_replies (decisions w (after w k (entries.At t))) (decisions_inside w (after w k (entries.At t)))) in
+    let es : List Entry = turn w k (IsHeardEvent (events.At t)) in
+    let is : es ≡ at_entries w k t = at_turn w k t (omega (arith, least)) in
+    let r : Story = record s { told = s.told ++ halts.done; moments = s.moments ++ t ∷ [] } in
+    let parts : at_entries w k t ≡ halts.done ++ halts.rest = sym is ∙ halts.all in
+    let quiet : ended halts.done ≡ [] = front_replies (at_entries w k t) halts.done halts.rest parts (no_replies (decisions w (after w k (entries.At t))) (decisions_inside w (after w k (entries.At t)))) in
     let more = length-append s.moments (t ∷ []) in
-    record {
-      entries_due = es;
-      halts = run;
-      story = r;
-      told = refl;
-      gave_up = record {
-        given = given_more a.clock old new t s r refl adds h.given;
-        cut = cut_turn s r early es run.done run.rest run.all c.0.clocked refl refl refl h.driving.connected;
-        records = λ now told.
-            let d = h.records now told in (
-              d.before,
-              d.told,
-              did_still d.before now s r refl refl refl refl d.did,
-              cases_deliver w l d.before.connects a.hops.connect_faults hops.connect_faults fs os r
-                  (cases_front w l d.before.connects a.hops.connect_faults hops.connect_faults fs os s r run.done refl refl (omega (arith, more)) quiet d.cases),
-            );
-      };
-    }
+    let names = ap length (at_names_turn w k t least) in
+    gives_up_part w l a (record { clock = new; hops = hops }) u x error s r es (subst (λ (xs : List Entry). IsOwnRun w l (s.told ++ xs)) (sym is) c.0.run) (omega (arith, names)) halts refl
+    (record {
+      given = given_more a.clock old new t s r refl adds h.given;
+      cut = cut_turn s r early (at_entries w k t) halts.done halts.rest parts c.0.clocked refl refl refl h.driving.connected;
+      records = λ now told.
+          let d = h.records now told in (
+            d.before,
+            d.told,
+            did_still d.before now s r refl refl refl refl d.did,
+            cases_deliver w l d.before.connects a.hops.connect_faults hops.connect_faults fs os r
+                (cases_front w l d.before.connects a.hops.connect_faults hops.connect_faults fs os s r halts.done refl refl (omega (arith, more)) quiet d.cases),
+          );
+    })
 
 -- ---- refusals
 

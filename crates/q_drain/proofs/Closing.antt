@@ -1,5 +1,5 @@
 -- A session that is over gives its case: what its link's record says is what is told of the delivery.
-use Rattle.std.proofs.Common.{◌≡◌, ◌≤◌, ◌<◌, ◌+◌, ◌-◌, ◌⊎◌, inl, inr, ℕ, Bool, true, false, List, [], ◌∷◌, length, map, Option, Some, None, refl, sym, ap, ◌∙◌, subst}
+use Rattle.std.proofs.Common.{◌++◌, ◌≡◌, ◌≤◌, ◌<◌, ◌+◌, ◌-◌, ◌⊎◌, inl, inr, ℕ, Bool, true, false, List, [], ◌∷◌, length, map, Option, Some, None, refl, sym, ap, ◌∙◌, subst}
 use native.Mathlib.Omega.{arith}
 use Rattle.std.specs.Prelude.{IfSome, nat_le}
 use Rattle.std.proofs.lemmas.Option.{same_Some}
@@ -178,16 +178,18 @@ pub some_later : (P Q : Closed → Type 0) → ((r : Closed) → P r → Q r) �
 some_later P Q f None h = tt
 some_later P Q f (Some r) h = f r h
 
--- a case keeps what holds of it where the clock goes on and more is told behind it
-pub delivery_later : (s k : Story) (connects : ℕ) (c : Case) (es : List Entry) → length s.moments ≤ length k.moments → IsDelivery s connects c → IsDelivery k connects (longer es c)
-delivery_later s k connects c es later d = record {
-  reply = record { up = d.reply.up; down = d.reply.down };
-  cause = d.cause;
-  sent = some_later (IsSent c) (IsSent (longer es c)) (λ r h. record { front = h.front; all = h.all }) c.link d.sent;
-  link = some_later (IsLink connects c) (IsLink connects (longer es c)) (λ r h. record { hop = h.hop; route = h.route; connects_before = h.connects_before }) c.link d.link;
-  patient = some_later (IsPatient s) (IsPatient k) (λ r h. let moments = h.moments in record { rests = h.rests; moments = omega (arith, moments, later) }) c.link d.patient;
-}
+-- a case keeps what holds of it where the clock goes on, whatever is told behind it
+pub delivery_behind : (s k : Story) (connects : ℕ) (c : Case) (behind : List Entry) → length s.moments ≤ length k.moments → IsDelivery s connects c → IsDelivery k connects (record c { behind = behind })
+delivery_behind s k connects c behind later d =
+    let e : Case = record c { behind = behind } in
+    record {
+      reply = record { up = d.reply.up; down = d.reply.down };
+      cause = d.cause;
+      sent = some_later (IsSent c) (IsSent e) (λ r h. record { front = h.front; all = h.all }) c.link d.sent;
+      link = some_later (IsLink connects c) (IsLink connects e) (λ r h. record { hop = h.hop; route = h.route; connects_before = h.connects_before }) c.link d.link;
+      patient = some_later (IsPatient s) (IsPatient k) (λ r h. let moments = h.moments in record { rests = h.rests; moments = omega (arith, moments, later) }) c.link d.patient;
+    }
 
 pub all_later : (s k : Story) (connects : ℕ) (es : List Entry) → length s.moments ≤ length k.moments → (cs : List Case) → AllByRecursion (IsDelivery s connects) cs → AllByRecursion (IsDelivery k connects) (map (longer es) cs)
 all_later s k connects es later [] h = tt
-all_later s k connects es later (c ∷ cs) h = (delivery_later s k connects c es later h.0, all_later s k connects es later cs h.1)
+all_later s k connects es later (c ∷ cs) h = (delivery_behind s k connects c (c.behind ++ es) later h.0, all_later s k connects es later cs h.1)

@@ -1,35 +1,31 @@
 -- A drain under way through the report of a delivery and the turn of its reply.
 use native.Mathlib.Omega.{arith}
-use Rattle.std.proofs.Common.{◌≡◌, ◌≤◌, ◌<◌, ◌⊎◌, inl, inr, ℕ, Bool, true, false, if◌then◌else◌, List, [], ◌∷◌, ◌++◌, find, map, not, Option, Some, None, refl, sym, ap, ◌∙◌, subst, append_assoc, ltb-true, eq-eqb}
+use Rattle.std.proofs.Common.{◌≡◌, ◌≤◌, ◌<◌, ◌⊎◌, inl, inr, ℕ, Bool, true, false, if◌then◌else◌, List, [], ◌∷◌, find, map, not, Option, Some, refl, sym, ap, ◌∙◌, subst, ltb-true, eq-eqb}
 use Rattle.std.proofs.lemmas.Bool.{le-leb, lt-leb, ltb-false}
 use Rattle.std.proofs.lemmas.Option.{same_Some}
 use Rattle.std.specs.List.{AllByRecursion}
 use Rattle.std.specs.Prelude.{◌&&◌, ◌==◌, ◌||◌, nat_le, nat_lt}
-use Rattle.q_agent.specs.Sessions.{OpenSession, Rises, Work, without}
-use Rattle.q_agent.specs.Turns.{Ends, IsReportOf}
+use Rattle.q_agent.specs.Sessions.{OpenSession, Rises, without}
+use Rattle.q_agent.specs.Turns.{IsReportOf}
 use Rattle.q_agent.specs.declared.report.Report.{Report}
-use Rattle.q_drain.proofs.CuttingOff.{IsPair}
-use Rattle.q_drain.proofs.Ending.{all_begun}
 use Rattle.q_drain.proofs.Moments.{begun_behind, drives_retold}
 use Rattle.q_drain.proofs.Polling.{same_flag}
-use Rattle.q_drain.proofs.Reports.{after_reply, case_of, cases_reply, drives_reply, pair_of, reported, with_records}
-use Rattle.q_drain.proofs.Serving.{told_rests}
-use Rattle.q_drain.proofs.Starting.{has_file}
+use Rattle.q_drain.proofs.Recorded.{HasRecord, has_record}
+use Rattle.q_drain.proofs.Reports.{after_reply, cases_reply, drives_reply}
 use Rattle.q_drain.proofs.Turning.{reply_entries}
 use Rattle.q_drain.proofs.UnderWay.{stands_behind}
-use Rattle.q_drain.specs.Cases.{records_of}
 use Rattle.q_drain.specs.Driving.{Driving, HasCases}
 use Rattle.q_drain.specs.Flights.{without_flight}
-use Rattle.q_drain.specs.Standing.{IsUnderWay, Outside, Records, counts_of}
+use Rattle.q_drain.specs.Standing.{IsUnderWay, Outside, counts_of}
 use Rattle.q_drain.specs.Stories.{Story}
 use Rattle.q_drain.specs.Told.{Begun, moment_after}
-use Rattle.q_drain.specs.Works.{Counts, IsLinkOf, IsSessionOf}
+use Rattle.q_drain.specs.Works.{Counts, IsLinkOf}
 use Rattle.q_engine.specs.Stands.{EngineStands}
 use Rattle.q_engine.specs.declared.engine.Engine.{Engine}
 use Rattle.q_host.specs.View.{View as HostView}
-use Rattle.q_laws.proofs.Members.{IsIn, find_in, in_left}
+use Rattle.q_laws.proofs.Members.{IsIn, find_in}
 use Rattle.q_laws.specs.Traces.{IsEntryOf}
-use Rattle.q_link.specs.Records.{Closed, HopsView, ToldHops}
+use Rattle.q_link.specs.Records.{Closed, HopsView}
 use Rattle.q_model.specs.declared.entry.Entry.TheVariants as entries
 use Rattle.q_model.specs.declared.outcome.Outcome.{Outcome}
 use Rattle.q_model.specs.declared.outcome.SiteState.{SiteState}
@@ -81,17 +77,6 @@ reply_allowed : (w : World) (k : Ledger) (number : ℕ) (site : SiteState) (outc
 unfolding allowed
 reply_allowed w k number site outcomes living may = inl (ap (λ (b : Bool). (b || false) && may_reply k number site outcomes) living ∙ may)
 
-pair_in : (f : Delivery) (o : OpenSession) (fs : List Delivery) (os : List OpenSession) → IsPair f o fs os → IsIn f fs
-pair_in f o [] os h = absurd h
-pair_in f o (g ∷ fs) [] h = absurd h
-pair_in f o (g ∷ fs) (x ∷ os) (inl is) = inl is.0
-pair_in f o (g ∷ fs) (x ∷ os) (inr h) = inr (pair_in f o fs os h)
-
--- the hops told before what they tell behind a close
-told_before : (host : HostView) (moment : ℕ) (work : Option Work) (site : SiteState) (outcomes : List Outcome) (old new : HopsView) (now : ToldHops) → Ends true host moment work site outcomes old new → new.told ≡ Some now → (cur : ToldHops) × (old.told ≡ Some cur)
-told_before host moment None site outcomes old new now h told = (now, ap (λ (x : HopsView). x.told) (sym h.1) ∙ told)
-told_before host moment (Some work) site outcomes old new now h told = let a = h.closes.0 now told in (a.0, a.2)
-
 -- what was recorded with the reply, and that the drain goes on so
 pub record GoesOnBehind (w : World) (l : Ledger) (a z : Outside) (x : HostView) (hops : HopsView) (engine : Engine) (early : List Begun) (fs : List Delivery) (os : List OpenSession) (s : Story) (o : OpenSession) (r : Report) : Type 0 where
   pub recorded : List Closed
@@ -107,7 +92,26 @@ pub concludes_under_way : (w : World) (l : Ledger) (a z : Outside) (v x : HostVi
     → may_reply (after_all w l s.told) o.number r.site r.outcomes ≡ true
     → EngineStands w new x (after_all w (after_all w l s.told) (reply_entries w (after_all w l s.told) o.number r.site r.outcomes))
     → GoesOnBehind w l a z x hops new early fs os s o r
-concludes_under_way w l a z v x hops old new early fs os s polled o r h first report faults may stands = on hops.told refl
+concludes_under_way w l a z v x hops old new early fs os s polled o r h first report faults may stands =
+    let t : HasRecord w l a z hops fs os s n o r = has_record w l a z v hops old early fs os s polled o r h first report in
+    record {
+      recorded = t.recorded;
+      goes_on = record {
+        stands = stands_behind w l s.told (reply_entries w k o.number r.site r.outcomes) new x stands;
+        driving = drives t.recorded;
+        given = h.given;
+        records = λ now told.
+            let c = t.tells now told in
+            record {
+              before = c.before;
+              told = c.told;
+              did = record { connects = c.did.connects; hops = c.did.hops; rests = c.did.rests; records = c.did.records };
+              cases = subst (λ (n : ℕ). HasCases w l c.before.connects a.hops.connect_faults n (without_flight o.number fs) (without o.number os) (after_reply w l s o.number r.site r.outcomes t.recorded)) (sym faults)
+                  (subst (λ (rs : List Closed). HasCases w l c.before.connects a.hops.connect_faults z.hops.connect_faults (without_flight o.number fs) (without o.number os) (after_reply w l s o.number r.site r.outcomes rs)) (sym c.is)
+                  (cases_reply w l c.before.connects a.hops.connect_faults z.hops.connect_faults (IsLinkOf n) fs os s t.flies o r.site r.outcomes c.link t.session t.pair d.opened.sessions d.opened.rises c.linked c.delivery c.cases));
+            };
+      };
+    }
   where
     k : Ledger
     k = after_all w l s.told
@@ -127,9 +131,6 @@ concludes_under_way w l a z v x hops old new early fs os s polled o r h first re
     m : ℕ
     m = moment_after 0 s.told
 
-    pair : (f : Delivery) × IsSessionOf k.book s.told (IsLinkOf n) f o × IsPair f o fs os
-    pair = pair_of (IsSessionOf k.book s.told (IsLinkOf n)) o fs os d.opened.sessions there
-
     drives : (records : List Closed) → Driving w l (IsLinkOf (counts_of a (after_reply w l s o.number r.site r.outcomes records) o.number)) early (begun_behind w l s (entries.Reply o.number r.site r.outcomes) m) (without_flight o.number fs) (without o.number os) (after_reply w l s o.number r.site r.outcomes records)
     drives records =
         let st : Story = after_reply w l s o.number r.site r.outcomes records in
@@ -137,47 +138,3 @@ concludes_under_way w l a z v x hops old new early fs os s polled o r h first re
         drives_retold w l (IsLinkOf n) (IsLinkOf (counts_of a st o.number)) (IsBeside polled o.number) early (begun_behind w l s (entries.Reply o.number r.site r.outcomes) m) (without_flight o.number fs) (without o.number os) st
         (λ y start t side number positive p. same_flag n (counts_of a st o.number) start t refl refl (ap (λ i. nat_le i o.number) number ∙ same_side polled o.number y.number late side ∙ ap (λ i. nat_le i polled) (sym number)) p)
         (beside polled o os d.opened.rises first) e
-
-    on : (t : Option ToldHops) → hops.told ≡ t → GoesOnBehind w l a z x hops new early fs os s o r
-    on None is = record {
-      recorded = [];
-      goes_on = record {
-        stands = stands_behind w l s.told (reply_entries w k o.number r.site r.outcomes) new x stands;
-        driving = drives [];
-        given = h.given;
-        records = λ now told. let none : None ≡ Some now = sym is ∙ told in cc;
-      };
-    }
-    on (Some last) is =
-        let cur = told_before v m o.work r.site r.outcomes z.hops hops last report.ends is in
-        let f : Delivery = pair.0 in
-        let q : Records w l a.hops z.hops cur.0 fs os s = h.records cur.0 cur.1 in
-        let made = q.did.connects in
-        let connects = d.connected.connects in
-        let all = all_begun s early [] d.connected in
-        let file = has_file w k v f h.stands.core.consistent h.stands.host (subst (IsIn f) (sym d.opened.flights) (in_left f fs [] (pair_in f o fs os pair.2))) in
-        let closed = reported w l s q.before.connects n f o v r z.hops hops cur.0 last pair.1 (lt-leb o.number polled late) (record { moments = refl; rests = told_rests w l a z.hops cur.0 fs os s polled q; made = omega (arith, made, connects, all) }) cur.1 is file report in
-        let by = case_of w l s (pair.1).start (pair.1).message o.number r.site r.outcomes in
-        let records : List Closed = records_of (by closed.link ∷ []) in
-        record {
-          recorded = records;
-          goes_on = record {
-            stands = stands_behind w l s.told (reply_entries w k o.number r.site r.outcomes) new x stands;
-            driving = drives records;
-            given = h.given;
-            records = λ now told.
-                let same : now ≡ with_records records cur.0 = same_Some now last (sym told ∙ is) ∙ closed.told in
-                record {
-                  before = q.before;
-                  told = q.told;
-                  did = record {
-                    connects = ap (λ (t : ToldHops). t.connects) same ∙ q.did.connects;
-                    hops = ap (λ (t : ToldHops). t.hops) same ∙ q.did.hops;
-                    rests = ap (λ (t : ToldHops). t.rests) same ∙ q.did.rests;
-                    records = ap (λ (t : ToldHops). t.records) same ∙ ap (λ rs. rs ++ records) q.did.records ∙ append_assoc (q.before).records s.records records;
-                  };
-                  cases = subst (λ c. HasCases w l q.before.connects a.hops.connect_faults c (without_flight o.number fs) (without o.number os) (after_reply w l s o.number r.site r.outcomes records)) (sym faults)
-                      (cases_reply w l q.before.connects a.hops.connect_faults z.hops.connect_faults (IsLinkOf n) fs os s f o r.site r.outcomes closed.link pair.1 pair.2 d.opened.sessions d.opened.rises closed.linked closed.delivery q.cases);
-                };
-          };
-        }

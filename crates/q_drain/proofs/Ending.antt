@@ -21,7 +21,7 @@ use Rattle.q_model.specs.Ledger.{Ledger}
 use Rattle.q_model.specs.Settings.{World}
 use Rattle.q_model.specs.Step.{after_all}
 
-few_failed : (cs : List Case) (fs : List Delivery) (os : List OpenSession) (old new : ℕ) → FewCutOff cs fs os old new → FewFailed cs old new
+pub few_failed : (cs : List Case) (fs : List Delivery) (os : List OpenSession) (old new : ℕ) → FewCutOff cs fs os old new → FewFailed cs old new
 few_failed cs fs os old new (inl h) = inl (omega (arith, h))
 few_failed cs fs os old new (inr h) = inr h
 
@@ -55,7 +55,7 @@ drives_cut w l Tells early waiting fs os s d = record {
   connected = some_connected s early waiting d.connected;
 }
 
-all_connected : (s : Story) (early : List Begun) → AreConnected s early [] → AllConnected s
+pub all_connected : (s : Story) (early : List Begun) → AreConnected s early [] → AllConnected s
 all_connected s early c =
     let all = all_begun s early [] c in
     let connects = c.connects in

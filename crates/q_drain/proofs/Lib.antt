@@ -26,8 +26,18 @@ pub mod Reports
 pub mod Cutting
 pub mod UnderWay
 pub mod Serving
+pub mod Recorded
 pub mod Concluding
+pub mod Parting
+pub mod Polls
+pub mod GivingUp
+pub mod Noting
 pub mod Requested
 pub mod OpeningAll
 pub mod ClockTurns
+pub mod ReplyTurns
+pub mod PollTurns
+pub mod PollingAll
+pub mod TurnsOn
+pub mod Exiting
 mod WorkedDrain

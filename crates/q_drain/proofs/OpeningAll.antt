@@ -51,7 +51,7 @@ some_begin w l a clock u engine hops agent early waiting fs s number lawful is h
   parts = refl;
   number_is = is;
   serving = h;
-  looks = reads_none (after_all w l s.told).book u lawful h.under_way.stands.host;
+  looks = record { takes = reads_none (after_all w l s.told).book u lawful h.under_way.stands.host; files = refl };
 }
 
 -- how many have begun
@@ -100,7 +100,7 @@ module _ (w : World) (l : Ledger) (a : Outside) (clock : Option (List ℕ)) (u v
   looks_on x lawful stays =
       let same : (after_all w l o.story.told).book ≡ (after_all w l s.told).book = ap (λ es. (after_all w l es).book) o.told in
       let book : Book = (after_all w l s.told).book in
-      reads_then book u v x o.looks (reads_keep book book v x lawful stays (subst (HostStands v) same o.serving.under_way.stands.host))
+      record { takes = reads_then book u v x o.looks.takes (reads_keep book book v x lawful stays (subst (HostStands v) same o.serving.under_way.stands.host)); files = stays.files ∙ o.looks.files }
 
   pub some_more : (x : HostView) (next : HopsView) (new : Sessions) → number < last → TellsCrashes v → Stays v x → OpensFirst engine v x hops next agent new (number + 1) → OpenedSome w l a clock u x engine next new all s (number + 1)
   some_more x next new h lawful stays opens =

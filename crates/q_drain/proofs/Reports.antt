@@ -65,7 +65,7 @@ above_without : (m n : ℕ) (os : List OpenSession) → AllByRecursion (λ k. m 
 above_without m n [] h = tt
 above_without m n (o ∷ os) h = let rest = above_without m n os h.1 in kept_or_not (λ xs. AllByRecursion (λ k. m < k) (map (λ (x : OpenSession). x.number) xs)) o (without n os) (o.number == n) rest (h.0, rest)
 
-rises_without : (n : ℕ) (os : List OpenSession) → Rises (map (λ (x : OpenSession). x.number) os) → Rises (map (λ (x : OpenSession). x.number) (without n os))
+pub rises_without : (n : ℕ) (os : List OpenSession) → Rises (map (λ (x : OpenSession). x.number) os) → Rises (map (λ (x : OpenSession). x.number) (without n os))
 rises_without n [] h = tt
 rises_without n (o ∷ os) h = let rest = rises_without n os h.1 in kept_or_not (λ xs. Rises (map (λ (x : OpenSession). x.number) xs)) o (without n os) (o.number == n) rest (above_without o.number n os h.0, rest)
 
@@ -159,11 +159,11 @@ case_of w l s start m number site outcomes link = record {
   link = link;
 }
 
-each_more : (P : Case → Type 0) (cs : List Case) (c : Case) → AllByRecursion P cs → P c → AllByRecursion P (cs ++ c ∷ [])
+pub each_more : (P : Case → Type 0) (cs : List Case) (c : Case) → AllByRecursion P cs → P c → AllByRecursion P (cs ++ c ∷ [])
 each_more P [] c h p = (p, tt)
 each_more P (d ∷ cs) c h p = (h.0, each_more P cs c h.1 p)
 
-few_ended : (cs : List Case) (c : Case) (f : Delivery) (o : OpenSession) (es : List Entry) (fs gs : List Delivery) (os ps : List OpenSession) (old new : ℕ)
+pub few_ended : (cs : List Case) (c : Case) (f : Delivery) (o : OpenSession) (es : List Entry) (fs gs : List Delivery) (os ps : List OpenSession) (old new : ℕ)
     → cut_off fs os ≡ cut_off gs ps + is_cut_off f o → (if has_failed c then 1 else 0) ≡ is_cut_off f o → FewCutOff cs fs os old new → FewCutOff (map (longer es) cs ++ c ∷ []) gs ps old new
 few_ended cs c f o es fs gs os ps old new sum one (inl h) =
     let same = failed_longer es cs in
@@ -172,7 +172,7 @@ few_ended cs c f o es fs gs os ps old new sum one (inl h) =
 few_ended cs c f o es fs gs os ps old new sum one (inr h) = inr h
 
 -- it failed where its session was cut off
-fails_cut : (c : Case) (f : Delivery) (o : OpenSession) → is_some c.link ≡ is_some o.work → f ≡ flight c.start → (if has_failed c then 1 else 0) ≡ is_cut_off f o
+pub fails_cut : (c : Case) (f : Delivery) (o : OpenSession) → is_some c.link ≡ is_some o.work → f ≡ flight c.start → (if has_failed c then 1 else 0) ≡ is_cut_off f o
 fails_cut c f o linked is =
     ap (λ (b : Bool). if not b && has_route c.start.site.hop then 1 else 0) linked
     ∙ ap (λ (g : Delivery). if not (is_some o.work) && has_route g.row.site.hop then 1 else 0) (sym is)

@@ -7,7 +7,7 @@ use Rattle.std.proofs.lemmas.List.Folds.{find-append}
 use Rattle.std.proofs.lemmas.Option.{same_Some, slice_get_within}
 use Rattle.std.specs.List.{AllByRecursion, list_all}
 use Rattle.std.specs.Option.{option_map_or, option_or}
-use Rattle.std.specs.Prelude.{◌==◌, ◌||◌, Err, nat_lt, OnErr, Ok, Result, slice_get}
+use Rattle.std.specs.Prelude.{◌==◌, ◌||◌, Err, OnErr, Ok, Result, slice_get}
 use Rattle.q_books.specs.HostStands.{TellsCrashes}
 use Rattle.q_agent.specs.Requests.{IsReadable, Opens, TriesConnect, active_spot}
 use Rattle.q_agent.specs.Sessions.{OpenSession, Sessions, has_number, inserted, with_session}
@@ -18,7 +18,8 @@ use Rattle.q_drain.proofs.Serving.{looked_under_way, ready, request_under_way}
 use Rattle.q_drain.specs.Causes.{FewFailed}
 use Rattle.q_drain.specs.Drains.{Delivers}
 use Rattle.q_drain.specs.Flights.{flight}
-use Rattle.q_drain.specs.Opened.{AreBelow, FailsToOpen, GaveUp, IsServing, MayOpen, OpensFirst}
+use Rattle.q_drain.specs.Polling.{AreBelow}
+use Rattle.q_drain.specs.Opened.{FailsToOpen, GaveUp, IsServing, MayOpen, OpensFirst}
 use Rattle.q_drain.specs.Standing.{Outside, counts_of}
 use Rattle.q_drain.specs.Stories.{Story, with_request}
 use Rattle.q_drain.specs.Told.{Begun}
@@ -202,21 +203,6 @@ opens_first engine u x hops_old hops_new old new number id site positions now o 
     let polled = h.polled in
     subst (λ (n : Sessions). IsServing w l a y x engine n (early ++ b ∷ []) rest (fs ++ flight b ∷ []) r) (sym made)
     (record { under_way = looked; polled = omega (arith, more, polled); some = h.some })
-
-either_below : (n : ℕ) (o p : OpenSession) (os ps : List OpenSession) (b : Bool) → o.number < n → AreBelow n (p ∷ os) → AreBelow n ps → AreBelow n (if b then o ∷ p ∷ os else p ∷ ps)
-either_below n o p os ps true low h rest = (low, h)
-either_below n o p os ps false low h rest = (h.0, rest)
-
-inserted_below : (n : ℕ) (o : OpenSession) (os : List OpenSession) → o.number < n → AreBelow n os → AreBelow n (inserted o os)
-inserted_below n o [] low h = (low, tt)
-inserted_below n o (p ∷ os) low h = either_below n o p os (inserted o os) (nat_lt o.number p.number) low h (inserted_below n o os low h.1)
-
-below_next : (n : ℕ) (os : List OpenSession) → AreBelow n os → AreBelow (n + 1) os
-below_next n [] h = tt
-below_next n (o ∷ os) h = let low = h.0 in (omega (arith, low), below_next n os h.1)
-
-pub opened_below : (number : ℕ) (old new : Sessions) (o : OpenSession) → AreBelow number old.listed → new ≡ with_session o old → o.number ≡ number → AreBelow (number + 1) new.listed
-opened_below number old new o below made is = subst (λ (n : Sessions). AreBelow (number + 1) n.listed) (sym made) (inserted_below (number + 1) o old.listed (omega (arith, is)) (below_next number old.listed below))
 
 -- ---- it has none
 

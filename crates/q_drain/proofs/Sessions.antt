@@ -99,7 +99,7 @@ pub open_files : (w : World) (l : Ledger) (v : HostView) (s : Story) (Tells : Be
 open_files w l v s Tells early waiting fs os c h a = files_there w (after_all w l s.told) v fs c h (λ f k. subst (IsIn f) (sym a.flights) (in_left f fs (map flight waiting) k))
 
 -- who is replaced has the number
-replaced_numbers : (p : OpenSession) (os : List OpenSession) → map (λ (x : OpenSession). x.number) (replaced p os) ≡ map (λ (x : OpenSession). x.number) os
+pub replaced_numbers : (p : OpenSession) (os : List OpenSession) → map (λ (x : OpenSession). x.number) (replaced p os) ≡ map (λ (x : OpenSession). x.number) os
 replaced_numbers p [] = refl
 replaced_numbers p (x ∷ os) = ap (λ (n : ℕ). n ∷ map (λ (y : OpenSession). y.number) (replaced p os)) (one (x.number == p.number) refl) ∙ ap (λ (ns : List ℕ). x.number ∷ ns) (replaced_numbers p os)
   where

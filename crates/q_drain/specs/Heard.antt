@@ -1,30 +1,23 @@
 -- A drain hears the next moment of its clock.
 use Rattle.std.specs.Prelude.{◌++◌, ◌≡◌, ◌≢◌, [], Bool, false, length, List, Option, true, ℕ, ◌∷◌}
 use Rattle.q_agent.specs.Sessions.{OpenSession}
-use Rattle.q_drain.specs.Opened.{GaveUp, IsServing}
+use Rattle.q_drain.specs.GivenUp.{GivesUp}
+use Rattle.q_drain.specs.Opened.{IsServing}
 use Rattle.q_drain.specs.Standing.{IsUnderWay, Outside, counts_of}
 use Rattle.q_drain.specs.Stories.{Story}
 use Rattle.q_drain.specs.Told.{Begun}
 use Rattle.q_drain.specs.Works.{IsLinkBetween}
+use Rattle.q_engine.specs.KeptNotes.{AddsAllNotes}
 use Rattle.q_engine.specs.declared.engine.Engine.{Engine}
-use Rattle.q_engine.specs.declared.error.EngineError.{EngineError}
-use Rattle.q_engine.specs.declared.error.EngineError.TheVariants as errors
-use Rattle.q_entries.specs.Runs.{HaltsRun, PlaysRun}
+use Rattle.q_entries.specs.Runs.{PlaysRun}
 use Rattle.q_host.specs.View.{View as HostView}
 use Rattle.q_host.specs.declared.error.HostError.{HostError}
-use Rattle.q_host.specs.declared.error.HostError.TheVariants as faults
 use Rattle.q_link.specs.Records.{HopsView}
 use Rattle.q_model.specs.declared.entry.Entry.{Entry}
 use Rattle.q_model.specs.declared.rows.Delivery.{Delivery}
 use Rattle.q_model.specs.Ledger.{Ledger}
 use Rattle.q_model.specs.Settings.{World}
 use Rattle.q_model.specs.Step.{after_all}
-
--- what becomes of an engine's refusal: one of an event never comes where the host tells
-abbrev pub fault_of : EngineError → HostError
-fault_of errors.Disk = faults.Disk
-fault_of errors.Tell = faults.Tell
-fault_of _ = faults.NoMemory
 
 -- no moment came yet, or one did
 abbrev pub IsFirst : Bool → Story → Type 0
@@ -41,16 +34,9 @@ pub record Heard (w : World) (l : Ledger) (a z : Outside) (u v : HostView) (engi
   pub entries_told : List Entry
   pub waiting : List Begun
   pub plays : PlaysRun w (after_all w l s.told) entries_told u v
+  pub adds : AddsAllNotes w (after_all w l s.told) entries_told u.files v.files
   pub serving : IsServing w l a z v engine (record { listed = os; polled = 0 }) early waiting fs
       (record s { told = s.told ++ entries_told; moments = s.moments ++ moment ∷ [] })
-
--- or its turn was given up
-pub record HeardInPart (w : World) (l : Ledger) (a z : Outside) (u v : HostView) (error : HostError) (s : Story) : Type 0 where
-  pub entries_due : List Entry
-  pub halts : HaltsRun w (after_all w l s.told) entries_due error u v
-  pub story : Story
-  pub told : story.told ≡ s.told ++ halts.done
-  pub gave_up : GaveUp w l a z story
 
 -- of each ledger, first outside and hops
 abbrev pub ForBetween : Bool → HostView → Option (List ℕ) → Engine → (World → Ledger → Outside → HopsView → List Begun → List Delivery → List OpenSession → Story → Type 0) → Type 0
@@ -63,4 +49,4 @@ HearsClock first u v old new engine next = ForBetween first u old engine
 
 abbrev pub StopsHearingClock : Bool → HostView → HostView → Option (List ℕ) → Option (List ℕ) → Engine → HostError → Type 0
 StopsHearingClock first u v old new engine error = ForBetween first u old engine
-    (λ w l a hops early fs os s. HeardInPart w l a (record { clock = new; hops = hops }) u v error s)
+    (λ w l a hops early fs os s. GivesUp w l a (record { clock = new; hops = hops }) u v error s)

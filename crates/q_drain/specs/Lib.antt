@@ -10,6 +10,14 @@ pub mod Flights
 pub mod Works
 pub mod Driving
 pub mod Standing
+pub mod Faults
+pub mod Polling
 pub mod Opened
+pub mod GivenUp
 pub mod Heard
+pub mod Replied
+pub mod Served
+pub mod Turned
+pub mod Exits
+pub mod Drained
 pub mod Laws

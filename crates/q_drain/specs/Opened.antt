@@ -1,7 +1,6 @@
 -- A drain opens the sessions of the deliveries that its engine began.
-use Rattle.std.specs.List.{AllByRecursion}
-use Rattle.std.specs.Prelude.{◌+◌, ◌++◌, ◌<◌, ◌≡◌, ◌≤◌, [], length, List, Option, Some, ℕ, ◌∷◌}
-use Rattle.q_agent.specs.Sessions.{OpenSession, Sessions}
+use Rattle.std.specs.Prelude.{◌+◌, ◌++◌, ◌≡◌, ◌≤◌, [], length, List, Option, Some, ℕ, ◌∷◌}
+use Rattle.q_agent.specs.Sessions.{Sessions}
 use Rattle.q_drain.specs.Drains.{Delivers, IsCut}
 use Rattle.q_drain.specs.Flights.{flight}
 use Rattle.q_drain.specs.Standing.{HasGiven, IsUnderWay, Outside, counts_of}
@@ -16,10 +15,6 @@ use Rattle.q_model.specs.declared.rows.Delivery.{Delivery}
 use Rattle.q_model.specs.Ledger.{Ledger}
 use Rattle.q_model.specs.Settings.{World}
 use Rattle.q_model.specs.Step.{after_all}
-
--- each session's number is below this one
-abbrev pub AreBelow : ℕ → List OpenSession → Type 0
-AreBelow number os = AllByRecursion (λ o. o.number < number) os
 
 -- Within a turn: the first deliveries have their sessions, and the others wait for them.
 pub record IsServing (w : World) (l : Ledger) (a z : Outside) (v : HostView) (engine : Engine) (agent : Sessions) (early waiting : List Begun) (fs : List Delivery) (s : Story) : Type 0 where
@@ -76,8 +71,9 @@ pub record OpenedAll (w : World) (l : Ledger) (a z : Outside) (v : HostView) (en
   pub serving : IsServing w l a z v engine agent all [] flights story
 
 -- the host was only looked at
-abbrev pub Looks : World → Ledger → Story → HostView → HostView → Type 0
-Looks w l s u v = Takes (after_all w l s.told).book (after_all w l s.told).book u v
+pub record Looks (w : World) (l : Ledger) (s : Story) (u v : HostView) : Type 0 where
+  pub takes : Takes (after_all w l s.told).book (after_all w l s.told).book u v
+  pub files : v.files ≡ u.files
 
 -- where so many have their sessions
 abbrev pub OpensAll : Engine → HostView → HostView → HopsView → HopsView → Sessions → Sessions → ℕ → ℕ → Type 0

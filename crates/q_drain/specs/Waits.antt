@@ -1,5 +1,5 @@
 -- Rests, moments and answers `NotYet`, from one call to the next.
-use Rattle.std.specs.Prelude.{◌+◌, ◌≡◌, ◌≤◌, Bool, false, length, true, ℕ}
+use Rattle.std.specs.Prelude.{◌+◌, ◌≡◌, ◌≤◌, Bool, false, if◌then◌else◌, length, true, ℕ}
 use Rattle.q_drain.specs.Stories.{Story}
 use Rattle.q_drain.specs.Told.{begun, ended}
 
@@ -19,3 +19,7 @@ pub record WaitsBetween (rests moments before not_yets : ℕ) : Type 0 where
 pub record Turns (extra : ℕ) (s : Story) : Type 0 where
   pub least : s.rests + extra ≤ length s.moments
   pub most : length s.moments ≤ s.rests + extra + (length (begun s.told) + length (ended s.told))
+
+-- 1 for a turn that has done nothing yet
+abbrev pub idle : Bool → ℕ
+idle busy = if busy then 0 else 1

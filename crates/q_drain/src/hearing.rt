@@ -1,34 +1,23 @@
 //! The moments of a clock.
-ghost use Rattle.std.specs.Prelude.{◌≡◌, IfOk, IsErrOf, IsTrue};
-ghost use Rattle.q_drain.specs.Heard.{HearsClock, StopsHearingClock, fault_of};
+ghost use Rattle.std.specs.Prelude.{IfOk, IsErrOf, IsTrue};
+ghost use Rattle.q_drain.specs.Heard.{HearsClock, StopsHearingClock};
 ghost use Rattle.q_engine.specs.Stands.{IsReady};
 ghost use Rattle.q_engine.specs.Steps.{StandsForSome};
 ghost use Rattle.q_entries.specs.Causes.{HostCause};
 ghost use Rattle.q_host.specs.declared.error.HostError.{HostError as Fault};
 
-use q_engine::{Engine, EngineError};
+use crate::fault::fault_of;
+use q_engine::Engine;
 use q_host::{Host, HostError};
 use q_model::Event;
 use q_stream::Clock;
 use std::alloc::Global;
 
-/// An engine's refusal as one of its host. One of an event comes on hosts alone that don't tell their
-/// files, and is taken for want of memory.
-fn fault_of(error: EngineError) -> HostError
-    ensures { result ≡ fault_of error }
-{
-    match error {
-        EngineError::Disk => HostError::Disk,
-        EngineError::Tell => HostError::Tell,
-        _ => HostError::NoMemory,
-    }
-}
-
 /// Gives the engine the moment of the clock, where it is the first or past those before it: its turn
 /// is carried out and told. Another moment is passed over. `first` says that this drain has heard
 /// none yet. `Disk` and `Tell` come where the host failed, `NoMemory` where memory ran out; then some
 /// first part of the turn was carried out.
-pub fn hear_clock<H: Host, C: Clock>(
+pub(crate) fn hear_clock<H: Host, C: Clock>(
     alloc: Global,
     engine: Engine,
     host: &mut H,

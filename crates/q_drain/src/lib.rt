@@ -7,16 +7,20 @@
 //! between any two calls of the agent, and the lemmas in `proofs` carry it from one to the next.
 //! `Standing` joins it with the engine, the clock and the hops.
 //!
-//! A turn begins with `hear_clock` and `open_started`. It is an error to call either with an engine
-//! and a host that stand for no ledger, and to open sessions where a delivery up to the number that
-//! is given has none, or one behind it has one.
+//! `drain` takes the turns. It is an error to call it with an engine that has heard anything since its
+//! life began, and on a host that tells its files with an engine that doesn't stand for them.
 //!
 //! The laws below are over ledgers alone. Each is the contract of a function with nothing to do; no
 //! call of one is an error.
 #![tactic(auto)]
 
+mod driver;
+mod fault;
 mod hearing;
 mod opening;
+mod poll;
+mod reply;
+mod turn;
 
 ghost use Rattle.std.specs.Prelude.{◌≤◌, List, ℕ};
 ghost use Rattle.q_drain.specs.Laws.{AddsFlights, OfLedgers, StaysOwnRun};
@@ -26,8 +30,7 @@ ghost use Rattle.q_model.specs.declared.outcome.Outcome.{Outcome};
 ghost use Rattle.q_model.specs.declared.outcome.SiteState.{SiteState};
 ghost use Rattle.q_model.specs.Step.{after_all};
 
-pub use hearing::hear_clock;
-pub use opening::open_started;
+pub use driver::{Drained, drain};
 
 /// A turn names just its own event, and so entries that are the run of the events that they name
 /// stay so with the turn of a reply, and with that of a moment that isn't past.

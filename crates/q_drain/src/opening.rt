@@ -1,7 +1,6 @@
 //! The sessions of deliveries that have begun.
 ghost use Rattle.std.specs.Prelude.{◌≡◌, ◌≤◌, ◌+◌, IfOk, IsTrue, List, Option, ℕ, OnErr, OnOk};
 ghost use Rattle.q_drain.specs.Opened.{
-  AreBelow,
   FailsToOpen,
   FailsToOpenAll,
   MayOpen,
@@ -9,6 +8,7 @@ ghost use Rattle.q_drain.specs.Opened.{
   OpensAll,
   OpensFirst,
 };
+ghost use Rattle.q_drain.specs.Polling.{IsPolling};
 ghost use Rattle.q_host.specs.Calls.{Stays};
 ghost use Rattle.q_host.specs.Faults.{DiskCause};
 
@@ -29,13 +29,14 @@ fn open_next<L: Link, H: Host, N: Hops<Link = L>>(
     hops: &mut N,
     number: u64,
 ) -> Result<(), HostError>
-    requires below { AreBelow number agent.old.listed }
+    requires polling { IsPolling agent.old number }
     requires first { IsTrue H.tells → (clock : Option (List ℕ))
         × MayOpen clock (H.view host.old) (N.view hops.old) engine.now agent.old number }
     ensures ok { OnOk result (IsTrue H.tells → OpensFirst engine.now (H.view host.old)
         (H.view host.new) (N.view hops.old) (N.view hops.new) agent.old agent.new number) }
-    ensures below { OnOk result (AreBelow (number + 1) agent.new.listed) }
+    ensures polling { OnOk result (IsPolling agent.new (number + 1)) }
     ensures polled { agent.new.polled ≡ agent.old.polled }
+    ensures rests { (N.view hops.new).rests ≡ (N.view hops.old).rests }
     ensures err { OnErr result (IsTrue H.tells → FailsToOpen engine.now (H.view host.old)
         (N.view hops.old) (N.view hops.new) agent.old number) }
     ensures stays { IsTrue H.tells → Stays (H.view host.old) (H.view host.new) }
@@ -55,7 +56,7 @@ fn open_next<L: Link, H: Host, N: Hops<Link = L>>(
 
 /// Opens the sessions of all deliveries behind the first `known`, which have theirs. The answer is
 /// the number of the last one. After an error some may be open.
-pub fn open_started<L: Link, H: Host, N: Hops<Link = L>>(
+pub(crate) fn open_started<L: Link, H: Host, N: Hops<Link = L>>(
     alloc: Global,
     engine: &Engine,
     agent: &mut Agent<L>,
@@ -63,13 +64,14 @@ pub fn open_started<L: Link, H: Host, N: Hops<Link = L>>(
     hops: &mut N,
     known: u64,
 ) -> Result<u64, HostError>
-    requires below { AreBelow (known + 1) agent.old.listed }
+    requires polling { IsPolling agent.old (known + 1) }
     requires stands { IsTrue H.tells → (clock : Option (List ℕ))
         × MayOpenAll clock (H.view host.old) (N.view hops.old) engine.now agent.old known }
     ensures ok { IfOk result (λ last. IsTrue H.tells → OpensAll engine.now (H.view host.old)
         (H.view host.new) (N.view hops.old) (N.view hops.new) agent.old agent.new known last) }
-    ensures last { IfOk result (λ last. known ≤ last × AreBelow (last + 1) agent.new.listed) }
+    ensures last { IfOk result (λ last. known ≤ last × IsPolling agent.new (last + 1)) }
     ensures polled { agent.new.polled ≡ agent.old.polled }
+    ensures rests { (N.view hops.new).rests ≡ (N.view hops.old).rests }
     ensures err { OnErr result (IsTrue H.tells → FailsToOpenAll engine.now (H.view host.old)
         (H.view host.new) (N.view hops.old) (N.view hops.new) agent.old known) }
     ensures cause { DiskCause (H.faults host.old) (H.faults host.new) result }

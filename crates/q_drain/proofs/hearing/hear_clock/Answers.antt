@@ -2,7 +2,8 @@ use Rattle.std.proofs.Common.{◌≡◌, ◌∙◌, arith, inl, inr, refl, subst
 use Rattle.std.specs.Prelude.{Err}
 use Rattle.q_books.specs.HostStands.{TellsCrashes}
 use Rattle.q_drain.proofs.ClockTurns.{heard_at, heard_part, heard_same, host_fault, IsNew, never_refused, past_now}
-use Rattle.q_drain.specs.Heard.{IsFirst, fault_of}
+use Rattle.q_drain.specs.Faults.{fault_of}
+use Rattle.q_drain.specs.Heard.{IsFirst}
 use Rattle.q_engine.specs.Refusals.{refusal_of}
 use Rattle.q_model.specs.Step.{after_all}
 use Rattle.q_drain.proofs.hearing.hear_clock.Goals.{else-not-first-via-then-not-first+else-moment-now, else-not-first-via-else-not-first}

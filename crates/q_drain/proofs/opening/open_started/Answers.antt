@@ -11,15 +11,16 @@ loop-number-init g c =
     record {
       some = c.requires.stands;
       opened = λ t w l a clock early waiting fs s is h. some_begin w l a clock u c.args.engine.now (g.N.Hops.view c.args.hops.now) c.args.agent.now early waiting fs s c.args.known lawful is h;
-      below = c.requires.below;
+      polling = c.requires.polling;
       known = omega arith;
       polled = refl;
+      rests = refl;
       disk_later = omega arith;
       tell_later = omega arith;
     }
 
-pub open_next-requires-clause-below : goal.open_next-requires-clause-below
-open_next-requires-clause-below g c = c.loop-number.invariant.below
+pub open_next-requires-clause-polling : goal.open_next-requires-clause-polling
+open_next-requires-clause-polling g c = c.loop-number.invariant.polling
 
 pub open_next-requires-clause-first : goal.open_next-requires-clause-first
 open_next-requires-clause-first g c t =
@@ -37,9 +38,10 @@ loop-number-preserved g c =
       some = loop.invariant.some;
       opened = λ t w l a clock early waiting fs s is h. some_more w l a clock (g.H.Host.view c.args.host.now) v c.args.engine.now (g.N.Hops.view loop.hops) loop.agent (early ++ waiting) s loop.number c.last_number-last.result c.last_number-last.ensures
           (loop.invariant.opened t w l a clock early waiting fs s is h) (g.H.Host.view c.open_next.new.host) (g.N.Hops.view c.open_next.new.hops) c.open_next.new.agent c.loop-number-test.true lawful (c.open_next.ensures.stays t) (c.in_ok-open_next.ensures.ok t);
-      below = c.in_ok-open_next.ensures.below;
+      polling = c.in_ok-open_next.ensures.polling;
       known = omega (arith, loop.invariant.known);
       polled = c.open_next.ensures.polled ∙ loop.invariant.polled;
+      rests = c.open_next.ensures.rests ∙ loop.invariant.rests;
       disk_later = omega (arith, loop.invariant.disk_later, c.open_next.ensures.cause.disk_later);
       tell_later = omega (arith, loop.invariant.tell_later, c.open_next.ensures.cause.tell_later);
     }
@@ -63,7 +65,13 @@ returns-clause-ok g c t w l a clock early waiting fs s is h =
     some_all w l a clock (g.H.Host.view c.args.host.now) v c.args.engine.now (g.N.Hops.view loop.hops) loop.agent (early ++ waiting) s loop.number c.last_number-last.result c.last_number-last.ensures (loop.invariant.opened t w l a clock early waiting fs s is h) c.loop-number-test.false
 
 pub returns-clause-last : goal.returns-clause-last
-returns-clause-last g c = (c.loop-number.invariant.known, c.loop-number.invariant.below)
+returns-clause-last g c = (c.loop-number.invariant.known, c.loop-number.invariant.polling)
 
 pub returns-clause-polled : goal.returns-clause-polled
 returns-clause-polled g c = c.loop-number.invariant.polled
+
+pub returns-in_err-open_next-clause-rests : goal.returns-in_err-open_next-clause-rests
+returns-in_err-open_next-clause-rests g c = c.open_next.ensures.rests ∙ c.loop-number.invariant.rests
+
+pub returns-clause-rests : goal.returns-clause-rests
+returns-clause-rests g c = c.loop-number.invariant.rests

@@ -1,0 +1,76 @@
+-- The turn of a report's reply: which replies may come, and what a refusal leaves.
+use Rattle.std.proofs.Common.{◌≡◌, ℕ, zero, suc, Bool, true, false, if◌then◌else◌, List, [], length, Option, Some, None, refl, sym, ap, ◌∙◌, subst}
+use Rattle.std.specs.List.{list_all}
+use Rattle.std.specs.Option.{option_map_or}
+use Rattle.std.specs.Prelude.{◌&&◌, ◌==◌, ◌||◌, replicate}
+use Rattle.q_agent.specs.Turns.{Counts}
+use Rattle.q_books.specs.HostStands.{HostStands, TellsCrashes}
+use Rattle.q_drain.proofs.ClockTurns.{host_fault}
+use Rattle.q_drain.specs.Faults.{fault_of}
+use Rattle.q_engine.specs.Refusals.{is_early, is_of_event, is_of_host, refusal_of, refused_event, refused_reply, told_count}
+use Rattle.q_engine.specs.declared.error.EngineError.{EngineError}
+use Rattle.q_engine.specs.declared.error.EngineError.TheVariants as errors
+use Rattle.q_entries.proofs.Playing.{plays_given_up, plays_none}
+use Rattle.q_entries.specs.Runs.{HaltsRun}
+use Rattle.q_host.specs.View.{View as HostView}
+use Rattle.q_host.specs.declared.error.HostError.{HostError}
+use Rattle.q_model.specs.declared.entry.Entry.{Entry}
+use Rattle.q_model.specs.declared.event.Event.TheVariants as events
+use Rattle.q_model.specs.declared.outcome.Outcome.{Outcome}
+use Rattle.q_model.specs.declared.outcome.Outcome.TheVariants as outcomes
+use Rattle.q_model.specs.declared.outcome.SiteState.{SiteState}
+use Rattle.q_model.specs.declared.outcome.SiteState.TheVariants.{Down, Up}
+use Rattle.q_model.specs.declared.rows.Delivery.{Delivery}
+use Rattle.q_model.specs.Deliveries.{flight_of}
+use Rattle.q_model.specs.Ledger.{Ledger}
+use Rattle.q_model.specs.Replies.{fits_state, is_later, may_reply}
+use Rattle.q_model.specs.Settings.{World}
+
+-- ---- what a report says
+
+later_all : (n : ℕ) → list_all is_later (replicate n (outcomes.Later 0)) ≡ true
+later_all zero = refl
+later_all (suc n) = later_all n
+
+-- where a site is down, all are put off
+pub counts_fit : (site : SiteState) (n : ℕ) (os : List Outcome) → Counts site n os → fits_state site os ≡ true
+counts_fit Up n os h = refl
+counts_fit Down n os h = ap (list_all is_later) h ∙ later_all n
+
+-- ---- a reply that isn't refused
+
+pub none_refused : (o : Option EngineError) → ((error : EngineError) → o ≡ Some error → ⊥) → o ≡ None
+none_refused None h = refl
+none_refused (Some error) h = absurd (h error refl)
+
+chosen : (b : Bool) (error : EngineError) → (if b then None else Some error) ≡ None → b ≡ true
+chosen true error h = refl
+chosen false error h = cc
+
+-- one that isn't refused may come
+pub accepted_may : (l : Ledger) (number : ℕ) (site : SiteState) (os : List Outcome) → fits_state site os ≡ true → refused_event l (events.Reply number site os) ≡ None → may_reply l number site os ≡ true
+accepted_may l number site os fits none = early (is_early l.timed (events.Reply number site os)) none
+  where
+    found : (o : Option Delivery) → flight_of l number ≡ o → refused_reply number os o ≡ None → may_reply l number site os ≡ true
+    found None is h = cc
+    found (Some f) is h = ap (λ (o : Option Delivery). option_map_or (λ (g : Delivery). (length os == length g.row.positions) && fits_state site os) o false) is ∙ ap (λ (b : Bool). b && fits_state site os) (chosen (length os == length f.row.positions) (errors.WrongCount number (told_count (length f.row.positions)) (told_count (length os))) h) ∙ fits
+
+    early : (b : Bool) → (if b then Some errors.Untimed else refused_reply number os (flight_of l number)) ≡ None → may_reply l number site os ≡ true
+    early true h = cc
+    early false h = found (flight_of l number) refl h
+
+-- ---- a refusal
+
+-- nothing was done
+pub halts_nothing : (w : World) (l : Ledger) (es : List Entry) (error : HostError) (u : HostView) → TellsCrashes u → HostStands u l.book → HaltsRun w l es error u u
+halts_nothing w l es error u lawful host = plays_given_up w l [] es error u u (plays_none w l u lawful host)
+
+-- by a fault of the host some first part was done, and by another refusal nothing
+pub fault_halts : (w : World) (l : Ledger) (es : List Entry) (u x : HostView) (why : EngineError) (error : HostError) → TellsCrashes u → HostStands u l.book → (is_of_host why || is_of_event why) ≡ true
+    → ((fault : HostError) → why ≡ refusal_of fault → HaltsRun w l es fault u x) → (is_of_event why ≡ true → x ≡ u) → fault_of why ≡ error → HaltsRun w l es error u x
+fault_halts w l es u x why error lawful host kinds halts untouched same = on (is_of_host why) (is_of_event why) refl refl kinds
+  where
+    on : (b c : Bool) → is_of_host why ≡ b → is_of_event why ≡ c → (b || c) ≡ true → HaltsRun w l es error u x
+    on true c of_host of_event h = halts error (host_fault why of_host ∙ ap refusal_of same)
+    on false true of_host of_event h = subst (λ (v : HostView). HaltsRun w l es error u v) (sym (untouched of_event)) (halts_nothing w l es error u lawful host)
+    on false false of_host of_event h = cc

@@ -1,0 +1,227 @@
+use Rattle.std.proofs.Common.{◌≡◌, ◌≢◌, ◌+◌, [], ap, arith, false, Option, refl, subst, sym, true, ℕ}
+use Rattle.q_agent.specs.Sessions.{Sessions, is_turn_over}
+use Rattle.q_books.specs.HostStands.{TellsCrashes}
+use Rattle.q_drain.proofs.Exiting.{DrainsSo, counted_behind, drains_first, drains_more, ends_early, ends_full, ends_quiet, ends_unfinished, given_behind, none_behind, order_behind, stops_between}
+use Rattle.q_drain.proofs.Polls.{all_wait}
+use Rattle.q_drain.specs.Drained.{CountsRests, RestsBehind}
+use Rattle.q_drain.specs.Exits.{EndsUnfinished}
+use Rattle.q_drain.specs.Polling.{AreInOrder, IsPolling}
+use Rattle.q_drain.specs.Standing.{Outside}
+use Rattle.q_drain.specs.Turned.{OfEngine, OfServed, TurnsTo}
+use Rattle.q_drain.specs.declared.poll.Served.{Served}
+use Rattle.q_drain.specs.declared.turn.Turn.{Turn}
+use Rattle.q_engine.proofs.DecisionLoops.{same_error}
+use Rattle.q_engine.specs.Stands.{IsReady}
+use Rattle.q_events.proofs.LineParts.{rose_later}
+use Rattle.q_link.specs.Records.{HopsView}
+use Rattle.q_drain.proofs.driver.take_turns.Goals as goal
+
+pub loop-init : goal.loop-init
+loop-init g c =
+    let u = g.H.Host.view c.args.host.now in
+    let lawful : TellsCrashes u = record { only = g.met.H.Host.only_now c.args.host.now; told = g.met.H.Host.told_stays c.args.host.now } in
+    let a : Outside = record { clock = g.C.Clock.given c.args.clock.now; hops = g.N.Hops.view c.args.hops.now } in
+    record {
+      ready = c.requires.ready;
+      order = subst (λ (s : Sessions). AreInOrder s.listed 1) (sym c.new-agent.ensures) (record { rises = tt; positive = tt; below = tt });
+      few = omega arith;
+      counts = refl;
+      may = c.requires.stands;
+      so = λ t w l stands start. subst (λ (s : Sessions). DrainsSo w l a a u u c.args.engine s.listed 0 true 0) (sym c.new-agent.ensures) (drains_first w l a u c.args.engine lawful stands start);
+      disk_later = omega arith;
+      tell_later = omega arith;
+    }
+
+pub take_turn-requires-clause-ready : goal.take_turn-requires-clause-ready
+take_turn-requires-clause-ready g c = c.loop.invariant.ready
+
+pub take_turn-requires-clause-order : goal.take_turn-requires-clause-order
+take_turn-requires-clause-order g c = c.loop.invariant.order
+
+pub take_turn-requires-clause-stands : goal.take_turn-requires-clause-stands
+take_turn-requires-clause-stands g c t =
+    let loop = c.loop in
+    let (w, l, stands, start) = loop.invariant.may t in
+    let d = loop.invariant.so t w l stands start in
+    (w, l, record { clock = g.C.Clock.given c.args.clock.now; hops = g.N.Hops.view c.args.hops.now }, d.story, d.between)
+
+pub returns-in_err-served-clause-err : goal.returns-in_err-served-clause-err
+returns-in_err-served-clause-err g c error is t w l stands start =
+    let loop = c.loop in
+    let view = g.H.Host.view in
+    let a : Outside = record { clock = g.C.Clock.given c.args.clock.now; hops = g.N.Hops.view c.args.hops.now } in
+    let z : Outside = record { clock = g.C.Clock.given loop.clock; hops = g.N.Hops.view loop.hops } in
+    let y : Outside = record { clock = g.C.Clock.given c.take_turn.new.clock; hops = g.N.Hops.view c.take_turn.new.hops } in
+    let d = loop.invariant.so t w l stands start in
+    ends_early w l a z y (view c.args.host.now) (view loop.host) (view c.take_turn.new.host) loop.served.engine loop.agent.listed loop.served.known loop.first loop.given d error
+    (c.in_err-served.ensures.err error (same_error c.from_residual.result c.in_err-served.field-0.0 error c.from_residual.ensures.1 is) t w l a d.story d.between)
+
+pub returns-in_err-served-clause-cause : goal.returns-in_err-served-clause-cause
+returns-in_err-served-clause-cause g c =
+    let later = c.loop.invariant in
+    let cause = c.in_err-served.ensures.cause in
+    let mid = g.H.Host.faults c.loop.host in
+    record {
+      disk_later = omega (arith, later.disk_later, cause.disk_later);
+      tell_later = omega (arith, later.tell_later, cause.tell_later);
+      disk = λ is. rose_later _ mid.disk _ later.disk_later (cause.disk (same_error c.from_residual.result c.in_err-served.field-0.0 _ c.from_residual.ensures.1 is));
+      tell = λ is. rose_later _ mid.tell _ later.tell_later (cause.tell (same_error c.from_residual.result c.in_err-served.field-0.0 _ c.from_residual.ensures.1 is));
+    }
+
+pub returns-in-Idle-clause-ok : goal.returns-in-Idle-clause-ok
+returns-in-Idle-clause-ok g c t w l stands start =
+    let loop = c.loop in
+    let view = g.H.Host.view in
+    let a : Outside = record { clock = g.C.Clock.given c.args.clock.now; hops = g.N.Hops.view c.args.hops.now } in
+    let z : Outside = record { clock = g.C.Clock.given loop.clock; hops = g.N.Hops.view loop.hops } in
+    let y : Outside = record { clock = g.C.Clock.given c.take_turn.new.clock; hops = g.N.Hops.view c.take_turn.new.hops } in
+    let d = loop.invariant.so t w l stands start in
+    let turned = subst (λ (turn : Turn). TurnsTo (record { before = z; behind = y }) (view loop.host) (view c.take_turn.new.host) loop.served.engine loop.agent.listed loop.served.known loop.first turn c.take_turn.new.agent) c.in-Idle.is (c.in_ok-served.ensures.ok t) in
+    ends_quiet w l a z y (view c.args.host.now) (view loop.host) (view c.take_turn.new.host) loop.served.engine loop.agent.listed loop.served.known loop.first loop.given d c.in-Idle.engine
+    (turned w l a d.story d.between)
+
+pub returns-in-Idle-clause-cause : goal.returns-in-Idle-clause-cause
+returns-in-Idle-clause-cause g c =
+    let later = c.loop.invariant in
+    let cause = c.in_ok-served.ensures.cause in
+    record {
+      disk_later = omega (arith, later.disk_later, cause.disk_later);
+      tell_later = omega (arith, later.tell_later, cause.tell_later);
+      disk = λ is. cc;
+      tell = λ is. cc;
+    }
+
+pub returns-in-Full-clause-ok : goal.returns-in-Full-clause-ok
+returns-in-Full-clause-ok g c t w l stands start =
+    let loop = c.loop in
+    let view = g.H.Host.view in
+    let a : Outside = record { clock = g.C.Clock.given c.args.clock.now; hops = g.N.Hops.view c.args.hops.now } in
+    let z : Outside = record { clock = g.C.Clock.given loop.clock; hops = g.N.Hops.view loop.hops } in
+    let y : Outside = record { clock = g.C.Clock.given c.take_turn.new.clock; hops = g.N.Hops.view c.take_turn.new.hops } in
+    let d = loop.invariant.so t w l stands start in
+    let turned = subst (λ (turn : Turn). TurnsTo (record { before = z; behind = y }) (view loop.host) (view c.take_turn.new.host) loop.served.engine loop.agent.listed loop.served.known loop.first turn c.take_turn.new.agent) c.in-Full.is (c.in_ok-served.ensures.ok t) in
+    ends_full w l a z y (view c.args.host.now) (view loop.host) (view c.take_turn.new.host) loop.served.engine loop.agent.listed loop.served.known loop.first loop.given d
+    (turned w l a d.story d.between)
+
+pub returns-in-Full-clause-cause : goal.returns-in-Full-clause-cause
+returns-in-Full-clause-cause g c =
+    let later = c.loop.invariant in
+    let cause = c.in_ok-served.ensures.cause in
+    record {
+      disk_later = omega (arith, later.disk_later, cause.disk_later);
+      tell_later = omega (arith, later.tell_later, cause.tell_later);
+      disk = λ is. cc;
+      tell = λ is. cc;
+    }
+
+pub rest_behind-requires-clause-waits : goal.rest_behind-requires-clause-waits
+rest_behind-requires-clause-waits g c =
+    let served = c.in-Over.served in
+    let agent = c.take_turn.new.agent in
+    let both = subst (λ (turn : Turn). OfServed turn (λ (s : Served). IsPolling agent (s.known + 1) × (is_turn_over agent ≡ true))) c.in-Over.is c.in_ok-served.ensures.polling in
+    all_wait agent (served.known + 1) both.1 both.0
+
+pub rest_behind-requires-clause-few : goal.rest_behind-requires-clause-few
+rest_behind-requires-clause-few g c = c.loop.invariant.few
+
+pub returns-in_default-clause-ok : goal.returns-in_default-clause-ok
+returns-in_default-clause-ok g c t w l stands start =
+    let loop = c.loop in
+    let view = g.H.Host.view in
+    let hops = g.N.Hops.view c.take_turn.new.hops in
+    let rested = g.N.Hops.view c.rest_behind.new.hops in
+    let clock = g.C.Clock.given c.take_turn.new.clock in
+    let u = view c.args.host.now in
+    let v = view loop.host in
+    let x = view c.take_turn.new.host in
+    let served = c.in-Over.served in
+    let agent = c.take_turn.new.agent in
+    let a : Outside = record { clock = g.C.Clock.given c.args.clock.now; hops = g.N.Hops.view c.args.hops.now } in
+    let z : Outside = record { clock = g.C.Clock.given loop.clock; hops = g.N.Hops.view loop.hops } in
+    let y : Outside = record { clock = clock; hops = hops } in
+    let d = loop.invariant.so t w l stands start in
+    let turned = subst (λ (turn : Turn). TurnsTo (record { before = z; behind = y }) v x loop.served.engine loop.agent.listed loop.served.known loop.first turn agent) c.in-Over.is (c.in_ok-served.ensures.ok t) in
+    let some = subst (λ (turn : Turn). OfServed turn (λ (s : Served). s.busy ≡ false → agent.listed ≢ [])) c.in-Over.is c.in_ok-served.ensures.some in
+    let behind = subst (λ (o : Option ℕ). RestsBehind served.busy loop.given c.args.rests agent c.rest_behind.new.agent hops rested o) c.in_default.is c.rest_behind.ensures in
+    let (idle, all, kept, still) = none_behind served.busy loop.given c.args.rests agent c.rest_behind.new.agent hops rested behind in
+    subst (λ n. EndsUnfinished w l (record { before = a; behind = record { clock = clock; hops = rested } }) u x n) all
+    (subst (λ (h : HopsView). EndsUnfinished w l (record { before = a; behind = record { clock = clock; hops = h } }) u x loop.given) (sym still)
+    (ends_unfinished w l a z y u v x loop.served.engine loop.agent.listed loop.served.known loop.first loop.given d served agent (turned w l a d.story d.between) idle (some idle)))
+
+pub returns-in_default-clause-unfinished : goal.returns-in_default-clause-unfinished
+returns-in_default-clause-unfinished g c n is =
+    let loop = c.loop in
+    let first = g.N.Hops.view c.args.hops.now in
+    let hops = g.N.Hops.view c.take_turn.new.hops in
+    let rested = g.N.Hops.view c.rest_behind.new.hops in
+    let behind = subst (λ (o : Option ℕ). RestsBehind c.in-Over.served.busy loop.given c.args.rests c.take_turn.new.agent c.rest_behind.new.agent hops rested o) c.in_default.is c.rest_behind.ensures in
+    let (idle, all, kept, still) = none_behind c.in-Over.served.busy loop.given c.args.rests c.take_turn.new.agent c.rest_behind.new.agent hops rested behind in
+    let turn = c.in_ok-served.ensures.rests in
+    let same = ap (λ (h : HopsView). h.rests) still in
+    let counts = loop.invariant.counts in
+    (cc, omega (arith, all, turn, same, counts))
+
+pub returns-in_default-clause-cause : goal.returns-in_default-clause-cause
+returns-in_default-clause-cause g c =
+    let later = c.loop.invariant in
+    let cause = c.in_ok-served.ensures.cause in
+    record {
+      disk_later = omega (arith, later.disk_later, cause.disk_later);
+      tell_later = omega (arith, later.tell_later, cause.tell_later);
+      disk = λ is. cc;
+      tell = λ is. cc;
+    }
+
+pub loop-preserved : goal.loop-preserved
+loop-preserved g c =
+    let loop = c.loop in
+    let view = g.H.Host.view in
+    let hops = g.N.Hops.view c.take_turn.new.hops in
+    let rested = g.N.Hops.view c.rest_behind.new.hops in
+    let clock = g.C.Clock.given c.take_turn.new.clock in
+    let u = view c.args.host.now in
+    let v = view loop.host in
+    let x = view c.take_turn.new.host in
+    let served = c.in-Over.served in
+    let agent = c.take_turn.new.agent in
+    let new = c.rest_behind.new.agent in
+    let more = c.in-Some.more in
+    let a : Outside = record { clock = g.C.Clock.given c.args.clock.now; hops = g.N.Hops.view c.args.hops.now } in
+    let z : Outside = record { clock = g.C.Clock.given loop.clock; hops = g.N.Hops.view loop.hops } in
+    let y : Outside = record { clock = clock; hops = hops } in
+    let both = subst (λ (turn : Turn). OfServed turn (λ (s : Served). IsPolling agent (s.known + 1) × (is_turn_over agent ≡ true))) c.in-Over.is c.in_ok-served.ensures.polling in
+    let behind = subst (λ (o : Option ℕ). RestsBehind served.busy loop.given c.args.rests agent new hops rested o) c.in-Some.is c.rest_behind.ensures in
+    let turn = c.in_ok-served.ensures.rests in
+    let before = loop.invariant.counts in
+    let counts : CountsRests (g.N.Hops.view c.args.hops.now) hops loop.given = omega (arith, turn, before) in
+    record {
+      ready = subst (λ (turn : Turn). OfEngine turn IsReady) c.in-Over.is c.in_ok-served.ensures.ready;
+      order = order_behind served.busy loop.given c.args.rests more (served.known + 1) agent new hops rested both.0.order behind;
+      few = given_behind served.busy loop.given c.args.rests more agent new hops rested loop.invariant.few behind;
+      counts = counted_behind served.busy loop.given c.args.rests more agent new (g.N.Hops.view c.args.hops.now) hops rested counts behind;
+      may = loop.invariant.may;
+      so = λ t w l stands start.
+          let d = loop.invariant.so t w l stands start in
+          let turned = subst (λ (turn : Turn). TurnsTo (record { before = z; behind = y }) v x loop.served.engine loop.agent.listed loop.served.known loop.first turn agent) c.in-Over.is (c.in_ok-served.ensures.ok t) in
+          drains_more w l a z clock u v x hops rested loop.served.engine loop.agent.listed loop.served.known loop.first loop.given c.args.rests more served agent new served.busy d (turned w l a d.story d.between) both.1 refl behind;
+      disk_later = omega (arith, loop.invariant.disk_later, c.in_ok-served.ensures.cause.disk_later);
+      tell_later = omega (arith, loop.invariant.tell_later, c.in_ok-served.ensures.cause.tell_later);
+    }
+
+pub returns-clause-err : goal.returns-clause-err
+returns-clause-err g c error is t w l stands start =
+    let loop = c.loop in
+    let u = g.H.Host.view c.args.host.now in
+    let v = g.H.Host.view loop.host in
+    let lawful : TellsCrashes v = record { only = g.met.H.Host.only_now loop.host; told = g.met.H.Host.told_stays loop.host } in
+    stops_between w l (record { clock = g.C.Clock.given c.args.clock.now; hops = g.N.Hops.view c.args.hops.now }) (record { clock = g.C.Clock.given loop.clock; hops = g.N.Hops.view loop.hops }) u v loop.served.engine loop.agent.listed loop.served.known loop.first loop.given error lawful (loop.invariant.so t w l stands start)
+
+pub returns-clause-cause : goal.returns-clause-cause
+returns-clause-cause g c =
+    let later = c.loop.invariant in
+    record {
+      disk_later = later.disk_later;
+      tell_later = later.tell_later;
+      disk = λ is. cc;
+      tell = λ is. cc;
+    }

@@ -1,0 +1,87 @@
+use Rattle.std.proofs.Common.{◌+◌, ◌∙◌, arith, Option, refl, subst}
+use Rattle.std.specs.Prelude.{IfSome}
+use Rattle.q_books.specs.HostStands.{TellsCrashes}
+use Rattle.q_drain.proofs.PollingAll.{fails_then, filled_then, may_serve, served_none, served_then, stops_serving}
+use Rattle.q_drain.proofs.Polls.{some_then}
+use Rattle.q_drain.specs.Polling.{IsPolling, KeepsSome}
+use Rattle.q_drain.specs.Served.{PollsOn}
+use Rattle.q_drain.specs.Standing.{Outside}
+use Rattle.q_drain.specs.declared.poll.Served.{Served}
+use Rattle.q_engine.proofs.DecisionLoops.{same_error}
+use Rattle.q_engine.specs.Stands.{IsReady}
+use Rattle.q_drain.proofs.poll.poll_all.Goals as goal
+
+pub loop-init : goal.loop-init
+loop-init g c =
+    let u = g.H.Host.view c.args.host.now in
+    let lawful : TellsCrashes u = record { only = g.met.H.Host.only_now c.args.host.now; told = g.met.H.Host.told_stays c.args.host.now } in
+    record {
+      ready = c.requires.ready;
+      polling = c.requires.polling;
+      some = λ idle. (idle, λ some. some);
+      rests = refl;
+      may = c.requires.serves;
+      on = λ t w l a clock early fs s known turns h. served_none w l a (record { clock = clock; hops = g.N.Hops.view c.args.hops.now }) u c.args.begun c.args.agent.now early fs s lawful known turns h;
+      disk_later = omega arith;
+      tell_later = omega arith;
+    }
+
+pub poll_next-requires-clause-serves : goal.poll_next-requires-clause-serves
+poll_next-requires-clause-serves g c t =
+    let loop = c.loop in
+    let (clock, m) = loop.invariant.may t in (
+      clock,
+      may_serve clock (g.H.Host.view c.args.host.now) (g.H.Host.view loop.host) (g.N.Hops.view c.args.hops.now) (g.N.Hops.view loop.hops) c.args.begun loop.served c.args.agent.now loop.agent m
+          (loop.invariant.on t m.world m.ledger m.first clock m.early m.flights m.story m.known_is m.turns m.serving),
+    )
+
+pub returns-then-turn_over-clause-ok : goal.returns-then-turn_over-clause-ok
+returns-then-turn_over-clause-ok g c t = c.loop.invariant.on t
+
+pub returns-in_err-next-clause-err : goal.returns-in_err-next-clause-err
+returns-in_err-next-clause-err g c error is t w l a clock early fs s known turns h =
+    let loop = c.loop in
+    let view = g.H.Host.view in
+    let hops = g.N.Hops.view in
+    let m = loop.invariant.on t w l a clock early fs s known turns h in
+    fails_then w l a (record { clock = clock; hops = hops loop.hops }) (record { clock = clock; hops = hops c.poll_next.new.hops }) (view c.args.host.now) (view loop.host) (view c.poll_next.new.host) loop.served loop.agent s m error
+    (c.in_err-next.ensures.err error (same_error c.from_residual.result c.in_err-next.field-0.0 error c.from_residual.ensures.1 is) t w l a clock m.early m.flights m.story m.known_is m.turns m.serving)
+
+pub loop-preserved : goal.loop-preserved
+loop-preserved g c =
+    let loop = c.loop in
+    let view = g.H.Host.view in
+    let hops = g.N.Hops.view in
+    record {
+      ready = subst (λ (o : Option Served). IfSome o (λ s. IsReady s.engine)) c.in-Some.is c.in_ok-next.ensures.ready;
+      polling = subst (λ (o : Option Served). IfSome o (λ s. IsPolling c.poll_next.new.agent (s.known + 1))) c.in-Some.is c.in_ok-next.ensures.polling;
+      some = some_then c.args.begun.busy loop.served.busy c.in-Some.next.busy c.args.agent.now loop.agent c.poll_next.new.agent loop.invariant.some
+          (subst (λ (o : Option Served). IfSome o (λ s. KeepsSome loop.served.busy s.busy loop.agent c.poll_next.new.agent)) c.in-Some.is c.in_ok-next.ensures.some);
+      rests = c.in_ok-next.ensures.rests ∙ loop.invariant.rests;
+      may = loop.invariant.may;
+      on = λ t w l a clock early fs s known turns h.
+          let m = loop.invariant.on t w l a clock early fs s known turns h in
+          served_then w l a (record { clock = clock; hops = hops loop.hops }) (record { clock = clock; hops = hops c.poll_next.new.hops }) (view c.args.host.now) (view loop.host) (view c.poll_next.new.host) loop.served loop.agent s m c.in-Some.next c.poll_next.new.agent
+          (subst (λ (o : Option Served). PollsOn loop.served o (view loop.host) (view c.poll_next.new.host) (hops loop.hops) (hops c.poll_next.new.hops) loop.agent c.poll_next.new.agent) c.in-Some.is (c.in_ok-next.ensures.ok t) w l a clock m.early m.flights m.story m.known_is m.turns m.serving);
+      disk_later = omega (arith, loop.invariant.disk_later, c.in_ok-next.ensures.cause.disk_later);
+      tell_later = omega (arith, loop.invariant.tell_later, c.in_ok-next.ensures.cause.tell_later);
+    }
+
+pub returns-in_default-clause-ok : goal.returns-in_default-clause-ok
+returns-in_default-clause-ok g c t w l a clock early fs s known turns h =
+    let loop = c.loop in
+    let view = g.H.Host.view in
+    let hops = g.N.Hops.view in
+    let m = loop.invariant.on t w l a clock early fs s known turns h in
+    filled_then w l a (record { clock = clock; hops = hops loop.hops }) (record { clock = clock; hops = hops c.poll_next.new.hops }) (view c.args.host.now) (view loop.host) (view c.poll_next.new.host) loop.served loop.agent s m
+    (subst (λ (o : Option Served). PollsOn loop.served o (view loop.host) (view c.poll_next.new.host) (hops loop.hops) (hops c.poll_next.new.hops) loop.agent c.poll_next.new.agent) c.in_default.is (c.in_ok-next.ensures.ok t) w l a clock m.early m.flights m.story m.known_is m.turns m.serving)
+
+pub returns-clause-err : goal.returns-clause-err
+returns-clause-err g c error is t w l a clock early fs s known turns h =
+    let loop = c.loop in
+    let v = g.H.Host.view loop.host in
+    let lawful : TellsCrashes v = record { only = g.met.H.Host.only_now loop.host; told = g.met.H.Host.told_stays loop.host } in
+    let z : Outside = record { clock = clock; hops = g.N.Hops.view loop.hops } in
+    let m = loop.invariant.on t w l a clock early fs s known turns h in
+    fails_then w l a z z (g.H.Host.view c.args.host.now) v v loop.served loop.agent s m error
+    (stops_serving w l a z v loop.served loop.agent m.early m.flights m.story error lawful m.serving)

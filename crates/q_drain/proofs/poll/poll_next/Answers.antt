@@ -1,0 +1,181 @@
+use Rattle.std.proofs.Common.{◌≤◌, [], Option, ap, rules, subst, sym}
+use Rattle.std.specs.List.{AllByRecursion}
+use Rattle.std.specs.Prelude.{◌^◌}
+use Rattle.q_agent.specs.Answers.{IsStanding, Turned}
+use Rattle.q_agent.specs.Sessions.{next_polled}
+use Rattle.q_agent.specs.declared.report.Report.{Report}
+use Rattle.q_books.specs.HostStands.{TellsCrashes}
+use Rattle.q_drain.proofs.PollTurns.{ends_poll, fills_up, keeps_some, may_open_more, may_poll, opening_fails, poll_fails, polls_less, polls_on, reply_fails, reply_fits, served_on, served_replied, stands_still}
+use Rattle.q_drain.proofs.Polls.{some_unpolled, turned_over}
+use Rattle.q_engine.proofs.DecisionLoops.{same_error}
+use Rattle.q_model.specs.Step.{after_all}
+use Rattle.q_drain.proofs.poll.poll_next.Goals as goal
+
+pub turn-requires : goal.turn-requires
+turn-requires g c =
+    record {
+      there = λ t.
+          let (clock, m) = c.requires.serves t in
+          let v = g.H.Host.view c.args.host.now in
+          subst (λ b. AllByRecursion (IsStanding b v) c.args.agent.now.listed) (sym t)
+          (may_poll m.world m.ledger m.first (record { clock = clock; hops = g.N.Hops.view c.args.hops.now }) v c.args.served.engine c.args.agent.now m.early [] m.flights m.story m.serving);
+    }
+
+pub returns-in_err-report-clause-err : goal.returns-in_err-report-clause-err
+returns-in_err-report-clause-err g c error is t w l a clock early fs s known turns h =
+    let u = g.H.Host.view c.args.host.now in
+    let lawful : TellsCrashes u = record { only = g.met.H.Host.only_now c.args.host.now; told = g.met.H.Host.told_stays c.args.host.now } in
+    poll_fails w l a clock u (g.H.Host.view c.turn.new.host) (g.N.Hops.view c.args.hops.now) (g.N.Hops.view c.turn.new.hops) early fs s c.args.served.engine c.args.agent.now error lawful (c.turn.ensures.stays t) c.in_err-report.ensures.unrecorded h
+
+pub returns-in_err-report-clause-rests : goal.returns-in_err-report-clause-rests
+returns-in_err-report-clause-rests g c = ap (λ x. x.rests) c.in_err-report.ensures.unrecorded.1
+
+pub returns-in_default-clause-ok : goal.returns-in_default-clause-ok
+returns-in_default-clause-ok g c t w l a clock early fs s known turns h =
+    let u = g.H.Host.view c.args.host.now in
+    let hops = g.N.Hops.view c.args.hops.now in
+    let next = g.N.Hops.view c.turn.new.hops in
+    let agent = c.args.agent.now in
+    let o = some_unpolled agent c.requires.over in
+    let lawful : TellsCrashes u = record { only = g.met.H.Host.only_now c.args.host.now; told = g.met.H.Host.told_stays c.args.host.now } in
+    served_on w l a clock u (g.H.Host.view c.turn.new.host) hops next early fs s c.args.served agent c.turn.new.self g.H.Host.tells c.now.result o.0 lawful (c.turn.ensures.stays t) o.1 t
+    (subst (λ (r : Option Report). Turned g.H.Host.tells u c.now.result hops next (next_polled agent) r agent c.turn.new.self) c.in_default.is c.in_ok-report.ensures.ok) known turns h
+
+pub returns-in_default-clause-polling : goal.returns-in_default-clause-polling
+returns-in_default-clause-polling g c =
+    let u = g.H.Host.view c.args.host.now in
+    let hops = g.N.Hops.view c.args.hops.now in
+    let next = g.N.Hops.view c.turn.new.hops in
+    let agent = c.args.agent.now in
+    let o = some_unpolled agent c.requires.over in
+    polls_on _ g.H.Host.tells u c.now.result hops next agent c.turn.new.self o.0 o.1
+    (subst (λ (r : Option Report). Turned g.H.Host.tells u c.now.result hops next (next_polled agent) r agent c.turn.new.self) c.in_default.is c.in_ok-report.ensures.ok) c.requires.polling
+
+pub returns-in_default-clause-some : goal.returns-in_default-clause-some
+returns-in_default-clause-some g c =
+    let u = g.H.Host.view c.args.host.now in
+    let hops = g.N.Hops.view c.args.hops.now in
+    let next = g.N.Hops.view c.turn.new.hops in
+    let agent = c.args.agent.now in
+    let o = some_unpolled agent c.requires.over in
+    keeps_some c.args.served.busy g.H.Host.tells u c.now.result hops next agent c.turn.new.self o.0 o.1
+    (subst (λ (r : Option Report). Turned g.H.Host.tells u c.now.result hops next (next_polled agent) r agent c.turn.new.self) c.in_default.is c.in_ok-report.ensures.ok)
+
+pub tell_reply-requires-clause-fits : goal.tell_reply-requires-clause-fits
+tell_reply-requires-clause-fits g c =
+    let u = g.H.Host.view c.args.host.now in
+    let hops = g.N.Hops.view c.args.hops.now in
+    let next = g.N.Hops.view c.turn.new.hops in
+    let agent = c.args.agent.now in
+    let o = some_unpolled agent c.requires.over in
+    reply_fits g.H.Host.tells u c.now.result hops next agent c.turn.new.self o.0 c.in-Some.report o.1
+    (subst (λ (r : Option Report). Turned g.H.Host.tells u c.now.result hops next (next_polled agent) r agent c.turn.new.self) c.in-Some.is c.in_ok-report.ensures.ok)
+
+pub tell_reply-requires-clause-stands : goal.tell_reply-requires-clause-stands
+tell_reply-requires-clause-stands g c t =
+    let (clock, m) = c.requires.serves t in
+    let u = g.H.Host.view c.args.host.now in
+    let v = g.H.Host.view c.turn.new.host in
+    let hops = g.N.Hops.view c.args.hops.now in
+    let next = g.N.Hops.view c.turn.new.hops in
+    let agent = c.args.agent.now in
+    let engine = c.args.served.engine in
+    let o = some_unpolled agent c.requires.over in
+    let lawful : TellsCrashes u = record { only = g.met.H.Host.only_now c.args.host.now; told = g.met.H.Host.told_stays c.args.host.now } in
+    let turned = subst (λ (r : Option Report). Turned g.H.Host.tells u c.now.result hops next (next_polled agent) r agent c.turn.new.self) c.in-Some.is c.in_ok-report.ensures.ok in
+    let e = ends_poll m.world m.ledger m.first clock u v hops next engine agent c.turn.new.self m.early m.flights m.story g.H.Host.tells c.now.result o.0 c.in-Some.report lawful (c.turn.ensures.stays t) o.1 t c.now.ensures.ledger turned m.serving in
+    (m.world, after_all m.world m.ledger (m.story).told, stands_still m.world m.ledger m.first clock u v hops next engine agent m.early m.flights m.story o.0 c.in-Some.report e)
+
+pub returns-in_err-engine-clause-err : goal.returns-in_err-engine-clause-err
+returns-in_err-engine-clause-err g c error is t w l a clock early fs s known turns h =
+    let u = g.H.Host.view c.args.host.now in
+    let v = g.H.Host.view c.turn.new.host in
+    let hops = g.N.Hops.view c.args.hops.now in
+    let next = g.N.Hops.view c.turn.new.hops in
+    let agent = c.args.agent.now in
+    let engine = c.args.served.engine in
+    let o = some_unpolled agent c.requires.over in
+    let lawful : TellsCrashes u = record { only = g.met.H.Host.only_now c.args.host.now; told = g.met.H.Host.told_stays c.args.host.now } in
+    let turned = subst (λ (r : Option Report). Turned g.H.Host.tells u c.now.result hops next (next_polled agent) r agent c.turn.new.self) c.in-Some.is c.in_ok-report.ensures.ok in
+    let e = ends_poll w l a clock u v hops next engine agent c.turn.new.self early fs s g.H.Host.tells c.now.result o.0 c.in-Some.report lawful (c.turn.ensures.stays t) o.1 t c.now.ensures.ledger turned h in
+    reply_fails w l a clock u v hops next engine agent early fs s o.0 c.in-Some.report e (g.H.Host.view c.tell_reply.new.host) error
+    (c.in_err-engine.ensures.err error (same_error c.from_residual-in_err-engine.result c.in_err-engine.field-0.0 error c.from_residual-in_err-engine.ensures.1 is) t)
+
+pub open_started-requires-clause-polling : goal.open_started-requires-clause-polling
+open_started-requires-clause-polling g c =
+    let u = g.H.Host.view c.args.host.now in
+    let hops = g.N.Hops.view c.args.hops.now in
+    let next = g.N.Hops.view c.turn.new.hops in
+    let agent = c.args.agent.now in
+    let o = some_unpolled agent c.requires.over in
+    polls_less _ g.H.Host.tells u c.now.result hops next agent c.turn.new.self o.0 c.in-Some.report o.1
+    (subst (λ (r : Option Report). Turned g.H.Host.tells u c.now.result hops next (next_polled agent) r agent c.turn.new.self) c.in-Some.is c.in_ok-report.ensures.ok) c.requires.polling
+
+pub open_started-requires-clause-stands : goal.open_started-requires-clause-stands
+open_started-requires-clause-stands g c t =
+    let (clock, m) = c.requires.serves t in
+    let u = g.H.Host.view c.args.host.now in
+    let v = g.H.Host.view c.turn.new.host in
+    let hops = g.N.Hops.view c.args.hops.now in
+    let next = g.N.Hops.view c.turn.new.hops in
+    let agent = c.args.agent.now in
+    let engine = c.args.served.engine in
+    let o = some_unpolled agent c.requires.over in
+    let lawful : TellsCrashes u = record { only = g.met.H.Host.only_now c.args.host.now; told = g.met.H.Host.told_stays c.args.host.now } in
+    let turned = subst (λ (r : Option Report). Turned g.H.Host.tells u c.now.result hops next (next_polled agent) r agent c.turn.new.self) c.in-Some.is c.in_ok-report.ensures.ok in
+    let made = (turned_over g.H.Host.tells u c.now.result hops next agent c.turn.new.self o.0 c.in-Some.report o.1 turned).1 in
+    let e = ends_poll m.world m.ledger m.first clock u v hops next engine agent c.turn.new.self m.early m.flights m.story g.H.Host.tells c.now.result o.0 c.in-Some.report lawful (c.turn.ensures.stays t) o.1 t c.now.ensures.ledger turned m.serving in
+    (clock, may_open_more m.world m.ledger m.first clock u v hops next engine agent m.early m.flights m.story o.0 c.in-Some.report e (g.H.Host.view c.tell_reply.new.host) c.in_ok-engine.engine c.turn.new.self made (c.in_ok-engine.ensures.ok t) c.args.served.known m.known_is)
+
+pub returns-in_err-known-clause-err : goal.returns-in_err-known-clause-err
+returns-in_err-known-clause-err g c error is t w l a clock early fs s known turns h =
+    let u = g.H.Host.view c.args.host.now in
+    let v = g.H.Host.view c.turn.new.host in
+    let hops = g.N.Hops.view c.args.hops.now in
+    let next = g.N.Hops.view c.turn.new.hops in
+    let agent = c.args.agent.now in
+    let engine = c.args.served.engine in
+    let o = some_unpolled agent c.requires.over in
+    let lawful : TellsCrashes u = record { only = g.met.H.Host.only_now c.args.host.now; told = g.met.H.Host.told_stays c.args.host.now } in
+    let turned = subst (λ (r : Option Report). Turned g.H.Host.tells u c.now.result hops next (next_polled agent) r agent c.turn.new.self) c.in-Some.is c.in_ok-report.ensures.ok in
+    let made = (turned_over g.H.Host.tells u c.now.result hops next agent c.turn.new.self o.0 c.in-Some.report o.1 turned).1 in
+    let e = ends_poll w l a clock u v hops next engine agent c.turn.new.self early fs s g.H.Host.tells c.now.result o.0 c.in-Some.report lawful (c.turn.ensures.stays t) o.1 t c.now.ensures.ledger turned h in
+    opening_fails w l a clock u v hops next engine agent early fs s o.0 c.in-Some.report e (g.H.Host.view c.tell_reply.new.host) c.in_ok-engine.engine c.turn.new.self made (c.in_ok-engine.ensures.ok t)
+    (g.H.Host.view c.open_started.new.host) (g.N.Hops.view c.open_started.new.hops) c.args.served.known error known (c.in_err-known.ensures.err t)
+
+pub returns-clause-ok : goal.returns-clause-ok
+returns-clause-ok g c t w l a clock early fs s known turns h =
+    let u = g.H.Host.view c.args.host.now in
+    let v = g.H.Host.view c.turn.new.host in
+    let hops = g.N.Hops.view c.args.hops.now in
+    let next = g.N.Hops.view c.turn.new.hops in
+    let agent = c.args.agent.now in
+    let engine = c.args.served.engine in
+    let o = some_unpolled agent c.requires.over in
+    let lawful : TellsCrashes u = record { only = g.met.H.Host.only_now c.args.host.now; told = g.met.H.Host.told_stays c.args.host.now } in
+    let turned = subst (λ (r : Option Report). Turned g.H.Host.tells u c.now.result hops next (next_polled agent) r agent c.turn.new.self) c.in-Some.is c.in_ok-report.ensures.ok in
+    let made = (turned_over g.H.Host.tells u c.now.result hops next agent c.turn.new.self o.0 c.in-Some.report o.1 turned).1 in
+    let e = ends_poll w l a clock u v hops next engine agent c.turn.new.self early fs s g.H.Host.tells c.now.result o.0 c.in-Some.report lawful (c.turn.ensures.stays t) o.1 t c.now.ensures.ledger turned h in
+    served_replied w l a clock u v hops next engine agent early fs s o.0 c.in-Some.report e (g.H.Host.view c.tell_reply.new.host) c.in_ok-engine.engine c.turn.new.self made (c.in_ok-engine.ensures.ok t)
+    (g.H.Host.view c.open_started.new.host) (g.N.Hops.view c.open_started.new.hops) c.open_started.new.agent c.args.served.known c.in_ok-known.known c.args.served.busy known turns (c.in_ok-known.ensures.ok t)
+
+pub returns-clause-polling : goal.returns-clause-polling
+returns-clause-polling g c = c.in_ok-known.ensures.last.1
+
+pub returns-clause-some : goal.returns-clause-some
+returns-clause-some g c idle = cc
+
+pub returns-then-last_number-ge-DELIVERIES-clause-ok : goal.returns-then-last_number-ge-DELIVERIES-clause-ok
+returns-then-last_number-ge-DELIVERIES-clause-ok g c t w l a clock early fs s known turns h =
+    let u = g.H.Host.view c.args.host.now in
+    let v = g.H.Host.view c.turn.new.host in
+    let hops = g.N.Hops.view c.args.hops.now in
+    let next = g.N.Hops.view c.turn.new.hops in
+    let agent = c.args.agent.now in
+    let engine = c.args.served.engine in
+    let o = some_unpolled agent c.requires.over in
+    let lawful : TellsCrashes u = record { only = g.met.H.Host.only_now c.args.host.now; told = g.met.H.Host.told_stays c.args.host.now } in
+    let turned = subst (λ (r : Option Report). Turned g.H.Host.tells u c.now.result hops next (next_polled agent) r agent c.turn.new.self) c.in-Some.is c.in_ok-report.ensures.ok in
+    let e = ends_poll w l a clock u v hops next engine agent c.turn.new.self early fs s g.H.Host.tells c.now.result o.0 c.in-Some.report lawful (c.turn.ensures.stays t) o.1 t c.now.ensures.ledger turned h in
+    let full : 2 ^ 48 ≤ c.last_number.result = search rules in
+    fills_up w l a clock u v hops next engine agent early fs s o.0 c.in-Some.report e c.last_number.result c.last_number.ensures full

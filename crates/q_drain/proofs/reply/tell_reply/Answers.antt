@@ -1,0 +1,45 @@
+use Rattle.std.proofs.Common.{◌≡◌, ◌∙◌, ap, refl, rules, sym, true}
+use Rattle.std.proofs.lemmas.Bool.{and_from}
+use Rattle.std.specs.List.{list_all}
+use Rattle.std.specs.Prelude.{Err}
+use Rattle.q_books.specs.HostStands.{TellsCrashes}
+use Rattle.q_drain.proofs.ReplyTurns.{accepted_may, fault_halts, halts_nothing, none_refused}
+use Rattle.q_drain.specs.Replied.{reply_event}
+use Rattle.q_engine.specs.Heard.{has_log_code}
+use Rattle.q_engine.specs.Refusals.{refused_event}
+use Rattle.q_model.specs.Replies.{fits_state}
+use Rattle.q_model.specs.Run.{turn}
+use Rattle.q_model.specs.declared.event.LifeEvent.TheVariants.{Heard}
+use Rattle.q_drain.proofs.reply.tell_reply.Goals as goal
+
+pub step-requires-clause-form : goal.step-requires-clause-form
+step-requires-clause-form g c =
+    let codes : c.have_log_codes.result ≡ true = search rules in
+    and_from (fits_state c.args.report.site c.args.report.outcomes) (list_all has_log_code c.args.report.outcomes) c.requires.fits
+    (ap (list_all has_log_code) (sym c.as_slice.ensures) ∙ sym c.have_log_codes.ensures ∙ codes)
+
+pub returns-then-not-have_log_codes-clause-err : goal.returns-then-not-have_log_codes-clause-err
+returns-then-not-have_log_codes-clause-err g c error is t w l stands =
+    let u = g.H.Host.view c.args.host.now in
+    let lawful : TellsCrashes u = record { only = g.met.H.Host.only_now c.args.host.now; told = g.met.H.Host.told_stays c.args.host.now } in
+    halts_nothing w l (turn w l (Heard (reply_event c.args.report))) error u lawful stands.host
+
+pub returns-in-Ok-clause-ok : goal.returns-in-Ok-clause-ok
+returns-in-Ok-clause-ok g c t w l stands =
+    let r = c.args.report in
+    let event = reply_event r in
+    record {
+      may = accepted_may l r.number r.site r.outcomes c.requires.fits (none_refused (refused_event l event) (λ error is. let no = (c.in-Ok.ensures.refused w l stands.core stands.counts error is).0 in cc));
+      took = c.in-Ok.ensures.ok t w l stands;
+    }
+
+pub returns-in-Err-clause-err : goal.returns-in-Err-clause-err
+returns-in-Err-clause-err g c error is t w l stands =
+    let u = g.H.Host.view c.args.host.now in
+    let x = g.H.Host.view c.step.new.host in
+    let lawful : TellsCrashes u = record { only = g.met.H.Host.only_now c.args.host.now; told = g.met.H.Host.told_stays c.args.host.now } in
+    let why = c.in-Err.error in
+    fault_halts w l (turn w l (Heard (reply_event c.args.report))) u x why error lawful stands.host (c.in-Err.ensures.kinds why refl)
+    (λ fault same. c.in-Err.ensures.err fault (ap (λ e. Err e) same) t w l stands)
+    (λ of. let refused = c.in-Err.ensures.only_refused why refl of w l stands.core stands.counts in ap g.H.Host.view (c.in-Err.ensures.refused w l stands.core stands.counts why refused).1)
+    (let one : c.fault_of.result ≡ error = cc in sym c.fault_of.ensures ∙ one)

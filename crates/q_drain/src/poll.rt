@@ -1,0 +1,121 @@
+//! The polls of a turn.
+ghost use Rattle.std.specs.Prelude.{◌≡◌, ◌+◌, false, IfOk, IfSome, IsTrue, List, Option, true, ℕ};
+ghost use Rattle.q_agent.specs.Sessions.{is_turn_over};
+ghost use Rattle.q_drain.specs.Polling.{IsPolling, KeepsSome};
+ghost use Rattle.q_drain.specs.Served.{GivesUpServing, MayServe, PollsOn};
+ghost use Rattle.q_engine.specs.Stands.{IsReady};
+ghost use Rattle.q_engine.specs.Steps.{EachError};
+ghost use Rattle.q_entries.specs.Causes.{HostCause};
+
+use crate::opening::open_started;
+use crate::reply::tell_reply;
+use q_agent::Agent;
+use q_engine::Engine;
+use q_host::{Host, HostError};
+use q_link::{Hops, Link};
+use std::alloc::Global;
+
+/// How many deliveries a life may begin.
+const DELIVERIES: u64 = 1 << 48;
+
+/// How many polls a turn may have. None comes near: each ends in a report, or is that of a session
+/// that was open.
+const POLLS: u64 = 1 << 60;
+
+/// The engine within a turn. The deliveries up to the number that is known have had their sessions,
+/// and `busy` says that a delivery began or ended in this turn.
+#[derive(Drop)]
+pub(crate) struct Served {
+    pub(crate) engine: Engine,
+    pub(crate) known: u64,
+    pub(crate) busy: bool,
+}
+
+/// Polls the next session of a turn that isn't over. Where that session is over, its reply is carried
+/// out and told, and the sessions of the deliveries that begin then are opened. `None` comes where it
+/// is over, and the life has begun as many deliveries as it may: its link is closed, and its reply
+/// isn't told.
+fn poll_next<L: Link, H: Host, N: Hops<Link = L>>(
+    alloc: Global,
+    served: Served,
+    agent: &mut Agent<L>,
+    host: &mut H,
+    hops: &mut N,
+) -> Result<Option<Served>, HostError>
+    requires ready { IsReady served.engine }
+    requires over { is_turn_over agent.old ≡ false }
+    requires polling { IsPolling agent.old (served.known + 1) }
+    requires serves { IsTrue H.tells → (clock : Option (List ℕ))
+        × MayServe clock (H.view host.old) (N.view hops.old) served agent.old }
+    ensures ok { IfOk result (λ next. IsTrue H.tells → PollsOn served next (H.view host.old)
+        (H.view host.new) (N.view hops.old) (N.view hops.new) agent.old agent.new) }
+    ensures ready { IfOk result (λ next. IfSome next (λ s. IsReady s.engine)) }
+    ensures polling { IfOk result (λ next. IfSome next (λ s. IsPolling agent.new (s.known + 1))) }
+    ensures some { IfOk result (λ next. IfSome next (λ s. KeepsSome served.busy s.busy
+        agent.old agent.new)) }
+    ensures rests { (N.view hops.new).rests ≡ (N.view hops.old).rests }
+    ensures err { EachError result (λ error. IsTrue H.tells → GivesUpServing served error
+        (H.view host.old) (H.view host.new) (N.view hops.old) (N.view hops.new) agent.old) }
+    ensures cause { HostCause (H.faults host.old) (H.faults host.new) result }
+{
+    let Served {
+        engine,
+        known,
+        busy,
+    } = served;
+    let Some(report) = agent.turn(alloc, host, hops, engine.now())? else {
+        return Ok(Some(Served {
+            engine,
+            known,
+            busy,
+        }));
+    };
+    if engine.last_number() >= DELIVERIES {
+        return Ok(None);
+    }
+    let engine = tell_reply(alloc, engine, host, report)?;
+    let known = open_started(alloc, &engine, agent, host, hops, known)?;
+    Ok(Some(Served {
+        engine,
+        known,
+        busy: true,
+    }))
+}
+
+/// Polls each open session that this turn hasn't polled, those too that are opened meanwhile, in order
+/// of their numbers. `None` comes as it does of one poll.
+pub(crate) fn poll_all<L: Link, H: Host, N: Hops<Link = L>>(
+    alloc: Global,
+    begun: Served,
+    agent: &mut Agent<L>,
+    host: &mut H,
+    hops: &mut N,
+) -> Result<Option<Served>, HostError>
+    requires ready { IsReady begun.engine }
+    requires polling { IsPolling agent.old (begun.known + 1) }
+    requires serves { IsTrue H.tells → (clock : Option (List ℕ))
+        × MayServe clock (H.view host.old) (N.view hops.old) begun agent.old }
+    ensures ok { IfOk result (λ next. IsTrue H.tells → PollsOn begun next (H.view host.old)
+        (H.view host.new) (N.view hops.old) (N.view hops.new) agent.old agent.new) }
+    ensures over { IfOk result (λ next. IfSome next (λ s. is_turn_over agent.new ≡ true)) }
+    ensures ready { IfOk result (λ next. IfSome next (λ s. IsReady s.engine)) }
+    ensures polling { IfOk result (λ next. IfSome next (λ s. IsPolling agent.new (s.known + 1))) }
+    ensures some { IfOk result (λ next. IfSome next (λ s. KeepsSome begun.busy s.busy
+        agent.old agent.new)) }
+    ensures rests { (N.view hops.new).rests ≡ (N.view hops.old).rests }
+    ensures err { EachError result (λ error. IsTrue H.tells → GivesUpServing begun error
+        (H.view host.old) (H.view host.new) (N.view hops.old) (N.view hops.new) agent.old) }
+    ensures cause { HostCause (H.faults host.old) (H.faults host.new) result }
+{
+    let mut served = begun;
+    for _ in 0..POLLS {
+        if agent.turn_over() {
+            return Ok(Some(served));
+        }
+        let Some(next) = poll_next(alloc, served, agent, host, hops)? else {
+            return Ok(None);
+        };
+        served = next;
+    }
+    Err(HostError::NoMemory)
+}

@@ -1,0 +1,82 @@
+//! A turn of a drain.
+ghost use Rattle.std.specs.Prelude.{◌+◌, ◌≡◌, ◌≢◌, [], false, IfOk, IsTrue, true};
+ghost use Rattle.q_agent.specs.Sessions.{is_turn_over};
+ghost use Rattle.q_drain.specs.Polling.{AreInOrder, IsPolling};
+ghost use Rattle.q_drain.specs.Turned.{GivesTurnUp, MayTurn, OfEngine, OfServed, TurnsTo};
+ghost use Rattle.q_engine.specs.Stands.{IsReady};
+ghost use Rattle.q_engine.specs.Steps.{EachError};
+ghost use Rattle.q_entries.specs.Causes.{HostCause};
+
+use crate::hearing::hear_clock;
+use crate::opening::open_started;
+use crate::poll::{Served, poll_all};
+use q_agent::Agent;
+use q_engine::Engine;
+use q_host::{Host, HostError};
+use q_link::{Hops, Link};
+use q_stream::Clock;
+use std::alloc::Global;
+
+/// What came of a turn.
+#[derive(Drop)]
+pub(crate) enum Turn {
+    /// No session was open.
+    Idle(Engine),
+    /// Each session was polled, and those that are still open wait.
+    Over(Served),
+    /// A session is over, and the life has begun as many deliveries as it may.
+    Full,
+}
+
+/// Takes one turn: hears the clock, and polls each open session once. The deliveries up to the number
+/// that is known have had their sessions.
+pub(crate) fn take_turn<L: Link, H: Host, C: Clock, N: Hops<Link = L>>(
+    alloc: Global,
+    engine: Engine,
+    agent: &mut Agent<L>,
+    host: &mut H,
+    clock: &mut C,
+    hops: &mut N,
+    known: u64,
+    first: bool,
+) -> Result<Turn, HostError>
+    requires ready { IsReady engine }
+    requires order { AreInOrder agent.old.listed (known + 1) }
+    requires stands { IsTrue H.tells → MayTurn (record {
+      clock = C.given clock.old;
+      hops = N.view hops.old;
+    }) (H.view host.old) engine agent.old.listed known first }
+    ensures ok { IfOk result (λ turn. IsTrue H.tells → TurnsTo (record {
+      before = record { clock = C.given clock.old; hops = N.view hops.old };
+      behind = record { clock = C.given clock.new; hops = N.view hops.new };
+    })
+        (H.view host.old) (H.view host.new) engine agent.old.listed known first turn agent.new) }
+    ensures ready { IfOk result (λ turn. OfEngine turn (λ engine. IsReady engine)) }
+    ensures polling { IfOk result (λ turn. OfServed turn (λ served.
+        IsPolling agent.new (served.known + 1) × (is_turn_over agent.new ≡ true))) }
+    ensures some { IfOk result (λ turn. OfServed turn (λ served.
+        served.busy ≡ false → agent.new.listed ≢ [])) }
+    ensures rests { (N.view hops.new).rests ≡ (N.view hops.old).rests }
+    ensures err { EachError result (λ error. IsTrue H.tells → GivesTurnUp (record {
+      before = record { clock = C.given clock.old; hops = N.view hops.old };
+      behind = record { clock = C.given clock.new; hops = N.view hops.new };
+    })
+        (H.view host.old) (H.view host.new) engine agent.old.listed known first error) }
+    ensures cause { HostCause (H.faults host.old) (H.faults host.new) result }
+{
+    agent.next_turn();
+    let engine = hear_clock(alloc, engine, host, clock, first)?;
+    let opened = open_started(alloc, &engine, agent, host, hops, known)?;
+    if agent.is_empty() {
+        return Ok(Turn::Idle(engine));
+    }
+    let served = Served {
+        engine,
+        known: opened,
+        busy: known < opened,
+    };
+    match poll_all(alloc, served, agent, host, hops)? {
+        Some(served) => Ok(Turn::Over(served)),
+        None => Ok(Turn::Full),
+    }
+}
