@@ -2,10 +2,12 @@
 
 .PHONY: demo build test
 
-# Shows what the program does on a fresh spool in a folder of its own, before anything is proved. What
-# the tools say is kept apart, and shown where they fail.
+# Shows what the program does on a fresh spool in a folder of its own, and delivers a message to q_hop.
+# That alone is proved first, since it is to run as a process. What the tools say is kept apart, and shown
+# where they fail.
 demo:
-	@log=$$(mktemp) && if (cd crates/demo_spool && rt try) >$$log.out 2>$$log; \
+	@log=$$(mktemp) && if (cd crates/q_hop && rt run) >$$log.out 2>$$log && \
+	(cd crates/demo_spool && rt try -- $(CURDIR)/crates/q_hop/out/q_hop) >$$log.out 2>$$log; \
 	then grep -v -e '^checked: ' -e '^run=' $$log.out; status=0; else cat $$log.out $$log; status=1; fi; \
 	rm -f $$log $$log.out; exit $$status
 

@@ -11,6 +11,7 @@ mod unheard;
 
 use events::event_list;
 use q_folder_host::FolderHost;
+use q_link::ScriptHops;
 use q_stream::{MemClock, MemSource};
 use q_top::{Status, qmgr};
 use std::process::ExitCode;
@@ -50,7 +51,8 @@ fn measure(rt: HostRuntime, host: &mut Spool, messages: u32) -> io::Result<Statu
     };
     let before = host.syncs();
     let started = Instant::now(&rt)?;
-    let status = qmgr(alloc, &words, &mut source, host, &mut clock);
+    let mut hops = ScriptHops::new(alloc);
+    let status = qmgr(alloc, &words, &mut source, host, &mut clock, &mut hops);
     let spent = started.elapsed(&rt)?;
     if status == Status::Done {
         let syncs = host.syncs().saturating_sub(before);

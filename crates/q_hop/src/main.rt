@@ -8,24 +8,26 @@
 //! the last reply, ends it with 1 and a line on standard error.
 #![tactic(auto)]
 
-mod serving;
-
-use serving::serve;
+use q_serving::{Answers, answer, await_end, listen};
 use std::io::BufReader;
-use std::net::{Ipv4Addr, TcpListener};
 use std::process::ExitCode;
+use std::time::Duration;
 use std::{env, io};
 
 /// Serves one connection.
-fn listen(rt: HostRuntime, replies: &[String]) -> io::Result<()> {
-    let listener = TcpListener::bind(&rt, (Ipv4Addr::LOCALHOST, 0u16))?;
-    let port = listener.local_addr()?.port();
-    println!(rt; "{port}")?;
+fn serve(rt: HostRuntime, replies: &[String]) -> io::Result<()> {
+    let alloc = rt.alloc();
+    let listener = listen(&rt)?;
     let (mut stream, _) = listener.accept()?;
     // a second connection is refused
     drop(listener);
-    let mut lines = BufReader::new(rt.alloc(), stream.try_clone()?)?;
-    serve(rt.alloc(), &mut lines, &mut stream, replies)
+    let mut lines = BufReader::new(alloc, stream.try_clone()?)?;
+    let answers = Answers {
+        replies,
+        delay: Duration::ZERO,
+    };
+    answer(alloc, &rt, &mut lines, &mut stream, answers)?;
+    await_end(&mut lines)
 }
 
 fn main(rt: HostRuntime) -> io::Result<ExitCode> {
@@ -37,7 +39,7 @@ fn main(rt: HostRuntime) -> io::Result<ExitCode> {
         println!(rt; "no replies")?;
         return Ok(ExitCode::from(0));
     }
-    match listen(rt, &replies) {
+    match serve(rt, &replies) {
         Ok(()) => Ok(ExitCode::from(0)),
         Err(error) => {
             eprintln!(rt; "q_hop: {error}")?;

@@ -3,6 +3,7 @@ pub mod Listings
 pub mod Modes
 pub mod Readings
 pub mod Replaying
+pub mod Delivering
 pub mod RunNotes
 pub mod RunSteps
 pub mod Submitting

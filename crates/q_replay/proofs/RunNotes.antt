@@ -1,7 +1,6 @@
 -- The notes of runs: none at first, and then those of entry after entry.
-use Rattle.std.proofs.Common.{◌≡◌, ◌∙◌, ◌++◌, Bool, false, List, [], ◌∷◌, is_some, refl, sym, ap, subst}
+use Rattle.std.proofs.Common.{◌∙◌, ◌++◌, false, List, [], ◌∷◌, is_some, sym, ap, subst}
 use Rattle.q_model.specs.declared.entry.Entry.{Entry}
-use Rattle.q_model.specs.declared.id.Id.{Id}
 use Rattle.q_model.specs.declared.outcome.Note.{Note}
 use Rattle.q_model.specs.declared.spot.Area.TheVariants as areas
 use Rattle.q_model.specs.Book.{message_of}
@@ -9,25 +8,17 @@ use Rattle.q_model.specs.IdTexts.{id_text}
 use Rattle.q_model.specs.Ledger.{Ledger}
 use Rattle.q_model.specs.Settings.{World}
 use Rattle.q_model.specs.SpoolFiles.{Files}
-use Rattle.q_model.specs.Step.{after, after_all}
+use Rattle.q_model.specs.Step.{after_all}
 use Rattle.q_model.proofs.RunLaws.{after_all-append}
-use Rattle.q_books.specs.Notes.{HasNotes, next_notes, notes_after}
-use Rattle.q_engine.specs.KeptNotes.{AddsAllNotes, AddsNotes, admitted_after, next_admitted, was_admitted}
+use Rattle.q_books.specs.Notes.{HasNotes, notes_after}
+use Rattle.q_drain.proofs.Noting.{admitted_append, notes_append}
+use Rattle.q_engine.specs.KeptNotes.{AddsAllNotes, AddsNotes, was_admitted}
 use Rattle.q_replay.specs.RunEnds.{NotesStand}
 
 -- one entry
 pub adds_one : (w : World) (l : Ledger) (e : Entry) (f g : Files) → AddsNotes w l e f g → AddsAllNotes w l (e ∷ []) f g
 unfolding after_all
 adds_one w l e f g adds id was notes reads = adds id was notes reads
-
-admitted_append : (es fs : List Entry) (id : Id) (was : Bool) → admitted_after (es ++ fs) id was ≡ admitted_after fs id (admitted_after es id was)
-admitted_append [] fs id was = refl
-admitted_append (e ∷ es) fs id was = admitted_append es fs id (next_admitted e id was)
-
-notes_append : (w : World) (l : Ledger) (es fs : List Entry) (id : Id) (notes : List Note) → notes_after w l (es ++ fs) id notes ≡ notes_after w (after_all w l es) fs id (notes_after w l es id notes)
-unfolding after_all
-notes_append w l [] fs id notes = refl
-notes_append w l (e ∷ es) fs id notes = notes_append w (after w l e) es fs id (next_notes w l e id notes)
 
 -- nobody was admitted by no entries
 pub notes_none : (w : World) (l : Ledger) (f : Files) → NotesStand w l [] f

@@ -5,3 +5,4 @@ pub mod ReplayEnds
 pub mod RunEnds
 pub mod Submissions
 pub mod Takings
+pub mod Deliveries

@@ -9,11 +9,13 @@
 //! doesn't fit what went before: the line is named, and what the lines before it led to stands.
 #![tactic(auto)]
 
+mod deliveries;
 mod error;
 mod letters;
 mod lists;
 mod taking;
 
+pub use deliveries::{Delivered, deliver};
 pub use error::ReplayError;
 pub use letters::{Letter, submit};
 pub use lists::replay;

@@ -78,5 +78,6 @@ submission_form rows sender to s =
 pub asked_form : (words : List (List ℕ)) (request : Request) → IsRequest words request → HasForm request
 asked_form words requests.Replay is = tt
 asked_form words (requests.Submit sender to) is = submission_form (matches_of submit_app words) sender to is.1
+asked_form words (requests.Drain rests) is = tt
 asked_form words (requests.Qshape request) is = is.1.shape
 asked_form words requests.Queue is = tt

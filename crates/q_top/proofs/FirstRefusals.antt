@@ -36,7 +36,7 @@ use Rattle.q_top.proofs.RunsBehind.{halts_first, replay_behind, run_behind, stil
 
 -- ---- the files of conf can't be gone by
 
-says_both : (c : Sayings) (w : World) (file : ConfFile) (line : ℕ) → c ≡ goes_by w → c ≡ at_fault file line → ⊥
+pub says_both : (c : Sayings) (w : World) (file : ConfFile) (line : ℕ) → c ≡ goes_by w → c ≡ at_fault file line → ⊥
 says_both c w file line is at = let bad : goes_by w ≡ at_fault file line = sym is ∙ at in cc
 
 same_fault : (f g : ConfFile) (n k : ℕ) → at_fault f n ≡ at_fault g k → status.BadInput (input_of f) n ≡ status.BadInput (input_of g) k
@@ -88,14 +88,14 @@ module _ (u m : View) (lawful : TellsCrashes u) (stays : Stays u m) where
 
 -- ---- they can
 
-same_world : (w k : World) → goes_by w ≡ goes_by k → w ≡ k
+pub same_world : (w k : World) → goes_by w ≡ goes_by k → w ≡ k
 same_world w k is = cc
 
-settings_of : (w : World) (conf : Conf) → w ≡ world_of conf → conf.params ≡ w.settings
+pub settings_of : (w : World) (conf : Conf) → w ≡ world_of conf → conf.params ≡ w.settings
 unfolding world_of
 settings_of w conf is = sym (ap (λ (k : World). k.settings) is)
 
-table_by : (w : World) (conf : Conf) → w ≡ world_of conf → w.table ≡ table_of conf.table
+pub table_by : (w : World) (conf : Conf) → w ≡ world_of conf → w.table ≡ table_of conf.table
 unfolding world_of
 table_by w conf is = ap (λ (k : World). k.table) is
 

@@ -3,3 +3,4 @@ pub mod FirstRefusals
 pub mod RunsBehind
 pub mod Submissions
 pub mod Told
+pub mod Drains

@@ -38,10 +38,10 @@ still_fit u m lawful stays (inr (area, name, damage)) = inr (area, name, subst (
 
 module _ (w : World) (mode : Mode) (b : Book) (u m : View) (lawful : TellsCrashes u) (stays : Stays u m) (h : HostStands u b) where
   -- nothing was told yet
-  looked_first : PlaysRun w (opening mode b) [] u m
+  pub looked_first : PlaysRun w (opening mode b) [] u m
   looked_first = looked w (opening mode b) u m lawful h stays
 
-  none_yet : IsTold w mode b [] u m
+  pub none_yet : IsTold w mode b [] u m
   none_yet = record {
     plays = subst (λ (es : List Entry). PlaysRun w (opening mode b) es u m) (sym (entries_none w mode b)) looked_first;
     notes = none_noted w mode b m;
@@ -52,7 +52,7 @@ module _ (w : World) (mode : Mode) (b : Book) (u m : View) (lawful : TellsCrashe
   halts_first taken fault = ([], (items_in taken, refl), given_up w mode b [] fault u m none_yet)
 
   module _ (v : View) where
-    told_behind : (items : List LifeEvent) → IsTold w mode b items m v → IsTold w mode b items u v
+    pub told_behind : (items : List LifeEvent) → IsTold w mode b items m v → IsTold w mode b items u v
     unfolding after_all
     told_behind items told = record {
       plays = plays_then w (opening mode b) [] (entries_on w mode b items) u m v looked_first told.plays;

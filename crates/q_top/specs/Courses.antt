@@ -2,7 +2,9 @@
 use Rattle.std.specs.Prelude.{◌≡◌, List, Option, true, ℕ}
 use Rattle.q_books.specs.HostStands.{HostStands}
 use Rattle.q_conf.specs.Confs.{conf_of, goes_by}
+use Rattle.q_drain.specs.Turned.{Outsides}
 use Rattle.q_host.specs.View.{View}
+use Rattle.q_link.specs.Records.{HopsView}
 use Rattle.q_model.specs.Book.{Book}
 use Rattle.q_model.specs.Orderly.{is_orderly}
 use Rattle.q_model.specs.Settings.{World}
@@ -16,6 +18,18 @@ pub record Texts : Type 0 where
 pub record Moments : Type 0 where
   pub before : Option (List ℕ)
   pub after : Option (List ℕ)
+
+-- what hops were, and are now
+pub record Connections : Type 0 where
+  pub before : HopsView
+  pub after : HopsView
+
+-- clock and hops before a command and behind it
+abbrev pub outsides : Moments → Connections → Outsides
+outsides m c = record {
+  before = record { clock = m.before; hops = c.before };
+  behind = record { clock = m.after; hops = c.after };
+}
 
 -- in the world that the files of conf say to go by
 abbrev pub InWorld : View → (World → Type 0) → Type 0

@@ -9,16 +9,19 @@ use Rattle.q_model.specs.Book.{Book}
 use Rattle.q_model.specs.Settings.{World}
 use Rattle.q_model.specs.declared.event.Mode.TheVariants.{Intake}
 use Rattle.q_model.specs.declared.spot.Area.{Area}
+use Rattle.q_drain.specs.Turned.{Outsides}
+use Rattle.q_replay.specs.Deliveries.{DeliveryEnds}
 use Rattle.q_replay.specs.ReplayEnds.{ReplayEnds}
 use Rattle.q_replay.specs.RunEnds.{RunEnds}
 use Rattle.q_replay.specs.Submissions.{submitted}
+use Rattle.q_replay.specs.declared.deliveries.Delivered.{Delivered}
 use Rattle.q_replay.specs.declared.error.ReplayError.{ReplayError}
 use Rattle.q_replay.specs.declared.letters.Letter.{Letter}
 use Rattle.q_restart.specs.Damages.{IsDamage}
 use Rattle.q_stream.specs.Clocks.{AddsMoment}
 use Rattle.q_top.specs.Contents.{most_content}
 use Rattle.q_top.specs.Courses.{ForBooks, InWorld, Moments, Texts}
-use Rattle.q_top.specs.Statuses.{input_of, status_of}
+use Rattle.q_top.specs.Statuses.{delivery_status, input_of, status_of}
 use Rattle.q_top.specs.declared.status.Status.{Status}
 use Rattle.q_top.specs.declared.status.Status.TheVariants as status
 
@@ -64,6 +67,19 @@ pub record Replays (texts : Texts) (u v : View) (s : Status) : Type 0 where
       → texts.after ≡ texts.before
   pub run : ForBooks u (λ w b. IfSome texts.before (λ bytes.
       EndsReplay w b bytes texts.after u v s))
+
+-- ---- drain
+
+-- the status says how far a life on a book delivered
+pub record EndsDelivery (w : World) (b : Book) (o : Outsides) (u v : View) (s : Status) : Type 0 where
+  pub result : Result Delivered ReplayError
+  pub says : s ≡ delivery_status result
+  pub ends : DeliveryEnds w b o u v result
+
+-- `drain`: by conf and the spool it is refused, or a life is run that delivers by SMTP.
+pub record DrainsSpool (o : Outsides) (u v : View) (s : Status) : Type 0 where
+  pub refused : RefusesFirst u v s
+  pub run : ForBooks u (λ w b. EndsDelivery w b o u v s)
 
 -- ---- submit
 

@@ -4,8 +4,8 @@ use Rattle.q_events.specs.Forms.{IsMailInForm}
 use Rattle.q_host.specs.Calls.{Stays}
 use Rattle.q_host.specs.View.{View}
 use Rattle.q_shape.specs.Buckets.{IsShape}
-use Rattle.q_top.specs.Courses.{Moments, Texts}
-use Rattle.q_top.specs.Lives.{Replays, Submits}
+use Rattle.q_top.specs.Courses.{Connections, Moments, Texts, outsides}
+use Rattle.q_top.specs.Lives.{DrainsSpool, Replays, Submits}
 use Rattle.q_top.specs.Tellings.{Lists, TellsAges}
 use Rattle.q_top.specs.declared.status.Status.{Status}
 use Rattle.q_top.specs.declared.status.Status.TheVariants as status
@@ -20,12 +20,13 @@ abbrev pub texts_of : {A : Type 0} → List (String A) → List (List ℕ)
 texts_of words = map string_bytes words
 
 -- the words are refused, and nothing is read, told or changed
-pub record RefusesWords {H S C : Type 0} (h h' : H) (x x' : S) (c c' : C) (s : Status)
+pub record RefusesWords {H S C N : Type 0} (h h' : H) (x x' : S) (c c' : C) (n n' : N) (s : Status)
     : Type 0 where
   pub names : (s ≡ status.Usage) ⊎ (s ≡ status.NoMemory)
   pub host : h' ≡ h
   pub source : x' ≡ x
   pub clock : c' ≡ c
+  pub hops : n' ≡ n
 
 -- the status of words that are refused, or that memory is wanting for
 abbrev pub words_status : WordsError → Status
@@ -36,24 +37,30 @@ words_status error = status.Usage
 abbrev pub HasForm : Request → Type 0
 HasForm requests.Replay = Unit {0}
 HasForm (requests.Submit sender to) = IsMailInForm sender to
+HasForm (requests.Drain rests) = Unit {0}
 HasForm (requests.Qshape request) = IsShape request.shape
 HasForm requests.Queue = Unit {0}
 
 -- how the command ends that is asked for
-abbrev pub Does : Request → Texts → Moments → Status → View → View → Type 0
-Does requests.Replay texts moments s u v = Replays texts u v s
-Does (requests.Submit sender to) texts moments s u v = Submits sender to texts moments u v s
-Does (requests.Qshape request) texts moments s u v = TellsAges request moments u v s
-Does requests.Queue texts moments s u v = Lists u v s
+abbrev pub Does : Request → Texts → Moments → Connections → Status → View → View → Type 0
+Does requests.Replay texts moments connections s u v = Replays texts u v s
+Does (requests.Submit sender to) texts moments connections s u v = Submits sender to texts moments u v s
+Does (requests.Drain rests) texts moments connections s u v = DrainsSpool (outsides moments connections) u v s
+Does (requests.Qshape request) texts moments connections s u v = TellsAges request moments u v s
+Does requests.Queue texts moments connections s u v = Lists u v s
 
 -- the command that the words ask for was carried out
-pub record CarriesOut (words : List (List ℕ)) (texts : Texts) (moments : Moments) (s : Status) (u v : View)
+pub record CarriesOut (words : List (List ℕ)) (texts : Texts) (moments : Moments) (connections : Connections) (s : Status) (u v : View)
     : Type 0 where
   pub request : Request
   pub asked : IsRequest words request
-  pub done : Does request texts moments s u v
+  pub done : Does request texts moments connections s u v
 
 -- it was, or memory ran out before the words were read
-abbrev pub MayCarryOut : List (List ℕ) → Texts → Moments → Status → View → View → Type 0
-MayCarryOut words texts moments s u v =
-    ((s ≡ status.NoMemory) × Stays u v) ⊎ CarriesOut words texts moments s u v
+abbrev pub MayCarryOut : List (List ℕ) → Texts → Moments → Connections → Status → View → View → Type 0
+MayCarryOut words texts moments connections s u v =
+    ((s ≡ status.NoMemory) × Stays u v) ⊎ CarriesOut words texts moments connections s u v
+
+-- the words ask for a drain with so many rests
+abbrev pub IsDrainOf : List (List ℕ) → ℕ → Type 0
+IsDrainOf words rests = IsRequest words (requests.Drain rests)

@@ -7,6 +7,8 @@ use Rattle.q_conf.specs.declared.error.ConfFile.TheVariants as conf_files
 use Rattle.q_events.specs.declared.error.Bound.TheVariants as bounds
 use Rattle.q_host.specs.declared.error.HostError.{HostError}
 use Rattle.q_host.specs.declared.error.HostError.TheVariants as faults
+use Rattle.q_replay.specs.declared.deliveries.Delivered.{Delivered}
+use Rattle.q_replay.specs.declared.deliveries.Delivered.TheVariants as deliveries
 use Rattle.q_replay.specs.declared.error.ReplayError.{ReplayError}
 use Rattle.q_replay.specs.declared.error.ReplayError.TheVariants as errors
 use Rattle.q_top.specs.declared.content.ContentError.{ContentError}
@@ -14,7 +16,7 @@ use Rattle.q_top.specs.declared.content.ContentError.TheVariants as content_erro
 use Rattle.q_top.specs.declared.status.InputFile.{InputFile}
 use Rattle.q_top.specs.declared.status.InputFile.TheVariants.{Events, Parameters, Table}
 use Rattle.q_top.specs.declared.status.Status.{Status}
-use Rattle.q_top.specs.declared.status.Status.TheVariants.{BadInput, Damaged, Disk, Done, Limit, NoMemory, Source, Tell, Usage}
+use Rattle.q_top.specs.declared.status.Status.TheVariants.{BadInput, Damaged, Disk, Done, Limit, NoMemory, Source, Tell, Unfinished, Usage}
 
 -- the exit status of a program
 abbrev pub status_number : Status → ℕ
@@ -25,6 +27,7 @@ status_number Disk = 3
 status_number Tell = 4
 status_number Source = 5
 status_number (Damaged area name) = 6
+status_number (Unfinished rests) = 7
 status_number (Limit bound) = 8
 status_number NoMemory = 9
 
@@ -42,6 +45,12 @@ replay_status (errors.Damaged area name) = Damaged area name
 abbrev pub status_of : Result (Unit {0}) ReplayError → Status
 status_of (Ok done) = Done
 status_of (Err error) = replay_status error
+
+-- how a command ends by how a life ended that delivers
+abbrev pub delivery_status : Result Delivered ReplayError → Status
+delivery_status (Ok deliveries.All) = Done
+delivery_status (Ok (deliveries.Unfinished rests)) = Unfinished rests
+delivery_status (Err error) = replay_status error
 
 -- a file of conf among the files of input
 abbrev pub input_of : ConfFile → InputFile

@@ -1,18 +1,22 @@
 //! A command, from its words to its status.
-ghost use Rattle.std.specs.Prelude.{◌≡◌, ◌≢◌, IsTrue, false, true};
+ghost use Rattle.std.specs.Prelude.{◌≡◌, ◌≢◌, IsTrue, false, true, ℕ};
 ghost use Rattle.q_host.specs.View.{Told};
 ghost use Rattle.q_replay.specs.ReplayEnds.{IsFitSpool};
 ghost use Rattle.q_top.specs.Causes.{HasHostCause, HasSourceCause};
-ghost use Rattle.q_top.specs.Courses.{Moments, Texts};
-ghost use Rattle.q_top.specs.Qmgr.{Does, HasForm, MayCarryOut, RefusesWords, texts_of, words_status};
+ghost use Rattle.q_top.specs.Courses.{Connections, Moments, Texts};
+ghost use Rattle.q_drain.specs.Drained.{CountsRests};
+ghost use Rattle.q_top.specs.Qmgr.{Does, HasForm, IsDrainOf, MayCarryOut, RefusesWords, texts_of, words_status};
+ghost use Rattle.q_words.specs.declared.request.Request.TheVariants.{Drain};
 ghost use Rattle.q_words.specs.Requests.{IsRequest};
 ghost use Rattle.q_words.specs.Usages.{is_usage};
 
+use crate::draining::drain_spool;
 use crate::replaying::replay_list;
 use crate::status::Status;
 use crate::submitting::submit_content;
 use crate::telling::{list_queues, table_ages};
 use q_host::Host;
+use q_link::{Hops, Link};
 use q_stream::{Clock, Source};
 use q_words::{Request, WordsError, read_words};
 use std::alloc::Global;
@@ -28,25 +32,30 @@ fn words_status(error: WordsError) -> Status
 }
 
 /// Carries out what the words ask for.
-fn carry_out<H: Host, S: Source, C: Clock>(
+fn carry_out<L: Link, H: Host, S: Source, C: Clock, N: Hops<Link = L>>(
     alloc: Global,
     request: Request,
     source: &mut S,
     host: &mut H,
     clock: &mut C,
+    hops: &mut N,
 ) -> Status
     requires form { HasForm request }
     requires spool { IsTrue H.tells → IsFitSpool (H.view host.old) }
     ensures does { Told H.tells H.view host.old host.new (Does request
         (record { before = S.left source.old; after = S.left source.new })
-        (record { before = C.given clock.old; after = C.given clock.new }) result) }
+        (record { before = C.given clock.old; after = C.given clock.new })
+        (record { before = N.view hops.old; after = N.view hops.new }) result) }
     ensures host { HasHostCause (H.faults host.old) (H.faults host.new) result }
     ensures source { HasSourceCause (S.faults source.old) (S.faults source.new) result }
     ensures no_usage { result ≢ Status.Usage }
+    ensures unfinished { (n : ℕ) → result ≡ Status.Unfinished n → (request ≡ Drain n)
+        × CountsRests (N.view hops.old) (N.view hops.new) n }
 {
     match request {
         Request::Replay => replay_list(alloc, source, host),
         Request::Submit { sender, to } => submit_content(alloc, source, host, clock, sender, to),
+        Request::Drain { rests } => drain_spool(alloc, host, clock, hops, rests),
         Request::Qshape(table) => table_ages(alloc, host, clock, &table),
         Request::Queue => list_queues(alloc, host),
     }
@@ -56,44 +65,52 @@ fn carry_out<H: Host, S: Source, C: Clock>(
 ///
 /// `replay` reads the files `params` and `transport` of conf, then an event list from the source,
 /// and takes its events through lives on the spool; each line of the trace is told after the disk
-/// holds what it says. `submit SENDER RECIPIENT..` reads a message's content from the source, then the files of
-/// conf, and takes the message in at the clock's moment. A missing file of conf says as much as an
-/// empty one. `queue` tells the listing of the queues, `qshape` the ages of their mail; these two read no
-/// conf, begin no life and change nothing.
+/// holds what it says. `submit SENDER RECIPIENT..` reads a message's content from the source, then
+/// the files of conf, and takes the message in at the clock's moment. `drain` reads the files of
+/// conf, and begins a life that delivers by SMTP (RFC 5321) until no delivery is in flight. A missing
+/// file of conf says as much as an empty one. `queue` tells the listing of the queues, `qshape` the
+/// ages of their mail; these two read no conf, begin no life and change nothing.
 ///
 /// `Usage` comes for words that are none of a command. Of `submit`, `Limit` of content comes next.
 /// Then `BadInput` names the first fault of the parameters, then of the table; `Damaged` the file for
 /// which the spool can't be opened, and `Limit` of generation says that no life is left: in all these
 /// nothing is changed or told. Of an event list `BadInput` names the first line that is none of one or
 /// whose event can't be taken, or the one behind the last where `end` is missing; `Limit` says which
-/// limit an event passes. `Disk`, `Tell` and `Source` come where the host or the source failed,
-/// `NoMemory` where memory ran out. What was told before a refusal stands on disk. With `Done` the
-/// deferral log of each message that `replay` admitted, and didn't remove since, reads as its delays
-/// since the last admission.
-pub fn qmgr<H: Host, S: Source, C: Clock>(
+/// limit an event passes, and of a drain that no number is left for a delivery. `Disk`, `Tell` and
+/// `Source` come where the host or the source failed, `NoMemory` where memory ran out. `Unfinished`
+/// comes where a drain has given all rests that its words allow, and deliveries are in flight still.
+/// What was told before a refusal stands on disk. With `Done` the deferral log of each message that
+/// `replay` admitted, and didn't remove since, reads as its delays since the last admission.
+pub fn qmgr<L: Link, H: Host, S: Source, C: Clock, N: Hops<Link = L>>(
     alloc: Global,
     words: &[String],
     source: &mut S,
     host: &mut H,
     clock: &mut C,
+    hops: &mut N,
 ) -> Status
     // Where the host tells its files, they stand for an orderly book, or show a damage.
     requires spool { IsTrue H.tells → IsFitSpool (H.view host.old) }
     // Words are refused that break the form of their command, and nothing else is.
     ensures usage { is_usage (texts_of words.now) ≡ true
-        → RefusesWords host.old host.new source.old source.new clock.old clock.new result }
+        → RefusesWords host.old host.new source.old source.new clock.old clock.new
+        hops.old hops.new result }
     ensures only_usage { result ≡ Status.Usage → is_usage (texts_of words.now) ≡ true }
     // Else the command that they ask for is carried out as its definition says.
     ensures carries_out { is_usage (texts_of words.now) ≡ false
         → Told H.tells H.view host.old host.new (MayCarryOut (texts_of words.now)
         (record { before = S.left source.old; after = S.left source.new })
-        (record { before = C.given clock.old; after = C.given clock.new }) result) }
+        (record { before = C.given clock.old; after = C.given clock.new })
+        (record { before = N.view hops.old; after = N.view hops.new }) result) }
+    // Only a drain is left unfinished, and only where all rests were given that its words say.
+    ensures unfinished { (n : ℕ) → result ≡ Status.Unfinished n → IsDrainOf (texts_of words.now) n
+        × CountsRests (N.view hops.old) (N.view hops.new) n }
     // A fault comes only where its count rose.
     ensures host { HasHostCause (H.faults host.old) (H.faults host.new) result }
     ensures source { HasSourceCause (S.faults source.old) (S.faults source.new) result }
 {
     match read_words(alloc, words) {
-        Ok(request) => carry_out(alloc, request, source, host, clock),
+        Ok(request) => carry_out(alloc, request, source, host, clock, hops),
         Err(error) => words_status(error),
     }
 }

@@ -1,5 +1,5 @@
-//! The commands of the queue manager on a spool: `submit` and `replay` run lives, `qshape` and `queue`
-//! look at what the queues hold.
+//! The commands of the queue manager on a spool: `submit`, `replay` and `drain` run lives, `qshape` and
+//! `queue` look at what the queues hold.
 //!
 //! `qmgr` reads the words of a command and carries it out. It is no error to give any words, text or
 //! files of conf: what is wrong with them is a status of its own. On a host that tells its files, the
@@ -8,6 +8,7 @@
 
 mod command;
 mod content;
+mod draining;
 mod replaying;
 mod status;
 mod submitting;

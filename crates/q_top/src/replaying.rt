@@ -1,5 +1,5 @@
 //! `replay`: the lives of an event list.
-ghost use Rattle.std.specs.Prelude.{◌≢◌, IsTrue};
+ghost use Rattle.std.specs.Prelude.{◌≢◌, IsTrue, ℕ};
 ghost use Rattle.q_host.specs.View.{Told};
 ghost use Rattle.q_replay.specs.ReplayEnds.{IsFitSpool};
 ghost use Rattle.q_top.specs.Causes.{HasHostCause, HasSourceCause};
@@ -21,6 +21,7 @@ pub(crate) fn replay_list<H: Host, S: Source>(alloc: Global, source: &mut S, hos
     ensures host { HasHostCause (H.faults host.old) (H.faults host.new) result }
     ensures source { HasSourceCause (S.faults source.old) (S.faults source.new) result }
     ensures no_usage { result ≢ Status.Usage }
+    ensures no_rests { (n : ℕ) → result ≢ Status.Unfinished n }
 {
     match read_conf(alloc, host) {
         Ok(conf) => status_of(replay(alloc, source, host, conf.params, conf.table)),

@@ -1,12 +1,12 @@
 //! How a command ended.
-ghost use Rattle.std.specs.Prelude.{◌≡◌, ◌≢◌};
-ghost use Rattle.q_top.specs.Statuses.{conf_status, input_of, replay_status, status_number, status_of, telling_status};
+ghost use Rattle.std.specs.Prelude.{◌≡◌, ◌≢◌, ℕ};
+ghost use Rattle.q_top.specs.Statuses.{conf_status, delivery_status, input_of, replay_status, status_number, status_of, telling_status};
 
 use q_conf::{ConfError, ConfFile};
 use q_events::Bound;
 use q_host::HostError;
 use q_model::{Area, Name};
-use q_replay::ReplayError;
+use q_replay::{Delivered, ReplayError};
 use std::fmt;
 
 /// A file of input that has a grammar.
@@ -39,6 +39,8 @@ pub enum Status {
     Source,
     /// The spool can't be opened: this name in this area is at fault.
     Damaged { area: Area, name: Name },
+    /// So many rests were given, and deliveries are still in flight.
+    Unfinished { rests: u64 },
     /// This limit was reached.
     Limit { bound: Bound },
     /// Memory ran out.
@@ -58,6 +60,7 @@ impl Status {
             Status::Tell => 4,
             Status::Source => 5,
             Status::Damaged { .. } => 6,
+            Status::Unfinished { .. } => 7,
             Status::Limit { .. } => 8,
             Status::NoMemory => 9,
         }
@@ -68,6 +71,7 @@ impl Status {
 fn replay_status(error: ReplayError) -> Status
     ensures exact { result ≡ replay_status error }
     ensures no_usage { result ≢ Status.Usage }
+    ensures no_rests { (n : ℕ) → result ≢ Status.Unfinished n }
 {
     match error {
         ReplayError::Disk => Status::Disk,
@@ -87,9 +91,22 @@ fn replay_status(error: ReplayError) -> Status
 pub(crate) fn status_of(end: Result<(), ReplayError>) -> Status
     ensures exact { result ≡ status_of end }
     ensures no_usage { result ≢ Status.Usage }
+    ensures no_rests { (n : ℕ) → result ≢ Status.Unfinished n }
 {
     match end {
         Ok(()) => Status::Done,
+        Err(error) => replay_status(error),
+    }
+}
+
+/// How a command ends by how a life ended that delivers.
+pub(crate) fn delivery_status(end: Result<Delivered, ReplayError>) -> Status
+    ensures exact { result ≡ delivery_status end }
+    ensures no_usage { result ≢ Status.Usage }
+{
+    match end {
+        Ok(Delivered::All) => Status::Done,
+        Ok(Delivered::Unfinished { rests }) => Status::Unfinished { rests },
         Err(error) => replay_status(error),
     }
 }
@@ -107,6 +124,7 @@ fn input_of(file: ConfFile) -> InputFile
 pub(crate) fn conf_status(error: ConfError) -> Status
     ensures exact { result ≡ conf_status error }
     ensures no_usage { result ≢ Status.Usage }
+    ensures no_rests { (n : ℕ) → result ≢ Status.Unfinished n }
 {
     match error {
         ConfError::Disk => Status::Disk,
@@ -122,6 +140,7 @@ pub(crate) fn conf_status(error: ConfError) -> Status
 pub(crate) fn telling_status(told: Result<(), HostError>) -> Status
     ensures exact { result ≡ telling_status told }
     ensures no_usage { result ≢ Status.Usage }
+    ensures no_rests { (n : ℕ) → result ≢ Status.Unfinished n }
 {
     match told {
         Ok(()) => Status::Done,
@@ -149,6 +168,7 @@ impl fmt::Display for Status {
                 let folder = area.folder();
                 write!(f, "damaged spool: {folder}/{name}")
             }
+            Status::Unfinished { rests } => write!(f, "unfinished after {rests} rests"),
             Status::Limit { bound } => write!(f, "limit reached: {bound}"),
             Status::NoMemory => write!(f, "no memory"),
         }

@@ -1,5 +1,5 @@
 //! `submit`: an intake life that takes one message.
-ghost use Rattle.std.specs.Prelude.{◌≡◌, ◌≢◌, ◌≤◌, IsTrue};
+ghost use Rattle.std.specs.Prelude.{◌≡◌, ◌≢◌, ◌≤◌, IsTrue, ℕ};
 ghost use Rattle.q_events.specs.Forms.{IsMailInForm};
 ghost use Rattle.q_host.specs.View.{Told};
 ghost use Rattle.q_replay.specs.ReplayEnds.{IsFitSpool};
@@ -23,6 +23,7 @@ use std::alloc::Global;
 fn content_status(error: ContentError) -> Status
     ensures exact { result ≡ content_status error }
     ensures no_usage { result ≢ Status.Usage }
+    ensures no_rests { (n : ℕ) → result ≢ Status.Unfinished n }
 {
     match error {
         ContentError::TooLong => Status::Limit {
@@ -43,6 +44,7 @@ fn submit_letter<H: Host>(alloc: Global, host: &mut H, moment: Moment, letter: L
     ensures host { HasHostCause (H.faults host.old) (H.faults host.new) result }
     ensures no_source { result ≢ Status.Source }
     ensures no_usage { result ≢ Status.Usage }
+    ensures no_rests { (n : ℕ) → result ≢ Status.Unfinished n }
 {
     match read_conf(alloc, host) {
         Ok(conf) => status_of(submit(alloc, host, conf.params, conf.table, moment, letter)),
@@ -67,6 +69,7 @@ pub(crate) fn submit_content<H: Host, S: Source, C: Clock>(
     ensures host { HasHostCause (H.faults host.old) (H.faults host.new) result }
     ensures source { HasSourceCause (S.faults source.old) (S.faults source.new) result }
     ensures no_usage { result ≢ Status.Usage }
+    ensures no_rests { (n : ℕ) → result ≢ Status.Unfinished n }
 {
     match read_content(alloc, source) {
         Ok(content) => {

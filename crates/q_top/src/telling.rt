@@ -4,7 +4,7 @@ ghost use Rattle.q_shape.specs.Buckets.{IsShape};
 ghost use Rattle.q_top.specs.Causes.{HasHostCause};
 ghost use Rattle.q_top.specs.Courses.{Moments};
 ghost use Rattle.q_top.specs.Tellings.{Lists, TellsAges};
-ghost use Rattle.std.specs.Prelude.{◌≢◌};
+ghost use Rattle.std.specs.Prelude.{◌≢◌, ℕ};
 
 use crate::status::{Status, telling_status};
 use q_ages::tell_ages;
@@ -20,6 +20,7 @@ pub(crate) fn list_queues<H: Host>(alloc: Global, host: &mut H) -> Status
     ensures host { HasHostCause (H.faults host.old) (H.faults host.new) result }
     ensures no_source { result ≢ Status.Source }
     ensures no_usage { result ≢ Status.Usage }
+    ensures no_rests { (n : ℕ) → result ≢ Status.Unfinished n }
 {
     telling_status(tell_listing(alloc, host))
 }
@@ -37,6 +38,7 @@ pub(crate) fn table_ages<H: Host, C: Clock>(
     ensures host { HasHostCause (H.faults host.old) (H.faults host.new) result }
     ensures no_source { result ≢ Status.Source }
     ensures no_usage { result ≢ Status.Usage }
+    ensures no_rests { (n : ℕ) → result ≢ Status.Unfinished n }
 {
     let now = clock.now();
     telling_status(tell_ages(alloc, host, now, request))

@@ -17,6 +17,17 @@ to_rule = record (new_rule (codes "to")) {
 abbrev pub submit_app : App
 submit_app = with_rule (with_rule (new_app (codes "submit")) sender_rule) to_rule
 
+-- `drain -n RESTS`
+abbrev pub rests_rule : Rule
+rests_rule = record (new_rule (codes "rests")) {
+  short = Some 110;
+  parser = Some (Signed (pos 0) (pos 1000000000));
+  defaults = codes "1000000" ∷ [];
+}
+
+abbrev pub drain_app : App
+drain_app = with_rule (new_app (codes "drain")) rests_rule
+
 -- `qshape -l -s -b N -t MINUTES QUEUE..`
 abbrev pub flag_rule : Text → ℕ → Rule
 flag_rule id letter = record (new_rule id) { short = Some letter; action = Some SetTrue }

@@ -12,7 +12,7 @@ use Rattle.q_words.specs.declared.request.Queues.{Queues}
 use Rattle.q_words.specs.declared.request.Request.{Request}
 use Rattle.q_words.specs.declared.request.Request.TheVariants as requests
 use Rattle.q_words.specs.declared.request.TableRequest.{TableRequest}
-use Rattle.q_words.specs.Commands.{qshape_app, submit_app}
+use Rattle.q_words.specs.Commands.{drain_app, qshape_app, submit_app}
 
 -- all words of an argument
 abbrev pub words_of : Text → List Row → List Text
@@ -72,6 +72,11 @@ abbrev pub IsSubmit : List Row → Request → Type 0
 IsSubmit rows (requests.Submit sender to) = IsSubmission rows sender to
 IsSubmit rows request = ⊥
 
+-- the request is that of `drain`
+abbrev pub IsDrain : List Row → Request → Type 0
+IsDrain rows (requests.Drain rests) = IsNumber rows (codes "rests") rests
+IsDrain rows request = ⊥
+
 -- the request is that of `qshape`
 abbrev pub IsQshape : List Row → Request → Type 0
 IsQshape rows (requests.Qshape table) = IsTableRequest rows table
@@ -87,5 +92,7 @@ IsRequest words requests.Replay = command_of words ≡ Some (codes "replay")
 IsRequest words requests.Queue = command_of words ≡ Some (codes "queue")
 IsRequest words (requests.Submit sender to) =
     (command_of words ≡ Some (codes "submit")) × IsSubmission (matches_of submit_app words) sender to
+IsRequest words (requests.Drain rests) =
+    (command_of words ≡ Some (codes "drain")) × IsNumber (matches_of drain_app words) (codes "rests") rests
 IsRequest words (requests.Qshape table) =
     (command_of words ≡ Some (codes "qshape")) × IsTableRequest (matches_of qshape_app words) table

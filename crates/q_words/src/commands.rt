@@ -1,8 +1,8 @@
 //! The commands as clap reads their words.
 ghost use Rattle.std.specs.Prelude.{◌≡◌, false, map, IfOk, string_bytes};
 ghost use Rattle.clap.specs.Words.{app_of, fault_of, FailsBy, found_of, matches_of, rows_of, rule_of, new_app};
-ghost use Rattle.q_words.specs.Commands.{submit_app, qshape_app, flags_app};
-ghost use Rattle.q_words.specs.Commands.{flag_rule, sender_rule, to_rule};
+ghost use Rattle.q_words.specs.Commands.{drain_app, flags_app, qshape_app, submit_app};
+ghost use Rattle.q_words.specs.Commands.{flag_rule, rests_rule, sender_rule, to_rule};
 ghost use Rattle.q_words.specs.Commands.{buckets_rule, minutes_rule, queues_rule};
 
 use clap::{Arg, ArgAction, ArgMatches, Command, Error, value_parser};
@@ -28,6 +28,16 @@ fn to<'a>(alloc: Global) -> Arg<'a>
     ensures local { result.global ≡ false }
 {
     Arg::new(alloc, "to").required(true).num_args(1..)
+}
+
+fn rests<'a>(alloc: Global) -> Arg<'a>
+    ensures rule { rule_of result ≡ rests_rule }
+    ensures local { result.global ≡ false }
+{
+    Arg::new(alloc, "rests")
+        .short('n')
+        .value_parser(value_parser!(u32).range(0..=1_000_000_000))
+        .default_value("1000000")
 }
 
 fn buckets<'a>(alloc: Global) -> Arg<'a>
@@ -65,6 +75,12 @@ fn submit<'a>(alloc: Global) -> Result<Command<'a>, AllocError>
         .arg(to(alloc))
 }
 
+fn drain<'a>(alloc: Global) -> Result<Command<'a>, AllocError>
+    ensures { IfOk result (λ c. app_of c ≡ drain_app) }
+{
+    Command::new(alloc, "drain").arg(rests(alloc))
+}
+
 /// The flags of `qshape`.
 fn with_flags<'a>(alloc: Global) -> Result<Command<'a>, AllocError>
     ensures { IfOk result (λ c. app_of c ≡ flags_app) }
@@ -94,6 +110,16 @@ pub(crate) fn submit_matches<'a>(
         ≡ matches_of submit_app (map string_bytes words.entry.now)) }
 {
     let command = submit(alloc)?;
+    command.try_get_matches_from(words)
+}
+
+/// The same of `drain`.
+pub(crate) fn drain_matches<'a>(alloc: Global, words: &'a [String]) -> Result<ArgMatches<'a>, Error>
+    ensures refused { FailsBy (fault_of drain_app (map string_bytes words.entry.now)) result }
+    ensures found { IfOk result (λ m. rows_of (found_of m)
+        ≡ matches_of drain_app (map string_bytes words.entry.now)) }
+{
+    let command = drain(alloc)?;
     command.try_get_matches_from(words)
 }
 

@@ -1,12 +1,14 @@
 //! The words of each command, read by clap, with a contract that says exactly which are refused.
 //!
 //! The first word is the command: `replay` and `queue` take no more; `submit` takes a sender, `<>`
-//! for the null sender, and one or more recipients; `qshape` takes options and queues. It is no
-//! error to give any words. What stands alone in place of a command, as `--help`, isn't read here.
+//! for the null sender, and one or more recipients; `drain` takes a number of rests; `qshape` takes
+//! options and queues. It is no error to give any words. What stands alone in place of a command, as
+//! `--help`, isn't read here.
 #![tactic(auto)]
 
 mod arguments;
 mod commands;
+mod draining;
 mod error;
 mod queues;
 mod reading;

@@ -7,6 +7,7 @@ ghost use Rattle.q_words.specs.Usages.{is_plain_usage, is_qshape_usage, is_usage
 ghost use Rattle.q_words.specs.Usages.{IsAnswer};
 
 use crate::commands::plain_matches;
+use crate::draining::read_drain;
 use crate::error::{WordsError, refused};
 use crate::request::Request;
 use crate::submission::read_submission;
@@ -51,6 +52,9 @@ fn read_command(alloc: Global, command: &[u8], words: &[String]) -> Result<Reque
     }
     if command == b"submit".as_slice() {
         return read_submission(alloc, words);
+    }
+    if command == b"drain".as_slice() {
+        return read_drain(alloc, words);
     }
     if command == b"qshape".as_slice() {
         return read_qshape(alloc, words);

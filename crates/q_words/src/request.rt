@@ -12,6 +12,10 @@ pub enum Request {
         sender: Option<Address>,
         to: Addresses,
     },
+    /// Deliver by SMTP; so many rests may be given.
+    Drain {
+        rests: u64,
+    },
     /// Tell the ages of mail.
     Qshape(TableRequest),
     /// Tell what the queues hold.

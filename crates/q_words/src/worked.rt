@@ -45,6 +45,8 @@ fn refused_words(rt: HostRuntime) -> Result<(), Fail> {
     assert!(rt; is_refused(alloc, "replay x")?);
     assert!(rt; is_refused(alloc, "queue x")?);
     assert!(rt; is_refused(alloc, "queue --help")?);
+    assert!(rt; is_refused(alloc, "drain x")?);
+    assert!(rt; is_refused(alloc, "drain -n 1000000001")?);
     assert!(rt; is_refused(alloc, "qshape corrupt")?);
     assert!(rt; is_refused(alloc, "qshape -b 21")?);
     assert!(rt; is_refused(alloc, "qshape -t 0")?);
@@ -62,6 +64,16 @@ fn plain_words(rt: HostRuntime) -> Result<(), Fail> {
     let queue = asked(alloc, "queue")?;
     assert!(rt; matches!(&replay, Ok(Request::Replay)));
     assert!(rt; matches!(&queue, Ok(Request::Queue)));
+    Ok(())
+}
+
+#[test]
+fn drains(rt: HostRuntime) -> Result<(), Fail> {
+    let alloc = rt.alloc();
+    let plain = asked(alloc, "drain")?;
+    let none = asked(alloc, "drain -n 0")?;
+    assert!(rt; matches!(&plain, Ok(Request::Drain { rests: 1_000_000 })));
+    assert!(rt; matches!(&none, Ok(Request::Drain { rests: 0 })));
     Ok(())
 }
 

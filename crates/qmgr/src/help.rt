@@ -21,6 +21,9 @@ Commands:
   submit SENDER RECIPIENT...    take in one message, whose content is standard input; <> is the
                                 null sender
   replay                        run the event list of standard input and tell each decision
+  drain [-n RESTS]              deliver by SMTP, and tell each decision, until no delivery is in
+                                flight; servers are waited for at most RESTS times (0 to
+                                1000000000, default 1000000), ten milliseconds at most each time
   queue                         list the messages in incoming, active, deferred and hold
   qshape [-s] [-l] [-b N] [-t MINUTES] [QUEUE]...
                                 tell the ages of mail by domain: of recipients, or with -s of
@@ -32,5 +35,6 @@ Commands:
 The files conf/params and conf/transport of the spool say the parameters and the transport table.
 
 Exit status: 0 done, 1 wrong words, 2 bad input (the file and its line are named), 3 disk fault,
-4 output fault, 5 input fault, 6 damaged spool (the file is named), 8 limit reached, 9 no memory.
+4 output fault, 5 input fault, 6 damaged spool (the file is named), 7 RESTS were used up with
+deliveries in flight, 8 limit reached, 9 no memory.
 Standard error has one line of it, but for 0.";

@@ -10,8 +10,10 @@ mod help;
 use help::{HELP, USAGE, VERSION};
 use q_folder_host::{FolderHost, OpenFault};
 use q_stream::{RealClock, StdSource};
+use q_tcp_hops::TcpHops;
 use q_top::{Status, qmgr};
 use q_words::read_words;
+use std::fmt::Display;
 use std::process::ExitCode;
 use std::{env, io};
 
@@ -34,13 +36,17 @@ fn report(rt: HostRuntime, words: &[String], status: Status) -> io::Result<u8> {
     Ok(status.number())
 }
 
-/// Says why a folder can't be a spool, and answers the exit status.
-fn refuse(rt: HostRuntime, fault: OpenFault) -> io::Result<u8> {
-    let status = match fault {
+/// How a command ends whose folder can't be a spool.
+fn status_of(fault: &OpenFault) -> Status {
+    match fault {
         OpenFault::NoMemory(_) => Status::NoMemory,
         _ => Status::Disk,
-    };
-    eprintln!(rt; "qmgr: {status}: {fault}")?;
+    }
+}
+
+/// Says why a command can't be begun, and answers the exit status.
+fn refuse<D: Display + Drop>(rt: HostRuntime, status: Status, why: D) -> io::Result<u8> {
+    eprintln!(rt; "qmgr: {status}: {why}")?;
     Ok(status.number())
 }
 
@@ -48,11 +54,22 @@ fn refuse(rt: HostRuntime, fault: OpenFault) -> io::Result<u8> {
 fn run(rt: HostRuntime, folder: &str, words: &[String]) -> io::Result<u8> {
     let mut host = match FolderHost::open(rt.alloc(), rt, rt, folder) {
         Ok(host) => host,
-        Err(fault) => return refuse(rt, fault),
+        Err(fault) => return refuse(rt, status_of(&fault), fault),
+    };
+    let mut hops = match TcpHops::new(rt.alloc(), rt) {
+        Ok(hops) => hops,
+        Err(error) => return refuse(rt, Status::Disk, error),
     };
     let mut source = StdSource::new(rt.reader());
     let mut clock = RealClock::new(rt);
-    let status = qmgr(rt.alloc(), words, &mut source, &mut host, &mut clock);
+    let status = qmgr(
+        rt.alloc(),
+        words,
+        &mut source,
+        &mut host,
+        &mut clock,
+        &mut hops,
+    );
     report(rt, words, status)
 }
 

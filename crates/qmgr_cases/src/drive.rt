@@ -2,6 +2,7 @@
 ghost use Rattle.std.specs.Prelude.{◌≡◌, false};
 
 use q_host::Host;
+use q_link::ScriptHops;
 use q_model::{Area, Moment, Name};
 use q_silent_host::SilentHost;
 use q_stream::{MemClock, MemSource};
@@ -36,7 +37,26 @@ pub(crate) fn run_by<H: Host>(
     }
     let mut source = MemSource::new(alloc, command.input, piece.max(1), fails)?;
     let mut clock = MemClock::new(alloc, &[command.moment])?;
-    Ok(qmgr(alloc, &words, &mut source, host, &mut clock))
+    let mut hops = ScriptHops::new(alloc);
+    let status = qmgr(alloc, &words, &mut source, host, &mut clock, &mut hops);
+    Ok(status)
+}
+
+/// Runs `drain` with hops that follow scripts; so many rests may be given.
+pub(crate) fn drain(
+    alloc: Global,
+    host: &mut SilentHost,
+    hops: &mut ScriptHops,
+    rests: &str,
+    moments: &[Moment],
+) -> Result<Status, Fail> {
+    let mut words = Vec::new(alloc);
+    for word in ["drain", "-n", rests] {
+        words.push(word.to_string(alloc)?)?;
+    }
+    let mut source = MemSource::new(alloc, b"", 1, &[])?;
+    let mut clock = MemClock::new(alloc, moments)?;
+    Ok(qmgr(alloc, &words, &mut source, host, &mut clock, hops))
 }
 
 /// Runs a command.

@@ -6,6 +6,8 @@
 #[cfg(test)]
 mod confs;
 #[cfg(test)]
+mod drains;
+#[cfg(test)]
 mod drive;
 #[cfg(test)]
 mod folders;

@@ -7,7 +7,7 @@ use std::test::Fail;
 const WRONG: [&[&str]; 12] = [
     &[],
     &["flush"],
-    &["drain"],
+    &["drain", "-n", "x"],
     &["load", "1"],
     &["replay", "x"],
     &["queue", "deferred"],

@@ -1,6 +1,15 @@
+use Rattle.std.proofs.Common.{subst}
 use Rattle.q_top.proofs.Asked.{asked_form}
 use Rattle.q_top.specs.Qmgr.{texts_of}
+use Rattle.q_words.specs.declared.request.Request.{Request}
+use Rattle.q_words.specs.Requests.{IsRequest}
 use Rattle.q_top.proofs.command.qmgr.Goals as goal
 
 pub carry_out-requires-clause-form : goal.carry_out-requires-clause-form
 carry_out-requires-clause-form g c = asked_form (texts_of c.args.words.now) c.in-Ok.request c.in-Ok.ensures.1
+
+pub returns-in-Ok-clause-unfinished : goal.returns-in-Ok-clause-unfinished
+returns-in-Ok-clause-unfinished g c n is =
+    let words = texts_of c.args.words.now in
+    let both = c.carry_out.ensures.unfinished n is in
+    (subst (λ (r : Request). IsRequest words r) both.0 c.in-Ok.ensures.1, both.1)

@@ -1,13 +1,21 @@
-//! A server that answers from a list of replies. Nothing here is an error to call.
+//! What a server answers.
 ghost use Rattle.std.specs.Prelude.{◌≡◌};
-ghost use Rattle.q_hop.specs.Turns.{asks_for_content, is_answered};
+ghost use Rattle.q_serving.specs.Turns.{asks_for_content, is_answered};
 
 use std::alloc::Global;
-use std::io;
 use std::io::{BufRead, ErrorKind, Write};
+use std::time::{Clock, Duration};
+use std::{io, thread};
 
 /// The line that ends the content of a message.
 const LAST_LINE: &[u8] = b".\r\n";
+
+/// What a server says on a connection, and how long it takes to answer a line.
+#[derive(Clone, Copy, Debug)]
+pub struct Answers<'a> {
+    pub replies: &'a [String],
+    pub delay: Duration,
+}
 
 // Whether content comes behind a reply.
 fn asks_for_content(reply: &str) -> bool
@@ -38,13 +46,14 @@ fn await_turn<R: BufRead>(alloc: Global, lines: &mut R, in_content: bool) -> io:
     Err(io::Error::from(ErrorKind::UnexpectedEof))
 }
 
-fn send<W: Write>(stream: &mut W, reply: &str) -> io::Result<()> {
-    stream.write_all(reply.as_bytes())?;
-    stream.write_all(b"\r\n")
+// Sends a reply at once, so that no part of it waits for word of another.
+fn send<W: Write>(alloc: Global, stream: &mut W, reply: &str) -> io::Result<()> {
+    let line = format!(in alloc; "{reply}\r\n")?;
+    stream.write_all(line.as_bytes())
 }
 
-// Reads until the other side closes.
-fn await_end<R: BufRead>(lines: &mut R) -> io::Result<()> {
+/// Reads until the other side closes.
+pub fn await_end<R: BufRead>(lines: &mut R) -> io::Result<()> {
     for _ in 0..u64::MAX {
         if lines.skip_until(b'\n')? == 0 {
             break;
@@ -53,21 +62,23 @@ fn await_end<R: BufRead>(lines: &mut R) -> io::Result<()> {
     Ok(())
 }
 
-/// Sends the first reply at once and each further one behind a line that is answered, and reads the
-/// rest. Where the other side closes before the last reply, it is an `UnexpectedEof`.
-pub(crate) fn serve<R: BufRead, W: Write>(
+/// Sends the first reply at once, and each further one behind a line that is answered. What comes
+/// behind the last reply isn't read. Where the other side closes before it, it is an `UnexpectedEof`.
+pub fn answer<C: Clock, R: BufRead, W: Write>(
     alloc: Global,
+    clock: &C,
     lines: &mut R,
     stream: &mut W,
-    replies: &[String],
+    answers: Answers<'_>,
 ) -> io::Result<()> {
     let mut in_content = false;
-    for (i, reply) in replies.iter().enumerate() {
-        if i > 0 {
+    for (place, reply) in answers.replies.iter().enumerate() {
+        if place > 0 {
             await_turn(alloc, lines, in_content)?;
+            thread::sleep(clock, answers.delay);
         }
-        send(stream, reply.as_str())?;
+        send(alloc, stream, reply.as_str())?;
         in_content = asks_for_content(reply.as_str());
     }
-    await_end(lines)
+    Ok(())
 }

@@ -1,0 +1,13 @@
+use Rattle.q_top.proofs.command.carry_out.Goals as goal
+
+pub returns-in-Replay-clause-unfinished : goal.returns-in-Replay-clause-unfinished
+returns-in-Replay-clause-unfinished g c n is = absurd (c.replay_list.ensures.no_rests n is)
+
+pub returns-in-Submit-clause-unfinished : goal.returns-in-Submit-clause-unfinished
+returns-in-Submit-clause-unfinished g c n is = absurd (c.submit_content.ensures.no_rests n is)
+
+pub returns-in-Qshape-clause-unfinished : goal.returns-in-Qshape-clause-unfinished
+returns-in-Qshape-clause-unfinished g c n is = absurd (c.table_ages.ensures.no_rests n is)
+
+pub returns-in-Queue-clause-unfinished : goal.returns-in-Queue-clause-unfinished
+returns-in-Queue-clause-unfinished g c n is = absurd (c.list_queues.ensures.no_rests n is)

@@ -1,0 +1,29 @@
+use Rattle.q_books.specs.HostStands.{TellsCrashes}
+use Rattle.q_top.proofs.Drains.{drained, never_of_source, unread_drain}
+use Rattle.q_top.proofs.RunsBehind.{still_fit}
+use Rattle.q_top.proofs.draining.drain_spool.Goals as goal
+
+pub returns-in-Ok-clause-drains : goal.returns-in-Ok-clause-drains
+returns-in-Ok-clause-drains g c t =
+    let u = g.H.Host.view c.args.host.now in
+    let lawful : TellsCrashes u = record { only = g.met.H.Host.only_now c.args.host.now; told = g.met.H.Host.told_stays c.args.host.now } in
+    rw c.delivery_status.ensures.exact (drained c.in-Ok.conf u (g.H.Host.view c.read_conf.new.host) (g.H.Host.view c.deliver.new.host) lawful (c.read_conf.ensures.stays t) (c.in-Ok.ensures.exact t)
+    (record {
+      before = record { clock = g.C.Clock.given c.args.clock.now; hops = g.N.Hops.view c.args.hops.now };
+      behind = record { clock = g.C.Clock.given c.deliver.new.clock; hops = g.N.Hops.view c.deliver.new.hops };
+    }) c.deliver.result (c.deliver.ensures.damaged t) (c.deliver.ensures.only_damaged t) (c.deliver.ensures.ends t))
+
+pub returns-in-Err-clause-drains : goal.returns-in-Err-clause-drains
+returns-in-Err-clause-drains g c t =
+    let u = g.H.Host.view c.args.host.now in
+    let lawful : TellsCrashes u = record { only = g.met.H.Host.only_now c.args.host.now; told = g.met.H.Host.told_stays c.args.host.now } in
+    rw c.conf_status.ensures.exact (unread_drain u (g.H.Host.view c.read_conf.new.host) lawful (c.read_conf.ensures.stays t) g.H.Host.tells t (record { clock = g.C.Clock.given c.args.clock.now; hops = g.N.Hops.view c.args.hops.now }) c.in-Err.error c.in-Err.ensures.fault)
+
+pub deliver-requires-clause-spool : goal.deliver-requires-clause-spool
+deliver-requires-clause-spool g c t =
+    let u = g.H.Host.view c.args.host.now in
+    let lawful : TellsCrashes u = record { only = g.met.H.Host.only_now c.args.host.now; told = g.met.H.Host.told_stays c.args.host.now } in
+    still_fit u (g.H.Host.view c.read_conf.new.host) lawful (c.read_conf.ensures.stays t) (c.requires.spool t)
+
+pub returns-in-Ok-clause-no_source : goal.returns-in-Ok-clause-no_source
+returns-in-Ok-clause-no_source g c is = never_of_source c.deliver.result c.deliver.ensures.no_source (rw c.delivery_status.ensures.exact at is)
