@@ -70,3 +70,4 @@ pub mod LoadLaws
 pub mod CountedLaws
 pub mod EarlyLaws
 pub mod NeedLaws
+pub mod AtHandLaws

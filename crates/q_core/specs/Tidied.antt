@@ -32,6 +32,10 @@ abbrev pub stays_among : List Slot → List Row → ℕ → Id → Bool
 stays_among admitted waiting transport id = not (unread_among admitted id == 0)
     || waits_for waiting id transport
 
+-- a job has nothing left there
+abbrev pub leaves_among : List Slot → List Row → ℕ → Job → Bool
+leaves_among admitted waiting transport j = not (stays_among admitted waiting transport j.id)
+
 -- the jobs of a line that have something left
 abbrev pub tidied_jobs : List Slot → List Row → ℕ → List Job → List Job
 tidied_jobs admitted waiting transport jobs =

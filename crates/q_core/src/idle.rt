@@ -1,11 +1,11 @@
 //! Which messages have something left to do.
-ghost use Rattle.std.specs.Prelude.{◌≡◌, find};
+ghost use Rattle.std.specs.Prelude.{◌≡◌, IsTrue, find};
 ghost use Rattle.std.specs.Option.{option_copied};
 ghost use Rattle.q_core.specs.Held.{has_flight_in, has_rows_in, has_unsettled_in, has_waiting_in, is_admitted_in, is_idle_in, unread_in, wants_sync_in};
 ghost use Rattle.q_core.specs.Rules.{next_sync_in};
 
 use crate::decision::Decision;
-use crate::names::same_id;
+use crate::names::{behind_rows, same_id};
 use crate::slot::Slot;
 use crate::state::Core;
 use q_model::Id;
@@ -45,25 +45,46 @@ impl Core {
         self.unsettled.iter().any(|row| same_id(row.id, id))
     }
 
-    /// Whether the message has a row that waits, is in flight or is unsettled.
+    /// Whether the message has a row that waits, is in flight or is unsettled. The lists that are
+    /// short go first.
     pub(crate) fn has_rows(&self, id: Id) -> bool
         ensures { result ≡ has_rows_in self.now id }
     {
-        self.has_waiting(id) || self.has_flight(id) || self.has_unsettled(id)
+        self.has_unsettled(id) || self.has_flight(id) || self.has_waiting(id)
     }
 
-    /// Whether the message is in memory, and nothing of it is unread or has a row.
+    /// Whether the message is in memory, and nothing of it is unread or has a row. Most have a row.
     pub(crate) fn is_idle(&self, id: Id) -> bool
         ensures { result ≡ is_idle_in self.now id }
     {
-        self.has_slot(id) && self.unread(id) == 0 && !self.has_rows(id)
+        !self.has_rows(id) && self.has_slot(id) && self.unread(id) == 0
     }
 
-    /// The first message in memory that is idle.
+    /// Whether the row at this place waits for the message.
+    fn has_row_at(&self, place: usize, id: Id) -> bool
+        ensures { IsTrue result → IsTrue (has_waiting_in self.now id) }
+    {
+        match self.waiting.get(place) {
+            Some(row) => same_id(row.id, id),
+            None => false,
+        }
+    }
+
+    /// The first message in memory that is idle. Rows wait in the order of their messages for the
+    /// most part, so that the row of most is at hand where it is looked for first.
     pub(crate) fn first_idle(&self) -> Option<&Slot>
         ensures { option_copied result ≡ find (λ s. is_idle_in self.now s.id) self.now.admitted }
     {
-        self.admitted.iter().find(|slot| self.is_idle(slot.id))
+        let mut place = 0;
+        for i in 0..self.admitted.len() {
+            let slot = &self.admitted[i];
+            if self.has_row_at(place, slot.id) {
+                place = behind_rows(&self.waiting, place, slot.id);
+            } else if self.is_idle(slot.id) {
+                return Some(slot);
+            }
+        }
+        None
     }
 
     /// Whether the marks of the message are to be synced.

@@ -46,7 +46,7 @@ fn place_of(jobs: &[Job], id: Id) -> Option<usize>
 }
 
 /// Takes the job at this place out.
-fn remove_job(jobs: &mut Vec<Job>, place: usize) -> Job
+pub(crate) fn remove_job(jobs: &mut Vec<Job>, place: usize) -> Job
     requires { place < length jobs.old.items }
     ensures job { slice_get jobs.old.items place ≡ Some result }
     ensures items { jobs.new.items ≡ remove jobs.old.items place }

@@ -1,12 +1,14 @@
 //! What holds after each entry: lines, served rows and sites of what is left.
-ghost use Rattle.std.specs.Prelude.{◌≡◌, find, map};
+ghost use Rattle.std.specs.Prelude.{◌≡◌, ◌<◌, IfSome, IsTrue, None, Some, find, length, map, slice_get};
 ghost use Rattle.std.specs.List.{enumerate_from};
-ghost use Rattle.std.specs.Option.{option_copied};
+ghost use Rattle.std.specs.Option.{IfNone, option_copied};
 ghost use Rattle.q_core.specs.Changes.{HasLeftSite, IsTidied};
-ghost use Rattle.q_core.specs.Tidied.{tidied_jobs, tidied_line, tidied_served, slot_among, stays_among, unread_among, waits_at_site, waits_for};
+ghost use Rattle.q_core.specs.declared.line.Job.{Job as JobOf};
+ghost use Rattle.q_core.specs.Tidied.{leaves_among, tidied_jobs, tidied_line, tidied_served, slot_among, stays_among, unread_among, waits_at_site, waits_for};
 
 use crate::line::{Job, Line};
-use crate::names::{same_id, same_site};
+use crate::names::{behind_rows, same_id, same_site};
+use crate::preempting::remove_job;
 use crate::site_record::{drop_unused, forget_oldest, put_last};
 use crate::slot::Slot;
 use crate::state::Core;
@@ -48,14 +50,59 @@ fn waits_at(waiting: &[Row], id: Id, site: &Site) -> bool
 fn stays(admitted: &[Slot], waiting: &[Row], id: Id, transport: usize) -> bool
     ensures { result ≡ stays_among admitted.now waiting.now transport id }
 {
-    unread(admitted, id) != 0 || waits_for(waiting, id, transport)
+    waits_for(waiting, id, transport) || unread(admitted, id) != 0
 }
 
-/// Takes the jobs that have nothing left out of the line.
+/// Whether the row at this place waits for the transport, and is of the message.
+fn waits_at_place(waiting: &[Row], place: usize, id: Id, transport: usize) -> bool
+    ensures { IsTrue result → IsTrue (waits_for waiting.now id transport) }
+{
+    match waiting.get(place) {
+        Some(row) => same_id(row.id, id) && usize::from(row.site.transport) == transport,
+        None => false,
+    }
+}
+
+fn job_at(jobs: &[Job], place: usize) -> Job
+    requires { place < length jobs.now }
+    ensures { slice_get jobs.now place ≡ Some result }
+{
+    jobs[place]
+}
+
+/// The place of the first job that has nothing left. Rows wait in the order of the jobs for the
+/// most part, so that the row of most is at hand where it is looked for first.
+fn first_to_leave(
+    jobs: &[Job],
+    admitted: &[Slot],
+    waiting: &[Row],
+    transport: usize,
+) -> Option<usize>
+    ensures none { IfNone result
+        (find (leaves_among admitted.now waiting.now transport) jobs.now ≡ None) }
+    ensures within { IfSome result (λ i. i < length jobs.now) }
+    ensures leaves { IfSome result (λ i. (j : JobOf) → slice_get jobs.now i ≡ Some j
+        → IsTrue (leaves_among admitted.now waiting.now transport j)) }
+{
+    let mut place = 0;
+    for i in 0..jobs.len() {
+        let id = job_at(jobs, i).id;
+        if waits_at_place(waiting, place, id, transport) {
+            place = behind_rows(waiting, place, id);
+        } else if !stays(admitted, waiting, id, transport) {
+            return Some(i);
+        }
+    }
+    None
+}
+
+/// Takes the jobs that have nothing left out of the line: one leaves at a time, for the most part.
 fn tidy_jobs(jobs: &mut Vec<Job>, admitted: &[Slot], waiting: &[Row], transport: usize)
     ensures { jobs.new.items ≡ tidied_jobs admitted.now waiting.now transport jobs.old.items }
 {
-    jobs.retain(|job| stays(admitted, waiting, job.id, transport));
+    while let Some(place) = first_to_leave(jobs, admitted, waiting, transport) {
+        let _ = remove_job(jobs, place);
+    }
 }
 
 impl Line {
