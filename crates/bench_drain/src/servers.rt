@@ -1,21 +1,11 @@
 //! The servers that are measured against, as processes of this program.
 use anyhow::{Context, Result};
-use q_serving::{Server, start};
+use q_serving::{ACCEPTANCE, Server, start};
 use q_transport::{Table, read_table};
 use std::alloc::Global;
 use std::fmt::Write;
 use std::process::Command;
 use std::{env, io};
-
-/// What a server says in a delivery to one recipient.
-const REPLIES: [&str; 6] = [
-    "220 ready",
-    "250 here",
-    "250 ok",
-    "250 ok",
-    "354 go on",
-    "250 taken",
-];
 
 /// The command that starts a server which takes so many milliseconds for a line.
 fn server_command(rt: HostRuntime, millis: u64) -> Result<Command> {
@@ -24,7 +14,7 @@ fn server_command(rt: HostRuntime, millis: u64) -> Result<Command> {
     let delay = format!(in alloc; "{millis}")?;
     let mut command = Command::new(alloc, program)?;
     command.arg("serve")?.arg(delay)?;
-    for reply in REPLIES {
+    for reply in ACCEPTANCE {
         command.arg(reply)?;
     }
     Ok(command)

@@ -1,6 +1,6 @@
 //! The delivery of a message to an SMTP server.
 use crate::command::Command;
-use q_serving::{Server, start};
+use q_serving::{ACCEPTANCE, Server, start};
 use std::process::Command as Program;
 use std::{fs, io};
 
@@ -20,21 +20,11 @@ pub(crate) const DELIVERY: [Command; 2] = [
     },
 ];
 
-/// What the server says: a greeting, and an answer to each command and to the content.
-const REPLIES: [&str; 6] = [
-    "220 ready",
-    "250 here",
-    "250 ok",
-    "250 ok",
-    "354 go on",
-    "250 taken",
-];
-
 /// Starts the server, whose program stands in this file.
 pub(crate) fn start_hop(rt: HostRuntime, program: &str) -> io::Result<Server> {
     let mut command = Program::new(rt.alloc(), program)?;
     print!(rt; "$ q_hop")?;
-    for reply in REPLIES {
+    for reply in ACCEPTANCE {
         print!(rt; " '{reply}'")?;
         command.arg(reply)?;
     }

@@ -1,19 +1,9 @@
 //! The hops of a case.
 use anyhow::{Context, Result};
-use q_serving::{Server, start};
+use q_serving::{ACCEPTANCE, Server, start};
 use std::env;
 use std::net::{Ipv4Addr, TcpListener};
 use std::process::Command;
-
-/// What a hop says that takes a message for one recipient.
-const REPLIES: [&str; 6] = [
-    "220 ready",
-    "250 here",
-    "250 ok",
-    "250 ok",
-    "354 go on",
-    "250 taken",
-];
 
 /// How a next hop behaves.
 #[derive(Clone, Copy, Debug, PartialEq, Eq)]
@@ -56,8 +46,8 @@ fn nobody(rt: HostRuntime) -> Result<String> {
 /// The name of a next hop that behaves so. Where it is a process, it is added to these.
 pub(crate) fn next_hop(rt: HostRuntime, hop: Hop, servers: &mut Vec<Server>) -> Result<String> {
     match hop {
-        Hop::Accepts => start_hop(rt, "answer", &REPLIES, servers),
-        Hop::Stuck => start_hop(rt, "stuck", &REPLIES[..5], servers),
+        Hop::Accepts => start_hop(rt, "answer", &ACCEPTANCE, servers),
+        Hop::Stuck => start_hop(rt, "stuck", &ACCEPTANCE[..5], servers),
         Hop::Nobody => nobody(rt),
     }
 }

@@ -10,6 +10,17 @@ use std::{io, thread};
 /// The line that ends the content of a message.
 const LAST_LINE: &[u8] = b".\r\n";
 
+/// What a server says that takes a message for one recipient: a greeting, and an answer to each
+/// command and to the content (RFC 5321, section 4.3.2).
+pub const ACCEPTANCE: [&str; 6] = [
+    "220 ready",
+    "250 here",
+    "250 ok",
+    "250 ok",
+    "354 go on",
+    "250 taken",
+];
+
 /// What a server says on a connection, and how long it takes to answer a line.
 #[derive(Clone, Copy, Debug)]
 pub struct Answers<'a> {

@@ -9,6 +9,6 @@ mod answering;
 mod listening;
 mod starting;
 
-pub use answering::{Answers, answer, await_end};
+pub use answering::{ACCEPTANCE, Answers, answer, await_end};
 pub use listening::listen;
 pub use starting::{Server, start};
