@@ -1,0 +1,4 @@
+pub mod Made
+pub mod Mended
+pub mod NoKeys
+pub mod Rooted
