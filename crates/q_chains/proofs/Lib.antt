@@ -1,0 +1,10 @@
+pub mod Places
+pub mod Paths
+pub mod Borders
+pub mod Walks
+pub mod Writes
+pub mod Calls
+pub mod Fresh
+pub mod Neighbours
+pub mod Once
+mod ListRows
