@@ -1,0 +1,140 @@
+//! The register.
+ghost use Rattle.std.specs.Prelude.{◌≡◌, ◌<◌, ◌≤◌, ◌-◌, ◌++◌, ◌^◌, [], ◌∷◌, IfOk, filter, find, length, map, None};
+ghost use Rattle.std.specs.Option.{option_copied};
+ghost use Rattle.q_register.specs.Entries.{AreApart, changed, first_ranked, has_key, lacks_key};
+
+use crate::entry::Entry;
+use crate::places::{append, find_in, first_in, put, take_out};
+use crate::together::make_place;
+use indexmap::IndexMap;
+use q_least::Least;
+use std::alloc::{AllocError, Global};
+use std::hash::Hash;
+use std::marker::Model;
+
+/// Entries by key, in the order in which they came. A contract sees them as one list.
+#[derive(Debug, Drop)]
+pub struct Register<K: Eq + Hash, T> {
+    places: Vec<Option<Entry<K, T>>>,
+    index: IndexMap<K, u32>,
+    ranks: Least,
+    /// The entries while they move together.
+    kept: Vec<Entry<K, T>>,
+    live: u32,
+    room: u32,
+}
+
+impl<K: Eq + Hash, T> Model for Register<K, T> {
+    ghost use Rattle.std.specs.Prelude.{◌*◌, length};
+    ghost use Rattle.q_register.specs.Entries.{Entries, entries_code};
+    ghost use Rattle.q_register.specs.Places.{entries_of};
+    ghost use Rattle.q_register.specs.Sound.{IsSound};
+
+    ghost Value = { Entries K T };
+
+    ghost coded = { entries_code K.code T.code };
+
+    ghost view = { λ a. record { items = entries_of a.places.items; room = a.room } };
+
+    ghost invariant = { λ a. IsSound K.eq a.places a.index a.ranks a.kept a.live a.room };
+}
+
+impl<K: Eq + Hash + Copy + Drop, T: Copy> Register<K, T> {
+    /// The rank of an entry that is never the first, and the greatest.
+    pub const UNRANKED: u64 = Least::NONE;
+
+    /// No entry, and room for so many. It takes memory for twice as many entries, and for their keys
+    /// in an index.
+    pub fn new(alloc: Global, room: u32) -> Result<Register<K, T>, AllocError>
+        requires some { 1 ≤ room }
+        requires few { room < 2 ^ 31 }
+        ensures { IfOk result (λ made. made ≡ record { items = []; room = room }) }
+    {
+        let twice = 2 * room;
+        let places = Vec::with_capacity(alloc, twice as usize)?;
+        let index = IndexMap::with_capacity(alloc, twice as usize)?;
+        let ranks = Least::new(alloc, twice)?;
+        let kept = Vec::with_capacity(alloc, room as usize)?;
+        Ok(Register {
+            places,
+            index,
+            ranks,
+            kept,
+            live: 0,
+            room,
+        })
+    }
+
+    /// No two entries stand under one key, and there are no more than have room, whatever was called:
+    /// this does nothing, and is there for callers whose proofs want to know it.
+    pub fn stand_apart(&self)
+        ensures apart { AreApart K.eq self.now.items }
+        ensures within { length self.now.items ≤ self.now.room }
+    {
+        let _live = self.live;
+    }
+
+    /// How many entries more have room.
+    pub fn spare(&self) -> u32
+        ensures { result ≡ self.now.room - length self.now.items }
+    {
+        self.room - self.live
+    }
+
+    /// The entry under a key.
+    pub fn get(&self, key: &K) -> Option<&Entry<K, T>>
+        ensures { option_copied result ≡ find (has_key K.eq key.now) self.now.items }
+    {
+        find_in(&self.places, &self.index, &self.ranks, key)
+    }
+
+    /// The first entry of those with the least rank, or None where no entry has a rank.
+    pub fn first(&self) -> Option<&Entry<K, T>>
+        ensures { option_copied result ≡ first_ranked self.now.items }
+    {
+        first_in(&self.places, &self.index, &self.ranks)
+    }
+
+    /// Adds an entry behind all others.
+    pub fn push(&mut self, entry: Entry<K, T>)
+        requires absent { find (has_key K.eq entry.key) self.old.items ≡ None }
+        requires room { length self.old.items < self.old.room }
+        ensures { self.new ≡ record self.old { items = self.old.items ++ entry ∷ [] } }
+    {
+        make_place(
+            &mut self.places,
+            &mut self.index,
+            &mut self.ranks,
+            &mut self.kept,
+            2 * self.room as usize,
+        );
+        append(&mut self.places, &mut self.index, &mut self.ranks, entry);
+        self.live += 1;
+    }
+
+    /// Puts another value and rank under a key, if an entry stands under it.
+    pub fn set(&mut self, key: &K, value: T, rank: u64)
+        ensures { self.new ≡ record self.old
+            { items = map (changed K.eq key.now value rank) self.old.items } }
+    {
+        put(
+            &mut self.places,
+            &self.index,
+            &mut self.ranks,
+            key,
+            value,
+            rank,
+        );
+    }
+
+    /// Takes the entry under a key out.
+    pub fn remove(&mut self, key: &K) -> Option<Entry<K, T>>
+        ensures taken { result ≡ find (has_key K.eq key.now) self.old.items }
+        ensures items { self.new ≡ record self.old
+            { items = filter (lacks_key K.eq key.now) self.old.items } }
+    {
+        let taken = take_out(&mut self.places, &self.index, &mut self.ranks, key)?;
+        self.live -= 1;
+        Some(taken)
+    }
+}
