@@ -1,4 +1,6 @@
+pub mod Descent
 pub mod Made
 pub mod Mended
 pub mod NoKeys
+pub mod Numbers
 pub mod Rooted

@@ -1,7 +1,9 @@
 -- A tree is made: the leaves are numbered, and then the inner places get the lesser of their children.
-use Rattle.std.proofs.Common.{◌≡◌, ℕ, ◌+◌, ◌*◌, ◌<◌, ◌≤◌, ◌++◌, List, length, length-drop, map, sym, ap, ◌∙◌, arith, set, suc, zero, drop, replicate, ◌∷◌, [], refl, inl, inr}
-use Rattle.std.proofs.lemmas.Bool.{cases_eq}
+use Rattle.std.proofs.Common.{◌≡◌, ℕ, ◌+◌, ◌*◌, ◌<◌, ◌≤◌, ◌++◌, ◌/◌, ◌^◌, List, length, length-drop, map, max, sym, ap, ◌∙◌, arith, set, suc, zero, drop, replicate, ◌∷◌, [], refl, inl, inr}
+use Rattle.std.proofs.lemmas.Bool.{cases_eq, cases_lt}
 use Rattle.std.proofs.lemmas.List.{get_or-set_other, get_or-set_same, length-map, map-set}
+use Rattle.std.proofs.Math.Pow.{pow_mono}
+use Rattle.std.specs.Int.{IsPowerOfTwo}
 use Rattle.q_least.specs.Trees.{IsLesser, keyed_at, leaf_keys, lesser, nothing}
 use Rattle.q_least.specs.declared.tree.Keyed.{Keyed}
 use Rattle.q_least.proofs.Mended.{drop-set_behind}
@@ -55,3 +57,10 @@ lesser_more n q tree some inside h = λ p from within.
       | inl e ↦ ap (keyed_at (set tree q key)) e ∙ get_or-set_same tree q key nothing inside ∙ ap (λ r. lesser (keyed_at tree (2 * r)) (keyed_at tree (2 * r + 1))) (sym e) ∙ sym children
       | inr e ↦ get_or-set_other tree q p key nothing e ∙ h p (omega (arith, from, e)) within ∙ sym children
     ]
+
+-- the least power of two that is no less than a number below 2 ^ 32
+pub few_leaves : (n r : ℕ) → IsPowerOfTwo r → r / 2 < max 1 n → n < 2 ^ 32 → r ≤ 2 ^ 32
+few_leaves n r power half few = elim (cases_lt 32 power.0) [
+  | inl e ↦ let more : 2 ^ 33 ≤ 2 ^ power.0 = pow_mono e in absurd (omega (arith, more, power.1, half, few))
+  | inr e ↦ let less : 2 ^ power.0 ≤ 2 ^ 32 = pow_mono e in omega (arith, less, power.1)
+]

@@ -8,7 +8,7 @@ use Rattle.q_least.specs.Trees.{AreLesser, AreNumbered, IsTree, keyed_at, leaf_k
 use Rattle.q_least.specs.declared.tree.Keyed.{Keyed}
 
 -- it is not behind the other
-record IsNotBehind (a b : Keyed) : Type 0 where
+pub record IsNotBehind (a b : Keyed) : Type 0 where
   pub key : a.key ≤ b.key
   pub number : a.key ≡ b.key → a.number ≤ b.number
 
@@ -25,7 +25,7 @@ trans a b c h k = record {
 }
 
 -- one of the two, which is not behind the other
-record IsLesserOf (a b x : Keyed) : Type 0 where
+pub record IsLesserOf (a b x : Keyed) : Type 0 where
   pub one : (x ≡ a) ⊎ (x ≡ b)
   pub left : IsNotBehind x a
   pub right : IsNotBehind x b
@@ -52,11 +52,11 @@ chosen false false lower a b h k l = let more = ltb-false b.key a.key h in let o
   right = record { key = omega (arith, more); number = λ e. absurd (other (sym e)) };
 }
 
-lesser_of : (a b : Keyed) → IsLesserOf a b (lesser a b)
+pub lesser_of : (a b : Keyed) → IsLesserOf a b (lesser a b)
 lesser_of a b = chosen (nat_lt b.key a.key) (b.key == a.key) (nat_lt b.number a.number) a b refl refl refl
 
 -- the root is behind no place
-root_first : (fuel n q : ℕ) (tree : List Keyed) → AreLesser n tree → 1 ≤ q → q < 2 * n → q ≤ fuel → IsNotBehind (keyed_at tree 1) (keyed_at tree q)
+pub root_first : (fuel n q : ℕ) (tree : List Keyed) → AreLesser n tree → 1 ≤ q → q < 2 * n → q ≤ fuel → IsNotBehind (keyed_at tree 1) (keyed_at tree q)
 root_first zero n q tree h low high enough = absurd (omega (arith, low, enough))
 root_first (suc fuel) n q tree h low high enough =
     elim (cases_eq q 1) [
@@ -100,7 +100,7 @@ one_leaf (suc fuel) n q tree h numbered low high enough =
     ]
 
 -- the key of a number is that of its leaf
-leaf_key_at : (n i : ℕ) (tree : List Keyed) → length tree ≡ 2 * n → i < n → key_at (leaf_keys n tree) i ≡ (keyed_at tree (n + i)).key
+pub leaf_key_at : (n i : ℕ) (tree : List Keyed) → length tree ≡ 2 * n → i < n → key_at (leaf_keys n tree) i ≡ (keyed_at tree (n + i)).key
 leaf_key_at n i tree len within =
     get_or-map (λ (k : Keyed). k.key) (drop n tree) i nothing 0 (omega (arith, length-drop n tree, len, within)) ∙ ap (λ (k : Keyed). k.key) (get_or-drop n tree i nothing)
 

@@ -1,5 +1,6 @@
 //! A tree in which no number has a key.
 ghost use Rattle.std.specs.Prelude.{◌≡◌, ◌<◌, ◌≤◌, ◌*◌, ◌^◌, drop, IfOk, length, replicate};
+ghost use Rattle.std.specs.Int.{IsPowerOfTwo};
 ghost use Rattle.q_least.specs.Keys.{no_key};
 ghost use Rattle.q_least.specs.Trees.{AreLesser, AreNumbered, IsTree, keyless, leaf_keys};
 
@@ -22,7 +23,7 @@ fn no_places(alloc: Global, places: usize) -> Result<Vec<Keyed>, AllocError>
 /// Gives each leaf its number, and no key.
 fn number_leaves(tree: &mut Vec<Keyed>, leaves: usize)
     requires len { length tree.old.items ≡ 2 * leaves }
-    requires few { leaves < 2 ^ 32 }
+    requires few { leaves ≤ 2 ^ 32 }
     ensures len { length tree.new.items ≡ 2 * leaves }
     ensures keys { leaf_keys leaves tree.new.items ≡ replicate leaves no_key }
     ensures numbered { AreNumbered leaves tree.new.items }
@@ -52,7 +53,7 @@ fn lessen_all(tree: &mut Vec<Keyed>, leaves: usize)
 /// Takes the keys of all numbers away.
 pub(crate) fn clear_keys(tree: &mut Vec<Keyed>, leaves: usize)
     requires some { 1 ≤ leaves }
-    requires few { leaves < 2 ^ 32 }
+    requires few { leaves ≤ 2 ^ 32 }
     requires len { length tree.old.items ≡ 2 * leaves }
     ensures tree { IsTree leaves tree.new.items }
     ensures keys { leaf_keys leaves tree.new.items ≡ replicate leaves no_key }
@@ -61,13 +62,22 @@ pub(crate) fn clear_keys(tree: &mut Vec<Keyed>, leaves: usize)
     lessen_all(tree, leaves);
 }
 
-/// A tree of so many numbers without a key.
-pub(crate) fn no_keys(alloc: Global, count: u32) -> Result<Vec<Keyed>, AllocError>
-    requires { 1 ≤ count }
-    ensures tree { IfOk result (λ tree. IsTree count tree.items) }
-    ensures keys { IfOk result (λ tree. leaf_keys count tree.items ≡ replicate count no_key) }
+/// How many leaves a tree for so many numbers has: a power of two, so that all are equally deep.
+pub(crate) fn leaves_for(count: u32) -> usize
+    ensures power { IsPowerOfTwo result }
+    ensures enough { count ≤ result }
+    ensures few { result ≤ 2 ^ 32 }
 {
-    let leaves = count as usize;
+    (count as usize).next_power_of_two()
+}
+
+/// A tree of so many leaves without a key.
+pub(crate) fn no_keys(alloc: Global, leaves: usize) -> Result<Vec<Keyed>, AllocError>
+    requires some { 1 ≤ leaves }
+    requires few { leaves ≤ 2 ^ 32 }
+    ensures tree { IfOk result (λ tree. IsTree leaves tree.items) }
+    ensures keys { IfOk result (λ tree. leaf_keys leaves tree.items ≡ replicate leaves no_key) }
+{
     let mut tree = no_places(alloc, 2 * leaves)?;
     clear_keys(&mut tree, leaves);
     Ok(tree)

@@ -26,7 +26,7 @@ impl Keyed {
     }
 }
 
-fn keyed_at(tree: &Vec<Keyed>, place: usize) -> Keyed
+pub(crate) fn keyed_at(tree: &Vec<Keyed>, place: usize) -> Keyed
     requires { place < length tree.now.items }
     ensures { slice_get tree.now.items place ≡ Some result }
 {
@@ -47,7 +47,7 @@ fn mend(tree: &mut Vec<Keyed>, leaves: usize, from: usize)
     requires some { 1 ≤ from }
     requires within { from < 2 * leaves }
     requires len { length tree.old.items ≡ 2 * leaves }
-    requires few { leaves < 2 ^ 32 }
+    requires few { leaves ≤ 2 ^ 32 }
     requires lesser { AreLesserBut (from / 2) leaves tree.old.items }
     requires numbered { AreNumbered leaves tree.old.items }
     ensures tree { IsTree leaves tree.new.items }
