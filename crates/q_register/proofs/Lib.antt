@@ -4,3 +4,4 @@ pub mod Ranking
 pub mod Placing
 pub mod First
 pub mod Gathered
+pub mod Within

@@ -1,5 +1,5 @@
 -- What a contract sees of a register: its entries in the order of coming.
-use Rattle.std.specs.Prelude.{◌≡◌, ◌^◌, ◌-◌, [], Bool, find, if◌then◌else◌, List, nat_lt, None, not, Option, refl, Some, ℕ, ◌∷◌}
+use Rattle.std.specs.Prelude.{◌≡◌, ◌^◌, ◌-◌, [], Bool, find, if◌then◌else◌, List, nat_le, nat_lt, None, not, Option, refl, Some, ℕ, ◌∷◌}
 use Rattle.std.specs.Coded.{code_by, Coded, coded_list, coded_ℕ, coded×}
 use Rattle.q_register.specs.declared.entry.Entry.{Entry}
 
@@ -40,6 +40,10 @@ module _ {K T : Type 0} where
   abbrev pub first_ranked : List (Entry K T) → Option (Entry K T)
   first_ranked [] = None
   first_ranked (e ∷ es) = sooner e (first_ranked es)
+
+  -- its rank is at most the bound
+  abbrev pub ranks_within : ℕ → Entry K T → Bool
+  ranks_within bound e = nat_le e.rank bound
 
   -- with another value and rank under this key
   abbrev pub changed : (K → K → Bool) → K → T → ℕ → Entry K T → Entry K T

@@ -3,7 +3,7 @@ ghost use Rattle.std.specs.Prelude.{◌≡◌, ◌<◌, ◌≤◌, ◌+◌, ◌+
 ghost use Rattle.std.specs.HashMap.{spare};
 ghost use Rattle.indexmap.specs.IndexMap.{index_map_len};
 ghost use Rattle.std.specs.Option.{IfNone, OnSome, option_copied};
-ghost use Rattle.q_register.specs.Entries.{changed, first_ranked, has_key, lacks_key};
+ghost use Rattle.q_register.specs.Entries.{changed, first_ranked, has_key, lacks_key, no_rank, ranks_within};
 ghost use Rattle.q_register.specs.Places.{IsPlaced, entries_of, standing};
 
 use crate::entry::Entry;
@@ -128,4 +128,19 @@ pub(crate) fn first_in<'a, K: Eq + Hash, T>(
         Some(place) => entry_at(places, place),
         None => None,
     }
+}
+
+/// The first entry whose rank is at most the bound.
+pub(crate) fn first_within_in<'a, K: Eq + Hash, T>(
+    places: &'a Vec<Option<Entry<K, T>>>,
+    index: &IndexMap<K, u32>,
+    ranks: &Least,
+    bound: u64,
+) -> Option<&'a Entry<K, T>>
+    requires placed { IsPlaced K.eq places.now.items index.now ranks.now }
+    requires ranked { bound < no_rank }
+    ensures { option_copied result ≡ find (ranks_within bound) (entries_of places.now.items) }
+{
+    let place = ranks.first_within(bound)?;
+    entry_at(places, place)
 }

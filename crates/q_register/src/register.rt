@@ -1,10 +1,10 @@
 //! The register.
 ghost use Rattle.std.specs.Prelude.{◌≡◌, ◌<◌, ◌≤◌, ◌-◌, ◌++◌, ◌^◌, [], ◌∷◌, IfOk, filter, find, length, map, None};
 ghost use Rattle.std.specs.Option.{option_copied};
-ghost use Rattle.q_register.specs.Entries.{AreApart, changed, first_ranked, has_key, lacks_key};
+ghost use Rattle.q_register.specs.Entries.{AreApart, changed, first_ranked, has_key, lacks_key, no_rank, ranks_within};
 
 use crate::entry::Entry;
-use crate::places::{append, find_in, first_in, put, take_out};
+use crate::places::{append, find_in, first_in, first_within_in, put, take_out};
 use crate::together::make_place;
 use indexmap::IndexMap;
 use q_least::Least;
@@ -43,8 +43,8 @@ impl<K: Eq + Hash + Copy + Drop, T: Copy> Register<K, T> {
     /// The rank of an entry that is never the first, and the greatest.
     pub const UNRANKED: u64 = Least::NONE;
 
-    /// No entry, and room for so many. It takes memory for twice as many entries, and for their keys
-    /// in an index.
+    /// No entry, and room for so many. It takes memory for three times as many entries, for twice
+    /// as many keys in an index, and for ranks, below 128 bytes for each entry that has room.
     pub fn new(alloc: Global, room: u32) -> Result<Register<K, T>, AllocError>
         requires some { 1 ≤ room }
         requires few { room < 2 ^ 31 }
@@ -65,13 +65,20 @@ impl<K: Eq + Hash + Copy + Drop, T: Copy> Register<K, T> {
         })
     }
 
-    /// No two entries stand under one key, and there are no more than have room, whatever was called:
-    /// this does nothing, and is there for callers whose proofs want to know it.
+    /// No two entries stand under one key, and there are no more than have room, whatever was
+    /// called: this does nothing, and is there for callers whose proofs want to know it.
     pub fn stand_apart(&self)
         ensures apart { AreApart K.eq self.now.items }
         ensures within { length self.now.items ≤ self.now.room }
     {
         let _live = self.live;
+    }
+
+    /// How many entries there are.
+    pub fn len(&self) -> usize
+        ensures { result ≡ length self.now.items }
+    {
+        self.live as usize
     }
 
     /// How many entries more have room.
@@ -93,6 +100,14 @@ impl<K: Eq + Hash + Copy + Drop, T: Copy> Register<K, T> {
         ensures { option_copied result ≡ first_ranked self.now.items }
     {
         first_in(&self.places, &self.index, &self.ranks)
+    }
+
+    /// The first entry whose rank is at most `bound`; those without a rank aside.
+    pub fn first_within(&self, bound: u64) -> Option<&Entry<K, T>>
+        requires { bound < no_rank }
+        ensures { option_copied result ≡ find (ranks_within bound) self.now.items }
+    {
+        first_within_in(&self.places, &self.index, &self.ranks, bound)
     }
 
     /// Adds an entry behind all others.
