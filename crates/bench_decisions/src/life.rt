@@ -1,41 +1,41 @@
 //! A life of a decision core on messages that counters tell of.
 ghost use Rattle.q_core.specs.Hearing.{IsInTime};
 
-use crate::files::{found, id_of, sites, take_recipient};
+use crate::files::{Mail, id_of, take_recipient};
+use crate::scenario::Scenario;
 use q_core::{Core, Decision, Found, Heard};
-use q_model::{Batch, Cursor, Id, Mode, Outcome, Outcomes, Site, SiteState};
-use q_params::Params;
+use q_model::{Batch, Cursor, Id, Mode, Outcomes};
+use q_params::read_params;
 use std::alloc::Global;
 
-/// More decisions than follow one event here.
-const ENOUGH: u32 = 100;
+/// The greatest room for messages and recipients.
+const LIMITS: &[u8] = b"qmgr_message_active_limit = 50000\nqmgr_message_recipient_limit = 100000\n";
+
+/// More decisions than follow one event, unless a site dies.
+const ENOUGH: u32 = 1_000;
 
 /// The core, and how many messages came and were admitted. Those between stand in incoming.
 #[derive(Debug, Drop)]
 pub(crate) struct Life {
     core: Core,
-    sites: Vec<Site>,
+    scenario: Scenario,
+    mail: Mail,
     batch: Batch,
     came: u32,
     admitted: u32,
     decisions: u64,
 }
 
-/// What becomes of a message's one recipient.
-fn one_ok(alloc: Global) -> Option<Outcomes> {
-    let mut outcomes = Outcomes::new(alloc);
-    outcomes.push(Outcome::Ok).ok()?;
-    Some(outcomes)
-}
-
 impl Life {
     /// A life at the moment 1000, with nothing on disk.
-    pub(crate) fn begin(alloc: Global) -> Option<Life> {
-        let core = Core::new(alloc, Params::defaults(), 1, Mode::Deliver).ok()?;
+    pub(crate) fn begin(alloc: Global, scenario: Scenario, mail: Mail) -> Option<Life> {
+        let params = read_params(LIMITS).ok()?;
+        let core = Core::new(alloc, params, 1, Mode::Deliver).ok()?;
         let mut life = Life {
             core,
-            sites: sites(alloc)?,
-            batch: Batch::new(alloc, 1).ok()?,
+            scenario,
+            mail,
+            batch: Batch::new(alloc, mail.first).ok()?,
             came: 0,
             admitted: 0,
             decisions: 0,
@@ -58,7 +58,7 @@ impl Life {
     /// The first message in incoming.
     fn incoming(&self) -> Found {
         if self.admitted < self.came {
-            found(self.admitted + 1)
+            self.mail.found(self.admitted + 1)
         } else {
             Found::Nothing
         }
@@ -73,22 +73,42 @@ impl Life {
         Some(())
     }
 
-    /// Answers the read that waits with the one recipient of the message.
-    fn load(&mut self, alloc: Global, id: Id) -> Option<()> {
-        let place = id.serial as usize % self.sites.len().max(1);
-        let site = self.sites.get(place)?;
+    /// Reads the recipient at this position.
+    fn take(&mut self, serial: u32, position: u32) -> Option<()> {
+        let site = self.mail.site(serial, position)?;
         if !self.core.may_name() {
             return None;
         }
-        self.core.sited(site).ok()?;
-        take_recipient(&mut self.batch)?;
+        self.core.sited(&site).ok()?;
+        take_recipient(&mut self.batch, position)
+    }
+
+    /// Reads the recipients from one position up to another.
+    fn take_all(&mut self, serial: u32, from: u32, to: u32) -> Option<()> {
+        self.batch.clear();
+        for position in from..to {
+            self.take(serial, position)?;
+        }
+        Some(())
+    }
+
+    /// Answers the read that waits.
+    fn load(&mut self, alloc: Global, id: Id, from: u32, max: u32) -> Option<()> {
+        let to = self
+            .mail
+            .recipients(id.serial)
+            .min(from.saturating_add(max));
+        self.take_all(id.serial, from, to)?;
         if !self.core.is_looked_at()
             || !self.core.is_reading()
             || self.core.named() != self.batch.len()
         {
             return None;
         }
-        let behind = Cursor { position: 1, at: 0 };
+        let behind = Cursor {
+            position: to,
+            at: 0,
+        };
         self.core.loaded(alloc, &self.batch, behind).ok()
     }
 
@@ -98,7 +118,7 @@ impl Life {
             Decision::LookActive => self.tell(Found::Nothing),
             Decision::LookIncoming => self.tell(self.incoming()),
             Decision::LookDeferred { .. } => self.tell(Found::Nothing),
-            Decision::Read { id, .. } => self.load(alloc, id),
+            Decision::Read { id, from, max } => self.load(alloc, id, from, max),
             Decision::Admit { id, .. } => {
                 self.admitted = id.serial;
                 self.count()
@@ -121,25 +141,32 @@ impl Life {
         }
     }
 
-    /// Takes decisions until there is none.
-    fn decide(&mut self, alloc: Global) -> Option<()> {
+    /// Takes a thousand decisions at most. Whether there is none left.
+    pub(crate) fn decide(&mut self, alloc: Global) -> Option<bool> {
         for _i in 0..ENOUGH {
             if !self.step(alloc)? {
-                return Some(());
+                return Some(true);
             }
         }
-        None
+        Some(false)
+    }
+
+    /// Takes the event.
+    fn take_event(&mut self, alloc: Global, heard: Heard<'_>) -> Option<()>
+        requires { IsInTime heard }
+    {
+        if !self.core.is_answered() || !self.core.is_looked_at() {
+            return None;
+        }
+        self.core.event(alloc, heard).ok()
     }
 
     /// Takes the event and the decisions that follow.
     fn hear(&mut self, alloc: Global, heard: Heard<'_>) -> Option<()>
         requires { IsInTime heard }
     {
-        if !self.core.is_answered() || !self.core.is_looked_at() {
-            return None;
-        }
-        self.core.event(alloc, heard).ok()?;
-        self.decide(alloc)
+        self.take_event(alloc, heard)?;
+        self.decide(alloc)?.then_some(())
     }
 
     /// A message comes.
@@ -149,21 +176,56 @@ impl Life {
         self.hear(alloc, Heard::Mail { id })
     }
 
-    /// The delivery with the least number ends.
+    /// What becomes of the recipients of a delivery.
+    fn outcomes(&self, alloc: Global, number: u64) -> Option<Outcomes> {
+        let recipients = self.core.entry_positions(number)?.len();
+        let mut outcomes = Outcomes::new(alloc);
+        for _i in 0..recipients {
+            outcomes.push(self.scenario.outcome()).ok()?;
+        }
+        Some(outcomes)
+    }
+
+    /// The delivery with the least number ends, where one is in flight. The decisions that follow
+    /// aren't taken.
     fn reply(&mut self, alloc: Global) -> Option<()> {
-        let number = self.core.least_flight()?;
-        let outcomes = one_ok(alloc)?;
+        let Some(number) = self.core.least_flight() else {
+            return Some(());
+        };
+        let outcomes = self.outcomes(alloc, number)?;
         let reply = Heard::Reply {
             number,
-            site: SiteState::Up,
+            site: self.scenario.site_state(),
             outcomes: &outcomes,
         };
-        self.hear(alloc, reply)
+        self.take_event(alloc, reply)
     }
 
     /// A delivery ends, and a message comes in the place of the one that is gone.
     pub(crate) fn turn(&mut self, alloc: Global) -> Option<()> {
         self.reply(alloc)?;
+        if !self.decide(alloc)? {
+            return None;
+        }
         self.bring(alloc)
+    }
+
+    fn has_dead_site(&self) -> bool {
+        self.core.site_records().iter().any(|noted| noted.is_dead())
+    }
+
+    /// Takes turns until a site dies. The decisions that follow its death aren't taken.
+    pub(crate) fn kill(&mut self, alloc: Global) -> Option<()> {
+        for _i in 0..ENOUGH {
+            self.reply(alloc)?;
+            if self.has_dead_site() {
+                return Some(());
+            }
+            if !self.decide(alloc)? {
+                return None;
+            }
+            self.bring(alloc)?;
+        }
+        None
     }
 }

@@ -1,75 +1,142 @@
-//! How fast the next decision is found: `bench_decisions N` brings N messages of one recipient
-//! each into the memory of a decision core, at 40 next hops by turns, which may take longer than
-//! the rest and isn't measured. Then it replies `up ok` to the delivery with the least number,
-//! takes the decisions that follow, and brings a new message for the one that went: 2,000 times,
-//! or for ten seconds. It prints the decisions in a second of that part, looks and reads not
-//! counted. 19990 are the most.
+//! How fast the next decision is found: `bench_decisions N` brings N small messages, of one recipient
+//! each, into the memory of a decision core, at 40 next hops by turns. Then it replies `up ok` to the
+//! delivery with the least number, takes the decisions that follow, and brings a new message for the
+//! one that went: 2,000 times, or for ten seconds. It prints the decisions in a second of both parts,
+//! looks and reads not counted. The first part may take long, and a word before N says what mail there
+//! is:
+//!
+//! - `plain`: the same as without a word.
+//! - `large`: a message of 10,000 recipients comes before the N small ones.
+//! - `dead`: all messages have one next hop, and deliveries end with `down` until it is dead. A part of
+//!   its own, of ten seconds at most, tells how fast all that waits for it is put off. The new messages
+//!   behind that are put off as they come.
+//! - `sites`: there are N next hops, one for each message.
+//!
+//! 50000 messages are the most, with the large one among them, and of `dead` 2 are the fewest.
 #![tactic(auto)]
 
 mod files;
+mod lap;
 mod life;
+mod scenario;
 
-use files::MOST;
+use anyhow::{Result, bail};
+use lap::Lap;
 use life::Life;
-use std::process::ExitCode;
-use std::time::Instant;
-use std::{env, io};
+use scenario::Scenario;
+use std::env;
 
+/// How often a delivery ends and a message comes.
 const TURNS: u32 = 2_000;
 
-const SECONDS: u64 = 10;
+const STUCK: &str = "the core takes no more: memory ran out, or an answer didn't fit";
 
-/// A life with so many messages in memory.
-fn filled(rt: &HostRuntime, messages: u32) -> Option<Life> {
-    let mut life = Life::begin(rt.alloc())?;
-    for _i in 0..messages {
-        life.bring(rt.alloc())?;
+/// A life with so many small messages in memory.
+fn filled(rt: HostRuntime, scenario: Scenario, messages: u32) -> Result<Life> {
+    let Some(mut life) = Life::begin(rt.alloc(), scenario, scenario.mail(messages)) else {
+        bail!("{STUCK}");
+    };
+    let lap = Lap::begin(rt, &life)?;
+    for _i in 0..messages.saturating_add(scenario.large_messages()) {
+        if life.bring(rt.alloc()).is_none() {
+            bail!("{STUCK}");
+        }
     }
-    Some(life)
+    lap.report(rt, "filling", &life)?;
+    Ok(life)
 }
 
-/// Replies and new messages by turns. Whether each was taken.
-fn go_on(rt: &HostRuntime, life: &mut Life, started: &Instant) -> io::Result<bool> {
+/// Takes the decisions that follow the death of a site. Whether none is left.
+fn put_off(rt: HostRuntime, life: &mut Life, lap: &Lap) -> Result<bool> {
     for _i in 0..TURNS {
-        if started.elapsed(rt)?.as_secs() >= SECONDS {
-            return Ok(true);
-        }
-        if life.turn(rt.alloc()).is_none() {
+        if lap.is_long(rt)? {
             return Ok(false);
         }
+        match life.decide(rt.alloc()) {
+            Some(true) => return Ok(true),
+            Some(false) => {}
+            None => bail!("{STUCK}"),
+        }
     }
-    Ok(true)
+    Ok(false)
 }
 
-/// Fills the memory, goes on for a while and prints how fast.
-fn measure(rt: &HostRuntime, messages: u32) -> io::Result<ExitCode> {
-    let Some(mut life) = filled(rt, messages) else {
-        return Ok(ExitCode::from(9));
-    };
-    let before = life.decisions();
-    let started = Instant::now(rt)?;
-    let whole = go_on(rt, &mut life, &started)?;
-    let spent = started.elapsed(rt)?;
-    if !whole {
-        return Ok(ExitCode::from(9));
+/// Replies and new messages by turns.
+fn take_turns(rt: HostRuntime, life: &mut Life, lap: &Lap) -> Result<()> {
+    for _i in 0..TURNS {
+        if lap.is_long(rt)? {
+            return Ok(());
+        }
+        if life.turn(rt.alloc()).is_none() {
+            bail!("{STUCK}");
+        }
     }
-    let decisions = life.decisions().saturating_sub(before);
-    let millis = spent
-        .as_secs()
-        .saturating_mul(1000)
-        .saturating_add(u64::from(spent.subsec_millis()));
-    let speed = decisions.saturating_mul(1000) / millis.max(1);
-    println!(rt; "{messages} messages: {decisions} decisions, {speed} decisions a second")?;
-    Ok(ExitCode::from(0))
+    Ok(())
 }
 
-fn main(rt: HostRuntime) -> io::Result<ExitCode> {
-    let Some(word) = env::args(&rt)?.nth(1) else {
-        println!(rt; "bench_decisions N: takes decisions with N messages in memory")?;
-        return Ok(ExitCode::from(0));
-    };
+/// Goes on for a while and prints how fast.
+fn measure_turns(rt: HostRuntime, life: &mut Life, name: &str) -> Result<()> {
+    let lap = Lap::begin(rt, life)?;
+    take_turns(rt, life, &lap)?;
+    lap.report(rt, name, life)?;
+    Ok(())
+}
+
+/// Lets the one site die, and prints how fast its rows are put off, and then new messages.
+fn measure_death(rt: HostRuntime, life: &mut Life) -> Result<()> {
+    if life.kill(rt.alloc()).is_none() {
+        bail!("{STUCK}");
+    }
+    let lap = Lap::begin(rt, life)?;
+    let whole = put_off(rt, life, &lap)?;
+    lap.report(rt, "putting off", life)?;
+    if whole {
+        measure_turns(rt, life, "new messages")?;
+    }
+    Ok(())
+}
+
+/// Fills the memory, goes on and prints how fast.
+fn measure(rt: HostRuntime, scenario: Scenario, messages: u32) -> Result<()> {
+    let mut life = filled(rt, scenario, messages)?;
+    if scenario == Scenario::Dead {
+        return measure_death(rt, &mut life);
+    }
+    let name = format!(in rt.alloc(); "{messages} messages")?;
+    measure_turns(rt, &mut life, &name)
+}
+
+/// Measures with the number of messages that a word says.
+fn measure_word(rt: HostRuntime, scenario: Scenario, word: &str) -> Result<()> {
+    let fewest = scenario.fewest();
+    let most = scenario.most();
     match word.parse::<u32>() {
-        Ok(messages) if messages > 0 && messages <= MOST => measure(&rt, messages),
-        _ => Ok(ExitCode::from(1)),
+        Ok(messages) if messages >= fewest && messages <= most => measure(rt, scenario, messages),
+        _ => bail!("{word} is no number from {fewest} to {most}"),
     }
+}
+
+/// Does what the words of the program say.
+fn obey(rt: HostRuntime, words: &[String]) -> Result<()> {
+    match words {
+        [] => {
+            println!(rt; "bench_decisions N: takes decisions with N messages in memory")?;
+            println!(rt; "bench_decisions plain|large|dead|sites N: the same of such mail")?;
+            Ok(())
+        }
+        [number] => measure_word(rt, Scenario::Plain, number),
+        [name, number] => match Scenario::named(name) {
+            Some(scenario) => measure_word(rt, scenario, number),
+            None => bail!("{name} is none of plain, large, dead and sites"),
+        },
+        _ => bail!("too many words"),
+    }
+}
+
+fn main(rt: HostRuntime) -> Result<()> {
+    let mut words = Vec::new(rt.alloc());
+    for word in env::args(&rt)?.skip(1) {
+        words.push(word)?;
+    }
+    obey(rt, &words)
 }

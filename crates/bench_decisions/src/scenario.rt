@@ -1,0 +1,85 @@
+//! What mail there is, and what becomes of it.
+use crate::files::Mail;
+use q_model::{Outcome, SiteState};
+
+/// The recipients of the large message.
+const RECIPIENTS: u32 = 10_000;
+
+/// The next hops of messages that don't have one each.
+const HOPS: u32 = 40;
+
+/// So many messages come into memory by the greatest limit.
+const MOST: u32 = 50_000;
+
+#[derive(Clone, Copy, Debug, PartialEq, Eq)]
+pub(crate) enum Scenario {
+    /// Small messages at 40 next hops.
+    Plain,
+    /// The same behind a message of 10,000 recipients.
+    Large,
+    /// Small messages at one next hop, which dies.
+    Dead,
+    /// Small messages, each with a next hop of its own.
+    Sites,
+}
+
+impl Scenario {
+    pub(crate) fn named(word: &str) -> Option<Scenario> {
+        match word {
+            "plain" => Some(Scenario::Plain),
+            "large" => Some(Scenario::Large),
+            "dead" => Some(Scenario::Dead),
+            "sites" => Some(Scenario::Sites),
+            _ => None,
+        }
+    }
+
+    /// Messages that stand before the small ones.
+    pub(crate) fn large_messages(self) -> u32 {
+        match self {
+            Scenario::Large => 1,
+            _ => 0,
+        }
+    }
+
+    /// The fewest small messages. A site is forgotten where nothing is left for it, and so a single
+    /// message doesn't let one die.
+    pub(crate) fn fewest(self) -> u32 {
+        match self {
+            Scenario::Dead => 2,
+            _ => 1,
+        }
+    }
+
+    /// The most small messages.
+    pub(crate) fn most(self) -> u32 {
+        MOST.saturating_sub(self.large_messages())
+    }
+
+    /// What the messages are like, of which so many are small.
+    pub(crate) fn mail(self, messages: u32) -> Mail {
+        let (first, hops) = match self {
+            Scenario::Plain => (1, HOPS),
+            Scenario::Large => (RECIPIENTS, HOPS),
+            Scenario::Dead => (1, 1),
+            Scenario::Sites => (1, messages),
+        };
+        Mail { first, hops }
+    }
+
+    /// What a delivery says of its site.
+    pub(crate) fn site_state(self) -> SiteState {
+        match self {
+            Scenario::Dead => SiteState::Down,
+            _ => SiteState::Up,
+        }
+    }
+
+    /// What a delivery says of each recipient.
+    pub(crate) fn outcome(self) -> Outcome {
+        match self {
+            Scenario::Dead => Outcome::Later(450),
+            _ => Outcome::Ok,
+        }
+    }
+}
