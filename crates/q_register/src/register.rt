@@ -2,6 +2,7 @@
 ghost use Rattle.std.specs.Prelude.{◌≡◌, ◌<◌, ◌≤◌, ◌-◌, ◌++◌, ◌^◌, [], ◌∷◌, IfOk, filter, find, length, map, None};
 ghost use Rattle.std.specs.Option.{option_copied};
 ghost use Rattle.q_register.specs.Entries.{AreApart, changed, first_ranked, has_key, lacks_key, no_rank, ranks_within};
+ghost use Rattle.q_register.specs.Places.{entries_of};
 
 use crate::entry::Entry;
 use crate::places::{append, find_in, first_in, first_within_in, put, take_out};
@@ -72,6 +73,13 @@ impl<K: Eq + Hash + Copy + Drop, T: Copy> Register<K, T> {
         ensures within { length self.now.items ≤ self.now.room }
     {
         let _live = self.live;
+    }
+
+    /// The entries in order as they stand, with places between them that are empty.
+    pub fn places(&self) -> &[Option<Entry<K, T>>]
+        ensures { entries_of result.now ≡ self.now.items }
+    {
+        self.places.as_slice()
     }
 
     /// How many entries there are.

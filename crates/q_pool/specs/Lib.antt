@@ -1,0 +1,4 @@
+pub mod Kept
+pub mod Pooled
+pub mod Ranks
+pub mod Slots
