@@ -6,7 +6,7 @@ use Rattle.std.specs.Option.{option_map_or}
 use Rattle.q_core.proofs.ListLaws.{find-map, list_any-map}
 use Rattle.q_core.specs.Agrees.{AgreesButScan, slot_of}
 use Rattle.q_core.specs.Held.{has_flight_in, has_rows_in, has_unsettled_in, has_waiting_in, is_admitted_in, is_dead_in, is_idle_in, unread_in}
-use Rattle.q_core.specs.declared.slot.Slot.{Slot}
+use Rattle.q_pool.specs.declared.slot.Slot.{Slot}
 use Rattle.q_core.specs.declared.state.Core.{Core}
 use Rattle.q_model.specs.Book.{message_of}
 use Rattle.q_model.specs.Sites.{site_eq}

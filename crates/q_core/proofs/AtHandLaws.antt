@@ -1,5 +1,5 @@
 -- Searches of a list from place to place, and what is left of a list without one of its items.
-use Rattle.std.proofs.Common.{◌≡◌, ℕ, ◌+◌, ◌<◌, ◌≤◌, ◌++◌, Bool, true, false, List, [], ◌∷◌, None, Option, Some, refl, sym, ap, ◌∙◌, arith, suc, zero, length, take, drop, cond, not, filter, find, slice_get}
+use Rattle.std.proofs.Common.{◌≡◌, ℕ, ◌+◌, ◌≤◌, Bool, true, false, List, [], ◌∷◌, None, Option, Some, refl, sym, ap, ◌∙◌, arith, suc, zero, length, take, cond, not, filter, find, slice_get}
 use Rattle.std.specs.List.{remove}
 
 module _ {X : Type 0} (q : X → Bool) where

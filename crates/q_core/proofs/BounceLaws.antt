@@ -13,7 +13,7 @@ use Rattle.q_core.proofs.SameLaws.{not_bool}
 use Rattle.q_core.proofs.StepLaws.{HasRowsOf, HoldsRaw, IsStillSeen}
 use Rattle.q_core.specs.Agrees.{IsSeen, found_active, slot_from, slot_of}
 use Rattle.q_core.specs.Changes.{IsBounced}
-use Rattle.q_core.specs.Slots.{changed_at, with_bounce}
+use Rattle.q_pool.specs.Slots.{changed_at, with_bounce}
 use Rattle.q_core.specs.declared.state.Core.{Core}
 use Rattle.q_core.specs.declared.state.Seen.{Seen}
 use Rattle.q_core.specs.declared.state.Seen.TheVariants.{Unknown}

@@ -13,8 +13,8 @@ use Rattle.q_laws.proofs.Books.{active_not_incoming, at_place, message_in}
 use Rattle.q_laws.proofs.Members.{IsIn, none_at}
 use Rattle.q_core.specs.Agrees.{IsSeen, found_active, found_incoming, slot_from, slot_of}
 use Rattle.q_core.specs.declared.decision.Found.{Found}
-use Rattle.q_core.specs.Slots.{changed_at}
-use Rattle.q_core.specs.declared.slot.Slot.{Slot}
+use Rattle.q_pool.specs.Slots.{changed_at}
+use Rattle.q_pool.specs.declared.slot.Slot.{Slot}
 use Rattle.q_core.specs.declared.state.Seen.{Seen}
 use Rattle.q_core.specs.declared.state.Seen.TheVariants.{Known, Unknown}
 use Rattle.q_model.specs.Book.{Book, all_ids, ids_at, message_of}

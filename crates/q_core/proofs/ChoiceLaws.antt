@@ -96,3 +96,8 @@ all_kept q false x xs h rest = rest
 pub list_all-filter : {A : Type 0} (q p : A → Bool) (xs : List A) → list_all q xs ≡ true → list_all q (filter p xs) ≡ true
 list_all-filter q p [] h = refl
 list_all-filter q p (x ∷ xs) h = let parts = and_parts (q x) (list_all q xs) h in all_kept q (p x) x (filter p xs) parts.0 (list_all-filter q p xs parts.1)
+
+-- the search from the end, by what comes behind
+pub least_front : {A : Type 0} (before : A → A → Bool) (p : A → Bool) (x : A) (xs : List A) (best result : Option A) →
+    best ≡ least before (filter p xs) → result ≡ prefer p before x best → result ≡ least before (filter p (x ∷ xs))
+least_front before p x xs best result is step = step ∙ ap (prefer p before x) is ∙ prefer_cons before (p x) x (filter p xs)

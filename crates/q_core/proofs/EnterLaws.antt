@@ -1,8 +1,10 @@
 -- The message that is next comes into memory.
-use Rattle.std.proofs.Common.{◌≡◌, Bool, true, false, List, [], ◌∷◌, ◌++◌, filter, map, is_some, Option, Some, None, refl, sym, ap, ◌∙◌, subst, IsTrue}
+use Rattle.std.proofs.Common.{◌≡◌, ◌<◌, arith, length, ltb-true, ℕ, Bool, true, false, List, [], ◌∷◌, ◌++◌, filter, map, is_some, Option, Some, None, refl, sym, ap, ◌∙◌, subst, IsTrue}
 use Rattle.std.proofs.lemmas.Bool.{and_parts}
+use Rattle.std.proofs.lemmas.List.{length-map}
 use Rattle.std.specs.Option.{option_map_or}
-use Rattle.std.specs.Prelude.{◌&&◌, option_and_then}
+use Rattle.std.specs.Prelude.{◌&&◌, nat_le, nat_lt, option_and_then}
+use Rattle.q_core.proofs.AgreesLaws.{same_admitted}
 use Rattle.q_core.proofs.AdmitLaws.{IsComing, admitting, coming_active, coming_same, newcomer}
 use Rattle.q_core.proofs.BackLaws.{moved_names}
 use Rattle.q_core.proofs.ChangeLaws.{seen_same}
@@ -17,26 +19,29 @@ use Rattle.q_core.proofs.SameLaws.{not_bool}
 use Rattle.q_core.proofs.StepLaws.{HasRowsOf, HoldsRaw}
 use Rattle.q_core.proofs.CorruptNextLaws.{picked_one}
 use Rattle.q_core.proofs.TurnLaws.{pick_by, picked_found, picks, turn_law}
-use Rattle.q_core.specs.Agrees.{IsSeen, found_active, found_at, found_incoming, slot_of}
+use Rattle.q_core.specs.Agrees.{IsSeen, file_of, found_active, found_at, found_incoming, slot_of}
+use Rattle.q_core.specs.Held.{is_admitted_in}
+use Rattle.q_core.specs.declared.decision.FileFacts.{FileFacts}
+use Rattle.q_core.specs.declared.decision.Found.TheVariants.{Damaged, Whole}
 use Rattle.q_core.specs.Changes.{is_known, is_looked_at}
 use Rattle.q_core.specs.Picking.{IsEntered, found_name, found_slot, from_deferred_in, passed_in, picked_in}
-use Rattle.q_core.specs.declared.slot.Slot.{Slot}
+use Rattle.q_pool.specs.declared.slot.Slot.{Slot}
 use Rattle.q_core.specs.declared.state.Core.{Core}
 use Rattle.q_laws.proofs.Books.{message_at, placed_listed}
 use Rattle.q_laws.proofs.Members.{IsIn, in_filtered, least_in}
 use Rattle.q_laws.proofs.Picked.{picked_out}
 use Rattle.q_laws.specs.Consistency.{IsConsistent}
 use Rattle.q_model.proofs.IdLaws.{id_eq-true}
-use Rattle.q_model.specs.Admissions.{after_admit, cause_gone, has_room, may_admit}
+use Rattle.q_model.specs.Admissions.{after_admit, cause_gone, delivers, has_room, may_admit}
 use Rattle.q_model.specs.Book.{Book, ids_at, message_of}
 use Rattle.q_model.specs.BookChanges.{move_message}
 use Rattle.q_model.specs.Ids.{id_before, id_eq}
 use Rattle.q_model.specs.Ledger.{Ledger}
-use Rattle.q_model.specs.Memory.{is_admitted}
+use Rattle.q_model.specs.Memory.{free, is_admitted}
 use Rattle.q_model.specs.Message.{Message}
 use Rattle.q_model.specs.Places.{is_active, is_incoming}
 use Rattle.q_model.specs.Scans.{deferred_name, deferred_names, is_ahead, name_before, scan_next}
-use Rattle.q_model.specs.Settings.{World}
+use Rattle.q_model.specs.Settings.{Settings, World}
 use Rattle.q_model.specs.Step.{noted}
 use Rattle.q_model.specs.Turns.{Pick, deferred_next, incoming_next, is_pick, passed, pick, pick_id, pick_of}
 use Rattle.q_model.specs.Turns.Pick.{from_deferred, from_incoming}
@@ -157,3 +162,25 @@ admit_law {w = w} {c = c} {d = d} {l = l} id r k looked known may e =
 -- no row moves
 pub admit_rows : (l : Ledger) (id : Id) → HasRowsOf l (after_admit l id)
 admit_rows l id = let rows = picked_rows l in record { waiting = rows.waiting; flights = rows.flights }
+
+named_at : (o : Option Message) (id : Id) (due : ℕ) (f : Message → FileFacts) (alone : Bool) → (found_slot (option_map_or (λ m. Whole id due (f m)) o (Damaged id due alone))).id ≡ id
+named_at None id due f alone = refl
+named_at (Some m) id due f alone = refl
+
+-- the message that comes isn't in memory yet, and has room there
+pub admit_fits : {w : World} {c : Core} {l : Ledger} (id : Id) → HoldsRaw w c l → IsConsistent w l → IsTrue (is_looked_at c) → is_known c.incoming ≡ true → may_admit w l id ≡ true →
+    (is_admitted_in c (found_slot (picked_in c)).id ≡ false) × (length c.admitted < c.params.active_limit)
+admit_fits {w = w} {c = c} {l = l} id r k looked known may =
+    let three = and_parts (has_room w l && is_pick l id && is_some (message_of l.book id)) (cause_gone l.book id) may in
+    let two = and_parts (has_room w l && is_pick l id) (is_some (message_of l.book id)) three.0 in
+    let roomy = (and_parts (has_room w l) (is_pick l id) two.0).0 in
+    let one = picked_one l id (pick l) refl (and_parts (has_room w l) (is_pick l id) two.0).1 in
+    let m = coming k id may in
+    let found = picked_found r looked known one.0 one.1 in
+    let named : (found_slot (picked_in c)).id ≡ id = ap (λ f. (found_slot f).id) (found.1 ∙ ap (found_at l found.0) one.2) ∙ named_at (message_of l.book id) id found.0 (file_of l id) (cause_gone l.book id) in
+    let count = ap length r.parts.admitted ∙ length-map l.admitted (slot_of l) in
+    let limit = ap (λ (p : Settings). p.active_limit) r.parts.settings in
+    let less = ltb-true (length l.admitted) w.settings.active_limit (and_parts (delivers l.mode) (nat_lt (length l.admitted) w.settings.active_limit) (and_parts (delivers l.mode && nat_lt (length l.admitted) w.settings.active_limit) (nat_le w.settings.recipient_minimum (free w l)) roomy).0).1 in (
+      ap (is_admitted_in c) named ∙ same_admitted r.parts id ∙ m.absent,
+      omega (arith, count, limit, less),
+    )

@@ -8,7 +8,7 @@ use Rattle.q_core.proofs.NameLaws.{id_eq-true}
 use Rattle.q_core.specs.Agrees.{AgreesButScan, slot_from, slot_of}
 use Rattle.q_core.specs.Held.{is_admitted_in}
 use Rattle.q_core.specs.Queries.{expired_in, slot_expired_in}
-use Rattle.q_core.specs.declared.slot.Slot.{Slot}
+use Rattle.q_pool.specs.declared.slot.Slot.{Slot}
 use Rattle.q_core.specs.declared.state.Core.{Core}
 use Rattle.q_model.specs.Book.{message_of}
 use Rattle.q_model.specs.Finishing.{has_bounce}

@@ -8,8 +8,8 @@ use Rattle.q_core.proofs.NameLaws.{and_true_parts, id_eq-true}
 use Rattle.q_core.proofs.StepLaws.{HoldsRaw, IsStillSeen}
 use Rattle.q_core.specs.Agrees.{AgreesButScan, found_active, found_incoming, slot_from}
 use Rattle.q_core.specs.Changes.{IsSlotChange, IsUnsettledChange}
-use Rattle.q_core.specs.Slots.{changed_at}
-use Rattle.q_core.specs.declared.slot.Slot.{Slot}
+use Rattle.q_pool.specs.Slots.{changed_at}
+use Rattle.q_pool.specs.declared.slot.Slot.{Slot}
 use Rattle.q_core.specs.declared.state.Core.{Core}
 use Rattle.q_core.specs.declared.state.Seen.{Seen}
 use Rattle.q_core.specs.declared.state.Seen.TheVariants.{Known, Unknown}

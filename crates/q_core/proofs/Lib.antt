@@ -71,3 +71,15 @@ pub mod CountedLaws
 pub mod EarlyLaws
 pub mod NeedLaws
 pub mod AtHandLaws
+pub mod TouchedLaws
+pub mod StayLaws
+pub mod KeptLaws
+pub mod StillTidyLaws
+pub mod StillTidyLines
+pub mod TidyTouchedLaws
+pub mod LandedLaws
+pub mod TieLaws
+pub mod PoolTies
+pub mod TiedLaws
+pub mod NamedLaws
+pub mod GoneLaws

@@ -16,10 +16,10 @@ use Rattle.q_core.proofs.StepLaws.{HoldsRaw, IsStillSeen, raw_law}
 use Rattle.q_core.specs.Agrees.{Agrees, AgreesButScan, Matches, found_active, found_at, jobs_of, slot_of}
 use Rattle.q_core.specs.Changes.{IsTidied, is_looked_at}
 use Rattle.q_core.specs.UsedSites.{busy_in, is_unused_in, waits_at_in}
-use Rattle.q_core.specs.Loading.{IsLoaded, joined_line, new_sites, read_up, rows_in}
-use Rattle.q_core.specs.Slots.{changed_at}
+use Rattle.q_core.specs.Loading.{IsLoaded, joined_line, new_sites, rows_in}
+use Rattle.q_pool.specs.Slots.{changed_at, read_up}
 use Rattle.q_core.specs.declared.line.Job.{Job}
-use Rattle.q_core.specs.declared.slot.Slot.{Slot}
+use Rattle.q_pool.specs.declared.slot.Slot.{Slot}
 use Rattle.q_core.specs.declared.state.Core.{Core}
 use Rattle.q_core.specs.declared.state.Seen.{Seen}
 use Rattle.q_core.specs.declared.decision.Found.TheVariants as founds

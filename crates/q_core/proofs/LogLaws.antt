@@ -13,7 +13,7 @@ use Rattle.q_core.proofs.PlaceLaws.{less_one, passes_at, some_place}
 use Rattle.q_core.proofs.StepLaws.{HoldsRaw}
 use Rattle.q_core.specs.Agrees.{slot_from}
 use Rattle.q_core.specs.Changes.{IsSlotChange, IsUnsettledChange}
-use Rattle.q_core.specs.Slots.{with_log}
+use Rattle.q_pool.specs.Slots.{with_log}
 use Rattle.q_core.specs.declared.state.Core.{Core}
 use Rattle.q_laws.specs.Consistency.{IsConsistent}
 use Rattle.q_model.specs.Ids.{id_eq}

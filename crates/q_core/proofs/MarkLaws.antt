@@ -15,7 +15,7 @@ use Rattle.q_core.proofs.PlaceLaws.{few_places, less_none, less_one}
 use Rattle.q_core.proofs.StepLaws.{HoldsRaw}
 use Rattle.q_core.specs.Agrees.{slot_from}
 use Rattle.q_core.specs.Changes.{IsSlotChange, IsUnsettledChange}
-use Rattle.q_core.specs.Slots.{with_slot_mark}
+use Rattle.q_pool.specs.Slots.{with_slot_mark}
 use Rattle.q_core.specs.declared.state.Core.{Core}
 use Rattle.q_laws.specs.Consistency.{IsConsistent, logged_of}
 use Rattle.q_model.specs.Ids.{id_eq}

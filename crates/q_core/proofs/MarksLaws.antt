@@ -10,7 +10,7 @@ use Rattle.q_core.proofs.LeftLaws.{in_all}
 use Rattle.q_core.proofs.StepLaws.{HoldsRaw}
 use Rattle.q_core.specs.Agrees.{slot_from}
 use Rattle.q_core.specs.Changes.{IsSlotChange}
-use Rattle.q_core.specs.Slots.{cleared}
+use Rattle.q_pool.specs.Slots.{cleared}
 use Rattle.q_core.specs.declared.state.Core.{Core}
 use Rattle.q_laws.specs.Consistency.{IsConsistent}
 use Rattle.q_model.specs.Book.{ids_at}

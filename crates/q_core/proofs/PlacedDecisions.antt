@@ -7,7 +7,7 @@ use Rattle.q_core.specs.Deciding.{clearing_on, decide_in, first_rule_in, scan_lo
 use Rattle.q_core.specs.Facts.{file_pending, file_wants_bounce, picked_decision, picked_next, deferred_place, is_nothing}
 use Rattle.q_core.specs.Held.{due_in, finish_in, free_in, is_dead_in, is_idle_in, may_read_in, wants_sync_in}
 use Rattle.q_core.specs.Rules.{admission_in, admission_seen, clear_found_in, decision_of, first_need_in, has_message_room_in, is_synced_in, needed_in, next_admission_in, next_clearing_in, next_finish_in, next_read_in, next_skip_in, next_sync_in, skip_at, skip_decision}
-use Rattle.q_core.specs.Slots.{wants_bounce_in}
+use Rattle.q_pool.specs.Slots.{wants_bounce_in}
 use Rattle.q_core.specs.Starting.{next_row_in, start_of_row}
 use Rattle.q_core.specs.declared.decision.Decision.{Decision}
 use Rattle.q_core.specs.declared.decision.Decision.TheVariants as decisions
@@ -15,7 +15,7 @@ use Rattle.q_core.specs.declared.decision.FileFacts.{FileFacts}
 use Rattle.q_core.specs.declared.decision.Found.{Found}
 use Rattle.q_core.specs.declared.decision.Found.TheVariants.{Nothing}
 use Rattle.q_core.specs.declared.line.Job.{Job}
-use Rattle.q_core.specs.declared.slot.Slot.{Slot}
+use Rattle.q_pool.specs.declared.slot.Slot.{Slot}
 use Rattle.q_core.specs.declared.state.Core.{Core}
 use Rattle.q_core.specs.declared.state.Seen.{Seen}
 use Rattle.q_core.specs.declared.state.Seen.TheVariants.{Known, Unknown}

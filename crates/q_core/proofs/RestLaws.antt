@@ -9,7 +9,7 @@ use Rattle.q_core.proofs.QueueLaws.{IsSameOf, active_same, slots_same, with_file
 use Rattle.q_core.proofs.SameLaws.{leftover_other, not_bool}
 use Rattle.q_core.specs.Agrees.{found_active, slot_of}
 use Rattle.q_core.specs.Changes.{slots_without}
-use Rattle.q_core.specs.declared.slot.Slot.{Slot}
+use Rattle.q_pool.specs.declared.slot.Slot.{Slot}
 use Rattle.q_laws.proofs.Books.{at_place, message_in}
 use Rattle.q_laws.proofs.Distinct.{id_other, id_same}
 use Rattle.q_laws.proofs.Members.{IsIn, any_from, in_filtered}

@@ -16,7 +16,7 @@ use Rattle.q_core.proofs.KindLaws.{is_whole}
 use Rattle.q_core.specs.Held.{due_in, finish_in, free_in, is_damaged_in, is_dead_in, is_idle_in, may_read_in, wants_sync_in}
 use Rattle.q_core.specs.Rules.{decision_of, first_need_in, needed_in, next_finish_in, next_read_in, next_skip_in, next_sync_in, skip_at, skip_decision}
 use Rattle.q_core.specs.declared.decision.Decision.{Decision}
-use Rattle.q_core.specs.declared.slot.Slot.{Slot}
+use Rattle.q_pool.specs.declared.slot.Slot.{Slot}
 use Rattle.q_core.specs.declared.state.Core.{Core}
 use Rattle.q_model.specs.Batches.{load_end}
 use Rattle.q_model.specs.Book.{message_of}

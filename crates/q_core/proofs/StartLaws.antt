@@ -17,7 +17,7 @@ use Rattle.q_core.specs.Held.{unread_in}
 use Rattle.q_core.specs.Starting.{can_start_in, flights_at, has_room_in, is_startable_in, last_start_in, next_row_in, rows_for, start_in, start_of_row}
 use Rattle.q_core.specs.declared.decision.Decision.{Decision}
 use Rattle.q_core.specs.declared.line.Job.{Job}
-use Rattle.q_core.specs.declared.slot.Slot.{Slot}
+use Rattle.q_pool.specs.declared.slot.Slot.{Slot}
 use Rattle.q_core.specs.declared.state.Core.{Core}
 use Rattle.q_model.specs.Accounts.{charged, rest, starts_of}
 use Rattle.q_model.specs.Book.{message_of}

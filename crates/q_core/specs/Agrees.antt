@@ -34,7 +34,7 @@ use Rattle.q_core.specs.Scanning.{scan_after}
 use Rattle.q_core.specs.declared.decision.FileFacts.{FileFacts}
 use Rattle.q_core.specs.declared.decision.Found.{Found}
 use Rattle.q_core.specs.declared.line.Job.{Job}
-use Rattle.q_core.specs.declared.slot.Slot.{Slot}
+use Rattle.q_pool.specs.declared.slot.Slot.{Slot}
 use Rattle.q_core.specs.declared.state.Core.{Core}
 use Rattle.q_core.specs.declared.state.Seen.{Seen}
 use Rattle.q_core.specs.declared.decision.Found.TheVariants.{Damaged, Nothing, Whole}

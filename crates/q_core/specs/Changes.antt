@@ -13,9 +13,9 @@ use Rattle.q_core.specs.UsedSites.{forget_in, is_left_in, revive_dead_in, revive
 use Rattle.q_core.specs.Facts.{is_nothing}
 use Rattle.q_core.specs.Lists.{moved_back}
 use Rattle.q_core.specs.Tidied.{tidied_line, tidied_served}
-use Rattle.q_core.specs.Slots.{changed_at, with_bounce, with_damage}
+use Rattle.q_pool.specs.Slots.{changed_at, with_bounce, with_damage}
 use Rattle.q_core.specs.declared.state.Question.TheVariants.{Nothing}
-use Rattle.q_core.specs.declared.slot.Slot.{Slot}
+use Rattle.q_pool.specs.declared.slot.Slot.{Slot}
 use Rattle.q_core.specs.declared.decision.Found.{Found}
 use Rattle.q_core.specs.declared.state.Core.{Core}
 use Rattle.q_core.specs.declared.state.Seen.{Seen}

@@ -11,7 +11,7 @@ use Rattle.q_core.specs.Held.{unread_in}
 use Rattle.q_core.specs.Starting.{can_start_in, start_in}
 use Rattle.q_core.specs.declared.decision.Decision.{Decision}
 use Rattle.q_core.specs.declared.line.Job.{Job}
-use Rattle.q_core.specs.declared.slot.Slot.{Slot}
+use Rattle.q_pool.specs.declared.slot.Slot.{Slot}
 use Rattle.q_core.specs.declared.state.Core.{Core}
 use Rattle.q_core.specs.declared.decision.Decision.TheVariants.{Preempt}
 

@@ -7,9 +7,9 @@ use Rattle.q_model.specs.Sites.{site_eq}
 use Rattle.q_model.specs.Ids.{id_eq}
 use Rattle.q_model.specs.SiteRecords.{is_alive}
 use Rattle.q_model.specs.Values.{Site, SiteRecord}
-use Rattle.q_core.specs.Slots.{wants_bounce_in}
+use Rattle.q_pool.specs.Slots.{wants_bounce_in}
 use Rattle.q_core.specs.declared.decision.Decision.{Decision}
-use Rattle.q_core.specs.declared.slot.Slot.{Slot}
+use Rattle.q_pool.specs.declared.slot.Slot.{Slot}
 use Rattle.q_core.specs.declared.state.Core.{Core}
 use Rattle.q_core.specs.declared.decision.Decision.TheVariants.{Bounce, Corrupt, Defer, Remove}
 use Rattle.q_model.specs.declared.rows.Place.TheVariants.{Active}

@@ -1,7 +1,7 @@
 pub mod State
 pub mod View
 pub mod Counted
-pub mod Slots
+pub mod Counting
 pub mod Facts
 pub mod Lists
 pub mod UsedSites
@@ -15,6 +15,8 @@ pub mod Choosing
 pub mod Decisions
 pub mod Queries
 pub mod Deciding
+pub mod Ties
+pub mod KeptRows
 pub mod Tidied
 pub mod Needs
 pub mod Leaving
@@ -25,3 +27,4 @@ pub mod Loading
 pub mod Hearing
 pub mod Answers
 pub mod Looking
+pub mod Touched

@@ -1,6 +1,7 @@
 -- How recipients come into the core.
 use Rattle.q_core.specs.declared.state.Question.{Question}
 use Rattle.q_core.specs.Lists.{AtPlace}
+use Rattle.q_core.specs.Ties.{AreNamed}
 use Rattle.q_model.specs.Ledger.{Ledger}
 use Rattle.q_model.specs.Message.{Message, address_at}
 use Rattle.q_model.specs.Book.{message_of}
@@ -22,9 +23,8 @@ use Rattle.q_model.specs.Routes.{world_without_table}
 use Rattle.q_model.specs.Settings.{Settings, World}
 use Rattle.q_model.specs.SiteRecords.{new_record}
 use Rattle.q_model.specs.Values.{Site, SiteRecord, Taken}
-use Rattle.q_core.specs.Slots.{changed_at}
+use Rattle.q_pool.specs.Slots.{changed_at, read_up}
 use Rattle.q_core.specs.declared.line.Job.{Job}
-use Rattle.q_core.specs.declared.slot.Slot.{Slot}
 use Rattle.q_core.specs.declared.state.Core.{Core}
 use Rattle.q_core.specs.declared.state.Question.TheVariants.{Active, Deferred, Incoming, Nothing, Recipients}
 
@@ -80,10 +80,6 @@ joins_in id rows at jobs = list_any (λ r. r.site.transport == at) rows
 abbrev pub joined_line : Id → List Row → (ℕ × List Job) → List Job
 joined_line id rows line = if joins_in id rows line.0 line.1 then line.1
     ++ record { id = id; starts = 0; charged = 0 } ∷ [] else line.1
-
--- it was read up to here
-abbrev pub read_up : ℕ → Slot → Slot
-read_up to s = record s { unread = to }
 
 -- The message was read up to this position: its recipients wait at their sites.
 pub record IsLoaded (old new : Core) (id : Id) (to : ℕ) (taken : List Taken)
@@ -142,6 +138,10 @@ may_name_for (Recipients id from max) count = nat_lt count max
 
 abbrev pub may_name : Core → Bool
 may_name c = may_name_for c.question (length c.named)
+
+-- each of these rows is of the message
+abbrev pub AreRowsOf : Id → List Row → Type 0
+AreRowsOf id rows = AreNamed (λ (r : Row). r.id) id rows
 
 -- Rows of this message wait; their sites have records, and it is in their lines.
 pub record AreRowsAdded (old new : Core) (id : Id) (rows : List Row) : Type 0 where

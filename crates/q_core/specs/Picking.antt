@@ -6,7 +6,7 @@ use Rattle.std.specs.Prelude.{◌&&◌, ◌++◌, ◌≡◌, [], ◌∷◌, Bool
 use Rattle.q_model.specs.declared.rows.DeferredName.{DeferredName}
 use Rattle.q_model.specs.declared.rows.Scan.{Scan}
 use Rattle.q_core.specs.declared.decision.Found.{Found}
-use Rattle.q_core.specs.declared.slot.Slot.{Slot}
+use Rattle.q_pool.specs.declared.slot.Slot.{Slot}
 use Rattle.q_core.specs.declared.state.Core.{Core}
 use Rattle.q_core.specs.declared.state.Seen.{Seen}
 use Rattle.q_core.specs.declared.decision.Found.TheVariants.{Damaged, Nothing, Whole}

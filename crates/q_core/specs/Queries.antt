@@ -5,7 +5,7 @@ use Rattle.q_model.specs.declared.id.Id.{Id}
 use Rattle.q_model.specs.declared.rows.Delivery.{Delivery}
 use Rattle.q_model.specs.Values.{Site}
 use Rattle.q_core.specs.Held.{slot_in}
-use Rattle.q_core.specs.declared.slot.Slot.{Slot}
+use Rattle.q_pool.specs.declared.slot.Slot.{Slot}
 use Rattle.q_core.specs.declared.state.Core.{Core}
 
 -- a message and a site

@@ -8,7 +8,7 @@ use Rattle.q_model.specs.Sites.{site_eq}
 use Rattle.q_model.specs.Ids.{id_eq}
 use Rattle.q_model.specs.Values.{Served, Site}
 use Rattle.q_core.specs.declared.line.Job.{Job}
-use Rattle.q_core.specs.declared.slot.Slot.{Slot}
+use Rattle.q_pool.specs.declared.slot.Slot.{Slot}
 
 -- the row of a message in memory
 abbrev pub slot_among : List Slot → Id → Option Slot

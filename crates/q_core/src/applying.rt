@@ -132,14 +132,12 @@ impl Core {
         }
     }
 
-    pub(crate) fn apply_admit(&mut self, id: Id, place: Place) -> Result<(), NoMemory>
+    pub(crate) fn apply_admit(&mut self, id: Id, place: Place)
         requires seen { IsTrue (is_looked_at self.old) }
         requires decided { decide_in self.old ≡ Some (Decision.Admit id place) }
-        ensures ok { OnOk result (Applies self.old (Decision.Admit id place) self.new) }
-        ensures err { OnErr result (IsUnchanged self.old self.new) }
+        ensures { Applies self.old (Decision.Admit id place) self.new }
     {
-        self.admit()?;
-        Ok(())
+        self.admit();
     }
 
     pub(crate) fn apply_start(&mut self, number: u64, id: Id, site: Site) -> Result<(), NoMemory>

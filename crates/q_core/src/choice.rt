@@ -9,10 +9,10 @@ ghost use Rattle.q_model.specs.Ids.{id_eq};
 use crate::decision::Decision;
 use crate::line::Job;
 use crate::names::same_id;
-use crate::slot::Slot;
 use crate::state::Core;
 use q_model::Id;
 use q_params::Params;
+use q_pool::Slot;
 
 /// The jobs behind this one.
 fn jobs_behind(jobs: &[Job], id: Id) -> &[Job]
@@ -200,10 +200,13 @@ impl Core {
         ensures { result ≡ best_in self.now transport behind.now parent.now }
     {
         let mut best = None;
-        let mut i = self.admitted.len();
+        let places = self.admitted.places();
+        let mut i = places.len();
         while i > 0 {
             i -= 1;
-            best = self.better(behind, parent, transport, &self.admitted[i], best);
+            if let Some(entry) = &places[i] {
+                best = self.better(behind, parent, transport, &entry.value.slot, best);
+            }
         }
         best
     }

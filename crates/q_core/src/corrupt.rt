@@ -27,9 +27,11 @@ impl Core {
     pub(crate) fn has_damage(&self, id: Id) -> bool
         ensures { result ≡ is_damaged_in self.now id }
     {
-        self.admitted
-            .iter()
-            .any(|slot| same_id(slot.id, id) && slot.damaged)
+        self.admitted.stand_apart();
+        match self.slot(id) {
+            Some(slot) => slot.damaged,
+            None => false,
+        }
     }
 
     /// Such a message goes to corrupt.

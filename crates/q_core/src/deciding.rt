@@ -52,7 +52,7 @@ impl Core {
             Decision::Bounce { id } => self.apply_bounce(id),
             Decision::Remove { id } => self.apply_remove(id),
             Decision::Corrupt { id, place } => self.apply_corrupt(id, place),
-            Decision::Admit { id, place } => self.apply_admit(id, place)?,
+            Decision::Admit { id, place } => self.apply_admit(id, place),
             Decision::Preempt {
                 child,
                 parent,

@@ -8,10 +8,12 @@ ghost use Rattle.q_model.specs.Sites.{site_eq};
 ghost use Rattle.q_model.specs.Ids.{id_eq};
 ghost use Rattle.q_model.specs.Next.{start_rule};
 
+use crate::counting::begin_flight;
 use crate::flying::add_flight;
 use crate::line::{Job, Line};
 use crate::names::{same_id, same_site};
 use crate::state::Core;
+use crate::touched::{touch_message, touch_site};
 use q_model::{Delivery, Entry, Id, NoMemory, Served, Site};
 
 impl Job {
@@ -96,13 +98,18 @@ impl Core {
 
     /// Sends the row at this place, which is of the message and for the site.
     fn send(&mut self, number: u64, id: Id, site: Site, entry: usize) -> Result<(), NoMemory>
-        requires { entry < length self.old.waiting }
+        requires within { entry < length self.old.waiting }
+        requires next { self.old.starts < number }
         ensures ok { OnOk result (IsSent self.old self.new number id site entry) }
         ensures err { OnErr result (IsUnchanged self.old self.new) }
     {
         self.flights.reserve(1)?;
         note_served(&mut self.served, id, site, number)?;
         let row = self.waiting.remove(entry);
+        touch_message(&mut self.touched_message, row.id);
+        touch_message(&mut self.touched_message, id);
+        touch_site(&mut self.touched_site, &row.site);
+        begin_flight(&mut self.admitted, row.id);
         add_flight(
             &mut self.flights,
             &mut self.flying,
@@ -129,6 +136,9 @@ impl Core {
         let Some(entry) = self.row_for(id, &site) else {
             return Ok(());
         };
+        if number <= self.starts {
+            return Ok(());
+        }
         self.send(number, id, site, entry)?;
         self.count_start(id, &site);
         self.tidy();

@@ -4,10 +4,10 @@ ghost use Rattle.q_core.specs.Held.{due_in, finish_in};
 ghost use Rattle.q_core.specs.Rules.{next_finish_in};
 
 use crate::decision::Decision;
-use crate::slot::Slot;
 use crate::state::Core;
 use q_backoff::due;
 use q_model::{Moment, Place};
+use q_pool::Slot;
 
 impl Core {
     /// When a message that arrived then is due again.

@@ -21,7 +21,7 @@ fn transport_of(delivery: &Delivery) -> u8
     delivery.row.site.transport
 }
 
-fn flight_at(flights: &[Delivery], i: usize) -> &Delivery
+pub(crate) fn flight_at(flights: &[Delivery], i: usize) -> &Delivery
     requires { i < length flights.now }
     ensures { slice_get flights.now i ≡ Some result.now }
 {

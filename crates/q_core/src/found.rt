@@ -5,34 +5,13 @@ ghost use Rattle.q_core.specs.Answers.{IsFound, is_fit, ForRead};
 ghost use Rattle.q_core.specs.Changes.{IsDamageNoted, IsSlotChange};
 ghost use Rattle.q_core.specs.Deciding.{is_answered};
 ghost use Rattle.q_core.specs.Looking.{LeavesFewer};
-ghost use Rattle.q_core.specs.Slots.{changed_at, with_damage};
+ghost use Rattle.q_pool.specs.Slots.{changed_at, with_damage};
 ghost use Rattle.q_model.specs.declared.id.Id.{Id};
 
 use crate::decision::Found;
-use crate::names::same_id;
-use crate::slot::Slot;
 use crate::state::{Core, Question};
+use crate::touched::touch_message;
 use q_model::Id;
-
-impl Slot {
-    /// Notes that a record of the message can't be read, where it is of this id.
-    fn note_damage(&mut self, id: Id)
-        ensures { self.new ≡ changed_at id with_damage self.old }
-    {
-        if same_id(self.id, id) {
-            self.unread = self.recipients;
-            self.damaged = true;
-        }
-    }
-}
-
-fn note_damage(slots: &mut [Slot], id: Id)
-    ensures { slots.new ≡ map (changed_at id with_damage) slots.old }
-{
-    for slot in slots.iter_mut() {
-        slot.note_damage(id);
-    }
-}
 
 impl Core {
     /// A record of the message can't be read: it reads no more, and goes to corrupt once it is
@@ -40,7 +19,8 @@ impl Core {
     fn note_damage(&mut self, id: Id)
         ensures { IsSlotChange self.old self.new id with_damage }
     {
-        note_damage(&mut self.admitted, id);
+        touch_message(&mut self.touched_message, id);
+        self.admitted.damage(id);
     }
 
     fn note_found(&mut self, found: Found)

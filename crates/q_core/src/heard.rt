@@ -5,8 +5,9 @@ ghost use Rattle.q_core.specs.Changes.{IsRevived, IsWoken, asked_when_due, is_lo
 ghost use Rattle.q_model.specs.Step.{after};
 
 use crate::clock::Clock;
-use crate::site_record::{revive_all, revive_due};
+use crate::site_record::{has_due, revive_all, revive_due};
 use crate::state::{Core, Seen};
+use crate::touched::{Touched, touch_all_if};
 use q_model::{Entry, Moment, Trigger};
 
 impl Core {
@@ -29,6 +30,7 @@ impl Core {
     {
         self.clock = Clock::new(moment);
         self.timed = true;
+        touch_all_if(&mut self.touched_site, has_due(&self.sites, moment));
         revive_due(&mut self.sites, &self.flights, &self.params, moment);
     }
 
@@ -56,6 +58,7 @@ impl Core {
     fn revive_all(&mut self)
         ensures { IsRevived self.old self.new }
     {
+        self.touched_site = Touched::Everything;
         revive_all(&mut self.sites, &self.flights, &self.params);
     }
 

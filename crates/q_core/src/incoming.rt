@@ -5,38 +5,17 @@ ghost use Rattle.std.specs.Prelude.{◌≡◌, IsTrue, false, map, true};
 ghost use Rattle.q_core.specs.Agrees.{Follows};
 ghost use Rattle.q_core.specs.Changes.{IsBounced, is_looked_at};
 ghost use Rattle.q_core.specs.Held.{is_admitted_in};
-ghost use Rattle.q_core.specs.Slots.{changed_at, with_bounce};
+ghost use Rattle.q_pool.specs.Slots.{changed_at, with_bounce};
 
 use crate::event::Heard;
-use crate::names::same_id;
-use crate::slot::Slot;
 use crate::state::{Core, Seen};
 use q_model::{Entry, Id};
-
-impl Slot {
-    /// The bounce of the message is stored.
-    fn note_bounce(&mut self, id: Id)
-        ensures { self.new ≡ changed_at id with_bounce self.old }
-    {
-        if same_id(self.id, id) {
-            self.bounced = true;
-        }
-    }
-}
-
-fn note_bounce(slots: &mut [Slot], id: Id)
-    ensures { slots.new ≡ map (changed_at id with_bounce) slots.old }
-{
-    for slot in slots.iter_mut() {
-        slot.note_bounce(id);
-    }
-}
 
 impl Core {
     fn note_bounce(&mut self, id: Id)
         ensures { IsBounced self.old self.new id }
     {
-        note_bounce(&mut self.admitted, id);
+        self.admitted.bounce(id);
         self.incoming = Seen::Unknown;
     }
 

@@ -1,34 +1,30 @@
 //! Idle messages leave memory: they are deferred or removed.
-ghost use Rattle.std.specs.Prelude.{◌≡◌, IsTrue, false, not, true, ℕ};
+ghost use Rattle.std.specs.Prelude.{◌≡◌, IsTrue, false, true, ℕ};
 ghost use Rattle.q_core.specs.Agrees.{Follows};
 ghost use Rattle.q_core.specs.Changes.{IsPutOff, IsSlotRemoved, is_looked_at, slots_without};
-ghost use Rattle.q_core.specs.Held.{is_admitted_in};
-ghost use Rattle.q_model.specs.Ids.{id_eq};
+ghost use Rattle.q_core.specs.Held.{has_rows_in, is_admitted_in};
 
-use crate::names::same_id;
-use crate::slot::Slot;
 use crate::state::{Core, Seen};
+use crate::touched::touch_unread;
 use q_model::{Entry, Id};
 
-fn is_another(slot: &Slot, id: Id) -> bool
-    ensures { result ≡ not (id_eq slot.now.id id) }
-{
-    !same_id(slot.id, id)
-}
-
-/// Takes the message out of those in memory.
-fn drop_slot(slots: &mut Vec<Slot>, id: Id)
-    ensures { slots.new.items ≡ slots_without id slots.old.items }
-{
-    slots.retain(|slot| is_another(slot, id));
-}
-
 impl Core {
+    /// The message, of which no row is left, isn't in memory.
+    fn drop_message(&mut self, id: Id)
+        requires { has_rows_in self.old id ≡ false }
+        ensures { self.new ≡ record self.old { admitted = slots_without id self.old.admitted } }
+    {
+        touch_unread(&mut self.touched_message, &self.admitted, id);
+        self.admitted.remove(id);
+    }
+
     /// The message isn't in memory, and deferred is to be looked at anew.
     fn put_off(&mut self, id: Id)
-        ensures { IsPutOff self.old self.new id }
+        ensures { has_rows_in self.old id ≡ false → IsPutOff self.old self.new id }
     {
-        drop_slot(&mut self.admitted, id);
+        if !self.has_rows(id) {
+            self.drop_message(id);
+        }
         self.deferred = Seen::Unknown;
     }
 
@@ -43,9 +39,11 @@ impl Core {
 
     /// The message isn't in memory, and incoming is to be looked at anew, where its bounce is.
     pub(crate) fn remove_slot(&mut self, id: Id)
-        ensures { IsSlotRemoved self.old self.new id }
+        ensures { has_rows_in self.old id ≡ false → IsSlotRemoved self.old self.new id }
     {
-        drop_slot(&mut self.admitted, id);
+        if !self.has_rows(id) {
+            self.drop_message(id);
+        }
         self.incoming = Seen::Unknown;
     }
 

@@ -3,44 +3,28 @@ ghost use Rattle.std.specs.Prelude.{◌≡◌, ◌+◌, ◌++◌, ◌∷◌, [],
 ghost use Rattle.q_core.specs.Agrees.{ForLedgers};
 ghost use Rattle.q_core.specs.Changes.{IsUnchanged, IsSlotChange, is_looked_at};
 ghost use Rattle.q_core.specs.Deciding.{is_answered, is_reading};
-ghost use Rattle.q_core.specs.Loading.{LoadsAs, AreRowsAdded, read_up, rows_in, may_name, ReadsAs, HasLoaded};
-ghost use Rattle.q_core.specs.Slots.{changed_at};
+ghost use Rattle.q_core.specs.Held.{is_admitted_in};
+ghost use Rattle.q_core.specs.Loading.{AreRowsOf, LoadsAs, AreRowsAdded, rows_in, may_name, ReadsAs, HasLoaded};
+ghost use Rattle.q_pool.specs.Slots.{read_up};
 
+use crate::counting::gain_waiting;
 use crate::grouping::rows_of;
 use crate::joining::{joined_lines, new_sites};
-use crate::names::same_id;
-use crate::slot::Slot;
 use crate::state::{Core, Question};
+use crate::touched::{record_limit, touch_all_if, touch_message};
 use q_model::{Batch, Cursor, Entry, Id, NoMemory, Row, Site};
 use std::alloc::Global;
-
-impl Slot {
-    /// Notes that the message was read up to this position, where it is of this id.
-    fn note_read(&mut self, id: Id, to: u32)
-        ensures { self.new ≡ changed_at id (read_up to) self.old }
-    {
-        if same_id(self.id, id) {
-            self.unread = to;
-        }
-    }
-}
-
-fn note_read(slots: &mut [Slot], id: Id, to: u32)
-    ensures { slots.new ≡ map (changed_at id (read_up to)) slots.old }
-{
-    for slot in slots.iter_mut() {
-        slot.note_read(id, to);
-    }
-}
 
 impl Core {
     /// The rows of the recipients that were read, whose sites were named.
     fn read_rows(&self, alloc: Global, id: Id, taken: &Batch) -> Result<Vec<Row>, NoMemory>
-        ensures { IfOk result (λ rows. rows.items
+        ensures rows { IfOk result (λ rows. rows.items
             ≡ rows_in self.now.params.entry_limit id [] taken.now.items self.now.named) }
+        ensures own { IfOk result (λ rows. AreRowsOf id rows.items) }
     {
         let limit = self.params.default_destination_recipient_limit;
-        rows_of(alloc, limit, id, taken, &self.named)
+        let rows = rows_of(alloc, limit, id, taken, &self.named)?;
+        Ok(rows)
     }
 
     /// So many recipients more are in memory, within the limit.
@@ -56,11 +40,14 @@ impl Core {
     fn note_read(&mut self, id: Id, to: u32)
         ensures { IsSlotChange self.old self.new id (read_up to) }
     {
-        note_read(&mut self.admitted, id, to);
+        touch_message(&mut self.touched_message, id);
+        self.admitted.read(id, to);
     }
 
-    /// Takes the rows of the message in.
+    /// Takes the rows of the message in, which is in memory.
     fn add_rows(&mut self, alloc: Global, id: Id, rows: Vec<Row>) -> Result<(), NoMemory>
+        requires own { AreRowsOf id rows.items }
+        requires there { is_admitted_in self.old id ≡ true }
         ensures ok { OnOk result (AreRowsAdded self.old self.new id rows.items) }
         ensures err { OnErr result (IsUnchanged self.old self.new) }
     {
@@ -68,9 +55,14 @@ impl Core {
         let mut fresh = new_sites(alloc, &self.sites, &rows, &self.params)?;
         let lines = joined_lines(alloc, &self.lines, id, &rows)?;
         self.sites.reserve(fresh.len())?;
+        let count = rows.len() as u64;
         self.waiting.append(&mut rows)?;
+        gain_waiting(&mut self.admitted, id, count);
         let _ = self.sites.append(&mut fresh);
         self.lines = lines;
+        let many = self.sites.len() > record_limit(&self.params);
+        touch_message(&mut self.touched_message, id);
+        touch_all_if(&mut self.touched_site, many);
         Ok(())
     }
 
@@ -122,6 +114,7 @@ impl Core {
     }
 
     fn load(&mut self, alloc: Global, id: Id, to: u32, taken: &Batch) -> Result<(), NoMemory>
+        requires { is_admitted_in self.old id ≡ true }
         ensures ok { OnOk result (HasLoaded self.old self.new id to taken.now.items) }
         ensures err { OnErr result (IsUnchanged self.old self.new) }
     {
@@ -143,6 +136,9 @@ impl Core {
         let Question::Recipients { id, .. } = self.question else {
             return Ok(());
         };
+        if !self.has_slot(id) {
+            return Ok(());
+        }
         self.load(alloc, id, to, taken)?;
         self.tidy();
         Ok(())

@@ -1,73 +1,21 @@
 //! Outcomes come to disk: a failure is logged, a recipient is marked.
-ghost use Rattle.std.specs.Prelude.{◌≡◌, ◌<◌, ◌-◌, IsTrue, drop, length, map, ℕ};
+ghost use Rattle.std.specs.Prelude.{◌≡◌, ◌<◌, ◌-◌, IsTrue, drop, length, ℕ};
 ghost use Rattle.q_core.specs.Agrees.{FollowsRule};
 ghost use Rattle.q_core.specs.Changes.{IsSlotChange, IsUnsettledChange, is_looked_at};
-ghost use Rattle.q_core.specs.Slots.{changed_at, with_log, with_slot_mark};
+ghost use Rattle.q_pool.specs.Slots.{with_log, with_slot_mark};
 ghost use Rattle.q_model.specs.Logs.{first_logged};
 ghost use Rattle.q_model.specs.Next.{settling_rule};
 ghost use Rattle.q_model.specs.declared.outcome.Failure.{Failure};
 
-use crate::names::same_id;
-use crate::slot::Slot;
+use crate::counting::lose_unsettled;
 use crate::state::{Core, Seen};
 use q_model::{Entry, Id, Need};
-
-impl Slot {
-    /// A failure of a pending recipient is logged.
-    fn note_log(&mut self, id: Id)
-        ensures { self.new ≡ changed_at id with_log self.old }
-    {
-        if same_id(self.id, id) {
-            self.pending = self.pending.saturating_sub(1);
-            self.logged = true;
-            self.failed = true;
-        }
-    }
-
-    /// The recipient that is logged, or else a pending one, is marked.
-    fn add_mark(&mut self)
-        ensures { self.new ≡ with_slot_mark self.old }
-    {
-        if self.marks < self.recipients {
-            self.marks += 1;
-        }
-        if self.logged {
-            self.logged = false;
-        } else {
-            self.pending = self.pending.saturating_sub(1);
-        }
-    }
-
-    fn note_mark(&mut self, id: Id)
-        ensures { self.new ≡ changed_at id with_slot_mark self.old }
-    {
-        if same_id(self.id, id) {
-            self.add_mark();
-        }
-    }
-}
-
-fn note_log(slots: &mut [Slot], id: Id)
-    ensures { slots.new ≡ map (changed_at id with_log) slots.old }
-{
-    for slot in slots.iter_mut() {
-        slot.note_log(id);
-    }
-}
-
-fn note_mark(slots: &mut [Slot], id: Id)
-    ensures { slots.new ≡ map (changed_at id with_slot_mark) slots.old }
-{
-    for slot in slots.iter_mut() {
-        slot.note_mark(id);
-    }
-}
 
 impl Core {
     fn note_log(&mut self, id: Id)
         ensures { IsSlotChange self.old self.new id with_log }
     {
-        note_log(&mut self.admitted, id);
+        self.admitted.log(id);
     }
 
     /// The first outcome needs its mark next.
@@ -94,7 +42,7 @@ impl Core {
     fn note_mark(&mut self, id: Id)
         ensures { IsSlotChange self.old self.new id with_slot_mark }
     {
-        note_mark(&mut self.admitted, id);
+        self.admitted.mark(id);
     }
 
     /// The first outcome is settled.
@@ -103,7 +51,8 @@ impl Core {
         ensures change { IsUnsettledChange self.old self.new (drop 1 self.old.unsettled) }
         ensures memory { self.new.in_memory ≡ self.old.in_memory - 1 }
     {
-        self.unsettled.remove(0);
+        let first = self.unsettled.remove(0);
+        lose_unsettled(&mut self.admitted, first.id, 1);
         self.in_memory = self.in_memory.saturating_sub(1);
     }
 

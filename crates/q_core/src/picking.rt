@@ -1,13 +1,14 @@
 //! The next file is picked from incoming or deferred, by turns.
-ghost use Rattle.std.specs.Prelude.{◌≡◌, IsTrue, OnErr, OnOk, false, true};
+ghost use Rattle.std.specs.Prelude.{◌≡◌, ◌<◌, ◌++◌, [], ◌∷◌, IsTrue, false, length, true};
 ghost use Rattle.q_core.specs.Agrees.{Follows};
-ghost use Rattle.q_core.specs.Changes.{IsUnchanged, is_known, is_looked_at};
+ghost use Rattle.q_core.specs.Changes.{is_known, is_looked_at};
+ghost use Rattle.q_core.specs.Held.{is_admitted_in};
 ghost use Rattle.q_core.specs.Picking.{IsEntered, found_name, found_slot, from_deferred_in, scan_moved_on, passed_in, picked_in, scanned_in, shown, IsHidden};
 
 use crate::decision::Found;
-use crate::slot::Slot;
 use crate::state::{Core, Seen};
-use q_model::{DeferredName, Entry, Id, NoMemory, Scan};
+use q_model::{DeferredName, Entry, Id, Scan};
+use q_pool::Slot;
 
 impl Seen {
     /// What the look has shown.
@@ -141,26 +142,37 @@ impl Core {
     }
 
     /// The message comes last of those in memory.
-    fn enter(&mut self, found: Found) -> Result<(), NoMemory>
-        ensures ok { OnOk result (IsEntered self.old self.new found) }
-        ensures err { OnErr result (IsUnchanged self.old self.new) }
+    fn add_message(&mut self, slot: Slot)
+        requires absent { is_admitted_in self.old slot.id ≡ false }
+        requires room { length self.old.admitted < self.old.params.active_limit }
+        ensures { self.new ≡ record self.old { admitted = self.old.admitted ++ slot ∷ [] } }
     {
-        self.admitted.push(found.slot())?;
-        Ok(())
+        self.admitted.push(slot);
+    }
+
+    /// The message comes last of those in memory, if it isn't among them and they have room.
+    fn enter(&mut self, found: Found)
+        ensures { is_admitted_in self.old (found_slot found).id ≡ false
+            → length self.old.admitted < self.old.params.active_limit
+            → IsEntered self.old self.new found }
+    {
+        let slot = found.slot();
+        let room = self.params.qmgr_message_active_limit as usize;
+        if !self.has_slot(slot.id) && self.admitted.len() < room {
+            self.add_message(slot);
+        }
     }
 
     /// The message that is next comes into memory.
-    pub(crate) fn admit(&mut self) -> Result<(), NoMemory>
+    pub(crate) fn admit(&mut self)
         requires { IsTrue (is_looked_at self.old) }
-        ensures ok { OnOk result ((id : Id) → is_known self.old.incoming ≡ true
-            → Follows self.old self.new (Entry.Admit id)) }
-        ensures err { OnErr result (IsUnchanged self.old self.new) }
+        ensures { (id : Id) → is_known self.old.incoming ≡ true
+            → Follows self.old self.new (Entry.Admit id) }
     {
         let found = self.picked();
         let from_deferred = self.picks_deferred();
-        self.enter(found)?;
+        self.enter(found);
         self.pass_turn(from_deferred, found.name());
         self.tidy();
-        Ok(())
     }
 }

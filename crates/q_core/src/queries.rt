@@ -15,10 +15,10 @@ ghost use Rattle.q_model.specs.Times.{is_expired};
 
 use crate::names::{same_id, same_site};
 use crate::site_record::WideSiteRecord;
-use crate::slot::Slot;
 use crate::state::{Core, Question};
 use q_backoff::expired;
 use q_model::{Delivery, Id, Moment, Row, Site};
+use q_pool::Slot;
 use std::marker::Model;
 
 /// The message and the site of a delivery in flight. A contract sees it as the record of

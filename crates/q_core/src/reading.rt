@@ -5,8 +5,8 @@ ghost use Rattle.q_core.specs.Held.{free_in, may_read_in};
 ghost use Rattle.q_core.specs.Rules.{next_read_in};
 
 use crate::decision::Decision;
-use crate::slot::Slot;
 use crate::state::Core;
+use q_pool::Slot;
 
 impl Core {
     /// How many more recipients may come into memory.
@@ -17,19 +17,15 @@ impl Core {
         limit.saturating_sub(self.in_memory) as u32
     }
 
-    /// Whether recipients of the message are to be read now.
-    fn may_read(&self, slot: &Slot) -> bool
-        ensures { result ≡ may_read_in self.now slot.now }
-    {
-        let unread = slot.recipients.saturating_sub(slot.unread);
-        let least = self.params.qmgr_message_recipient_minimum.min(unread);
-        unread > 0 && !self.has_waiting(slot.id) && least <= self.free()
-    }
-
+    /// The first message in memory of which recipients are to be read now.
     fn first_to_read(&self) -> Option<&Slot>
         ensures { option_copied result ≡ find (may_read_in self.now) self.now.admitted }
     {
-        self.admitted.iter().find(|slot| self.may_read(slot))
+        self.admitted.stand_apart();
+        match self.admitted.first_to_read(self.free()) {
+            Some(kept) => Some(&kept.slot),
+            None => None,
+        }
     }
 
     pub(crate) fn next_read(&self) -> Option<Decision>

@@ -4,10 +4,12 @@ ghost use Rattle.q_core.specs.Agrees.{FollowsAllowed};
 ghost use Rattle.q_core.specs.Changes.{IsUnchanged, is_looked_at};
 ghost use Rattle.q_core.specs.Leaving.{AreAdded, IsSiteHeard, IsLanded, replied_in};
 
+use crate::counting::{end_flight, gain_unsettled};
 use crate::flying::recount;
 use crate::needs::needs;
 use crate::site_record::busy;
 use crate::state::Core;
+use crate::touched::{touch_landed, touch_site};
 use crate::window::hear_state;
 use q_model::{Delivery, Entry, NoMemory, Outcome, Site, SiteState, Unsettled};
 use std::alloc::Global;
@@ -57,7 +59,9 @@ impl Core {
         let site = delivery.row.site;
         let needs = self.outcome_needs(alloc, delivery, outcomes)?;
         let done = delivery.row.positions.len().saturating_sub(needs.len());
+        let id = delivery.row.id;
         self.unsettled.extend_from_slice(&needs)?;
+        gain_unsettled(&mut self.admitted, id, needs.len() as u64);
         self.in_memory = self.in_memory.saturating_sub(done as u64);
         Ok(Some(site))
     }
@@ -66,6 +70,7 @@ impl Core {
     fn hear_site(&mut self, site: &Site, state: SiteState)
         ensures { IsSiteHeard self.old self.new site.now state }
     {
+        touch_site(&mut self.touched_site, site);
         let deliveries = busy(&self.flights, site) as u64;
         hear_state(
             &mut self.sites,
@@ -80,7 +85,13 @@ impl Core {
     fn land(&mut self, number: u64)
         ensures { IsLanded self.old self.new number }
     {
+        let Some(delivery) = self.delivery(number) else {
+            return;
+        };
+        let id = delivery.row.id;
+        touch_landed(&mut self.touched_site, &self.flights, number);
         land(&mut self.flights, number);
+        end_flight(&mut self.admitted, id);
         recount(&mut self.flying, &self.flights);
     }
 

@@ -1,6 +1,6 @@
 //! What the core knows of sites.
 ghost use Rattle.std.specs.Prelude.{◌≡◌, ◌<◌, ◌&&◌, ◌++◌, [], ◌∷◌, filter, length, map, nat_lt, not, position, Some};
-ghost use Rattle.std.specs.List.{remove};
+ghost use Rattle.std.specs.List.{list_any, remove};
 ghost use Rattle.q_core.specs.Lists.{moved_back, AtPlace};
 ghost use Rattle.q_core.specs.UsedSites.{busy_in, forget_in, is_kept_dead_in, is_kept_in, is_left_in, is_unused_in, revive_dead_in, revive_due_in, used_in, waits_at_in};
 ghost use Rattle.q_model.specs.Lists.{drop_first};
@@ -138,10 +138,17 @@ fn waits_at(waiting: &[Row], site: &Site) -> bool
 }
 
 /// Whether nothing waits for the site, and nothing is in flight.
-fn is_unused(waiting: &[Row], flights: &[Delivery], site: &Site) -> bool
+pub(crate) fn is_unused(waiting: &[Row], flights: &[Delivery], site: &Site) -> bool
     ensures { result ≡ is_unused_in waiting.now flights.now site.now }
 {
     !waits_at(waiting, site) && busy(flights, site) == 0
+}
+
+/// Whether the time of a dead site has come.
+pub(crate) fn has_due(sites: &[WideSiteRecord], moment: Moment) -> bool
+    ensures { result ≡ list_any (λ r. is_due moment r.health) sites.now }
+{
+    sites.iter().any(|noted| noted.is_due(moment))
 }
 
 /// Revives the dead sites whose time has come.
@@ -231,7 +238,7 @@ pub(crate) fn forget_oldest(
 fn is_left(waiting: &[Row], flights: &[Delivery], site: &Site, noted: &WideSiteRecord) -> bool
     ensures { result ≡ is_left_in waiting.now flights.now site.now noted.now }
 {
-    is_unused(waiting, flights, noted.site()) && same_site(noted.site(), site)
+    same_site(noted.site(), site) && is_unused(waiting, flights, noted.site())
 }
 
 fn first_left(

@@ -4,8 +4,10 @@ ghost use Rattle.q_core.specs.Lists.{AtPlace};
 ghost use Rattle.q_core.specs.Changes.{IsUnchanged, is_looked_at};
 ghost use Rattle.q_core.specs.Leaving.{IsFirstDead, IsLastSkip, IsUnqueued, put_off_in, SkipsRowAt};
 
+use crate::counting::put_off_row;
 use crate::needs::put_off;
 use crate::state::Core;
+use crate::touched::{touch_message, touch_site};
 use q_model::{Entry, Id, NoMemory, Positions, Row, Site, Unsettled};
 use std::alloc::Global;
 
@@ -30,6 +32,9 @@ impl Core {
         let needs = self.row_needs(alloc, entry)?;
         self.unsettled.extend_from_slice(&needs)?;
         let row = self.waiting.remove(entry);
+        touch_message(&mut self.touched_message, row.id);
+        touch_site(&mut self.touched_site, &row.site);
+        put_off_row(&mut self.admitted, row.id, needs.len() as u64);
         let done = row.positions.len().saturating_sub(needs.len());
         self.in_memory = self.in_memory.saturating_sub(done as u64);
         Ok(row)

@@ -13,12 +13,13 @@ use crate::flying::Flying;
 use crate::line::{Line, empty_lines};
 use crate::names::{same_id, same_site};
 use crate::site_record::WideSiteRecord;
-use crate::slot::Slot;
+use crate::touched::Touched;
 use q_model::{
     Delivery, Entry, Id, Mode, Moment, NoMemory, Positions, Request, Row, Scan, Served, Site,
     Unsettled,
 };
 use q_params::Params;
+use q_pool::{Pool, Slot};
 use std::alloc::Global;
 use std::marker::Model;
 
@@ -53,7 +54,7 @@ pub struct Core {
     pub(crate) asked: Option<Request>,
     pub(crate) ignores: bool,
     pub(crate) deferred_turn: bool,
-    pub(crate) admitted: Vec<Slot>,
+    pub(crate) admitted: Pool,
     pub(crate) waiting: Vec<Row>,
     pub(crate) flights: Vec<Delivery>,
     /// How many of them are at each transport.
@@ -75,6 +76,9 @@ pub struct Core {
     /// The number of the row that was put off last, 0 for none, and its positions.
     pub(crate) skips: u32,
     pub(crate) skipped: Positions,
+    /// What entries touched since the core was tidied.
+    pub(crate) touched_message: Touched<Id>,
+    pub(crate) touched_site: Touched<Site>,
 }
 
 impl Model for Core {
@@ -86,9 +90,14 @@ impl Model for Core {
 
     ghost view = { state_of };
 
-    ghost use Rattle.q_core.specs.Counted.{IsCounted};
+    ghost use Rattle.q_core.specs.Ties.{AreTied};
+    ghost use Rattle.q_core.specs.Touched.{IsTidyBut};
+    ghost use Rattle.q_pool.specs.Kept.{heads};
 
-    ghost invariant = { λ a. IsCounted a.flights.items a.flying };
+    ghost invariant = { λ a. AreTied a.params a.admitted a.waiting.items a.flights.items
+        a.unsettled.items a.flying a.starts
+        × IsTidyBut a.touched_message a.touched_site a.params.recipient_limit (heads a.admitted.items)
+        a.waiting.items a.flights.items a.lines.items a.served.items a.sites.items };
 }
 
 impl Core {
@@ -104,6 +113,12 @@ impl Core {
         ensures looked { IfOk result (λ core. is_looked_at core ≡ true) }
     {
         let lines = empty_lines(alloc, transports)?;
+        let admitted = Pool::new(
+            alloc,
+            params.qmgr_message_active_limit,
+            params.mark_sync_limit,
+            params.qmgr_message_recipient_minimum,
+        )?;
         Ok(Core {
             params,
             transports,
@@ -115,7 +130,7 @@ impl Core {
             asked: None,
             ignores: false,
             deferred_turn: false,
-            admitted: Vec::new(alloc),
+            admitted,
             waiting: Vec::new(alloc),
             flights: Vec::new(alloc),
             flying: [0; 256],
@@ -133,6 +148,8 @@ impl Core {
             named: Vec::new(alloc),
             skips: 0,
             skipped: Positions::new(alloc),
+            touched_message: Touched::Nothing,
+            touched_site: Touched::Nothing,
         })
     }
 
@@ -140,7 +157,10 @@ impl Core {
     pub(crate) fn slot(&self, id: Id) -> Option<&Slot>
         ensures { option_copied result ≡ slot_in self.now id }
     {
-        self.admitted.iter().find(|slot| same_id(slot.id, id))
+        match self.admitted.get(id) {
+            Some(kept) => Some(&kept.slot),
+            None => None,
+        }
     }
 
     /// What is known of this site.

@@ -4,28 +4,34 @@ ghost use Rattle.std.specs.List.{enumerate_from};
 ghost use Rattle.std.specs.Option.{IfNone, option_copied};
 ghost use Rattle.q_core.specs.Changes.{HasLeftSite, IsTidied};
 ghost use Rattle.q_core.specs.declared.line.Job.{Job as JobOf};
+ghost use Rattle.q_pool.specs.Kept.{heads};
 ghost use Rattle.q_core.specs.Tidied.{leaves_among, tidied_jobs, tidied_line, tidied_served, slot_among, stays_among, unread_among, waits_at_site, waits_for};
 
 use crate::line::{Job, Line};
 use crate::names::{behind_rows, same_id, same_site};
 use crate::preempting::remove_job;
-use crate::site_record::{drop_unused, forget_oldest, put_last};
-use crate::slot::Slot;
+use crate::site_record::put_last;
 use crate::state::Core;
+use crate::tidy_touched::{tidy_touched_lines, tidy_touched_served, tidy_touched_sites};
+use crate::touched::{Touched, record_limit, touched_beyond};
 use q_model::{Id, Row, Served, Site};
+use q_pool::{Pool, Slot};
 
-fn slot(admitted: &[Slot], id: Id) -> Option<&Slot>
-    ensures { option_copied result ≡ slot_among admitted.now id }
+fn slot(admitted: &Pool, id: Id) -> Option<&Slot>
+    ensures { option_copied result ≡ slot_among (heads admitted.now.items) id }
 {
-    admitted.iter().find(|slot| same_id(slot.id, id))
+    match admitted.get(id) {
+        Some(kept) => Some(&kept.slot),
+        None => None,
+    }
 }
 
 /// How many positions of the message weren't read.
-fn unread(admitted: &[Slot], id: Id) -> u32
-    ensures { result ≡ unread_among admitted.now id }
+pub(crate) fn unread(admitted: &Pool, id: Id) -> u32
+    ensures { result ≡ unread_among (heads admitted.now.items) id }
 {
     match slot(admitted, id) {
-        Some(slot) => slot.recipients.saturating_sub(slot.unread),
+        Some(slot) => slot.unread_count(),
         None => 0,
     }
 }
@@ -47,8 +53,8 @@ fn waits_at(waiting: &[Row], id: Id, site: &Site) -> bool
 }
 
 /// Whether the message has something left at the transport.
-fn stays(admitted: &[Slot], waiting: &[Row], id: Id, transport: usize) -> bool
-    ensures { result ≡ stays_among admitted.now waiting.now transport id }
+pub(crate) fn stays(admitted: &Pool, waiting: &[Row], id: Id, transport: usize) -> bool
+    ensures { result ≡ stays_among (heads admitted.now.items) waiting.now transport id }
 {
     waits_for(waiting, id, transport) || unread(admitted, id) != 0
 }
@@ -72,17 +78,12 @@ fn job_at(jobs: &[Job], place: usize) -> Job
 
 /// The place of the first job that has nothing left. Rows wait in the order of the jobs for the
 /// most part, so that the row of most is at hand where it is looked for first.
-fn first_to_leave(
-    jobs: &[Job],
-    admitted: &[Slot],
-    waiting: &[Row],
-    transport: usize,
-) -> Option<usize>
+fn first_to_leave(jobs: &[Job], admitted: &Pool, waiting: &[Row], transport: usize) -> Option<usize>
     ensures none { IfNone result
-        (find (leaves_among admitted.now waiting.now transport) jobs.now ≡ None) }
+        (find (leaves_among (heads admitted.now.items) waiting.now transport) jobs.now ≡ None) }
     ensures within { IfSome result (λ i. i < length jobs.now) }
     ensures leaves { IfSome result (λ i. (j : JobOf) → slice_get jobs.now i ≡ Some j
-        → IsTrue (leaves_among admitted.now waiting.now transport j)) }
+        → IsTrue (leaves_among (heads admitted.now.items) waiting.now transport j)) }
 {
     let mut place = 0;
     for i in 0..jobs.len() {
@@ -97,8 +98,9 @@ fn first_to_leave(
 }
 
 /// Takes the jobs that have nothing left out of the line: one leaves at a time, for the most part.
-fn tidy_jobs(jobs: &mut Vec<Job>, admitted: &[Slot], waiting: &[Row], transport: usize)
-    ensures { jobs.new.items ≡ tidied_jobs admitted.now waiting.now transport jobs.old.items }
+fn tidy_jobs(jobs: &mut Vec<Job>, admitted: &Pool, waiting: &[Row], transport: usize)
+    ensures { jobs.new.items ≡ tidied_jobs (heads admitted.now.items) waiting.now transport
+        jobs.old.items }
 {
     while let Some(place) = first_to_leave(jobs, admitted, waiting, transport) {
         let _ = remove_job(jobs, place);
@@ -106,30 +108,31 @@ fn tidy_jobs(jobs: &mut Vec<Job>, admitted: &[Slot], waiting: &[Row], transport:
 }
 
 impl Line {
-    fn tidy(&mut self, admitted: &[Slot], waiting: &[Row], transport: usize)
-        ensures { self.new ≡ tidied_jobs admitted.now waiting.now transport self.old }
+    fn tidy(&mut self, admitted: &Pool, waiting: &[Row], transport: usize)
+        ensures { self.new ≡ tidied_jobs (heads admitted.now.items) waiting.now transport self.old }
     {
         tidy_jobs(&mut self.jobs, admitted, waiting, transport);
     }
 }
 
 /// Takes the jobs that have nothing left out of the lines.
-fn tidy_lines(lines: &mut [Line], admitted: &[Slot], waiting: &[Row])
-    ensures { lines.new ≡ map (tidied_line admitted.now waiting.now) (enumerate_from 0 lines.old) }
+pub(crate) fn tidy_lines(lines: &mut [Line], admitted: &Pool, waiting: &[Row])
+    ensures { lines.new ≡ map (tidied_line (heads admitted.now.items) waiting.now)
+        (enumerate_from 0 lines.old) }
 {
     for (transport, line) in lines.iter_mut().enumerate() {
         line.tidy(admitted, waiting, transport);
     }
 }
 
-fn has_row(served: &Served, waiting: &[Row]) -> bool
+pub(crate) fn has_row(served: &Served, waiting: &[Row]) -> bool
     ensures { result ≡ waits_at_site waiting.now served.now.id served.now.site }
 {
     waits_at(waiting, served.id, &served.site)
 }
 
 /// Forgets when a message was served at a site where it has no row any more.
-fn tidy_served(served: &mut Vec<Served>, waiting: &[Row])
+pub(crate) fn tidy_served(served: &mut Vec<Served>, waiting: &[Row])
     ensures { served.new.items ≡ tidied_served waiting.now served.old.items }
 {
     served.retain(|last| has_row(last, waiting));
@@ -147,10 +150,12 @@ impl Core {
     pub(crate) fn tidy(&mut self)
         ensures { IsTidied self.old self.new }
     {
-        tidy_lines(&mut self.lines, &self.admitted, &self.waiting);
-        tidy_served(&mut self.served, &self.waiting);
-        drop_unused(&mut self.sites, &self.waiting, &self.flights);
-        let limit = self.params.qmgr_message_recipient_limit as usize;
-        forget_oldest(&mut self.sites, &self.waiting, &self.flights, limit);
+        let limit = record_limit(&self.params);
+        let (message, site) = (&self.touched_message, &self.touched_site);
+        tidy_touched_lines(&mut self.lines, message, &self.admitted, &self.waiting);
+        tidy_touched_served(&mut self.served, message, &self.waiting);
+        tidy_touched_sites(&mut self.sites, site, &self.waiting, &self.flights, limit);
+        self.touched_message = Touched::Nothing;
+        self.touched_site = touched_beyond(&self.sites, limit);
     }
 }

@@ -40,4 +40,5 @@ pub mod PollTurns
 pub mod PollingAll
 pub mod TurnsOn
 pub mod Exiting
+pub mod Causes
 mod WorkedDrain

@@ -32,3 +32,4 @@ pub mod Speaking
 pub mod StartedEntries
 pub mod StoredNotes
 pub mod Turns
+pub mod Causes

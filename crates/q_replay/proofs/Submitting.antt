@@ -1,11 +1,12 @@
 -- A submission, item after item.
-use Rattle.std.proofs.Common.{◌≡◌, ◌≤◌, inl, inr, arith, ℕ, false, true, List, [], ◌∷◌, ◌++◌, Some, None, sym, subst}
-use Rattle.std.specs.Prelude.{Err, IfErr, IfOk, Ok, Result}
+use Rattle.std.proofs.Common.{◌≡◌, ◌≤◌, ap, inl, inr, arith, ℕ, false, true, List, [], ◌∷◌, ◌++◌, Some, None, sym, subst}
+use Rattle.std.specs.Prelude.{Err, IfErr, IfOk, IsErrOf, Ok, Result}
 use Rattle.q_books.specs.HostStands.{HostStands, TellsCrashes}
 use Rattle.q_engine.specs.Stands.{EngineStands}
 use Rattle.q_engine.specs.declared.engine.Engine.{Engine}
 use Rattle.q_events.specs.Readings.{is_list_end}
 use Rattle.q_events.specs.declared.item.Item.{Item as ListItem}
+use Rattle.q_host.specs.Faults.{Faults}
 use Rattle.q_host.specs.View.{View}
 use Rattle.q_model.specs.Book.{Book}
 use Rattle.q_model.specs.FaultCounts.{Rose}
@@ -16,8 +17,9 @@ use Rattle.q_model.specs.declared.event.Mode.{Mode}
 use Rattle.q_replay.specs.Listings.{gives, Listing}
 use Rattle.q_replay.specs.Reading.{event_of, read_items, TakenItems}
 use Rattle.q_replay.specs.RunEnds.{IsTold, RunEnds}
-use Rattle.q_replay.specs.Takings.{GivesUpItem, NotTaken, TakesItem, TookItem}
+use Rattle.q_replay.specs.Takings.{GivesUpItem, NotTaken, ReplayCause, TakesItem, TookItem}
 use Rattle.q_replay.specs.declared.error.ReplayError.{ReplayError}
+use Rattle.q_replay.specs.declared.error.ReplayError.TheVariants.{Disk, Tell}
 use Rattle.q_replay.proofs.Readings.{ledger_more, ledger_none, ledger_on}
 use Rattle.q_replay.proofs.RunSteps.{at_first, IsAt, last_ends, none_told, taken_next, told_more, untaken_ends}
 
@@ -72,3 +74,15 @@ ends_so (Err error) R ok err p q = err error q
 pub rose_later : (a b c : ℕ) → a ≤ b → Rose b c → Rose a c
 rose_later a b c le (inl less) = inl (omega (arith, le, less))
 rose_later a b c le (inr full) = inr full
+
+refused_as : {T S : Type 0} (inner e : ReplayError) → IsErrOf {T = T} (Err inner) e → IsErrOf {T = S} (Err inner) e
+refused_as inner e of = let same : inner ≡ e = cc in ap (λ (y : ReplayError). Err y) same
+
+-- a refusal has the cause that it had, where no count fell before
+pub cause_on : {T S : Type 0} (a b c : Faults) (inner : ReplayError) → a.disk ≤ b.disk → a.tell ≤ b.tell → ReplayCause {T = S} b c (Err inner) → ReplayCause {T = T} a c (Err inner)
+cause_on a b c inner disk tell h = record {
+  disk_later = omega (arith, disk, h.disk_later);
+  tell_later = omega (arith, tell, h.tell_later);
+  disk = λ is. rose_later a.disk b.disk c.disk disk (h.disk (refused_as inner Disk is));
+  tell = λ is. rose_later a.tell b.tell c.tell tell (h.tell (refused_as inner Tell is));
+}

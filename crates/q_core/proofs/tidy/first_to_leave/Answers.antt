@@ -1,6 +1,7 @@
 use Rattle.std.proofs.Common.{◌≡◌, ◌∙◌, ◌||◌, ◌==◌, ap, Bool, false, not, refl, sym, true}
 use Rattle.q_core.specs.Tidied.{leaves_among, unread_among, waits_for}
 use Rattle.q_core.proofs.AtHandLaws.{find_further}
+use Rattle.q_pool.specs.Kept.{heads}
 use Rattle.q_core.proofs.tidy.first_to_leave.Goals.{then-waits_at_place, else-waits_at_place+else-not-stays}
 use Rattle.q_core.proofs.tidy.first_to_leave.Goals as goal
 
@@ -10,7 +11,7 @@ waits false w h = ap not h
 
 pub loop-i-preserved : goal.loop-i-preserved
 loop-i-preserved c =
-    let admitted = c.args.admitted.now in
+    let admitted = (heads c.args.admitted.now.items) in
     let waiting = c.args.waiting.now in
     let p = leaves_among admitted waiting c.args.transport in
     let id = c.job_at.result.id in

@@ -1,12 +1,13 @@
-use Rattle.std.proofs.Common.{◌≤◌, [], Option, ap, rules, subst, sym}
+use Rattle.std.proofs.Common.{◌≡◌, ◌≤◌, ◌∙◌, [], Option, arith, ap, rules, subst, sym}
 use Rattle.std.specs.List.{AllByRecursion}
 use Rattle.std.specs.Prelude.{◌^◌}
 use Rattle.q_agent.specs.Answers.{IsStanding, Turned}
 use Rattle.q_agent.specs.Sessions.{next_polled}
 use Rattle.q_agent.specs.declared.report.Report.{Report}
 use Rattle.q_books.specs.HostStands.{TellsCrashes}
+use Rattle.q_drain.proofs.Causes.{cause_behind, disk_passed}
 use Rattle.q_drain.proofs.PollTurns.{ends_poll, fills_up, keeps_some, may_open_more, may_poll, opening_fails, poll_fails, polls_less, polls_on, reply_fails, reply_fits, served_on, served_replied, stands_still}
-use Rattle.q_drain.proofs.Polls.{some_unpolled, turned_over}
+use Rattle.q_drain.proofs.Polls.{some_unpolled, turned_over, turned_rests}
 use Rattle.q_engine.proofs.DecisionLoops.{same_error}
 use Rattle.q_model.specs.Step.{after_all}
 use Rattle.q_drain.proofs.poll.poll_next.Goals as goal
@@ -179,3 +180,28 @@ returns-then-last_number-ge-DELIVERIES-clause-ok g c t w l a clock early fs s kn
     let e = ends_poll w l a clock u v hops next engine agent c.turn.new.self early fs s g.H.Host.tells c.now.result o.0 c.in-Some.report lawful (c.turn.ensures.stays t) o.1 t c.now.ensures.ledger turned h in
     let full : 2 ^ 48 ≤ c.last_number.result = search rules in
     fills_up w l a clock u v hops next engine agent early fs s o.0 c.in-Some.report e c.last_number.result c.last_number.ensures full
+
+pub returns-in_err-report-clause-cause : goal.returns-in_err-report-clause-cause
+returns-in_err-report-clause-cause g c = disk_passed (g.H.Host.faults c.args.host.now) (g.H.Host.faults c.turn.new.host) c.in_err-report.field-0.0 c.from_residual.result c.from_residual.ensures.1 c.in_err-report.ensures.cause
+
+pub returns-then-last_number-ge-DELIVERIES-clause-rests : goal.returns-then-last_number-ge-DELIVERIES-clause-rests
+returns-then-last_number-ge-DELIVERIES-clause-rests g c =
+    turned_rests g.H.Host.tells (g.H.Host.view c.args.host.now) c.now.result (g.N.Hops.view c.args.hops.now) (g.N.Hops.view c.turn.new.hops) (next_polled c.args.agent.now) c.in_ok-report.field-0 c.args.agent.now c.turn.new.self c.in_ok-report.ensures.ok
+
+pub returns-in_err-known-clause-rests : goal.returns-in_err-known-clause-rests
+returns-in_err-known-clause-rests g c = c.open_started.ensures.rests
+    ∙ turned_rests g.H.Host.tells (g.H.Host.view c.args.host.now) c.now.result (g.N.Hops.view c.args.hops.now) (g.N.Hops.view c.turn.new.hops) (next_polled c.args.agent.now) c.in_ok-report.field-0 c.args.agent.now c.turn.new.self c.in_ok-report.ensures.ok
+
+pub returns-in_err-known-clause-cause : goal.returns-in_err-known-clause-cause
+returns-in_err-known-clause-cause g c =
+    let a = g.H.Host.faults c.args.host.now in
+    let b = g.H.Host.faults c.tell_reply.new.host in
+    let turned = c.in_ok-report.ensures.cause in
+    let replied = c.in_ok-engine.ensures.cause in
+    cause_behind a b (g.H.Host.faults c.open_started.new.host) c.from_residual-in_err-known.result
+    (omega (arith, turned.disk_later, replied.disk_later)) (omega (arith, turned.tell_later, replied.tell_later))
+    (disk_passed b (g.H.Host.faults c.open_started.new.host) c.in_err-known.field-0.0 c.from_residual-in_err-known.result c.from_residual-in_err-known.ensures.1 c.in_err-known.ensures.cause)
+
+pub returns-clause-rests : goal.returns-clause-rests
+returns-clause-rests g c = c.open_started.ensures.rests
+    ∙ turned_rests g.H.Host.tells (g.H.Host.view c.args.host.now) c.now.result (g.N.Hops.view c.args.hops.now) (g.N.Hops.view c.turn.new.hops) (next_polled c.args.agent.now) c.in_ok-report.field-0 c.args.agent.now c.turn.new.self c.in_ok-report.ensures.ok

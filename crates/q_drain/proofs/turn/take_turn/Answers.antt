@@ -2,6 +2,7 @@ use Rattle.std.proofs.Common.{◌+◌, ◌∙◌, Option, ap, arith, false, ltb-
 use Rattle.std.specs.Prelude.{nat_lt}
 use Rattle.q_agent.specs.Sessions.{Sessions}
 use Rattle.q_books.specs.HostStands.{TellsCrashes}
+use Rattle.q_drain.proofs.Causes.{cause_behind, disk_passed, host_passed}
 use Rattle.q_drain.proofs.PollingAll.{fails_then, filled_then, served_then}
 use Rattle.q_drain.proofs.Polls.{polling_anew}
 use Rattle.q_drain.proofs.TurnsOn.{idles_on, may_open, opening_given_up, served_heard}
@@ -161,3 +162,30 @@ returns-in-None-clause-cause g c =
       disk = λ is. cc;
       tell = λ is. cc;
     }
+
+pub returns-in_err-opened-clause-cause : goal.returns-in_err-opened-clause-cause
+returns-in_err-opened-clause-cause g c =
+    let b = g.H.Host.faults c.hear_clock.new.host in
+    let heard = c.in_ok-engine.ensures.cause in
+    cause_behind (g.H.Host.faults c.args.host.now) b (g.H.Host.faults c.open_started.new.host) c.from_residual-in_err-opened.result heard.disk_later heard.tell_later
+    (disk_passed b (g.H.Host.faults c.open_started.new.host) c.in_err-opened.field-0.0 c.from_residual-in_err-opened.result c.from_residual-in_err-opened.ensures.1 c.in_err-opened.ensures.cause)
+
+pub returns-then-is_empty-clause-cause : goal.returns-then-is_empty-clause-cause
+returns-then-is_empty-clause-cause g c =
+    let heard = c.in_ok-engine.ensures.cause in
+    let opened = c.in_ok-opened.ensures.cause in
+    record {
+      disk_later = omega (arith, heard.disk_later, opened.disk_later);
+      tell_later = omega (arith, heard.tell_later, opened.tell_later);
+      disk = λ is. cc;
+      tell = λ is. cc;
+    }
+
+pub returns-in_err-served-clause-cause : goal.returns-in_err-served-clause-cause
+returns-in_err-served-clause-cause g c =
+    let b = g.H.Host.faults c.open_started.new.host in
+    let heard = c.in_ok-engine.ensures.cause in
+    let opened = c.in_ok-opened.ensures.cause in
+    cause_behind (g.H.Host.faults c.args.host.now) b (g.H.Host.faults c.poll_all.new.host) c.from_residual-in_err-served.result
+    (omega (arith, heard.disk_later, opened.disk_later)) (omega (arith, heard.tell_later, opened.tell_later))
+    (host_passed b (g.H.Host.faults c.poll_all.new.host) c.in_err-served.field-0.0 c.from_residual-in_err-served.result c.from_residual-in_err-served.ensures.1 c.in_err-served.ensures.cause)

@@ -1,4 +1,5 @@
 use Rattle.std.proofs.Common.{arith, refl}
+use Rattle.std.specs.Prelude.{Result}
 use Rattle.q_books.specs.HostStands.{TellsCrashes}
 use Rattle.q_events.specs.declared.item.Item.TheVariants.{End, Restart, Step}
 use Rattle.q_model.specs.Ledger.{opening}
@@ -7,9 +8,11 @@ use Rattle.q_model.specs.declared.event.Mode.TheVariants.{Intake}
 use Rattle.q_replay.specs.Listings.{bad, gives}
 use Rattle.q_replay.specs.RunEnds.{RunEnds}
 use Rattle.q_replay.specs.Submissions.{submitted}
+use Rattle.q_replay.specs.Takings.{ReplayCause}
+use Rattle.q_replay.specs.declared.error.ReplayError.{ReplayError}
 use Rattle.q_replay.proofs.Readings.{ledger_on}
 use Rattle.q_replay.proofs.Replaying.{IsGivenTo, may_begin, passed_as, some_given}
-use Rattle.q_replay.proofs.Submitting.{ends_so, gone_first, gone_further, gone_last, gone_up, never_gone, rose_later}
+use Rattle.q_replay.proofs.Submitting.{cause_on, ends_so, gone_first, gone_further, gone_last, gone_up, never_gone, rose_later}
 use Rattle.q_replay.proofs.DamagedSpools.{ends_only, only_passed, refused_passed}
 use Rattle.q_replay.proofs.letters.submit.Goals as goal
 
@@ -154,3 +157,13 @@ returns-clause-only_damaged g c t =
     let u = g.H.Host.view c.args.host.now in
     let (w, b, given) = some_given c.args.params c.args.table u (c.requires.spool t) (c.in_ok-begun.ensures.undamaged t) in
     ends_only w Intake b (submitted w b c.args.moment c.args.letter) u (g.H.Host.view c.end.new.host) c.end.result (returns-clause-ends g c t b given.host given.orderly w given.settings given.table_is)
+
+pub returns-in_err-timed-clause-cause : goal.returns-in_err-timed-clause-cause
+returns-in_err-timed-clause-cause g c =
+    let a = g.H.Host.faults c.args.host.now in
+    let b = g.H.Host.faults c.begin_life.new.host in
+    let d = g.H.Host.faults c.hear.new.host in
+    let error = c.in_err-timed.field-0.0 in
+    let begun = c.begin_life.ensures.cause in
+    passed_as c.from_residual-in_err-timed.result error (λ (r : Result (Unit {0}) ReplayError). ReplayCause a d r) c.from_residual-in_err-timed.ensures.1
+    (cause_on a b d error begun.disk_later begun.tell_later c.in_err-timed.ensures.cause)

@@ -1,8 +1,9 @@
 use Rattle.std.proofs.Common.{◌≡◌, ◌∙◌, ap, arith, false, None, Option, Some, subst, sym, true}
-use Rattle.std.specs.Prelude.{is_none}
+use Rattle.std.specs.Prelude.{Err, is_none}
 use Rattle.q_books.specs.HostStands.{TellsCrashes}
 use Rattle.q_engine.specs.declared.engine.Engine.{Engine}
 use Rattle.q_events.specs.Readings.{is_list_end}
+use Rattle.q_events.specs.declared.error.EventError.{EventError}
 use Rattle.q_events.specs.States.{EventsState, text_left, unread_list}
 use Rattle.q_model.specs.Ledger.{opening}
 use Rattle.q_model.specs.declared.event.Mode.TheVariants.{Deliver}
@@ -11,6 +12,7 @@ use Rattle.q_replay.specs.Takings.{NotTaken, TookItem}
 use Rattle.q_replay.specs.declared.error.ReplayError.TheVariants as errors
 use Rattle.q_replay.proofs.Readings.{ledger_on}
 use Rattle.q_replay.proofs.Replaying.{delivers, ends_done, ends_unbegun, ends_unread, ends_untaken, for_each, for_text, IsGivenTo, may_begin, passed_as, same_new, some_given, went_begins, went_on}
+use Rattle.q_replay.proofs.Submitting.{rose_later}
 use Rattle.q_replay.proofs.DamagedSpools.{none_only, only_passed, refused_passed, unread_only, untaken_only}
 use Rattle.q_replay.proofs.lists.replay.Goals as goal
 
@@ -163,3 +165,10 @@ returns-in-None-clause-damaged g c t area name damage = absurd (c.loop-item.inva
 
 pub returns-in-None-clause-only_damaged : goal.returns-in-None-clause-only_damaged
 returns-in-None-clause-only_damaged g c t = none_only (g.H.Host.view c.take.new.host) tt
+
+pub returns-in-Err-clause-source : goal.returns-in-Err-clause-source
+returns-in-Err-clause-source g c is =
+    let old = c.loop-item in
+    let same : c.list_error.result ≡ errors.Source = cc in
+    rose_later (g.S.Source.faults c.args.source.now) (g.S.Source.faults old.source) (g.S.Source.faults c.read_event.new.source) old.invariant.source_later
+    (c.in-Err.ensures.source (ap (λ (e : EventError). Err e) (c.list_error.ensures.source same)))

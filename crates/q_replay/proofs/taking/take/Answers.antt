@@ -34,3 +34,19 @@ returns-in_err-end-in-End-clause-err g c =
 pub returns-in_ok-end-in-End-clause-ok : goal.returns-in_ok-end-in-End-clause-ok
 returns-in_ok-end-in-End-clause-ok g c t =
     for_item c.args.params c.args.engine End c.args.item None (g.H.Host.view c.args.host.now) (g.H.Host.view c.end.new.host) c.in-End.is (c.in_ok-end-in-End.ensures.ok t)
+
+pub returns-in_ok-hear-in-Step-clause-cause : goal.returns-in_ok-hear-in-Step-clause-cause
+returns-in_ok-hear-in-Step-clause-cause g c = record {
+  disk_later = c.hear.ensures.cause.disk_later;
+  tell_later = c.hear.ensures.cause.tell_later;
+  disk = λ is. cc;
+  tell = λ is. cc;
+}
+
+pub returns-in_ok-begin_life-in-Restart-clause-cause : goal.returns-in_ok-begin_life-in-Restart-clause-cause
+returns-in_ok-begin_life-in-Restart-clause-cause g c = record {
+  disk_later = c.begin_life.ensures.cause.disk_later;
+  tell_later = c.begin_life.ensures.cause.tell_later;
+  disk = λ is. cc;
+  tell = λ is. cc;
+}

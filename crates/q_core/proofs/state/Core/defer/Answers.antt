@@ -2,6 +2,7 @@ use Rattle.std.proofs.Common.{refl}
 use Rattle.q_model.specs.declared.entry.Entry.TheVariants as entries
 use Rattle.q_model.specs.Step.{after}
 use Rattle.q_core.proofs.DeferLaws.{defer_law}
+use Rattle.q_core.proofs.GoneLaws.{deferred_rows}
 use Rattle.q_core.proofs.NoteLaws.{note_law}
 use Rattle.q_core.proofs.TidyLaws.{tidy_law}
 use Rattle.q_core.proofs.StepLaws.{raw_law}
@@ -12,5 +13,5 @@ unfolding after
 returns c = λ due w l a may.
     tidy_law l refl refl
     (note_law (entries.Defer c.args.id due) (record { no_admit = λ id. refl; no_start_of = λ id t. refl; no_charge = λ id t. refl; no_start = refl })
-    (defer_law c.args.id due (raw_law a.matches c.requires) a.consistent may c.put_off.ensures))
+    (defer_law c.args.id due (raw_law a.matches c.requires) a.consistent may (c.put_off.ensures (deferred_rows a.matches.parts a.consistent c.args.id due may))))
     c.tidy.ensures

@@ -6,7 +6,7 @@ use Rattle.std.proofs.Common.{◌≡◌, ◌∙◌, ap, subst, sym}
 use Rattle.q_core.proofs.WholeLaws.{still_agrees}
 use Rattle.q_core.specs.declared.state.Core.{Core}
 use Rattle.std.specs.Prelude.{map}
-use Rattle.q_core.specs.Slots.{changed_at, with_damage}
+use Rattle.q_pool.specs.Slots.{changed_at, with_damage}
 use Rattle.q_core.specs.View.{state_of}
 use Rattle.q_core.proofs.state.Core.found.Goals as goal
 

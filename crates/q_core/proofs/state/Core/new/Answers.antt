@@ -3,12 +3,17 @@ use Rattle.q_laws.proofs.Beginnings.{begins_consistent}
 use Rattle.q_laws.proofs.SiteEntries.{sites_at_life}
 use Rattle.q_model.specs.Ledger.{opening}
 use Rattle.q_core.proofs.BeginLaws.{open_windows, usable}
-use Rattle.std.proofs.Common.{◌+◌, subst, false, None, refl}
+use Rattle.std.proofs.Common.{◌≡◌, ◌∙◌, ◌+◌, [], ap, subst, false, None, refl}
 use Rattle.q_core.proofs.BeginLaws.{begin_law, begin_living, begin_moment}
 use Rattle.q_core.specs.declared.state.Core.{Core}
 use Rattle.q_core.specs.declared.state.Seen.TheVariants.{Unknown}
 use Rattle.q_core.specs.declared.state.Question.TheVariants.{Nothing}
 use Rattle.q_core.proofs.CountedLaws.{counted_none}
+use Rattle.q_core.proofs.StillTidyLines.{new_tidy}
+use Rattle.q_core.proofs.TiedLaws.{tied_new}
+use Rattle.q_model.specs.Settings.{Settings}
+use Rattle.q_pool.specs.Kept.{heads}
+use Rattle.q_pool.specs.Pooled.{Pooled}
 use Rattle.q_core.proofs.state.Core.new.Goals as goal
 
 pub returns-clause-consistent : goal.returns-clause-consistent
@@ -17,14 +22,14 @@ returns-clause-consistent c = λ w book settings count k s.
       params = c.args.params;
       transports = c.args.transports;
       mode = c.args.mode;
-      clock = record { seconds = c.new.result.seconds };
+      clock = record { seconds = c.new-2.result.seconds };
       timed = false;
       next_run = 0;
       scan = None;
       asked = None;
       ignores = false;
       deferred_turn = false;
-      admitted = c.new-2.result.items;
+      admitted = heads c.in_ok-admitted.admitted.items;
       waiting = c.new-3.result.items;
       flights = c.new-4.result.items;
       in_memory = 0;
@@ -45,8 +50,8 @@ returns-clause-consistent c = λ w book settings count k s.
     let matches = begin_law w c.args.mode book core c.args.transports settings refl count
     (record {
       mode_is = refl;
-      clock = c.new.ensures;
-      admitted = c.new-2.ensures.items;
+      clock = c.new-2.ensures;
+      admitted = ap (λ (m : Pooled). heads m.items) c.in_ok-admitted.ensures;
       waiting = c.new-3.ensures.items;
       flights = c.new-4.ensures.items;
       served = c.new-5.ensures.items;
@@ -63,4 +68,9 @@ returns-clause-orderly c = λ w book settings count distinct orderly.
     returns-clause-consistent c w book settings count (begins_consistent w c.args.mode book (usable w held) distinct orderly) (sites_at_life w (opening c.args.mode book) (book.generation + 1) c.args.mode (open_windows w held))
 
 pub invariant_of-result : goal.invariant_of-result
-invariant_of-result c = rw c.new-4.ensures.items counted_none
+invariant_of-result c =
+    let made = c.in_ok-admitted.ensures ∙ ap (λ (p : Settings). record { items = []; room = p.active_limit; sync_limit = p.mark_sync_limit; minimum = p.recipient_minimum }) c.params.view_is in
+    let slots : heads c.in_ok-admitted.admitted.items ≡ [] = ap (λ (m : Pooled). heads m.items) c.in_ok-admitted.ensures in (
+      tied_new c.args.params c.in_ok-admitted.admitted c.new-3.result.items c.new-4.result.items c.new-6.result.items _ made c.new-3.ensures.items c.new-4.ensures.items c.new-6.ensures.items counted_none,
+      rw (slots, c.new-3.ensures.items, c.new-4.ensures.items, c.new-5.ensures.items, c.in_ok-lines.ensures, c.new-7.ensures.items) (new_tidy _ c.args.transports),
+    )

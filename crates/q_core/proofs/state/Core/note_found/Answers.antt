@@ -3,7 +3,7 @@ use Rattle.q_core.proofs.AskLaws.{fewer_active, fewer_deferred, fewer_incoming, 
 use Rattle.q_core.specs.Answers.{IsAnswer}
 use Rattle.q_core.specs.State.{State}
 use Rattle.q_core.specs.Changes.{IsSlotChange}
-use Rattle.q_core.specs.Slots.{with_damage}
+use Rattle.q_pool.specs.Slots.{with_damage}
 use Rattle.q_core.specs.declared.state.Question.TheVariants.{Active, Deferred, Incoming, Nothing, Recipients}
 use Rattle.q_model.specs.declared.id.Id.{Id}
 use Rattle.q_core.proofs.state.Core.note_found.Goals as goal

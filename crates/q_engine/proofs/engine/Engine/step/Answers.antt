@@ -1,5 +1,18 @@
+use Rattle.q_engine.proofs.Causes.{event_apart, event_cause, event_kind, made_cause}
 use Rattle.q_engine.proofs.Turns.{passed_on}
 use Rattle.q_engine.proofs.engine.Engine.step.Goals as goal
 
 pub returns-in-Err-clause-err : goal.returns-in-Err-clause-err
 returns-in-Err-clause-err g c error is t w l h = c.in-Err.ensures.err error (passed_on c.in-Err.error error c.refusal_of.result c.refusal_of.ensures.exact is) t w l h
+
+pub returns-in-Err-clause-cause : goal.returns-in-Err-clause-cause
+returns-in-Err-clause-cause g c = made_cause (g.H.Host.faults c.args.host.now) (g.H.Host.faults c.take.new.host) c.in-Err.error c.refusal_of.result c.take.result c.in-Err.is c.refusal_of.ensures.exact c.take.ensures.cause
+
+pub returns-in-Some-clause-err : goal.returns-in-Some-clause-err
+returns-in-Some-clause-err g c error of = absurd (event_apart c.in-Some.error error c.in-Some.ensures.kind of)
+
+pub returns-in-Some-clause-kinds : goal.returns-in-Some-clause-kinds
+returns-in-Some-clause-kinds g c error of = event_kind c.in-Some.error error c.in-Some.ensures.kind of
+
+pub returns-in-Some-clause-cause : goal.returns-in-Some-clause-cause
+returns-in-Some-clause-cause g c = event_cause (g.H.Host.faults c.args.host.now) c.in-Some.error c.in-Some.ensures.kind

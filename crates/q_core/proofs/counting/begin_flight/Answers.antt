@@ -1,0 +1,20 @@
+use Rattle.std.proofs.Common.{◌-◌, map, ap, ◌∙◌, Option, sym}
+use Rattle.std.specs.Option.{option_map_or}
+use Rattle.q_core.specs.Counting.{counted_as, with_flight}
+use Rattle.q_pool.specs.Kept.{counted_at}
+use Rattle.q_pool.specs.declared.kept.Kept.{Kept}
+use Rattle.q_core.proofs.counting.begin_flight.Goals as goal
+
+pub returns-in-Some : goal.returns-in-Some
+returns-in-Some c =
+    let old = c.args.pool.now in
+    let kept = c.in-Some.kept in
+    c.count.ensures
+    ∙ ap (λ n. record old { items = map (counted_at c.args.id n c.saturating_add-flying.result kept.unsettled) old.items }) c.saturating_sub-waiting.ensures
+    ∙ ap (λ n. record old { items = map (counted_at c.args.id (kept.waiting - 1) n kept.unsettled) old.items }) c.saturating_add-flying.ensures
+    ∙ ap (λ (o : Option Kept). record old { items = option_map_or (λ k. counted_as c.args.id (with_flight k) old.items) o old.items }) (sym (sym c.get.ensures ∙ sym c.copied.ensures ∙ c.in-Some.is))
+
+pub returns-in_default : goal.returns-in_default
+returns-in_default c =
+    let old = c.args.pool.now in
+    ap (λ (o : Option Kept). record old { items = option_map_or (λ k. counted_as c.args.id (with_flight k) old.items) o old.items }) (sym (sym c.get.ensures ∙ sym c.copied.ensures ∙ c.in_default.is))

@@ -1,6 +1,0 @@
-use Rattle.std.proofs.Common.{◌≡◌, ◌++◌, map, take, drop}
-use Rattle.q_core.specs.Slots.{changed_at, with_slot_mark}
-use Rattle.q_core.proofs.marking.note_mark.Given as goal
-
-abbrev pub invariant-loop-slot : goal.invariant-loop-slot
-invariant-loop-slot l = l.slots ≡ map (changed_at l.id with_slot_mark) (take l.slot-index l.initial.slots) ++ drop l.slot-index l.initial.slots

@@ -1,0 +1,38 @@
+use Rattle.std.proofs.Common.{◌≡◌, ◌∙◌, ◌++◌, ◌∷◌, [], ap, arith, length, refl}
+use Rattle.std.proofs.lemmas.List.{length-map}
+use Rattle.q_core.proofs.PoolTies.{absent_held, heads_more}
+use Rattle.q_core.proofs.StillTidyLaws.{slot_entered}
+use Rattle.q_core.proofs.TiedLaws.{tied_more}
+use Rattle.q_core.specs.Held.{is_admitted_in}
+use Rattle.q_core.specs.State.{State}
+use Rattle.q_core.specs.View.{state_of}
+use Rattle.q_pool.specs.Kept.{heads}
+use Rattle.q_pool.specs.Pooled.{Pooled}
+use Rattle.q_pool.specs.declared.kept.Kept.{Kept}
+use Rattle.q_core.proofs.state.Core.add_message.Goals as goal
+
+pub push-requires-clause-absent : goal.push-requires-clause-absent
+push-requires-clause-absent c =
+    absent_held (state_of c.self.inside) c.self.inside.admitted.items refl c.args.slot.id (ap (λ (s : State). is_admitted_in s c.args.slot.id) c.self.view_is ∙ c.requires.absent)
+
+pub push-requires-clause-room : goal.push-requires-clause-room
+push-requires-clause-room c =
+    let a = c.self.inside in
+    let same = ap (λ (s : State). length s.admitted) c.self.view_is in
+    let count = length-map a.admitted.items (λ (k : Kept). k.slot) in
+    let limit = ap (λ (s : State). s.params.active_limit) c.self.view_is in
+    omega (arith, same, count, limit, c.self.invariant.0.pool.room, c.requires.room)
+
+pub invariant_of-self : goal.invariant_of-self
+invariant_of-self c =
+    let a = c.self.inside in
+    let slots : heads c.push.new.self.items ≡ heads a.admitted.items ++ c.args.slot ∷ [] = ap (λ (m : Pooled). heads m.items) c.push.ensures ∙ heads_more a.admitted.items _ in (
+      tied_more a.params a.admitted c.push.new.self a.waiting.items a.flights.items a.unsettled.items a.flying a.starts c.args.slot c.push.ensures c.self.invariant.0,
+      rw slots (slot_entered _ c.self.invariant.1),
+    )
+
+pub returns : goal.returns
+returns c =
+    ap (λ (m : Pooled). record (state_of c.self.inside) { admitted = heads m.items }) c.push.ensures
+    ∙ ap (λ ss. record (state_of c.self.inside) { admitted = ss }) (heads_more c.self.inside.admitted.items _)
+    ∙ ap (λ (s : State). record s { admitted = s.admitted ++ c.args.slot ∷ [] }) c.self.view_is

@@ -1,0 +1,27 @@
+use Rattle.std.proofs.Common.{◌≡◌, ◌∙◌, ap, map, refl}
+use Rattle.q_core.proofs.PoolTies.{heads_kept}
+use Rattle.q_core.proofs.StayLaws.{unread_other}
+use Rattle.q_core.proofs.StillTidyLaws.{slots_touched}
+use Rattle.q_core.proofs.TiedLaws.{tied_kept}
+use Rattle.q_core.specs.State.{State}
+use Rattle.q_pool.specs.Kept.{heads}
+use Rattle.q_pool.specs.Pooled.{Pooled}
+use Rattle.q_pool.specs.Slots.{changed_at, with_damage}
+use Rattle.q_core.proofs.state.Core.note_damage.Goals as goal
+
+pub invariant_of-self : goal.invariant_of-self
+invariant_of-self c =
+    let a = c.self.inside in
+    let slots : heads c.damage.new.self.items ≡ map (changed_at c.args.id with_damage) (heads a.admitted.items) =
+    ap (λ (m : Pooled). heads m.items) c.damage.ensures ∙ heads_kept c.args.id with_damage a.admitted.items in (
+      tied_kept a.params a.admitted c.damage.new.self a.waiting.items a.flights.items a.unsettled.items a.flying a.starts c.args.id with_damage (λ s. refl) c.damage.ensures c.self.invariant.0,
+      rw (slots, c.touch_message.ensures) (slots_touched c.args.id (unread_other c.args.id with_damage (λ s. refl) (heads a.admitted.items)) c.self.invariant.1),
+    )
+
+pub returns : goal.returns
+returns c = record {
+  rest = ap (λ (s : State). record s { admitted = heads c.damage.new.self.items }) c.self.view_is;
+  admitted =
+      ap (λ (m : Pooled). heads m.items) c.damage.ensures ∙ heads_kept c.args.id with_damage c.self.inside.admitted.items
+      ∙ ap (λ (s : State). map (changed_at c.args.id with_damage) s.admitted) c.self.view_is;
+}

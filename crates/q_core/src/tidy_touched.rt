@@ -1,0 +1,159 @@
+//! What holds after each entry, where it is known what was touched.
+ghost use Rattle.std.specs.Prelude.{◌≡◌, ◌||◌, filter, map, not, true};
+ghost use Rattle.std.specs.List.{enumerate_from};
+ghost use Rattle.q_core.specs.Tidied.{tidied_jobs, tidied_line, tidied_served, waits_at_site};
+ghost use Rattle.q_pool.specs.Kept.{heads};
+ghost use Rattle.q_core.specs.Touched.{AreFew, DoJobsStay, jobs_stay, served_stay, sites_stay};
+ghost use Rattle.q_core.specs.UsedSites.{forget_in, used_in};
+ghost use Rattle.q_core.specs.declared.touched.Touched.TheVariants.{One};
+ghost use Rattle.q_model.specs.Ids.{id_eq};
+ghost use Rattle.q_model.specs.SiteRecords.{is_alive};
+ghost use Rattle.q_model.specs.Sites.{site_eq};
+
+use crate::line::{Job, Line};
+use crate::names::{same_id, same_site};
+use crate::site_record::{WideSiteRecord, drop_unused, forget_oldest, is_unused};
+use crate::tidy::{has_row, stays, tidy_lines, tidy_served};
+use crate::touched::Touched;
+use q_model::{Delivery, Id, Row, Served, Site};
+use q_pool::Pool;
+
+fn is_of_another(job: &Job, id: Id) -> bool
+    ensures { result ≡ not (id_eq job.now.id id) }
+{
+    !same_id(job.id, id)
+}
+
+/// Takes the message's job out.
+fn drop_job(jobs: &mut Vec<Job>, id: Id)
+    ensures { jobs.new.items ≡ filter (λ j. not (id_eq j.id id)) jobs.old.items }
+{
+    jobs.retain(|job| is_of_another(job, id));
+}
+
+/// Takes the message's job out of the line, where it has nothing left.
+fn tidy_job(jobs: &mut Vec<Job>, id: Id, admitted: &Pool, waiting: &[Row], transport: usize)
+    requires { jobs_stay (One id) (heads admitted.now.items) waiting.now transport jobs.old.items
+        ≡ true }
+    ensures { jobs.new.items ≡ tidied_jobs (heads admitted.now.items) waiting.now transport
+        jobs.old.items }
+{
+    if !stays(admitted, waiting, id, transport) {
+        drop_job(jobs, id);
+    }
+}
+
+impl Line {
+    fn tidy_job(&mut self, id: Id, admitted: &Pool, waiting: &[Row], transport: usize)
+        requires { jobs_stay (One id) (heads admitted.now.items) waiting.now transport self.old
+            ≡ true }
+        ensures { self.new ≡ tidied_jobs (heads admitted.now.items) waiting.now transport self.old }
+    {
+        tidy_job(&mut self.jobs, id, admitted, waiting, transport);
+    }
+}
+
+/// Takes the message's jobs out of the lines, where they have nothing left.
+fn tidy_message(lines: &mut [Line], id: Id, admitted: &Pool, waiting: &[Row])
+    requires { DoJobsStay (One id) (heads admitted.now.items) waiting.now lines.old }
+    ensures { lines.new ≡ map (tidied_line (heads admitted.now.items) waiting.now)
+        (enumerate_from 0 lines.old) }
+{
+    for (transport, line) in lines.iter_mut().enumerate() {
+        line.tidy_job(id, admitted, waiting, transport);
+    }
+}
+
+/// Takes the jobs that have nothing left out of the lines.
+pub(crate) fn tidy_touched_lines(
+    lines: &mut [Line],
+    touched: &Touched<Id>,
+    admitted: &Pool,
+    waiting: &[Row],
+)
+    requires { DoJobsStay touched.now (heads admitted.now.items) waiting.now lines.old }
+    ensures { lines.new ≡ map (tidied_line (heads admitted.now.items) waiting.now)
+        (enumerate_from 0 lines.old) }
+{
+    match touched {
+        Touched::Nothing => {}
+        Touched::One(id) => tidy_message(lines, *id, admitted, waiting),
+        Touched::Everything => tidy_lines(lines, admitted, waiting),
+    }
+}
+
+/// Whether the served row is of another message, or still waits.
+fn is_left(served: &Served, id: Id, waiting: &[Row]) -> bool
+    ensures { result ≡ (not (id_eq served.now.id id)
+        || waits_at_site waiting.now served.now.id served.now.site) }
+{
+    !same_id(served.id, id) || has_row(served, waiting)
+}
+
+/// Forgets when the message was served at sites where it has no row any more.
+fn tidy_served_of(served: &mut Vec<Served>, id: Id, waiting: &[Row])
+    requires { served_stay (One id) waiting.now served.old.items ≡ true }
+    ensures { served.new.items ≡ tidied_served waiting.now served.old.items }
+{
+    served.retain(|last| is_left(last, id, waiting));
+}
+
+/// Forgets when messages were served at sites where they have no row any more.
+pub(crate) fn tidy_touched_served(served: &mut Vec<Served>, touched: &Touched<Id>, waiting: &[Row])
+    requires { served_stay touched.now waiting.now served.old.items ≡ true }
+    ensures { served.new.items ≡ tidied_served waiting.now served.old.items }
+{
+    match touched {
+        Touched::Nothing => {}
+        Touched::One(id) => tidy_served_of(served, *id, waiting),
+        Touched::Everything => tidy_served(served, waiting),
+    }
+}
+
+fn is_other_or_dead(noted: &WideSiteRecord, site: &Site) -> bool
+    ensures { result ≡ (not (site_eq noted.now.site site.now) || not (is_alive noted.now.health)) }
+{
+    !same_site(noted.site(), site) || noted.is_dead()
+}
+
+/// Drops the site's record, where it is alive.
+fn drop_alive(sites: &mut Vec<WideSiteRecord>, site: &Site)
+    ensures { sites.new.items ≡ filter (λ r. not (site_eq r.site site.now)
+        || not (is_alive r.health)) sites.old.items }
+{
+    sites.retain(|noted| is_other_or_dead(noted, site));
+}
+
+/// Drops the site's record, where it is alive and not used.
+fn tidy_site(sites: &mut Vec<WideSiteRecord>, site: &Site, waiting: &[Row], flights: &[Delivery])
+    requires { sites_stay (One site.now) waiting.now flights.now sites.old.items ≡ true }
+    ensures { sites.new.items ≡ used_in waiting.now flights.now sites.old.items }
+{
+    if is_unused(waiting, flights, site) {
+        drop_alive(sites, site);
+    }
+}
+
+/// Drops the records of sites that are alive and not used, and forgets the dead site that is
+/// unused longest, where more than `limit` are.
+pub(crate) fn tidy_touched_sites(
+    sites: &mut Vec<WideSiteRecord>,
+    touched: &Touched<Site>,
+    waiting: &[Row],
+    flights: &[Delivery],
+    limit: usize,
+)
+    requires stay { sites_stay touched.now waiting.now flights.now sites.old.items ≡ true }
+    requires few { AreFew touched.now limit sites.old.items }
+    ensures { sites.new.items ≡ forget_in waiting.now flights.now limit
+        (used_in waiting.now flights.now sites.old.items) }
+{
+    match touched {
+        Touched::Nothing => {}
+        Touched::One(site) => tidy_site(sites, site, waiting, flights),
+        Touched::Everything => {
+            drop_unused(sites, waiting, flights);
+            forget_oldest(sites, waiting, flights, limit);
+        }
+    }
+}

@@ -1,0 +1,58 @@
+-- A refusal of the host becomes one of the engine, and has its cause.
+use Rattle.std.proofs.Common.{◌≡◌, ◌∙◌, ◌≤◌, ap, arith, Bool, false, refl, sym, true}
+use Rattle.std.specs.Prelude.{◌||◌, Err, IsErrOf, Result}
+use Rattle.q_entries.specs.Causes.{HostCause}
+use Rattle.q_host.specs.Faults.{Faults, TellCause}
+use Rattle.q_host.specs.declared.error.HostError.{HostError}
+use Rattle.q_host.specs.declared.error.HostError.TheVariants as faults
+use Rattle.q_engine.specs.Beginnings.{is_of_spool}
+use Rattle.q_engine.specs.Refusals.{EngineCause, is_of_event, is_of_host, refusal_of}
+use Rattle.q_engine.specs.declared.error.EngineError.{EngineError}
+use Rattle.q_engine.specs.declared.error.EngineError.TheVariants as errors
+
+pub made_cause : {T S : Type 0} (before after : Faults) (inner : HostError) (made : EngineError) (r : Result T HostError) → r ≡ Err inner → made ≡ refusal_of inner → HostCause before after r → EngineCause {T = S} before after (Err made)
+made_cause before after faults.Disk made r how is h = record { disk_later = h.disk_later; tell_later = h.tell_later; disk = λ of. h.disk how; tell = λ of. absurd cc }
+made_cause before after faults.Tell made r how is h = record { disk_later = h.disk_later; tell_later = h.tell_later; disk = λ of. absurd cc; tell = λ of. h.tell how }
+made_cause before after faults.NoMemory made r how is h = record { disk_later = h.disk_later; tell_later = h.tell_later; disk = λ of. absurd cc; tell = λ of. absurd cc }
+
+-- the same of a refusal that is none of the disk
+pub told_cause : {T S : Type 0} (before after : Faults) (inner : HostError) (made : EngineError) (r : Result T HostError) → r ≡ Err inner → made ≡ refusal_of inner → TellCause before after r → EngineCause {T = S} before after (Err made)
+told_cause before after faults.Disk made r how is h = absurd (h.no_disk how)
+told_cause before after faults.Tell made r how is h = record { disk_later = h.disk_later; tell_later = h.tell_later; disk = λ of. absurd cc; tell = λ of. h.tell how }
+told_cause before after faults.NoMemory made r how is h = record { disk_later = h.disk_later; tell_later = h.tell_later; disk = λ of. absurd cc; tell = λ of. absurd cc }
+
+-- it isn't one of the spool
+not_of_spool : (inner : HostError) → is_of_spool (refusal_of inner) ≡ false
+not_of_spool faults.Disk = refl
+not_of_spool faults.Tell = refl
+not_of_spool faults.NoMemory = refl
+
+pub made_spool : {T : Type 0} (inner : HostError) (made error : EngineError) → made ≡ refusal_of inner → IsErrOf {T = T} (Err made) error → is_of_spool error ≡ false
+made_spool inner made error is of = let same : error ≡ refusal_of inner = cc in ap is_of_spool same ∙ not_of_spool inner
+
+-- a refusal of an event is none of the host
+not_of_event : (inner : HostError) → is_of_event (refusal_of inner) ≡ false
+not_of_event faults.Disk = refl
+not_of_event faults.Tell = refl
+not_of_event faults.NoMemory = refl
+
+pub event_apart : {T : Type 0} (made : EngineError) (inner : HostError) → is_of_event made ≡ true → IsErrOf {T = T} (Err made) (refusal_of inner) → ⊥
+event_apart made inner event of =
+    let same : made ≡ refusal_of inner = cc in
+    let bad : true ≡ false = sym event ∙ ap is_of_event same ∙ not_of_event inner in cc
+
+or_right : (a b : Bool) → b ≡ true → (a || b) ≡ true
+or_right true b h = refl
+or_right false b h = h
+
+pub event_kind : {T : Type 0} (made error : EngineError) → is_of_event made ≡ true → IsErrOf {T = T} (Err made) error → (is_of_host error || is_of_event error) ≡ true
+event_kind made error event of = let same : error ≡ made = cc in or_right (is_of_host error) (is_of_event error) (ap is_of_event same ∙ event)
+
+-- where nothing was done no count rose
+pub event_cause : {T : Type 0} (before : Faults) (made : EngineError) → is_of_event made ≡ true → EngineCause {T = T} before before (Err made)
+event_cause before made event = record {
+  disk_later = omega arith;
+  tell_later = omega arith;
+  disk = λ of. absurd (event_apart made faults.Disk event of);
+  tell = λ of. absurd (event_apart made faults.Tell event of);
+}
