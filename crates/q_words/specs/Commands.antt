@@ -28,6 +28,16 @@ rests_rule = record (new_rule (codes "rests")) {
 abbrev pub drain_app : App
 drain_app = with_rule (new_app (codes "drain")) rests_rule
 
+-- `load N`
+abbrev pub mails_rule : Rule
+mails_rule = record (new_rule (codes "mails")) {
+  required = true;
+  parser = Some (Signed (pos 1) (pos 2000));
+}
+
+abbrev pub load_app : App
+load_app = with_rule (new_app (codes "load")) mails_rule
+
 -- `qshape -l -s -b N -t MINUTES QUEUE..`
 abbrev pub flag_rule : Text → ℕ → Rule
 flag_rule id letter = record (new_rule id) { short = Some letter; action = Some SetTrue }

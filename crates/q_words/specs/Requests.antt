@@ -1,7 +1,7 @@
 -- What the words of a command ask for.
 use Rattle.std.specs.List.{list_any}
 use Rattle.std.specs.Option.{option_and_then}
-use Rattle.std.specs.Prelude.{◌∷◌, ◌≡◌, [], Bool, bytes_eq, codes, false, if◌then◌else◌, List, Option, slice_get, Some, true, unwrap_or, ℕ}
+use Rattle.std.specs.Prelude.{◌∷◌, ◌≡◌, ◌≤◌, [], Bool, bytes_eq, codes, false, if◌then◌else◌, List, Option, slice_get, Some, true, unwrap_or, ℕ}
 use Rattle.std.specs.Str.Parse.{digits_value, without_leading_plus}
 use Rattle.clap.specs.Words.{all_of, first_of, matches_of, one_of, Row, Text}
 use Rattle.q_model.specs.Lists.{has_none}
@@ -12,7 +12,7 @@ use Rattle.q_words.specs.declared.request.Queues.{Queues}
 use Rattle.q_words.specs.declared.request.Request.{Request}
 use Rattle.q_words.specs.declared.request.Request.TheVariants as requests
 use Rattle.q_words.specs.declared.request.TableRequest.{TableRequest}
-use Rattle.q_words.specs.Commands.{drain_app, qshape_app, submit_app}
+use Rattle.q_words.specs.Commands.{drain_app, load_app, qshape_app, submit_app}
 
 -- all words of an argument
 abbrev pub words_of : Text → List Row → List Text
@@ -77,6 +77,17 @@ abbrev pub IsDrain : List Row → Request → Type 0
 IsDrain rows (requests.Drain rests) = IsNumber rows (codes "rests") rests
 IsDrain rows request = ⊥
 
+-- so many mails, which are in the range of `load`
+pub record IsLoadOf (rows : List Row) (mails : ℕ) : Type 0 where
+  pub number : IsNumber rows (codes "mails") mails
+  pub some : 1 ≤ mails
+  pub few : mails ≤ 2000
+
+-- the request is that of `load`
+abbrev pub IsLoad : List Row → Request → Type 0
+IsLoad rows (requests.Load mails) = IsLoadOf rows mails
+IsLoad rows request = ⊥
+
 -- the request is that of `qshape`
 abbrev pub IsQshape : List Row → Request → Type 0
 IsQshape rows (requests.Qshape table) = IsTableRequest rows table
@@ -94,5 +105,7 @@ IsRequest words (requests.Submit sender to) =
     (command_of words ≡ Some (codes "submit")) × IsSubmission (matches_of submit_app words) sender to
 IsRequest words (requests.Drain rests) =
     (command_of words ≡ Some (codes "drain")) × IsNumber (matches_of drain_app words) (codes "rests") rests
+IsRequest words (requests.Load mails) =
+    (command_of words ≡ Some (codes "load")) × IsLoadOf (matches_of load_app words) mails
 IsRequest words (requests.Qshape table) =
     (command_of words ≡ Some (codes "qshape")) × IsTableRequest (matches_of qshape_app words) table

@@ -1,8 +1,8 @@
 //! The commands as clap reads their words.
 ghost use Rattle.std.specs.Prelude.{◌≡◌, false, map, IfOk, string_bytes};
 ghost use Rattle.clap.specs.Words.{app_of, fault_of, FailsBy, found_of, matches_of, rows_of, rule_of, new_app};
-ghost use Rattle.q_words.specs.Commands.{drain_app, flags_app, qshape_app, submit_app};
-ghost use Rattle.q_words.specs.Commands.{flag_rule, rests_rule, sender_rule, to_rule};
+ghost use Rattle.q_words.specs.Commands.{drain_app, flags_app, load_app, qshape_app, submit_app};
+ghost use Rattle.q_words.specs.Commands.{flag_rule, mails_rule, rests_rule, sender_rule, to_rule};
 ghost use Rattle.q_words.specs.Commands.{buckets_rule, minutes_rule, queues_rule};
 
 use clap::{Arg, ArgAction, ArgMatches, Command, Error, value_parser};
@@ -38,6 +38,15 @@ fn rests<'a>(alloc: Global) -> Arg<'a>
         .short('n')
         .value_parser(value_parser!(u32).range(0..=1_000_000_000))
         .default_value("1000000")
+}
+
+fn mails<'a>(alloc: Global) -> Arg<'a>
+    ensures rule { rule_of result ≡ mails_rule }
+    ensures local { result.global ≡ false }
+{
+    Arg::new(alloc, "mails")
+        .required(true)
+        .value_parser(value_parser!(u32).range(1..=2000))
 }
 
 fn buckets<'a>(alloc: Global) -> Arg<'a>
@@ -81,6 +90,12 @@ fn drain<'a>(alloc: Global) -> Result<Command<'a>, AllocError>
     Command::new(alloc, "drain").arg(rests(alloc))
 }
 
+fn load<'a>(alloc: Global) -> Result<Command<'a>, AllocError>
+    ensures { IfOk result (λ c. app_of c ≡ load_app) }
+{
+    Command::new(alloc, "load").arg(mails(alloc))
+}
+
 /// The flags of `qshape`.
 fn with_flags<'a>(alloc: Global) -> Result<Command<'a>, AllocError>
     ensures { IfOk result (λ c. app_of c ≡ flags_app) }
@@ -120,6 +135,16 @@ pub(crate) fn drain_matches<'a>(alloc: Global, words: &'a [String]) -> Result<Ar
         ≡ matches_of drain_app (map string_bytes words.entry.now)) }
 {
     let command = drain(alloc)?;
+    command.try_get_matches_from(words)
+}
+
+/// The same of `load`.
+pub(crate) fn load_matches<'a>(alloc: Global, words: &'a [String]) -> Result<ArgMatches<'a>, Error>
+    ensures refused { FailsBy (fault_of load_app (map string_bytes words.entry.now)) result }
+    ensures found { IfOk result (λ m. rows_of (found_of m)
+        ≡ matches_of load_app (map string_bytes words.entry.now)) }
+{
+    let command = load(alloc)?;
     command.try_get_matches_from(words)
 }
 

@@ -9,6 +9,7 @@ ghost use Rattle.q_words.specs.Usages.{IsAnswer};
 use crate::commands::plain_matches;
 use crate::draining::read_drain;
 use crate::error::{WordsError, refused};
+use crate::loading::read_load;
 use crate::request::Request;
 use crate::submission::read_submission;
 use crate::tables::read_table;
@@ -58,6 +59,9 @@ fn read_command(alloc: Global, command: &[u8], words: &[String]) -> Result<Reque
     }
     if command == b"qshape".as_slice() {
         return read_qshape(alloc, words);
+    }
+    if command == b"load".as_slice() {
+        return read_load(alloc, words);
     }
     if command == b"queue".as_slice() {
         return read_none(alloc, "queue", words, Request::Queue);

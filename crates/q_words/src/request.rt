@@ -20,6 +20,10 @@ pub enum Request {
     Qshape(TableRequest),
     /// Tell what the queues hold.
     Queue,
+    /// Run so many generated mails on a host in memory, and tell what came of them.
+    Load {
+        mails: u32,
+    },
 }
 
 /// A table of ages.

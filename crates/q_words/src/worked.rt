@@ -47,6 +47,10 @@ fn refused_words(rt: HostRuntime) -> Result<(), Fail> {
     assert!(rt; is_refused(alloc, "queue --help")?);
     assert!(rt; is_refused(alloc, "drain x")?);
     assert!(rt; is_refused(alloc, "drain -n 1000000001")?);
+    assert!(rt; is_refused(alloc, "load")?);
+    assert!(rt; is_refused(alloc, "load 0")?);
+    assert!(rt; is_refused(alloc, "load 2001")?);
+    assert!(rt; is_refused(alloc, "load 1 1")?);
     assert!(rt; is_refused(alloc, "qshape corrupt")?);
     assert!(rt; is_refused(alloc, "qshape -b 21")?);
     assert!(rt; is_refused(alloc, "qshape -t 0")?);
@@ -74,6 +78,16 @@ fn drains(rt: HostRuntime) -> Result<(), Fail> {
     let none = asked(alloc, "drain -n 0")?;
     assert!(rt; matches!(&plain, Ok(Request::Drain { rests: 1_000_000 })));
     assert!(rt; matches!(&none, Ok(Request::Drain { rests: 0 })));
+    Ok(())
+}
+
+#[test]
+fn loads(rt: HostRuntime) -> Result<(), Fail> {
+    let alloc = rt.alloc();
+    let least = asked(alloc, "load 1")?;
+    let most = asked(alloc, "load 2000")?;
+    assert!(rt; matches!(&least, Ok(Request::Load { mails: 1 })));
+    assert!(rt; matches!(&most, Ok(Request::Load { mails: 2000 })));
     Ok(())
 }
 

@@ -1,0 +1,6 @@
+pub mod Beginning
+pub mod Codes
+pub mod Counting
+pub mod Hearing
+pub mod Places
+pub mod Settled
