@@ -81,3 +81,4 @@ asked_form words (requests.Submit sender to) is = submission_form (matches_of su
 asked_form words (requests.Drain rests) is = tt
 asked_form words (requests.Qshape request) is = is.1.shape
 asked_form words requests.Queue is = tt
+asked_form words (requests.Load mails) is = tt

@@ -1,8 +1,13 @@
 -- How a command ends that only tells.
-use Rattle.std.proofs.Common.{inl, inr, refl}
+use Rattle.std.proofs.Common.{[], inl, inr, refl}
 use Rattle.std.specs.Prelude.{Err, Ok, OnErr, OnOk, Result}
+use Rattle.q_host.proofs.Moments.{goes_nowhere}
+use Rattle.q_host.specs.Steps.{Stay}
+use Rattle.q_host.specs.View.{View}
 use Rattle.q_host.specs.declared.error.HostError.{HostError}
 use Rattle.q_host.specs.declared.error.HostError.TheVariants as faults
+use Rattle.q_telling.proofs.TellingLaws.{OnlyNow, tells_none}
+use Rattle.q_telling.specs.Telling.{TellsMore}
 use Rattle.q_top.specs.Statuses.{telling_status}
 use Rattle.q_top.specs.Tellings.{EndsTelling}
 
@@ -19,3 +24,11 @@ on_ok_of (Err e) f p = tt
 pub on_err_of : {T E : Type 0} {P Q : Type 0} (r : Result T E) → (P → Q) → OnErr r P → OnErr r Q
 on_err_of (Ok x) f p = tt
 on_err_of (Err e) f p = f p
+
+pub when_err : {T E P : Type 0} (r : Result T E) → P → OnErr r P
+when_err (Ok x) p = tt
+when_err (Err e) p = p
+
+-- nothing was done
+pub none_told : (u : View) → OnlyNow u → TellsMore [] u u
+none_told u only = tells_none u u only (record { files = refl; told = refl; goes = goes_nowhere Stay Stay u (λ x. refl) })

@@ -6,7 +6,7 @@ use Rattle.q_host.specs.View.{View}
 use Rattle.q_shape.specs.Buckets.{IsShape}
 use Rattle.q_top.specs.Courses.{Connections, Moments, Texts, outsides}
 use Rattle.q_top.specs.Lives.{DrainsSpool, Replays, Submits}
-use Rattle.q_top.specs.Tellings.{Lists, TellsAges}
+use Rattle.q_top.specs.Tellings.{Lists, TellsAges, TellsLoad}
 use Rattle.q_top.specs.declared.status.Status.{Status}
 use Rattle.q_top.specs.declared.status.Status.TheVariants as status
 use Rattle.q_words.specs.Requests.{IsRequest}
@@ -40,6 +40,7 @@ HasForm (requests.Submit sender to) = IsMailInForm sender to
 HasForm (requests.Drain rests) = Unit {0}
 HasForm (requests.Qshape request) = IsShape request.shape
 HasForm requests.Queue = Unit {0}
+HasForm (requests.Load mails) = Unit {0}
 
 -- how the command ends that is asked for
 abbrev pub Does : Request → Texts → Moments → Connections → Status → View → View → Type 0
@@ -48,6 +49,7 @@ Does (requests.Submit sender to) texts moments connections s u v = Submits sende
 Does (requests.Drain rests) texts moments connections s u v = DrainsSpool (outsides moments connections) u v s
 Does (requests.Qshape request) texts moments connections s u v = TellsAges request moments u v s
 Does requests.Queue texts moments connections s u v = Lists u v s
+Does (requests.Load mails) texts moments connections s u v = TellsLoad mails u v s
 
 -- the command that the words ask for was carried out
 pub record CarriesOut (words : List (List ℕ)) (texts : Texts) (moments : Moments) (connections : Connections) (s : Status) (u v : View)

@@ -1,8 +1,11 @@
 -- How a command ends that only tells, by its status.
-use Rattle.std.specs.Prelude.{◌≡◌, ◌⊎◌, ℕ}
+use Rattle.std.specs.Prelude.{◌≡◌, ◌⊎◌, [], List, ℕ}
 use Rattle.q_ages.specs.Tables.{MayTellTable, TellsTable}
 use Rattle.q_host.specs.View.{View}
 use Rattle.q_listing.specs.Listings.{listing}
+use Rattle.q_load.specs.Loads.{IsSummary}
+use Rattle.q_load.specs.SummaryTexts.{summary_text}
+use Rattle.q_load.specs.declared.summary.Summary.{Summary}
 use Rattle.q_model.specs.Book.{Book}
 use Rattle.q_model.specs.FilesStand.{Stands}
 use Rattle.q_stream.specs.Clocks.{AddsMoment}
@@ -31,3 +34,29 @@ EndsTable now request b u v s =
 abbrev pub TellsAges : TableRequest → Moments → View → View → Status → Type 0
 TellsAges request moments u v s = (b : Book) → Stands u.files b
     → (now : ℕ) × AddsMoment moments.before moments.after now × EndsTable now request b u v s
+
+-- the text of the summary of a load of so many mails
+pub record IsLoadText (mails : ℕ) (text : List ℕ) : Type 0 where
+  pub summary : Summary
+  pub is : IsSummary mails summary
+  pub says : text ≡ summary_text summary
+
+-- it was told
+pub record TellsSummary (mails : ℕ) (u v : View) : Type 0 where
+  pub text : List ℕ
+  pub is : IsLoadText mails text
+  pub told : TellsMore text u v
+
+-- some first part of it was told
+pub record TellsSummaryFront (mails : ℕ) (u v : View) : Type 0 where
+  pub text : List ℕ
+  pub is : IsLoadText mails text
+  pub told : TellsFront text u v
+
+-- that, or nothing was told and no file changed
+abbrev pub MayTellSummary : ℕ → View → View → Type 0
+MayTellSummary mails u v = TellsMore [] u v ⊎ TellsSummaryFront mails u v
+
+-- `load`: the summary of the load is told, and no file is changed.
+abbrev pub TellsLoad : ℕ → View → View → Status → Type 0
+TellsLoad mails u v s = EndsTelling (TellsSummary mails u v) (MayTellSummary mails u v) s

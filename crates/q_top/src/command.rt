@@ -11,6 +11,7 @@ ghost use Rattle.q_words.specs.Requests.{IsRequest};
 ghost use Rattle.q_words.specs.Usages.{is_usage};
 
 use crate::draining::drain_spool;
+use crate::loading::tell_load;
 use crate::replaying::replay_list;
 use crate::status::Status;
 use crate::submitting::submit_content;
@@ -58,6 +59,7 @@ fn carry_out<L: Link, H: Host, S: Source, C: Clock, N: Hops<Link = L>>(
         Request::Drain { rests } => drain_spool(alloc, host, clock, hops, rests),
         Request::Qshape(table) => table_ages(alloc, host, clock, &table),
         Request::Queue => list_queues(alloc, host),
+        Request::Load { mails } => tell_load(alloc, host, mails),
     }
 }
 
@@ -69,7 +71,8 @@ fn carry_out<L: Link, H: Host, S: Source, C: Clock, N: Hops<Link = L>>(
 /// the files of conf, and takes the message in at the clock's moment. `drain` reads the files of
 /// conf, and begins a life that delivers by SMTP (RFC 5321) until no delivery is in flight. A missing
 /// file of conf says as much as an empty one. `queue` tells the listing of the queues, `qshape` the
-/// ages of their mail; these two read no conf, begin no life and change nothing.
+/// ages of their mail; these two read no conf, begin no life and change nothing. `load` reads no conf
+/// and opens no spool: it runs a generated load on a host in memory of its own, and tells a summary.
 ///
 /// `Usage` comes for words that are none of a command. Of `submit`, `Limit` of content comes next.
 /// Then `BadInput` names the first fault of the parameters, then of the table; `Damaged` the file for

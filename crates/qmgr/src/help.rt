@@ -31,6 +31,9 @@ Commands:
                                 minutes (1 to 10000, default 5), each twice the one before or with
                                 -l as much above it; QUEUE is incoming, active, deferred or hold,
                                 by default the first two
+  load N                        run a generated load of N mails (1 to 2000) in memory, and tell how
+                                many messages, recipients, deliveries and preemptions there were,
+                                and how many messages are left
 
 The files conf/params and conf/transport of the spool say the parameters and the transport table.
 

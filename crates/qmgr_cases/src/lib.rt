@@ -14,6 +14,8 @@ mod folders;
 #[cfg(test)]
 mod lists;
 #[cfg(test)]
+mod loads;
+#[cfg(test)]
 mod queues;
 #[cfg(test)]
 mod refusals;

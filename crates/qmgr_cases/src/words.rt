@@ -4,11 +4,13 @@ use q_silent_host::SilentHost;
 use q_top::Status;
 use std::test::Fail;
 
-const WRONG: [&[&str]; 12] = [
+const WRONG: [&[&str]; 14] = [
     &[],
     &["flush"],
     &["drain", "-n", "x"],
-    &["load", "1"],
+    &["load"],
+    &["load", "0"],
+    &["load", "2001"],
     &["replay", "x"],
     &["queue", "deferred"],
     &["qshape", "corrupt"],

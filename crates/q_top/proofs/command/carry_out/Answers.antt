@@ -11,3 +11,6 @@ returns-in-Qshape-clause-unfinished g c n is = absurd (c.table_ages.ensures.no_r
 
 pub returns-in-Queue-clause-unfinished : goal.returns-in-Queue-clause-unfinished
 returns-in-Queue-clause-unfinished g c n is = absurd (c.list_queues.ensures.no_rests n is)
+
+pub returns-in-Load-clause-unfinished : goal.returns-in-Load-clause-unfinished
+returns-in-Load-clause-unfinished g c n is = absurd (c.tell_load.ensures.no_rests n is)
