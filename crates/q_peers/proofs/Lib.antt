@@ -1,0 +1,11 @@
+pub mod Numbers
+pub mod Walks
+pub mod Chained
+pub mod Items
+pub mod Filed
+pub mod Keys
+pub mod Standing
+pub mod Changes
+pub mod Peers
+pub mod Rests
+mod NumberedRows

@@ -1,0 +1,18 @@
+use Rattle.std.proofs.Common.{◌∙◌, sym}
+use Rattle.q_peers.specs.Numbered.{is_of}
+use Rattle.q_peers.specs.Slots.{passes}
+use Rattle.q_peers.proofs.Walks.{found_behind, shorter, still_there}
+use Rattle.q_peers.proofs.walk.first_of_from.Goals as goal
+
+pub loop-at-smaller : goal.loop-at-smaller
+loop-at-smaller c = shorter c.args.lists.now c.stand_once.ensures c.in-Some.number c.loop-at.at c.next-at.result c.in-Some.is c.next-at.ensures
+
+pub loop-at-preserved : goal.loop-at-preserved
+loop-at-preserved c =
+    let s = c.args.lists.now in
+    let n = c.in-Some.number in
+    let fails = sym c.is_row_of.ensures ∙ c.if-is_row_of.false in
+    record {
+      there = still_there s c.stand_once.ensures n c.loop-at.at c.next-at.result c.in-Some.is c.next-at.ensures;
+      rest = found_behind s c.stand_once.ensures n c.loop-at.at c.next-at.result c.in-Some.is c.next-at.ensures (passes (is_of c.args.id) c.args.rows.now.items) fails ∙ c.loop-at.invariant.rest;
+    }

@@ -1,0 +1,4 @@
+pub mod Numbered
+pub mod Buckets
+pub mod Slots
+pub mod Sound

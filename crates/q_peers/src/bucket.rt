@@ -1,0 +1,44 @@
+//! Buckets of messages and of sites.
+ghost use Rattle.std.specs.Prelude.{◌≡◌, ◌≤◌, ◌<◌, ◌%◌};
+ghost use Rattle.q_peers.specs.Buckets.{hash_with, site_hash};
+
+use q_model::{Id, Site};
+
+/// A prime, and the greatest number of 31 bits.
+const MODULUS: u64 = 2_147_483_647;
+
+fn hash_with(hash: u64, byte: u8) -> u64
+    requires { hash < MODULUS }
+    ensures is { result ≡ hash_with hash byte }
+    ensures below { result < MODULUS }
+{
+    (hash * 31 + u64::from(byte)) % MODULUS
+}
+
+fn site_hash(site: &Site) -> u64
+    ensures { result ≡ site_hash site.now }
+{
+    let mut hash = u64::from(site.transport);
+    for byte in site.hop.bytes() {
+        hash = hash_with(hash, *byte);
+    }
+    hash
+}
+
+/// The bucket of a message, of so many.
+pub(crate) fn message_bucket(id: Id, buckets: u32) -> u32
+    requires { 1 ≤ buckets }
+    ensures is { result ≡ id.serial % buckets }
+    ensures below { result < buckets }
+{
+    id.serial % buckets
+}
+
+/// The bucket of a site, of so many.
+pub(crate) fn site_bucket(site: &Site, buckets: u32) -> u32
+    requires { 1 ≤ buckets }
+    ensures is { result ≡ site_hash site.now % buckets }
+    ensures below { result < buckets }
+{
+    (site_hash(site) % u64::from(buckets)) as u32
+}

@@ -1,0 +1,84 @@
+//! The first row, and the next one: of all, of a message, and of a site.
+ghost use Rattle.std.specs.Prelude.{◌≡◌};
+ghost use Rattle.std.specs.List.{list_any};
+ghost use Rattle.q_peers.specs.Numbered.{any_row, first_such, is_at, is_for, is_of, next_such, rows_of};
+
+use crate::bucket::{message_bucket, site_bucket};
+use crate::slots::{WAITING, row_at};
+use crate::waiting::Waiting;
+use crate::walk::{first_at_from, first_for_from, first_of_from};
+use q_model::{Id, Site};
+
+impl Waiting {
+    /// The number of the first row.
+    pub fn first(&self) -> Option<u32>
+        ensures { result ≡ first_such any_row self.now.items }
+    {
+        self.order.first(WAITING)
+    }
+
+    /// The number of the row right behind the one of this number.
+    pub fn next(&self, number: u32) -> Option<u32>
+        ensures { result ≡ next_such (λ r. any_row) number self.now.items }
+    {
+        let _row = row_at(&self.rows, number)?;
+        self.order.stand_once();
+        self.order.next(number)
+    }
+
+    /// The number of the first row of a message, by a walk along its bucket.
+    pub fn first_of(&self, id: Id) -> Option<u32>
+        ensures { result ≡ first_such (is_of id) self.now.items }
+    {
+        self.by_message.stand_once();
+        let from = self.by_message.first(message_bucket(id, self.room));
+        first_of_from(&self.rows, &self.by_message, from, id)
+    }
+
+    /// The number of the next row of the same message, behind the one of this number, by a walk
+    /// along its bucket.
+    pub fn next_of(&self, number: u32) -> Option<u32>
+        ensures { result ≡ next_such (λ r. is_of r.id) number self.now.items }
+    {
+        let id = row_at(&self.rows, number)?.id;
+        self.by_message.stand_once();
+        let from = self.by_message.next(number);
+        first_of_from(&self.rows, &self.by_message, from, id)
+    }
+
+    /// The number of the first row to a site, by a walk along its bucket.
+    pub fn first_at(&self, site: &Site) -> Option<u32>
+        ensures { result ≡ first_such (is_at site.now) self.now.items }
+    {
+        self.by_site.stand_once();
+        let from = self.by_site.first(site_bucket(site, self.room));
+        first_at_from(&self.rows, &self.by_site, from, site)
+    }
+
+    /// The number of the next row to the same site, behind the one of this number, by a walk along
+    /// its bucket.
+    pub fn next_at(&self, number: u32) -> Option<u32>
+        ensures { result ≡ next_such (λ r. is_at r.site) number self.now.items }
+    {
+        let site = &row_at(&self.rows, number)?.site;
+        self.by_site.stand_once();
+        let from = self.by_site.next(number);
+        first_at_from(&self.rows, &self.by_site, from, site)
+    }
+
+    /// The number of the first row of a message to a site, by a walk along the message's bucket.
+    pub fn first_for(&self, id: Id, site: &Site) -> Option<u32>
+        ensures { result ≡ first_such (is_for id site.now) self.now.items }
+    {
+        self.by_message.stand_once();
+        let from = self.by_message.first(message_bucket(id, self.room));
+        first_for_from(&self.rows, &self.by_message, from, id, site)
+    }
+
+    /// Whether a row waits that goes to the site.
+    pub fn waits_at(&self, site: &Site) -> bool
+        ensures { result ≡ list_any (is_at site.now) (rows_of self.now.items) }
+    {
+        self.first_at(site).is_some()
+    }
+}

@@ -1,0 +1,24 @@
+//! The rows that wait, in the order in which they came. A row has those recipients of a message
+//! that one delivery may carry to one site. Of all rows, of those of a message and of those to a
+//! site the first is found, and the next one behind a row, without a walk over the others; and a
+//! row leaves from anywhere at the same cost. So a decision costs no more where many rows wait.
+//!
+//! A row has a number while it waits, which no other row has; the number of a row that went is
+//! given again. The numbers are chained in the order in which their rows came, and once more in
+//! buckets by message and in buckets by site, as many of each as rows have room. Only along one
+//! bucket does a call walk.
+//!
+//! Room is made once, by `new`; no other call takes memory or can fail. It is an error to make it
+//! without room or for 2^30 rows and more, and to add a row where there is no room. It is none to
+//! ask for a number that no row has, or to remove it: the answer is None.
+#![tactic(auto)]
+
+mod bucket;
+mod finding;
+mod slots;
+mod waiting;
+mod walk;
+#[cfg(test)]
+mod worked;
+
+pub use waiting::Waiting;

@@ -1,0 +1,143 @@
+//! The rows that wait.
+ghost use Rattle.std.specs.Prelude.{◌≡◌, ◌<◌, ◌≤◌, ◌-◌, ◌++◌, ◌^◌, [], ◌∷◌, Bool, IfOk, filter, find, length, None, not, Some};
+ghost use Rattle.std.specs.Option.{option_copied};
+ghost use Rattle.q_model.specs.Lists.{drop_first};
+ghost use Rattle.q_model.specs.declared.rows.Row.{Row};
+ghost use Rattle.q_peers.specs.Numbered.{AreApart, first_such, has_number, row_at, rows_of};
+
+use crate::bucket::{message_bucket, site_bucket};
+use crate::slots::{FREE, WAITING, fresh_order, fresh_rows, put_row, row_at, take_row};
+use q_chains::Chains;
+use q_model::Row;
+use std::alloc::{AllocError, Global};
+use std::marker::Model;
+
+/// The rows that wait. A contract sees them as a list of rows with their numbers.
+#[derive(Debug, Drop)]
+pub struct Waiting {
+    /// The rows by number.
+    pub(crate) rows: Vec<Option<Row>>,
+    /// Two lists: the numbers of the rows in the order in which they came, and the free numbers.
+    pub(crate) order: Chains,
+    /// The numbers in each bucket of messages, in the order in which the rows came.
+    pub(crate) by_message: Chains,
+    /// The same in each bucket of sites.
+    pub(crate) by_site: Chains,
+    pub(crate) live: u32,
+    /// How many numbers there are, and buckets.
+    pub(crate) room: u32,
+}
+
+impl Model for Waiting {
+    ghost use Rattle.std.specs.Prelude.{[], get_or};
+    ghost use Rattle.q_peers.specs.Numbered.{Items};
+    ghost use Rattle.q_peers.specs.Slots.{items_of};
+    ghost use Rattle.q_peers.specs.Sound.{IsSound};
+
+    ghost Value = { Items };
+
+    ghost view = { λ a. record {
+      items = items_of a.rows.items (get_or a.order.lists 0 []);
+      room = a.room;
+    } };
+
+    ghost invariant = { λ a. IsSound a.rows.items a.order a.by_message a.by_site a.live a.room };
+}
+
+impl Waiting {
+    /// No row, and room for so many. For each of them it takes 40 bytes, in which numbers and
+    /// buckets are chained, and those of the row. An error says that memory is wanting.
+    pub fn new(alloc: Global, room: u32) -> Result<Waiting, AllocError>
+        requires some { 1 ≤ room }
+        requires few { room < 2 ^ 30 }
+        ensures { IfOk result (λ made. made ≡ record { items = []; room = room }) }
+    {
+        let rows = fresh_rows(alloc, room)?;
+        let order = fresh_order(alloc, room)?;
+        let by_message = Chains::new(alloc, room, room)?;
+        let by_site = Chains::new(alloc, room, room)?;
+        Ok(Waiting {
+            rows,
+            order,
+            by_message,
+            by_site,
+            live: 0,
+            room,
+        })
+    }
+
+    /// No two rows have one number, and there are no more than have room, whatever was called: this
+    /// does nothing, and is there for callers whose proofs want to know it.
+    pub fn stand_apart(&self)
+        ensures apart { AreApart self.now.items }
+        ensures within { length self.now.items ≤ self.now.room }
+        ensures few { self.now.room < 2 ^ 30 }
+    {
+        self.order.stand_once();
+    }
+
+    /// How many rows wait.
+    pub fn len(&self) -> usize
+        ensures { result ≡ length self.now.items }
+    {
+        self.live as usize
+    }
+
+    /// How many rows more have room.
+    pub fn spare(&self) -> u32
+        ensures { result ≡ self.now.room - length self.now.items }
+    {
+        self.room - self.live
+    }
+
+    /// The row of a number.
+    pub fn get(&self, number: u32) -> Option<&Row>
+        ensures { option_copied result ≡ row_at number self.now.items }
+    {
+        row_at(&self.rows, number)
+    }
+
+    /// Adds a row behind all others, and gives the number that it has from now on.
+    pub fn push(&mut self, row: Row) -> u32
+        requires { length self.old.items < self.old.room }
+        ensures items { self.new ≡ record self.old {
+          items = self.old.items ++ record { number = result; row = row } ∷ [];
+        } }
+        ensures rows { rows_of self.new.items ≡ rows_of self.old.items ++ row ∷ [] }
+        ensures fresh { find (has_number result) self.old.items ≡ None }
+    {
+        self.order.stand_once();
+        let Some(number) = self.order.first(FREE) else {
+            unreachable!()
+        };
+        let message = message_bucket(row.id, self.room);
+        let site = site_bucket(&row.site, self.room);
+        self.order.remove(number);
+        self.order.push(WAITING, number);
+        self.by_message.push(message, number);
+        self.by_site.push(site, number);
+        put_row(&mut self.rows, number, row);
+        self.live += 1;
+        number
+    }
+
+    /// Takes the row of a number out.
+    pub fn remove(&mut self, number: u32) -> Option<Row>
+        ensures taken { result ≡ row_at number self.old.items }
+        ensures items { self.new ≡ record self.old
+            { items = filter (λ k. not (has_number number k)) self.old.items } }
+        ensures rows { (p : Row → Bool) → first_such p self.old.items ≡ Some number
+            → rows_of self.new.items ≡ drop_first p (rows_of self.old.items) }
+    {
+        self.order.stand_once();
+        if row_at(&self.rows, number).is_none() {
+            return None;
+        }
+        self.order.remove(number);
+        self.order.push(FREE, number);
+        self.by_message.remove(number);
+        self.by_site.remove(number);
+        self.live -= 1;
+        take_row(&mut self.rows, number)
+    }
+}

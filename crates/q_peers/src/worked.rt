@@ -1,0 +1,215 @@
+//! Worked sequences, with room for four rows. Messages 1, 5 and 9 are of one bucket, and so are the
+//! sites of the transports 1, 5 and 9.
+
+use crate::Waiting;
+use q_model::{Hop, Id, Row, Sequence, Site};
+use std::alloc::Global;
+use std::test::Fail;
+
+/// The number of a message, and that of a transport.
+type Pair = (u32, u8);
+
+/// A call.
+#[derive(Clone, Copy, Debug)]
+enum Call {
+    Add(u32, u8),
+    Remove(u32, u8),
+}
+
+/// Which rows are read.
+#[derive(Clone, Copy, Debug)]
+enum Rows {
+    All,
+    Of(u32),
+    At(u8),
+}
+
+/// Calls, and the rows after each.
+const ROWS: [(Call, &[Pair]); 17] = [
+    (Call::Add(1, 1), &[(1, 1)]),
+    (Call::Add(5, 1), &[(1, 1), (5, 1)]),
+    (Call::Add(9, 5), &[(1, 1), (5, 1), (9, 5)]),
+    (Call::Add(1, 5), &[(1, 1), (5, 1), (9, 5), (1, 5)]),
+    // no room
+    (Call::Add(2, 2), &[(1, 1), (5, 1), (9, 5), (1, 5)]),
+    // from the middle, and then not there
+    (Call::Remove(5, 1), &[(1, 1), (9, 5), (1, 5)]),
+    (Call::Remove(5, 1), &[(1, 1), (9, 5), (1, 5)]),
+    (Call::Add(5, 9), &[(1, 1), (9, 5), (1, 5), (5, 9)]),
+    // the first, and the last
+    (Call::Remove(1, 1), &[(9, 5), (1, 5), (5, 9)]),
+    (Call::Remove(5, 9), &[(9, 5), (1, 5)]),
+    (Call::Remove(1, 5), &[(9, 5)]),
+    (Call::Remove(9, 5), &[]),
+    (Call::Add(2, 2), &[(2, 2)]),
+    // two rows of one message to one site
+    (Call::Add(2, 2), &[(2, 2), (2, 2)]),
+    (Call::Add(2, 1), &[(2, 2), (2, 2), (2, 1)]),
+    (Call::Add(1, 2), &[(2, 2), (2, 2), (2, 1), (1, 2)]),
+    (Call::Remove(2, 2), &[(2, 2), (2, 1), (1, 2)]),
+];
+
+/// Messages and transports that are asked for after each call.
+const ASKED: [Pair; 5] = [(1, 1), (2, 2), (5, 5), (9, 9), (7, 7)];
+
+fn id(serial: u32) -> Id {
+    Id {
+        generation: 1,
+        serial,
+        bounce: false,
+    }
+}
+
+fn site(transport: u8) -> Option<Site> {
+    let hop = Hop::new(b"a")?;
+    Some(Site { transport, hop })
+}
+
+fn row(alloc: Global, serial: u32, transport: u8) -> Option<Row> {
+    Some(Row {
+        id: id(serial),
+        site: site(transport)?,
+        positions: Sequence::new(alloc),
+    })
+}
+
+/// The number of a row that is added, where there is room.
+fn added(alloc: Global, waiting: &mut Waiting, serial: u32, transport: u8) -> Option<u32> {
+    if waiting.spare() == 0 {
+        return None;
+    }
+    Some(waiting.push(row(alloc, serial, transport)?))
+}
+
+/// The first row of a message to a site goes.
+fn removed(waiting: &mut Waiting, serial: u32, transport: u8) -> Option<Pair> {
+    let number = waiting.first_for(id(serial), &site(transport)?)?;
+    let row = waiting.remove(number)?;
+    Some((row.id.serial, row.site.transport))
+}
+
+/// Whether the call is answered as it is to be, where the rows after it are these.
+fn carries_out(alloc: Global, waiting: &mut Waiting, call: Call, rows: usize) -> bool {
+    let before = waiting.len();
+    match call {
+        Call::Add(serial, transport) => {
+            let number = added(alloc, waiting, serial, transport);
+            number.is_some() == (before < rows)
+        }
+        Call::Remove(serial, transport) => {
+            let row = removed(waiting, serial, transport);
+            row.is_some() == (before > rows) && (row.is_none() || row == Some((serial, transport)))
+        }
+    }
+}
+
+/// The message and the transport of the row of a number.
+fn pair_at(waiting: &Waiting, number: u32) -> Option<Pair> {
+    let row = waiting.get(number)?;
+    Some((row.id.serial, row.site.transport))
+}
+
+fn first(waiting: &Waiting, rows: Rows) -> Option<u32> {
+    match rows {
+        Rows::All => waiting.first(),
+        Rows::Of(serial) => waiting.first_of(id(serial)),
+        Rows::At(transport) => waiting.first_at(&site(transport)?),
+    }
+}
+
+fn next(waiting: &Waiting, rows: Rows, number: u32) -> Option<u32> {
+    match rows {
+        Rows::All => waiting.next(number),
+        Rows::Of(_) => waiting.next_of(number),
+        Rows::At(_) => waiting.next_at(number),
+    }
+}
+
+fn is_read(rows: Rows, pair: Pair) -> bool {
+    match rows {
+        Rows::All => true,
+        Rows::Of(serial) => pair.0 == serial,
+        Rows::At(transport) => pair.1 == transport,
+    }
+}
+
+/// Whether just those of these pairs are read that are to be.
+fn reads(waiting: &Waiting, rows: Rows, want: &[Pair]) -> bool {
+    let mut at = first(waiting, rows);
+    for pair in want {
+        if is_read(rows, *pair) {
+            let Some(number) = at else {
+                return false;
+            };
+            if pair_at(waiting, number) != Some(*pair) {
+                return false;
+            }
+            at = next(waiting, rows, number);
+        }
+    }
+    at.is_none()
+}
+
+/// Whether one of these pairs is of the transport.
+fn has_transport(want: &[Pair], transport: u8) -> bool {
+    want.iter().any(|pair| pair.1 == transport)
+}
+
+/// Whether a row waits at the site of a transport.
+fn waits_at(waiting: &Waiting, transport: u8) -> Option<bool> {
+    Some(waiting.waits_at(&site(transport)?))
+}
+
+#[test]
+fn rows_after_each_call(rt: HostRuntime) -> Result<(), Fail> {
+    let mut waiting = Waiting::new(rt.alloc(), 4)?;
+    assert!(rt; reads(&waiting, Rows::All, &[]));
+    for i in 0..ROWS.len() {
+        let (call, want) = ROWS[i];
+        assert!(rt;
+            carries_out(rt.alloc(), &mut waiting, call, want.len()),
+            "row {i}"
+        );
+        assert_eq!(rt; waiting.len(), want.len());
+        assert!(rt; reads(&waiting, Rows::All, want), "row {i}");
+        for (serial, transport) in ASKED {
+            assert!(rt;
+                reads(&waiting, Rows::Of(serial), want),
+                "row {i}, message {serial}"
+            );
+            assert!(rt;
+                reads(&waiting, Rows::At(transport), want),
+                "row {i}, site {transport}"
+            );
+            let waits = has_transport(want, transport);
+            assert_eq!(rt; waits_at(&waiting, transport), Some(waits));
+        }
+    }
+    Ok(())
+}
+
+#[test]
+fn numbers_stay(rt: HostRuntime) -> Result<(), Fail> {
+    let mut waiting = Waiting::new(rt.alloc(), 2)?;
+    let first = added(rt.alloc(), &mut waiting, 1, 1).unwrap_or(u32::MAX);
+    let second = added(rt.alloc(), &mut waiting, 2, 1).unwrap_or(u32::MAX);
+    assert_eq!(rt; pair_at(&waiting, first), Some((1, 1)));
+    assert_eq!(rt; pair_at(&waiting, second), Some((2, 1)));
+    assert_eq!(rt; waiting.spare(), 0);
+    assert_eq!(rt; waiting.next(first), Some(second));
+    assert!(rt; waiting.remove(first).is_some());
+    // it went
+    assert!(rt; waiting.get(first).is_none());
+    assert!(rt; waiting.remove(first).is_none());
+    assert_eq!(rt; waiting.next(first), None);
+    assert_eq!(rt; waiting.next_of(first), None);
+    assert_eq!(rt; pair_at(&waiting, second), Some((2, 1)));
+    // its number is the only one that is free
+    assert_eq!(rt; added(rt.alloc(), &mut waiting, 3, 1), Some(first));
+    assert_eq!(rt; waiting.next_at(second), Some(first));
+    // no row has such a number
+    assert!(rt; waiting.get(u32::MAX).is_none());
+    assert!(rt; waiting.remove(u32::MAX).is_none());
+    assert_eq!(rt; waiting.next_at(u32::MAX), None);
+    Ok(())
+}
