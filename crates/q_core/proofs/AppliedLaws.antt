@@ -1,5 +1,5 @@
 -- What the decision of the core says of the ledger's next.
-use Rattle.std.proofs.Common.{◌≡◌, ◌<◌, ℕ, zero, suc, arith, length, Bool, true, false, List, [], ◌∷◌, refl, sym, ap, ◌∙◌, subst, Option, Some, None, option_map, inl, inr, eqb-true}
+use Rattle.std.proofs.Common.{◌≡◌, ◌<◌, ℕ, arith, length, Bool, true, false, List, [], ◌∷◌, refl, sym, ap, ◌∙◌, subst, Option, Some, None, option_map, inl, inr, eqb-true}
 use Rattle.std.specs.Option.{option_map_or}
 use Rattle.std.specs.Prelude.{◌&&◌, ◌==◌, find, option_and_then, position, slice_get}
 use Rattle.q_core.proofs.NameLaws.{and_true_parts, id_eq-true}
@@ -7,10 +7,13 @@ use Rattle.q_core.proofs.NextLaws.{next_law}
 use Rattle.q_core.specs.Agrees.{Agrees}
 use Rattle.q_core.specs.Deciding.{IsLooking, IsNextDecision, decide_in}
 use Rattle.q_core.proofs.DroppedLaws.{found_first}
-use Rattle.q_core.proofs.ListLaws.{position-find}
+use Rattle.q_core.proofs.ListLaws.{find-passes, position-find}
+use Rattle.q_core.proofs.RowWalkLaws.{narrow_place}
+use Rattle.q_model.proofs.IdLaws.{id_eq-refl, site_eq-refl, site_eq-true}
+use Rattle.std.proofs.lemmas.Bool.{and_from, and_parts}
 use Rattle.q_core.proofs.RuleLaws.{first_at_site}
 use Rattle.q_core.specs.Decisions.{WantsRead, IsRowAt, IsRowFor, IsRule}
-use Rattle.q_core.specs.Sending.{row_for}
+use Rattle.q_core.specs.Sending.{is_for, row_for}
 use Rattle.q_core.specs.Held.{is_dead_in}
 use Rattle.q_core.specs.Rules.{next_skip_in, next_skip_number, skip_at, skip_decision}
 use Rattle.q_core.specs.declared.decision.Decision.{Decision}
@@ -19,6 +22,7 @@ use Rattle.q_core.specs.declared.state.Core.{Core}
 use Rattle.q_laws.proofs.Decided.{Decided}
 use Rattle.q_laws.proofs.Decisions.{next_decided}
 use Rattle.q_model.specs.Ids.{id_eq}
+use Rattle.q_model.specs.Sites.{site_eq}
 use Rattle.q_model.specs.Ledger.{Ledger}
 use Rattle.q_model.specs.Lists.{has_none}
 use Rattle.q_model.specs.Logs.{may_log, needs_log, why_eq}
@@ -139,11 +143,6 @@ pub first_wanted : {w : World} {c : Core} {l : Ledger} (id : Id) (p : ℕ) → A
 first_wanted {l = l} id p a some (may, inl first) = mark_rule l id p first
 first_wanted {c = c} {l = l} id p a some (may, inr h) = let empty : length c.unsettled ≡ 0 = ap length (a.matches.parts.unsettled ∙ h.0) in absurd (omega (arith, some, empty))
 
-some_within : {A : Type 0} (xs : List A) (n : ℕ) (x : A) → slice_get xs n ≡ Some x → n < length xs
-some_within [] n x e = cc
-some_within (y ∷ ys) zero x e = omega arith
-some_within (y ∷ ys) (suc n) x e = let rest = some_within ys n x e in omega (arith, rest)
-
 -- the third rule's row stands at this place
 pub record IsSkipAt (c : Core) (id : Id) (site : Site) (place : ℕ) : Type 0 where
   pub row : Row
@@ -166,12 +165,6 @@ no_skip_place c id s entry (Some k) p h = cc
 pub no_skip : (c : Core) (id : Id) (s : Site) (k : ℕ) → position (λ r. is_dead_in c r.site) c.waiting ≡ None → next_skip_in c ≡ Some (decisions.Skip id s k) → ⊥
 no_skip c id s entry p h = no_skip_place c id s entry (position (λ r. is_dead_in c r.site) c.waiting) p h
 
-pub skip_within : (c : Core) (n : ℕ) → position (λ r. is_dead_in c r.site) c.waiting ≡ Some n → n < length c.waiting
-skip_within c n p = elim (position-find (λ r. is_dead_in c r.site) c.waiting) [
-  | inl none ↦ let bad : None ≡ Some n = sym none.0 ∙ p in cc
-  | inr some ↦ let same : some.0 ≡ n = (let both : Some some.0 ≡ Some n = sym some.2.place ∙ p in cc) in some_within c.waiting n some.1 (ap (slice_get c.waiting) (sym same) ∙ some.2.there)
-]
-
 -- a row stands there
 pub skip_there : (c : Core) (n : ℕ) → position (λ r. is_dead_in c r.site) c.waiting ≡ Some n → (r : Row) × (slice_get c.waiting n ≡ Some r)
 skip_there c n p = elim (position-find (λ r. is_dead_in c r.site) c.waiting) [
@@ -190,6 +183,30 @@ skip_numbered_at c id s k (Some n) h = skip_numbered c id s k (slice_get c.waiti
 
 pub skip_number : (c : Core) (id : Id) (s : Site) (k : ℕ) → next_skip_in c ≡ Some (decisions.Skip id s k) → next_skip_number c ≡ k
 skip_number c id s k h = skip_numbered_at c id s k (position (λ r. is_dead_in c r.site) c.waiting) h
+
+-- the skip is of the first row at a dead site
+pub skip_found : (c : Core) → next_skip_in c ≡ option_map (skip_decision c) (find (λ r. is_dead_in c r.site) c.waiting)
+skip_found c = elim (position-find (λ (r : Row). is_dead_in c r.site) c.waiting) [
+  | inl none ↦ ap (option_and_then (skip_at c)) none.0 ∙ sym (ap (option_map (skip_decision c)) none.1)
+  | inr some ↦ ap (option_and_then (skip_at c)) some.2.place ∙ ap (option_map (skip_decision c)) some.2.there ∙ sym (ap (option_map (skip_decision c)) some.2.found)
+]
+
+-- where the first row at a dead site stands its message's first row for the site stands
+pub skip_place : (c : Core) (id : Id) (s : Site) (k : ℕ) → next_skip_in c ≡ Some (decisions.Skip id s k) →
+    (n : ℕ) × (position (λ r. is_dead_in c r.site) c.waiting ≡ Some n) × (position (is_for id s) c.waiting ≡ Some n)
+skip_place c id s entry h = elim (position-find (λ (r : Row). is_dead_in c r.site) c.waiting) [
+  | inl none ↦ absurd (no_skip c id s entry none.0 h)
+  | inr some ↦
+      let k = skip_at_place c id s entry some.0 (position (λ r. is_dead_in c r.site) c.waiting) some.2.place h in
+      let dead : is_dead_in c s ≡ true = ap (is_dead_in c) (sym k.at_site) ∙ find-passes (λ (r : Row). is_dead_in c r.site) c.waiting k.row (found_first (λ (r : Row). is_dead_in c r.site) c.waiting some.0 k.row some.2.place k.there) in
+      let own : is_for id s k.row ≡ true = and_from (id_eq k.row.id id) (site_eq k.row.site s) (ap (λ i. id_eq i id) k.name ∙ id_eq-refl id) (ap (λ x. site_eq x s) k.at_site ∙ site_eq-refl s) in (
+        some.0,
+        some.2.place,
+        narrow_place (λ (r : Row). is_dead_in c r.site) (is_for id s) c.waiting some.0 k.row
+            (λ x for. ap (is_dead_in c) (site_eq-true x.site s (and_parts (id_eq x.id id) (site_eq x.site s) for).1) ∙ dead)
+            some.2.place k.there own,
+      )
+]
 
 -- the row at that place is the message's first at the site, whatever its positions
 pub skip_row_is : (c : Core) (id : Id) (s : Site) (k n : ℕ) (r : Row) → position (λ r. is_dead_in c r.site) c.waiting ≡ Some n → next_skip_in c ≡ Some (decisions.Skip id s k) → row_for c id s ≡ Some r → slice_get c.waiting n ≡ Some r

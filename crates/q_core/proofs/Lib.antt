@@ -83,3 +83,4 @@ pub mod PoolTies
 pub mod TiedLaws
 pub mod NamedLaws
 pub mod GoneLaws
+pub mod RowWalkLaws

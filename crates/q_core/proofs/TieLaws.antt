@@ -17,7 +17,7 @@ use Rattle.q_pool.specs.declared.slot.Slot.{Slot}
 more_step : (b : Bool) (n m : ℕ) → cond b 1 0 + (n + m) ≡ (cond b 1 0 + n) + m
 more_step b n m = omega arith
 
-counted_step : {X : Type 0} (p : X → Bool) (x : X) (xs : List X) → count_by p (x ∷ xs) ≡ cond (p x) 1 0 + count_by p xs
+pub counted_step : {X : Type 0} (p : X → Bool) (x : X) (xs : List X) → count_by p (x ∷ xs) ≡ cond (p x) 1 0 + count_by p xs
 counted_step p x xs = grind (arith, common_steps)
 
 pub count_more : {X : Type 0} (p : X → Bool) (xs ys : List X) → count_by p (xs ++ ys) ≡ count_by p xs + count_by p ys

@@ -28,3 +28,4 @@ pub mod Hearing
 pub mod Answers
 pub mod Looking
 pub mod Touched
+pub mod RowWalks

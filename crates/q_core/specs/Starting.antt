@@ -1,8 +1,8 @@
 -- Which waiting rows may be sent now, by what the core holds.
 use Rattle.std.specs.List.{list_any}
-use Rattle.q_core.specs.Lists.{prefer}
+use Rattle.q_core.specs.Lists.{sooner_of}
 use Rattle.std.specs.Option.{option_map_or}
-use Rattle.std.specs.Prelude.{◌&&◌, ◌+◌, ◌==◌, Bool, count_by, false, filter, find, nat_lt, Option, option_map, ℕ}
+use Rattle.std.specs.Prelude.{◌&&◌, ◌+◌, ◌==◌, Bool, count_by, false, filter, find, if◌then◌else◌, List, nat_lt, Option, option_map, Some, ℕ}
 use Rattle.q_model.specs.declared.id.Id.{Id}
 use Rattle.q_model.specs.declared.rows.Row.{Row}
 use Rattle.q_model.specs.Sites.{site_eq}
@@ -51,13 +51,18 @@ last_start_in c r = option_map_or (λ s. s.last) (served_for c r) 0
 abbrev pub sent_before : Core → Row → Row → Bool
 sent_before c a b = nat_lt (last_start_in c a) (last_start_in c b)
 
--- the row that starts next: the one sent to longest ago; among equals the first read
-abbrev pub next_row_in : Core → ℕ → Id → Option Row
-next_row_in c transport id = least (sent_before c) (filter (rows_for c id transport) c.waiting)
+-- the row that starts next of these: the one sent to longest ago; among equals the first read
+abbrev pub next_row_of : Core → ℕ → Id → List Row → Option Row
+next_row_of c transport id rows = least (sent_before c) (filter (rows_for c id transport) rows)
 
--- the row or the one behind it, whichever starts first
-abbrev pub sooner_row : Core → ℕ → Id → Row → Option Row → Option Row
-sooner_row c transport id r next = prefer (rows_for c id transport) (sent_before c) r next
+-- the row that starts next of those that wait
+abbrev pub next_row_in : Core → ℕ → Id → Option Row
+next_row_in c transport id = next_row_of c transport id c.waiting
+
+-- the row that was found before or this one, whichever starts first
+abbrev pub sooner_row : Core → ℕ → Id → Option Row → Row → Option Row
+sooner_row c transport id next r = if rows_for c id transport r
+    then Some (sooner_of (sent_before c) next r) else next
 
 -- the delivery of a row
 abbrev pub start_of_row : Core → Row → Decision

@@ -24,6 +24,10 @@ waits_at_in waiting site = list_any (λ r. site_eq r.site site) waiting
 abbrev pub is_unused_in : List Row → List Delivery → Site → Bool
 is_unused_in waiting flights site = not (waits_at_in waiting site) && (busy_in flights site == 0)
 
+-- the site is dead, and recipients wait there
+abbrev pub is_dead_with : List Row → SiteRecord → Bool
+is_dead_with waiting r = not (is_alive r.health) && waits_at_in waiting r.site
+
 -- a dead site that is only remembered
 abbrev pub is_kept_dead_in : List Row → List Delivery → SiteRecord → Bool
 is_kept_dead_in waiting flights r = is_unused_in waiting flights r.site && not (is_alive r.health)

@@ -1,6 +1,7 @@
 -- The state that a contract sees, by the core's fields.
 use Rattle.q_core.specs.State.{State}
 use Rattle.q_core.specs.declared.state.Core.TheInside.{Inside}
+use Rattle.q_peers.specs.Numbered.{rows_of}
 use Rattle.q_pool.specs.Kept.{heads}
 
 abbrev pub state_of : Inside → State
@@ -16,7 +17,7 @@ state_of a = record {
   ignores = a.ignores;
   deferred_turn = a.deferred_turn;
   admitted = heads a.admitted.items;
-  waiting = a.waiting.items;
+  waiting = rows_of a.waiting.items;
   flights = a.flights.items;
   in_memory = a.in_memory;
   served = a.served.items;

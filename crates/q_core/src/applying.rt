@@ -69,10 +69,10 @@ impl Core {
         ensures noted { OnOk result (IsSkipNoted self.old id site entry self.new) }
         ensures err { OnErr result (IsUnchanged self.old self.new) }
     {
-        let Some(place) = self.first_dead() else {
+        if !self.has_row_for(id, &site) {
             return Ok(());
-        };
-        self.skip(alloc, place)?;
+        }
+        self.skip(alloc, id, &site)?;
         Ok(())
     }
 

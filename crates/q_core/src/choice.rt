@@ -1,14 +1,14 @@
 //! What a transport does next: a delivery of the current job begins, or another job preempts it
 //! (SCHEDULER_README, "Preemptive scheduling").
-ghost use Rattle.std.specs.Prelude.{◌≡◌, ◌≤◌, ◌<◌, ◌+◌, ◌^◌, ◌&&◌, ◌==◌, count_by, nat_lt};
+ghost use Rattle.std.specs.Prelude.{◌≡◌, ◌≤◌, ◌<◌, ◌+◌, ◌^◌, nat_lt};
 ghost use Rattle.std.specs.Option.{option_copied};
 ghost use Rattle.q_core.specs.Choosing.{behind_jobs, best_in, choice_in, choices_from, choose_in, current_in, is_better_in, is_candidate_in, is_fresh_among, jobs_at, need_in, next_start_in, pays_in, rest_in, better_slot};
 ghost use Rattle.q_core.specs.Starting.{flights_at};
-ghost use Rattle.q_model.specs.Ids.{id_eq};
 
 use crate::decision::Decision;
 use crate::line::Job;
 use crate::names::same_id;
+use crate::rows::waiting_for;
 use crate::state::Core;
 use q_model::Id;
 use q_params::Params;
@@ -55,24 +55,14 @@ fn pays(params: &Params, parent: &Job, left: u64, need: u64) -> bool
 }
 
 impl Core {
-    fn waiting_for(&self, id: Id, transport: u8) -> usize
-        ensures count { result
-            ≡ count_by (λ r. id_eq r.id id && (r.site.transport == transport)) self.now.waiting }
-        ensures few { result ≤ 2 ^ 63 }
-    {
-        self.waiting
-            .iter()
-            .filter(|row| same_id(row.id, id) && row.site.transport == transport)
-            .count()
-    }
-
     /// The deliveries that the message has left at the transport, where each unread recipient
     /// counts as one.
     pub(crate) fn rest(&self, id: Id, transport: u8) -> u64
         ensures value { result ≡ rest_in self.now transport id }
         ensures few { result ≤ 2 ^ 63 + 2 ^ 32 }
     {
-        self.waiting_for(id, transport) as u64 + u64::from(self.unread(id))
+        let waiting = waiting_for(&self.waiting, id, usize::from(transport));
+        waiting as u64 + u64::from(self.unread(id))
     }
 
     /// The need of a message that preempts: what it has left at the transport. That is no more

@@ -1,7 +1,8 @@
 //! A delivery starts.
-ghost use Rattle.std.specs.Prelude.{◌≡◌, ◌≤◌, ◌<◌, ◌&&◌, filter, IsTrue, length, List, map, not, OnErr, OnOk, position, Some, ℕ, vec_capacity, vec_len};
-ghost use Rattle.std.specs.List.{enumerate_from};
+ghost use Rattle.std.specs.Prelude.{◌≡◌, ◌≤◌, ◌<◌, ◌&&◌, filter, IsTrue, length, List, map, not, OnErr, OnOk, true, ℕ, vec_capacity, vec_len};
+ghost use Rattle.std.specs.List.{enumerate_from, list_any};
 ghost use Rattle.q_core.specs.Agrees.{FollowsRule};
+ghost use Rattle.q_core.specs.Lists.{AtFirst};
 ghost use Rattle.q_core.specs.Sending.{started_job, started_line, is_for, IsStarted, IsSent, served_now};
 ghost use Rattle.q_core.specs.Changes.{IsUnchanged, is_looked_at};
 ghost use Rattle.q_model.specs.Sites.{site_eq};
@@ -12,6 +13,7 @@ use crate::counting::begin_flight;
 use crate::flying::add_flight;
 use crate::line::{Job, Line};
 use crate::names::{same_id, same_site};
+use crate::rows::take_row;
 use crate::state::Core;
 use crate::touched::{touch_message, touch_site};
 use q_model::{Delivery, Entry, Id, NoMemory, Served, Site};
@@ -87,25 +89,26 @@ fn note_served(served: &mut Vec<Served>, id: Id, site: Site, number: u64) -> Res
 }
 
 impl Core {
-    /// The place of the message's first row for the site.
-    fn row_for(&self, id: Id, site: &Site) -> Option<usize>
-        ensures { result ≡ position (is_for id site.now) self.now.waiting }
+    /// Whether the message has a row for the site.
+    pub(crate) fn has_row_for(&self, id: Id, site: &Site) -> bool
+        ensures { result ≡ list_any (is_for id site.now) self.now.waiting }
     {
-        self.waiting
-            .iter()
-            .position(|row| same_id(row.id, id) && same_site(&row.site, site))
+        self.waiting.first_for(id, site).is_some()
     }
 
-    /// Sends the row at this place, which is of the message and for the site.
-    fn send(&mut self, number: u64, id: Id, site: Site, entry: usize) -> Result<(), NoMemory>
-        requires within { entry < length self.old.waiting }
+    /// Sends the message's first row for the site.
+    fn send(&mut self, number: u64, id: Id, site: Site) -> Result<(), NoMemory>
+        requires there { list_any (is_for id site) self.old.waiting ≡ true }
         requires next { self.old.starts < number }
-        ensures ok { OnOk result (IsSent self.old self.new number id site entry) }
+        ensures ok { OnOk result (AtFirst (is_for id site) self.old.waiting
+            (IsSent self.old self.new number id site)) }
         ensures err { OnErr result (IsUnchanged self.old self.new) }
     {
         self.flights.reserve(1)?;
         note_served(&mut self.served, id, site, number)?;
-        let row = self.waiting.remove(entry);
+        let Some(row) = take_row(&mut self.waiting, id, &site) else {
+            return Ok(());
+        };
         touch_message(&mut self.touched_message, row.id);
         touch_message(&mut self.touched_message, id);
         touch_site(&mut self.touched_site, &row.site);
@@ -133,13 +136,13 @@ impl Core {
             → FollowsRule self.old self.new start_rule (Entry.Start number id site ps)) }
         ensures err { OnErr result (IsUnchanged self.old self.new) }
     {
-        let Some(entry) = self.row_for(id, &site) else {
+        if !self.has_row_for(id, &site) {
             return Ok(());
-        };
+        }
         if number <= self.starts {
             return Ok(());
         }
-        self.send(number, id, site, entry)?;
+        self.send(number, id, site)?;
         self.count_start(id, &site);
         self.tidy();
         Ok(())

@@ -52,6 +52,7 @@ mod preempting;
 mod queries;
 mod reading;
 mod reply;
+mod rows;
 mod scan;
 mod site_record;
 mod skip;

@@ -10,6 +10,7 @@ ghost use Rattle.q_pool.specs.Slots.{read_up};
 use crate::counting::gain_waiting;
 use crate::grouping::rows_of;
 use crate::joining::{joined_lines, new_sites};
+use crate::rows::add_all;
 use crate::state::{Core, Question};
 use crate::touched::{record_limit, touch_all_if, touch_message};
 use q_model::{Batch, Cursor, Entry, Id, NoMemory, Row, Site};
@@ -51,12 +52,15 @@ impl Core {
         ensures ok { OnOk result (AreRowsAdded self.old self.new id rows.items) }
         ensures err { OnErr result (IsUnchanged self.old self.new) }
     {
-        let mut rows = rows;
         let mut fresh = new_sites(alloc, &self.sites, &rows, &self.params)?;
         let lines = joined_lines(alloc, &self.lines, id, &rows)?;
         self.sites.reserve(fresh.len())?;
+        self.waiting.stand_apart();
+        if (self.waiting.spare() as usize) < rows.len() {
+            return Err(NoMemory);
+        }
         let count = rows.len() as u64;
-        self.waiting.append(&mut rows)?;
+        add_all(&mut self.waiting, rows);
         gain_waiting(&mut self.admitted, id, count);
         let _ = self.sites.append(&mut fresh);
         self.lines = lines;

@@ -9,10 +9,12 @@ ghost use Rattle.q_model.specs.Routes.{world_without_table};
 ghost use Rattle.q_model.specs.SiteRecords.{is_alive};
 ghost use Rattle.q_model.specs.Values.{SiteRecord};
 ghost use Rattle.q_model.specs.Windows.{revived};
+ghost use Rattle.q_peers.specs.Numbered.{rows_of};
 
 use crate::names::same_site;
-use q_model::{Delivery, Health, Moment, Row, Site};
+use q_model::{Delivery, Health, Moment, Site};
 use q_params::Params;
+use q_peers::Waiting;
 use std::marker::Model;
 
 /// What is known of a site, in numbers wide enough for any feedback. A contract sees it as
@@ -131,15 +133,15 @@ pub(crate) fn busy(flights: &[Delivery], site: &Site) -> usize
         .count()
 }
 
-fn waits_at(waiting: &[Row], site: &Site) -> bool
-    ensures { result ≡ waits_at_in waiting.now site.now }
+fn waits_at(waiting: &Waiting, site: &Site) -> bool
+    ensures { result ≡ waits_at_in (rows_of waiting.now.items) site.now }
 {
-    waiting.iter().any(|row| same_site(&row.site, site))
+    waiting.waits_at(site)
 }
 
 /// Whether nothing waits for the site, and nothing is in flight.
-pub(crate) fn is_unused(waiting: &[Row], flights: &[Delivery], site: &Site) -> bool
-    ensures { result ≡ is_unused_in waiting.now flights.now site.now }
+pub(crate) fn is_unused(waiting: &Waiting, flights: &[Delivery], site: &Site) -> bool
+    ensures { result ≡ is_unused_in (rows_of waiting.now.items) flights.now site.now }
 {
     !waits_at(waiting, site) && busy(flights, site) == 0
 }
@@ -175,35 +177,39 @@ pub(crate) fn revive_all(sites: &mut [WideSiteRecord], flights: &[Delivery], par
 }
 
 /// Whether the record is kept: the site is dead, or used.
-fn is_kept(waiting: &[Row], flights: &[Delivery], noted: &WideSiteRecord) -> bool
-    ensures { result ≡ is_kept_in waiting.now flights.now noted.now }
+fn is_kept(waiting: &Waiting, flights: &[Delivery], noted: &WideSiteRecord) -> bool
+    ensures { result ≡ is_kept_in (rows_of waiting.now.items) flights.now noted.now }
 {
     !(is_unused(waiting, flights, noted.site()) && !noted.is_dead())
 }
 
 /// Drops the records of sites that are alive and not used.
-pub(crate) fn drop_unused(sites: &mut Vec<WideSiteRecord>, waiting: &[Row], flights: &[Delivery])
-    ensures { sites.new.items ≡ used_in waiting.now flights.now sites.old.items }
+pub(crate) fn drop_unused(sites: &mut Vec<WideSiteRecord>, waiting: &Waiting, flights: &[Delivery])
+    ensures { sites.new.items ≡ used_in (rows_of waiting.now.items) flights.now sites.old.items }
 {
     sites.retain(|noted| is_kept(waiting, flights, noted));
 }
 
-fn is_kept_dead(waiting: &[Row], flights: &[Delivery], noted: &WideSiteRecord) -> bool
-    ensures { result ≡ is_kept_dead_in waiting.now flights.now noted.now }
+fn is_kept_dead(waiting: &Waiting, flights: &[Delivery], noted: &WideSiteRecord) -> bool
+    ensures { result ≡ is_kept_dead_in (rows_of waiting.now.items) flights.now noted.now }
 {
     is_unused(waiting, flights, noted.site()) && noted.is_dead()
 }
 
-fn first_kept_dead(sites: &[WideSiteRecord], waiting: &[Row], flights: &[Delivery]) -> Option<usize>
-    ensures { result ≡ position (is_kept_dead_in waiting.now flights.now) sites.now }
+fn first_kept_dead(
+    sites: &[WideSiteRecord],
+    waiting: &Waiting,
+    flights: &[Delivery],
+) -> Option<usize>
+    ensures { result ≡ position (is_kept_dead_in (rows_of waiting.now.items) flights.now) sites.now }
 {
     sites
         .iter()
         .position(|noted| is_kept_dead(waiting, flights, noted))
 }
 
-fn kept_dead_count(sites: &[WideSiteRecord], waiting: &[Row], flights: &[Delivery]) -> usize
-    ensures { result ≡ length (filter (is_kept_dead_in waiting.now flights.now) sites.now) }
+fn kept_dead_count(sites: &[WideSiteRecord], waiting: &Waiting, flights: &[Delivery]) -> usize
+    ensures { result ≡ length (filter (is_kept_dead_in (rows_of waiting.now.items) flights.now) sites.now) }
 {
     sites
         .iter()
@@ -211,8 +217,8 @@ fn kept_dead_count(sites: &[WideSiteRecord], waiting: &[Row], flights: &[Deliver
         .count()
 }
 
-fn drop_first_kept_dead(sites: &mut Vec<WideSiteRecord>, waiting: &[Row], flights: &[Delivery])
-    ensures { sites.new.items ≡ drop_first (is_kept_dead_in waiting.now flights.now)
+fn drop_first_kept_dead(sites: &mut Vec<WideSiteRecord>, waiting: &Waiting, flights: &[Delivery])
+    ensures { sites.new.items ≡ drop_first (is_kept_dead_in (rows_of waiting.now.items) flights.now)
         sites.old.items }
 {
     if let Some(oldest) = first_kept_dead(sites, waiting, flights) {
@@ -223,11 +229,11 @@ fn drop_first_kept_dead(sites: &mut Vec<WideSiteRecord>, waiting: &[Row], flight
 /// Forgets the dead site that is unused longest, where more than `limit` are.
 pub(crate) fn forget_oldest(
     sites: &mut Vec<WideSiteRecord>,
-    waiting: &[Row],
+    waiting: &Waiting,
     flights: &[Delivery],
     limit: usize,
 )
-    ensures { sites.new.items ≡ forget_in waiting.now flights.now limit sites.old.items }
+    ensures { sites.new.items ≡ forget_in (rows_of waiting.now.items) flights.now limit sites.old.items }
 {
     if kept_dead_count(sites, waiting, flights) > limit {
         drop_first_kept_dead(sites, waiting, flights);
@@ -235,19 +241,19 @@ pub(crate) fn forget_oldest(
 }
 
 /// Whether the record is of this site, where nothing waits or is in flight any more.
-fn is_left(waiting: &[Row], flights: &[Delivery], site: &Site, noted: &WideSiteRecord) -> bool
-    ensures { result ≡ is_left_in waiting.now flights.now site.now noted.now }
+fn is_left(waiting: &Waiting, flights: &[Delivery], site: &Site, noted: &WideSiteRecord) -> bool
+    ensures { result ≡ is_left_in (rows_of waiting.now.items) flights.now site.now noted.now }
 {
     same_site(noted.site(), site) && is_unused(waiting, flights, noted.site())
 }
 
 fn first_left(
     sites: &[WideSiteRecord],
-    waiting: &[Row],
+    waiting: &Waiting,
     flights: &[Delivery],
     site: &Site,
 ) -> Option<usize>
-    ensures { result ≡ position (is_left_in waiting.now flights.now site.now) sites.now }
+    ensures { result ≡ position (is_left_in (rows_of waiting.now.items) flights.now site.now) sites.now }
 {
     sites
         .iter()
@@ -266,11 +272,11 @@ fn move_to_end(sites: &mut Vec<WideSiteRecord>, place: usize)
 /// Moves the record of a site that a row left to the end, where the site is unused now.
 pub(crate) fn put_last(
     sites: &mut Vec<WideSiteRecord>,
-    waiting: &[Row],
+    waiting: &Waiting,
     flights: &[Delivery],
     site: &Site,
 )
-    ensures { sites.new.items ≡ moved_back (is_left_in waiting.now flights.now site.now)
+    ensures { sites.new.items ≡ moved_back (is_left_in (rows_of waiting.now.items) flights.now site.now)
         sites.old.items }
 {
     if let Some(place) = first_left(sites, waiting, flights, site) {

@@ -1,13 +1,15 @@
 //! Which waiting row of a message is sent next at a transport.
 ghost use Rattle.std.specs.Prelude.{◌≡◌, ◌<◌, ◌^◌};
 ghost use Rattle.std.specs.Option.{option_copied};
-ghost use Rattle.q_core.specs.Starting.{can_start_in, flights_at, has_room_in, is_startable_in, last_start_in, next_row_in, rows_for, served_for, start_in, sooner_row};
+ghost use Rattle.q_core.specs.Starting.{can_start_in, flights_at, has_room_in, is_startable_in, last_start_in, next_row_in, next_row_of, rows_for, served_for, start_in, sooner_row};
+ghost use Rattle.q_peers.specs.Numbered.{rows_of};
 
 use crate::decision::Decision;
 use crate::names::{same_id, same_site};
 use crate::site_record::busy;
 use crate::state::Core;
 use q_model::{Id, Row, Served, Site};
+use q_peers::Waiting;
 
 impl Core {
     pub(crate) fn flights_of(&self, transport: u8) -> usize
@@ -39,15 +41,6 @@ impl Core {
         same_id(row.id, id) && row.site.transport == transport && self.is_startable(row)
     }
 
-    /// Whether the message has a row at the transport that may be sent now.
-    pub(crate) fn can_start(&self, id: Id, transport: u8) -> bool
-        ensures { result ≡ can_start_in self.now transport id }
-    {
-        self.waiting
-            .iter()
-            .any(|row| self.is_startable_for(id, transport, row))
-    }
-
     fn served_at(&self, row: &Row) -> Option<&Served>
         ensures { option_copied result ≡ served_for self.now row.now }
     {
@@ -65,22 +58,22 @@ impl Core {
         }
     }
 
-    /// The earlier of a row and of the one to start among those behind it.
+    /// The row that was found before, or this one, where it may be sent now and starts sooner.
     fn sooner<'a>(
         &self,
         id: Id,
         transport: u8,
-        row: &'a Row,
         next: Option<&'a Row>,
+        row: &'a Row,
     ) -> Option<&'a Row>
-        ensures { option_copied result ≡ sooner_row self.now transport id row.now
-            (option_copied next.entry) }
+        ensures { option_copied result ≡ sooner_row self.now transport id
+            (option_copied next.entry) row.now }
     {
         if !self.is_startable_for(id, transport, row) {
             return next;
         }
         match next {
-            Some(other) if self.last_start(other) < self.last_start(row) => Some(other),
+            Some(other) if self.last_start(row) >= self.last_start(other) => Some(other),
             _ => Some(row),
         }
     }
@@ -90,13 +83,17 @@ impl Core {
     fn next_row(&self, id: Id, transport: u8) -> Option<&Row>
         ensures { option_copied result ≡ next_row_in self.now transport id }
     {
-        let mut next = None;
-        let mut i = self.waiting.len();
-        while i > 0 {
-            i -= 1;
-            next = self.sooner(id, transport, &self.waiting[i], next);
+        next_row_among(self, &self.waiting, id, transport)
+    }
+
+    /// Whether the message has a row at the transport that may be sent now.
+    pub(crate) fn can_start(&self, id: Id, transport: u8) -> bool
+        ensures { result ≡ can_start_in self.now transport id }
+    {
+        match self.next_row(id, transport) {
+            Some(_) => true,
+            None => false,
         }
-        next
     }
 
     /// The next delivery of the message at the transport.
@@ -113,4 +110,27 @@ impl Core {
             None => None,
         }
     }
+}
+
+/// The row of the message that starts next at the transport, of these rows.
+fn next_row_among<'a>(
+    core: &'a Core,
+    waiting: &'a Waiting,
+    id: Id,
+    transport: u8,
+) -> Option<&'a Row>
+    ensures { option_copied result
+        ≡ next_row_of core.now transport id (rows_of waiting.now.items) }
+{
+    waiting.stand_apart();
+    let mut next = None;
+    let mut at = waiting.first_of(id);
+    while let Some(number) = at {
+        let Some(row) = waiting.get(number) else {
+            return next;
+        };
+        next = core.sooner(id, transport, next, row);
+        at = waiting.next_of(number);
+    }
+    next
 }

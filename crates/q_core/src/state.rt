@@ -15,10 +15,10 @@ use crate::names::{same_id, same_site};
 use crate::site_record::WideSiteRecord;
 use crate::touched::Touched;
 use q_model::{
-    Delivery, Entry, Id, Mode, Moment, NoMemory, Positions, Request, Row, Scan, Served, Site,
-    Unsettled,
+    Delivery, Entry, Id, Mode, Moment, NoMemory, Positions, Request, Scan, Served, Site, Unsettled,
 };
 use q_params::Params;
+use q_peers::Waiting;
 use q_pool::{Pool, Slot};
 use std::alloc::Global;
 use std::marker::Model;
@@ -55,7 +55,7 @@ pub struct Core {
     pub(crate) ignores: bool,
     pub(crate) deferred_turn: bool,
     pub(crate) admitted: Pool,
-    pub(crate) waiting: Vec<Row>,
+    pub(crate) waiting: Waiting,
     pub(crate) flights: Vec<Delivery>,
     /// How many of them are at each transport.
     pub(crate) flying: Flying,
@@ -92,12 +92,13 @@ impl Model for Core {
 
     ghost use Rattle.q_core.specs.Ties.{AreTied};
     ghost use Rattle.q_core.specs.Touched.{IsTidyBut};
+    ghost use Rattle.q_peers.specs.Numbered.{rows_of};
     ghost use Rattle.q_pool.specs.Kept.{heads};
 
-    ghost invariant = { λ a. AreTied a.params a.admitted a.waiting.items a.flights.items
-        a.unsettled.items a.flying a.starts
+    ghost invariant = { λ a. AreTied a.params a.admitted (rows_of a.waiting.items)
+        a.flights.items a.unsettled.items a.flying a.starts
         × IsTidyBut a.touched_message a.touched_site a.params.recipient_limit (heads a.admitted.items)
-        a.waiting.items a.flights.items a.lines.items a.served.items a.sites.items };
+        (rows_of a.waiting.items) a.flights.items a.lines.items a.served.items a.sites.items };
 }
 
 impl Core {
@@ -119,6 +120,7 @@ impl Core {
             params.mark_sync_limit,
             params.qmgr_message_recipient_minimum,
         )?;
+        let waiting = Waiting::new(alloc, params.qmgr_message_recipient_limit)?;
         Ok(Core {
             params,
             transports,
@@ -131,7 +133,7 @@ impl Core {
             ignores: false,
             deferred_turn: false,
             admitted,
-            waiting: Vec::new(alloc),
+            waiting,
             flights: Vec::new(alloc),
             flying: [0; 256],
             in_memory: 0,

@@ -5,16 +5,18 @@ ghost use Rattle.std.specs.Option.{IfNone, option_copied};
 ghost use Rattle.q_core.specs.Changes.{HasLeftSite, IsTidied};
 ghost use Rattle.q_core.specs.declared.line.Job.{Job as JobOf};
 ghost use Rattle.q_pool.specs.Kept.{heads};
-ghost use Rattle.q_core.specs.Tidied.{leaves_among, tidied_jobs, tidied_line, tidied_served, slot_among, stays_among, unread_among, waits_at_site, waits_for};
+ghost use Rattle.q_core.specs.Tidied.{leaves_among, tidied_jobs, tidied_line, tidied_served, slot_among, stays_among, unread_among, waits_at_site};
+ghost use Rattle.q_peers.specs.Numbered.{rows_of};
 
 use crate::line::{Job, Line};
-use crate::names::{behind_rows, same_id, same_site};
 use crate::preempting::remove_job;
+use crate::rows::{waits_for, waits_for_site};
 use crate::site_record::put_last;
 use crate::state::Core;
 use crate::tidy_touched::{tidy_touched_lines, tidy_touched_served, tidy_touched_sites};
 use crate::touched::{Touched, record_limit, touched_beyond};
-use q_model::{Id, Row, Served, Site};
+use q_model::{Id, Served, Site};
+use q_peers::Waiting;
 use q_pool::{Pool, Slot};
 
 fn slot(admitted: &Pool, id: Id) -> Option<&Slot>
@@ -36,37 +38,11 @@ pub(crate) fn unread(admitted: &Pool, id: Id) -> u32
     }
 }
 
-/// Whether a row of the message waits for the transport.
-fn waits_for(waiting: &[Row], id: Id, transport: usize) -> bool
-    ensures { result ≡ waits_for waiting.now id transport }
-{
-    waiting.iter().any(|row| same_id(row.id, id) && usize::from(row.site.transport) == transport)
-}
-
-/// Whether a row of the message waits at the site.
-fn waits_at(waiting: &[Row], id: Id, site: &Site) -> bool
-    ensures { result ≡ waits_at_site waiting.now id site.now }
-{
-    waiting
-        .iter()
-        .any(|row| same_id(row.id, id) && same_site(&row.site, site))
-}
-
 /// Whether the message has something left at the transport.
-pub(crate) fn stays(admitted: &Pool, waiting: &[Row], id: Id, transport: usize) -> bool
-    ensures { result ≡ stays_among (heads admitted.now.items) waiting.now transport id }
+pub(crate) fn stays(admitted: &Pool, waiting: &Waiting, id: Id, transport: usize) -> bool
+    ensures { result ≡ stays_among (heads admitted.now.items) (rows_of waiting.now.items) transport id }
 {
     waits_for(waiting, id, transport) || unread(admitted, id) != 0
-}
-
-/// Whether the row at this place waits for the transport, and is of the message.
-fn waits_at_place(waiting: &[Row], place: usize, id: Id, transport: usize) -> bool
-    ensures { IsTrue result → IsTrue (waits_for waiting.now id transport) }
-{
-    match waiting.get(place) {
-        Some(row) => same_id(row.id, id) && usize::from(row.site.transport) == transport,
-        None => false,
-    }
 }
 
 fn job_at(jobs: &[Job], place: usize) -> Job
@@ -76,21 +52,21 @@ fn job_at(jobs: &[Job], place: usize) -> Job
     jobs[place]
 }
 
-/// The place of the first job that has nothing left. Rows wait in the order of the jobs for the
-/// most part, so that the row of most is at hand where it is looked for first.
-fn first_to_leave(jobs: &[Job], admitted: &Pool, waiting: &[Row], transport: usize) -> Option<usize>
+/// The place of the first job that has nothing left.
+fn first_to_leave(
+    jobs: &[Job],
+    admitted: &Pool,
+    waiting: &Waiting,
+    transport: usize,
+) -> Option<usize>
     ensures none { IfNone result
-        (find (leaves_among (heads admitted.now.items) waiting.now transport) jobs.now ≡ None) }
+        (find (leaves_among (heads admitted.now.items) (rows_of waiting.now.items) transport) jobs.now ≡ None) }
     ensures within { IfSome result (λ i. i < length jobs.now) }
     ensures leaves { IfSome result (λ i. (j : JobOf) → slice_get jobs.now i ≡ Some j
-        → IsTrue (leaves_among (heads admitted.now.items) waiting.now transport j)) }
+        → IsTrue (leaves_among (heads admitted.now.items) (rows_of waiting.now.items) transport j)) }
 {
-    let mut place = 0;
     for i in 0..jobs.len() {
-        let id = job_at(jobs, i).id;
-        if waits_at_place(waiting, place, id, transport) {
-            place = behind_rows(waiting, place, id);
-        } else if !stays(admitted, waiting, id, transport) {
+        if !stays(admitted, waiting, job_at(jobs, i).id, transport) {
             return Some(i);
         }
     }
@@ -98,8 +74,8 @@ fn first_to_leave(jobs: &[Job], admitted: &Pool, waiting: &[Row], transport: usi
 }
 
 /// Takes the jobs that have nothing left out of the line: one leaves at a time, for the most part.
-fn tidy_jobs(jobs: &mut Vec<Job>, admitted: &Pool, waiting: &[Row], transport: usize)
-    ensures { jobs.new.items ≡ tidied_jobs (heads admitted.now.items) waiting.now transport
+fn tidy_jobs(jobs: &mut Vec<Job>, admitted: &Pool, waiting: &Waiting, transport: usize)
+    ensures { jobs.new.items ≡ tidied_jobs (heads admitted.now.items) (rows_of waiting.now.items) transport
         jobs.old.items }
 {
     while let Some(place) = first_to_leave(jobs, admitted, waiting, transport) {
@@ -108,16 +84,16 @@ fn tidy_jobs(jobs: &mut Vec<Job>, admitted: &Pool, waiting: &[Row], transport: u
 }
 
 impl Line {
-    fn tidy(&mut self, admitted: &Pool, waiting: &[Row], transport: usize)
-        ensures { self.new ≡ tidied_jobs (heads admitted.now.items) waiting.now transport self.old }
+    fn tidy(&mut self, admitted: &Pool, waiting: &Waiting, transport: usize)
+        ensures { self.new ≡ tidied_jobs (heads admitted.now.items) (rows_of waiting.now.items) transport self.old }
     {
         tidy_jobs(&mut self.jobs, admitted, waiting, transport);
     }
 }
 
 /// Takes the jobs that have nothing left out of the lines.
-pub(crate) fn tidy_lines(lines: &mut [Line], admitted: &Pool, waiting: &[Row])
-    ensures { lines.new ≡ map (tidied_line (heads admitted.now.items) waiting.now)
+pub(crate) fn tidy_lines(lines: &mut [Line], admitted: &Pool, waiting: &Waiting)
+    ensures { lines.new ≡ map (tidied_line (heads admitted.now.items) (rows_of waiting.now.items))
         (enumerate_from 0 lines.old) }
 {
     for (transport, line) in lines.iter_mut().enumerate() {
@@ -125,15 +101,15 @@ pub(crate) fn tidy_lines(lines: &mut [Line], admitted: &Pool, waiting: &[Row])
     }
 }
 
-pub(crate) fn has_row(served: &Served, waiting: &[Row]) -> bool
-    ensures { result ≡ waits_at_site waiting.now served.now.id served.now.site }
+pub(crate) fn has_row(served: &Served, waiting: &Waiting) -> bool
+    ensures { result ≡ waits_at_site (rows_of waiting.now.items) served.now.id served.now.site }
 {
-    waits_at(waiting, served.id, &served.site)
+    waits_for_site(waiting, served.id, &served.site)
 }
 
 /// Forgets when a message was served at a site where it has no row any more.
-pub(crate) fn tidy_served(served: &mut Vec<Served>, waiting: &[Row])
-    ensures { served.new.items ≡ tidied_served waiting.now served.old.items }
+pub(crate) fn tidy_served(served: &mut Vec<Served>, waiting: &Waiting)
+    ensures { served.new.items ≡ tidied_served (rows_of waiting.now.items) served.old.items }
 {
     served.retain(|last| has_row(last, waiting));
 }

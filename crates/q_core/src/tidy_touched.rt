@@ -9,13 +9,15 @@ ghost use Rattle.q_core.specs.declared.touched.Touched.TheVariants.{One};
 ghost use Rattle.q_model.specs.Ids.{id_eq};
 ghost use Rattle.q_model.specs.SiteRecords.{is_alive};
 ghost use Rattle.q_model.specs.Sites.{site_eq};
+ghost use Rattle.q_peers.specs.Numbered.{rows_of};
 
 use crate::line::{Job, Line};
 use crate::names::{same_id, same_site};
 use crate::site_record::{WideSiteRecord, drop_unused, forget_oldest, is_unused};
 use crate::tidy::{has_row, stays, tidy_lines, tidy_served};
 use crate::touched::Touched;
-use q_model::{Delivery, Id, Row, Served, Site};
+use q_model::{Delivery, Id, Served, Site};
+use q_peers::Waiting;
 use q_pool::Pool;
 
 fn is_of_another(job: &Job, id: Id) -> bool
@@ -32,10 +34,10 @@ fn drop_job(jobs: &mut Vec<Job>, id: Id)
 }
 
 /// Takes the message's job out of the line, where it has nothing left.
-fn tidy_job(jobs: &mut Vec<Job>, id: Id, admitted: &Pool, waiting: &[Row], transport: usize)
-    requires { jobs_stay (One id) (heads admitted.now.items) waiting.now transport jobs.old.items
+fn tidy_job(jobs: &mut Vec<Job>, id: Id, admitted: &Pool, waiting: &Waiting, transport: usize)
+    requires { jobs_stay (One id) (heads admitted.now.items) (rows_of waiting.now.items) transport jobs.old.items
         ≡ true }
-    ensures { jobs.new.items ≡ tidied_jobs (heads admitted.now.items) waiting.now transport
+    ensures { jobs.new.items ≡ tidied_jobs (heads admitted.now.items) (rows_of waiting.now.items) transport
         jobs.old.items }
 {
     if !stays(admitted, waiting, id, transport) {
@@ -44,19 +46,19 @@ fn tidy_job(jobs: &mut Vec<Job>, id: Id, admitted: &Pool, waiting: &[Row], trans
 }
 
 impl Line {
-    fn tidy_job(&mut self, id: Id, admitted: &Pool, waiting: &[Row], transport: usize)
-        requires { jobs_stay (One id) (heads admitted.now.items) waiting.now transport self.old
+    fn tidy_job(&mut self, id: Id, admitted: &Pool, waiting: &Waiting, transport: usize)
+        requires { jobs_stay (One id) (heads admitted.now.items) (rows_of waiting.now.items) transport self.old
             ≡ true }
-        ensures { self.new ≡ tidied_jobs (heads admitted.now.items) waiting.now transport self.old }
+        ensures { self.new ≡ tidied_jobs (heads admitted.now.items) (rows_of waiting.now.items) transport self.old }
     {
         tidy_job(&mut self.jobs, id, admitted, waiting, transport);
     }
 }
 
 /// Takes the message's jobs out of the lines, where they have nothing left.
-fn tidy_message(lines: &mut [Line], id: Id, admitted: &Pool, waiting: &[Row])
-    requires { DoJobsStay (One id) (heads admitted.now.items) waiting.now lines.old }
-    ensures { lines.new ≡ map (tidied_line (heads admitted.now.items) waiting.now)
+fn tidy_message(lines: &mut [Line], id: Id, admitted: &Pool, waiting: &Waiting)
+    requires { DoJobsStay (One id) (heads admitted.now.items) (rows_of waiting.now.items) lines.old }
+    ensures { lines.new ≡ map (tidied_line (heads admitted.now.items) (rows_of waiting.now.items))
         (enumerate_from 0 lines.old) }
 {
     for (transport, line) in lines.iter_mut().enumerate() {
@@ -69,10 +71,10 @@ pub(crate) fn tidy_touched_lines(
     lines: &mut [Line],
     touched: &Touched<Id>,
     admitted: &Pool,
-    waiting: &[Row],
+    waiting: &Waiting,
 )
-    requires { DoJobsStay touched.now (heads admitted.now.items) waiting.now lines.old }
-    ensures { lines.new ≡ map (tidied_line (heads admitted.now.items) waiting.now)
+    requires { DoJobsStay touched.now (heads admitted.now.items) (rows_of waiting.now.items) lines.old }
+    ensures { lines.new ≡ map (tidied_line (heads admitted.now.items) (rows_of waiting.now.items))
         (enumerate_from 0 lines.old) }
 {
     match touched {
@@ -83,25 +85,29 @@ pub(crate) fn tidy_touched_lines(
 }
 
 /// Whether the served row is of another message, or still waits.
-fn is_left(served: &Served, id: Id, waiting: &[Row]) -> bool
+fn is_left(served: &Served, id: Id, waiting: &Waiting) -> bool
     ensures { result ≡ (not (id_eq served.now.id id)
-        || waits_at_site waiting.now served.now.id served.now.site) }
+        || waits_at_site (rows_of waiting.now.items) served.now.id served.now.site) }
 {
     !same_id(served.id, id) || has_row(served, waiting)
 }
 
 /// Forgets when the message was served at sites where it has no row any more.
-fn tidy_served_of(served: &mut Vec<Served>, id: Id, waiting: &[Row])
-    requires { served_stay (One id) waiting.now served.old.items ≡ true }
-    ensures { served.new.items ≡ tidied_served waiting.now served.old.items }
+fn tidy_served_of(served: &mut Vec<Served>, id: Id, waiting: &Waiting)
+    requires { served_stay (One id) (rows_of waiting.now.items) served.old.items ≡ true }
+    ensures { served.new.items ≡ tidied_served (rows_of waiting.now.items) served.old.items }
 {
     served.retain(|last| is_left(last, id, waiting));
 }
 
 /// Forgets when messages were served at sites where they have no row any more.
-pub(crate) fn tidy_touched_served(served: &mut Vec<Served>, touched: &Touched<Id>, waiting: &[Row])
-    requires { served_stay touched.now waiting.now served.old.items ≡ true }
-    ensures { served.new.items ≡ tidied_served waiting.now served.old.items }
+pub(crate) fn tidy_touched_served(
+    served: &mut Vec<Served>,
+    touched: &Touched<Id>,
+    waiting: &Waiting,
+)
+    requires { served_stay touched.now (rows_of waiting.now.items) served.old.items ≡ true }
+    ensures { served.new.items ≡ tidied_served (rows_of waiting.now.items) served.old.items }
 {
     match touched {
         Touched::Nothing => {}
@@ -125,9 +131,9 @@ fn drop_alive(sites: &mut Vec<WideSiteRecord>, site: &Site)
 }
 
 /// Drops the site's record, where it is alive and not used.
-fn tidy_site(sites: &mut Vec<WideSiteRecord>, site: &Site, waiting: &[Row], flights: &[Delivery])
-    requires { sites_stay (One site.now) waiting.now flights.now sites.old.items ≡ true }
-    ensures { sites.new.items ≡ used_in waiting.now flights.now sites.old.items }
+fn tidy_site(sites: &mut Vec<WideSiteRecord>, site: &Site, waiting: &Waiting, flights: &[Delivery])
+    requires { sites_stay (One site.now) (rows_of waiting.now.items) flights.now sites.old.items ≡ true }
+    ensures { sites.new.items ≡ used_in (rows_of waiting.now.items) flights.now sites.old.items }
 {
     if is_unused(waiting, flights, site) {
         drop_alive(sites, site);
@@ -139,14 +145,14 @@ fn tidy_site(sites: &mut Vec<WideSiteRecord>, site: &Site, waiting: &[Row], flig
 pub(crate) fn tidy_touched_sites(
     sites: &mut Vec<WideSiteRecord>,
     touched: &Touched<Site>,
-    waiting: &[Row],
+    waiting: &Waiting,
     flights: &[Delivery],
     limit: usize,
 )
-    requires stay { sites_stay touched.now waiting.now flights.now sites.old.items ≡ true }
+    requires stay { sites_stay touched.now (rows_of waiting.now.items) flights.now sites.old.items ≡ true }
     requires few { AreFew touched.now limit sites.old.items }
-    ensures { sites.new.items ≡ forget_in waiting.now flights.now limit
-        (used_in waiting.now flights.now sites.old.items) }
+    ensures { sites.new.items ≡ forget_in (rows_of waiting.now.items) flights.now limit
+        (used_in (rows_of waiting.now.items) flights.now sites.old.items) }
 {
     match touched {
         Touched::Nothing => {}

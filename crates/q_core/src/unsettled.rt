@@ -1,13 +1,17 @@
 //! Outcomes that aren't on disk yet, and rows that can't be sent.
 ghost use Rattle.std.specs.List.{list_any};
-ghost use Rattle.q_model.specs.SiteRecords.{is_alive};
-ghost use Rattle.std.specs.Prelude.{not, ◌≡◌, position};
+ghost use Rattle.std.specs.Option.{option_copied};
+ghost use Rattle.std.specs.Prelude.{◌≡◌, find};
 ghost use Rattle.q_core.specs.Held.{is_dead_in};
 ghost use Rattle.q_core.specs.Rules.{decision_of, first_need_in, next_skip_in, next_skip_number};
+ghost use Rattle.q_core.specs.UsedSites.{is_dead_with};
+ghost use Rattle.q_peers.specs.Numbered.{rows_of};
 
 use crate::decision::Decision;
+use crate::site_record::WideSiteRecord;
 use crate::state::Core;
-use q_model::{Failure, Need, Unsettled};
+use q_model::{Failure, Need, Row, Unsettled};
+use q_peers::Waiting;
 
 /// What an outcome needs first: a record of its failure, or its mark.
 fn needed(row: &Unsettled) -> Decision
@@ -29,6 +33,32 @@ fn needed(row: &Unsettled) -> Decision
     }
 }
 
+/// Whether the site is dead, and a row waits there.
+fn is_dead_with(waiting: &Waiting, noted: &WideSiteRecord) -> bool
+    ensures { result ≡ is_dead_with (rows_of waiting.now.items) noted.now }
+{
+    noted.is_dead() && waiting.waits_at(noted.site())
+}
+
+/// The first of these rows whose site is dead.
+fn first_dead_among<'a>(core: &Core, waiting: &'a Waiting) -> Option<&'a Row>
+    ensures { option_copied result
+        ≡ find (λ r. is_dead_in core.now r.site) (rows_of waiting.now.items) }
+{
+    waiting.stand_apart();
+    let mut at = waiting.first();
+    while let Some(number) = at {
+        let Some(row) = waiting.get(number) else {
+            return None;
+        };
+        if core.is_dead_site(&row.site) {
+            return Some(row);
+        }
+        at = waiting.next(number);
+    }
+    None
+}
+
 impl Core {
     pub(crate) fn first_need(&self) -> Option<Decision>
         ensures { result ≡ first_need_in self.now }
@@ -39,29 +69,23 @@ impl Core {
         }
     }
 
-    fn has_dead(&self) -> bool
-        ensures { result ≡ list_any (λ d. not (is_alive d.health)) self.now.sites }
+    /// Whether a row waits at a site that is dead.
+    fn waits_at_dead(&self) -> bool
+        ensures { result ≡ list_any (is_dead_with self.now.waiting) self.now.sites }
     {
-        self.sites.iter().any(|site| site.is_dead())
+        self.sites
+            .iter()
+            .any(|noted| is_dead_with(&self.waiting, noted))
     }
 
-    /// The place of the first waiting row whose site is dead.
-    pub(crate) fn first_dead(&self) -> Option<usize>
-        ensures { result ≡ position (λ r. is_dead_in self.now r.site) self.now.waiting }
+    /// The first waiting row whose site is dead.
+    fn first_dead(&self) -> Option<&Row>
+        ensures { option_copied result ≡ find (λ r. is_dead_in self.now r.site) self.now.waiting }
     {
-        if !self.has_dead() {
+        if !self.waits_at_dead() {
             return None;
         }
-        self.first_at_dead()
-    }
-
-    /// The same, where a site is dead.
-    fn first_at_dead(&self) -> Option<usize>
-        ensures { result ≡ position (λ r. is_dead_in self.now r.site) self.now.waiting }
-    {
-        self.waiting
-            .iter()
-            .position(|row| self.is_dead_site(&row.site))
+        first_dead_among(self, &self.waiting)
     }
 
     /// The number of the row that is put off next.
@@ -78,12 +102,13 @@ impl Core {
     pub(crate) fn next_skip(&self) -> Option<Decision>
         ensures { result ≡ next_skip_in self.now }
     {
-        let place = self.first_dead()?;
-        let row = self.waiting.get(place)?;
-        Some(Decision::Skip {
-            id: row.id,
-            site: row.site,
-            entry: self.next_skip_number(),
-        })
+        match self.first_dead() {
+            Some(row) => Some(Decision::Skip {
+                id: row.id,
+                site: row.site,
+                entry: self.next_skip_number(),
+            }),
+            None => None,
+        }
     }
 }

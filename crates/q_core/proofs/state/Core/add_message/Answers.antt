@@ -9,6 +9,7 @@ use Rattle.q_core.specs.View.{state_of}
 use Rattle.q_pool.specs.Kept.{heads}
 use Rattle.q_pool.specs.Pooled.{Pooled}
 use Rattle.q_pool.specs.declared.kept.Kept.{Kept}
+use Rattle.q_peers.specs.Numbered.{rows_of}
 use Rattle.q_core.proofs.state.Core.add_message.Goals as goal
 
 pub push-requires-clause-absent : goal.push-requires-clause-absent
@@ -27,7 +28,7 @@ pub invariant_of-self : goal.invariant_of-self
 invariant_of-self c =
     let a = c.self.inside in
     let slots : heads c.push.new.self.items ≡ heads a.admitted.items ++ c.args.slot ∷ [] = ap (λ (m : Pooled). heads m.items) c.push.ensures ∙ heads_more a.admitted.items _ in (
-      tied_more a.params a.admitted c.push.new.self a.waiting.items a.flights.items a.unsettled.items a.flying a.starts c.args.slot c.push.ensures c.self.invariant.0,
+      tied_more a.params a.admitted c.push.new.self (rows_of a.waiting.items) a.flights.items a.unsettled.items a.flying a.starts c.args.slot c.push.ensures c.self.invariant.0,
       rw slots (slot_entered _ c.self.invariant.1),
     )
 

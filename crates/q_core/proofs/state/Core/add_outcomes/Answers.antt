@@ -15,6 +15,7 @@ use Rattle.q_model.specs.declared.rows.Unsettled.{Unsettled}
 use Rattle.q_pool.specs.Kept.{heads}
 use Rattle.q_pool.specs.Pooled.{Pooled}
 use Rattle.q_pool.specs.declared.kept.Kept.{Kept}
+use Rattle.q_peers.specs.Numbered.{rows_of}
 use Rattle.q_core.proofs.state.Core.add_outcomes.Goals as goal
 
 pub invariant_of-self-2 : goal.invariant_of-self-2
@@ -30,7 +31,7 @@ invariant_of-self-2 c =
     let named : AreNamed (λ (u : Unsettled). u.id) f.row.id c.deref.result.now = subst (AreNamed (λ (u : Unsettled). u.id) f.row.id) (sym needs) (needs_named _ f.row.id f.row.positions c.args.outcomes.now) in
     let few : length (a.unsettled.items ++ c.deref.result.now) < 2 ^ 64 = grind (arith, sym added, c.extend_from_slice.new.self.ok, c.extend_from_slice.new.self.small) in
     let many : c.len-3.result ≡ length c.deref.result.now = c.len-3.ensures ∙ sym c.deref.ensures.len in (
-      rw added (tied_replied a.params a.admitted c.gain_unsettled.new.pool a.waiting.items a.flights.items a.unsettled.items c.deref.result.now a.flying a.starts f.row.id own.0 c.len-3.result own.1 many few named c.gain_unsettled.ensures t),
+      rw added (tied_replied a.params a.admitted c.gain_unsettled.new.pool (rows_of a.waiting.items) a.flights.items a.unsettled.items c.deref.result.now a.flying a.starts f.row.id own.0 c.len-3.result own.1 many few named c.gain_unsettled.ensures t),
       rw slots c.self.invariant.1,
     )
 

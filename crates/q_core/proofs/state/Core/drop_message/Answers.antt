@@ -8,6 +8,7 @@ use Rattle.q_core.specs.View.{state_of}
 use Rattle.q_core.specs.Held.{has_rows_in}
 use Rattle.q_pool.specs.Kept.{heads}
 use Rattle.q_pool.specs.Pooled.{Pooled}
+use Rattle.q_peers.specs.Numbered.{rows_of}
 use Rattle.q_core.proofs.state.Core.drop_message.Goals as goal
 
 pub invariant_of-self : goal.invariant_of-self
@@ -16,7 +17,7 @@ invariant_of-self c =
     let t = c.self.invariant.0 in
     let none = no_rows_kept (state_of a) a.admitted.items c.args.id (ap (λ (s : State). has_rows_in s c.args.id) c.self.view_is ∙ c.requires) t.waiting t.flights t.unsettled in
     let slots : heads c.remove.new.self.items ≡ slots_without c.args.id (heads a.admitted.items) = ap (λ (m : Pooled). heads m.items) c.remove.ensures ∙ heads_left c.args.id a.admitted.items in (
-      tied_left a.params a.admitted c.remove.new.self a.waiting.items a.flights.items a.unsettled.items a.flying a.starts c.args.id none.0 none.1 none.2 c.remove.ensures t,
+      tied_left a.params a.admitted c.remove.new.self (rows_of a.waiting.items) a.flights.items a.unsettled.items a.flying a.starts c.args.id none.0 none.1 none.2 c.remove.ensures t,
       rw (slots, c.touch_unread.ensures) (slot_gone c.args.id c.self.invariant.1),
     )
 

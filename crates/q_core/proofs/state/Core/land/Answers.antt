@@ -12,6 +12,7 @@ use Rattle.q_core.specs.View.{state_of}
 use Rattle.q_model.specs.declared.rows.Delivery.{Delivery}
 use Rattle.q_pool.specs.Kept.{heads}
 use Rattle.q_pool.specs.Pooled.{Pooled}
+use Rattle.q_peers.specs.Numbered.{rows_of}
 use Rattle.q_core.proofs.state.Core.land.Goals as goal
 
 pub returns-in_default : goal.returns-in_default
@@ -28,7 +29,7 @@ invariant_of-self c =
     let counted = subst (λ (fs : List Delivery). IsCounted fs c.recount.new.flying) (c.deref-2.ensures.value ∙ c.land.ensures) c.recount.ensures in
     let landed = subst (λ (fs : List Delivery). AreLandedTouched fs c.args.number a.touched_site c.touch_landed.new.touched) c.deref.ensures.value c.touch_landed.ensures in
     let slots : heads c.end_flight.new.pool.items ≡ heads a.admitted.items = ap (λ (m : Pooled). heads m.items) c.end_flight.ensures ∙ heads_recounted without_flight f.row.id a.admitted.items in (
-      rw c.land.ensures (tied_landed a.params a.admitted c.end_flight.new.pool a.waiting.items a.flights.items a.unsettled.items a.flying c.recount.new.flying a.starts c.args.number f at counted c.end_flight.ensures c.self.invariant.0),
+      rw c.land.ensures (tied_landed a.params a.admitted c.end_flight.new.pool (rows_of a.waiting.items) a.flights.items a.unsettled.items a.flying c.recount.new.flying a.starts c.args.number f at counted c.end_flight.ensures c.self.invariant.0),
       rw (slots, c.land.ensures) (flights_landed c.args.number c.touch_landed.new.touched landed c.self.invariant.1),
     )
 

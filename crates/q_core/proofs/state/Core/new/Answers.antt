@@ -12,6 +12,7 @@ use Rattle.q_core.proofs.CountedLaws.{counted_none}
 use Rattle.q_core.proofs.StillTidyLines.{new_tidy}
 use Rattle.q_core.proofs.TiedLaws.{tied_new}
 use Rattle.q_model.specs.Settings.{Settings}
+use Rattle.q_peers.specs.Numbered.{Items, rows_of}
 use Rattle.q_pool.specs.Kept.{heads}
 use Rattle.q_pool.specs.Pooled.{Pooled}
 use Rattle.q_core.proofs.state.Core.new.Goals as goal
@@ -22,7 +23,7 @@ returns-clause-consistent c = λ w book settings count k s.
       params = c.args.params;
       transports = c.args.transports;
       mode = c.args.mode;
-      clock = record { seconds = c.new-2.result.seconds };
+      clock = record { seconds = c.new-3.result.seconds };
       timed = false;
       next_run = 0;
       scan = None;
@@ -30,7 +31,7 @@ returns-clause-consistent c = λ w book settings count k s.
       ignores = false;
       deferred_turn = false;
       admitted = heads c.in_ok-admitted.admitted.items;
-      waiting = c.new-3.result.items;
+      waiting = rows_of c.in_ok-waiting.waiting.items;
       flights = c.new-4.result.items;
       in_memory = 0;
       served = c.new-5.result.items;
@@ -50,9 +51,9 @@ returns-clause-consistent c = λ w book settings count k s.
     let matches = begin_law w c.args.mode book core c.args.transports settings refl count
     (record {
       mode_is = refl;
-      clock = c.new-2.ensures;
+      clock = c.new-3.ensures;
       admitted = ap (λ (m : Pooled). heads m.items) c.in_ok-admitted.ensures;
-      waiting = c.new-3.ensures.items;
+      waiting = ap (λ (v : Items). rows_of v.items) c.in_ok-waiting.ensures;
       flights = c.new-4.ensures.items;
       served = c.new-5.ensures.items;
       unsettled = c.new-6.ensures.items;
@@ -71,6 +72,6 @@ pub invariant_of-result : goal.invariant_of-result
 invariant_of-result c =
     let made = c.in_ok-admitted.ensures ∙ ap (λ (p : Settings). record { items = []; room = p.active_limit; sync_limit = p.mark_sync_limit; minimum = p.recipient_minimum }) c.params.view_is in
     let slots : heads c.in_ok-admitted.admitted.items ≡ [] = ap (λ (m : Pooled). heads m.items) c.in_ok-admitted.ensures in (
-      tied_new c.args.params c.in_ok-admitted.admitted c.new-3.result.items c.new-4.result.items c.new-6.result.items _ made c.new-3.ensures.items c.new-4.ensures.items c.new-6.ensures.items counted_none,
-      rw (slots, c.new-3.ensures.items, c.new-4.ensures.items, c.new-5.ensures.items, c.in_ok-lines.ensures, c.new-7.ensures.items) (new_tidy _ c.args.transports),
+      tied_new c.args.params c.in_ok-admitted.admitted (rows_of c.in_ok-waiting.waiting.items) c.new-4.result.items c.new-6.result.items _ made (ap (λ (v : Items). rows_of v.items) c.in_ok-waiting.ensures) c.new-4.ensures.items c.new-6.ensures.items counted_none,
+      rw (slots, ap (λ (v : Items). rows_of v.items) c.in_ok-waiting.ensures, c.new-4.ensures.items, c.new-5.ensures.items, c.in_ok-lines.ensures, c.new-7.ensures.items) (new_tidy _ c.args.transports),
     )

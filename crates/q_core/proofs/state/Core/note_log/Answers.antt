@@ -7,6 +7,7 @@ use Rattle.q_core.specs.State.{State}
 use Rattle.q_pool.specs.Kept.{heads}
 use Rattle.q_pool.specs.Pooled.{Pooled}
 use Rattle.q_pool.specs.Slots.{changed_at, with_log}
+use Rattle.q_peers.specs.Numbered.{rows_of}
 use Rattle.q_core.proofs.state.Core.note_log.Goals as goal
 
 pub invariant_of-self : goal.invariant_of-self
@@ -14,7 +15,7 @@ invariant_of-self c =
     let a = c.self.inside in
     let slots : heads c.log.new.self.items ≡ map (changed_at c.args.id with_log) (heads a.admitted.items) =
     ap (λ (m : Pooled). heads m.items) c.log.ensures ∙ heads_kept c.args.id with_log a.admitted.items in (
-      tied_kept a.params a.admitted c.log.new.self a.waiting.items a.flights.items a.unsettled.items a.flying a.starts c.args.id with_log (λ s. refl) c.log.ensures c.self.invariant.0,
+      tied_kept a.params a.admitted c.log.new.self (rows_of a.waiting.items) a.flights.items a.unsettled.items a.flying a.starts c.args.id with_log (λ s. refl) c.log.ensures c.self.invariant.0,
       rw slots (slots_same (unread_same c.args.id with_log (λ s. refl) (λ s. refl) (heads a.admitted.items)) c.self.invariant.1),
     )
 

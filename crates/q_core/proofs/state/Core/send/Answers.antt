@@ -1,9 +1,10 @@
-use Rattle.std.proofs.Common.{◌≡◌, ◌∙◌, ◌++◌, ◌<◌, ◌^◌, ◌∷◌, [], ap, arith, length, List, refl, Some, subst, sym}
-use Rattle.std.proofs.lemmas.Option.{slice_get_read}
-use Rattle.std.specs.List.{remove}
-use Rattle.std.specs.Prelude.{slice_get}
+use Rattle.std.proofs.Common.{◌≡◌, ◌∙◌, ◌++◌, ◌<◌, ◌^◌, ◌∷◌, [], ap, arith, false, length, List, Some, subst, sym, true}
+use Rattle.std.specs.List.{list_any, remove}
+use Rattle.std.specs.Prelude.{position, slice_get}
+use Rattle.q_core.proofs.ListLaws.{drop_first-Some}
+use Rattle.q_core.proofs.RowWalkLaws.{any_place, none_any, same_place}
 use Rattle.q_core.proofs.StillTidyLaws.{flight_added, row_gone}
-use Rattle.q_core.specs.Sending.{served_now}
+use Rattle.q_core.specs.Sending.{is_for, served_now}
 use Rattle.q_core.specs.State.{State}
 use Rattle.q_model.specs.Values.{Served}
 use Rattle.q_model.specs.declared.rows.Delivery.{Delivery}
@@ -13,6 +14,7 @@ use Rattle.q_core.proofs.TiedLaws.{tied_sent}
 use Rattle.q_core.specs.Counted.{IsCounted}
 use Rattle.q_core.specs.Counting.{with_flight}
 use Rattle.q_core.specs.View.{state_of}
+use Rattle.q_peers.specs.Numbered.{rows_of}
 use Rattle.q_pool.specs.Kept.{heads}
 use Rattle.q_pool.specs.Pooled.{Pooled}
 use Rattle.q_core.proofs.state.Core.send.Goals as goal
@@ -20,40 +22,46 @@ use Rattle.q_core.proofs.state.Core.send.Goals as goal
 pub invariant_of-self-2 : goal.invariant_of-self-2
 invariant_of-self-2 c =
     let a = c.self.inside in
-    let row = c.remove-row.result in
-    let waiting = a.waiting.items in
+    let p = is_for c.args.id c.args.site in
+    let rows = rows_of a.waiting.items in
     let same = ap (λ (s : State). s.waiting) c.self.view_is in
-    let within : c.args.entry < length waiting = subst (λ ws. c.args.entry < length ws) (sym same) c.requires.within in
-    let there : slice_get waiting c.args.entry ≡ Some row = slice_get_read waiting (length waiting) c.args.entry row refl within c.remove-row.ensures.value in
-    let here : slice_get c.args.self.now.waiting c.args.entry ≡ Some row = ap (λ ws. slice_get ws c.args.entry) (sym same) ∙ there in
+    let f = any_place p rows (ap (list_any p) same ∙ c.requires.there) in
+    let row = c.in-Some.row in
+    let is : f.1 ≡ row = (let both : Some f.1 ≡ Some row = sym f.2.found ∙ sym c.take_row.ensures.taken ∙ c.in-Some.is in cc) in
+    let there : slice_get rows f.0 ≡ Some row = f.2.there ∙ ap (λ (x : Row). Some x) is in
+    let left : rows_of c.take_row.new.waiting.items ≡ remove rows f.0 = c.take_row.ensures.rows ∙ sym (drop_first-Some p rows f.0 f.2.place) in
     let slots : heads c.begin_flight.new.pool.items ≡ heads a.admitted.items = ap (λ (m : Pooled). heads m.items) c.begin_flight.ensures ∙ heads_recounted with_flight row.id a.admitted.items in
     let added : c.add_flight.new.flights.items ≡ a.flights.items ++ record { number = c.args.number; row = row } ∷ [] =
     c.add_flight.ensures.items ∙ ap (λ (fs : List Delivery). fs ++ record { number = c.args.number; row = row } ∷ []) c.in_ok-reserve.ensures.items in
     let less = subst (λ (s : State). s.starts < c.args.number) (sym c.self.view_is) c.requires.next in
     let few : length (a.flights.items ++ record { number = c.args.number; row = row } ∷ []) < 2 ^ 64 = grind (arith, sym added, c.add_flight.new.flights.ok, c.add_flight.new.flights.small) in
     let counted = subst (λ (fs : List Delivery). IsCounted fs c.add_flight.new.flying) added c.add_flight.ensures.counted in (
-      rw (c.remove-row.ensures.items, added) (tied_sent a.params a.admitted c.begin_flight.new.pool waiting c.args.entry row a.flights.items a.unsettled.items a.flying c.add_flight.new.flying a.starts c.args.number there less few counted c.begin_flight.ensures c.self.invariant.0),
-      rw (slots, c.touch_message-2.ensures, c.touch_message.ensures, c.touch_site.ensures, c.remove-row.ensures.items, c.in_ok-note_served.ensures.ok, c.add_flight.ensures.items, c.in_ok-reserve.ensures.items)
-          (flight_added _ c.args.id c.args.site c.args.number (row_gone c.args.entry row there c.self.invariant.1)),
+      rw (left, added) (tied_sent a.params a.admitted c.begin_flight.new.pool rows f.0 row a.flights.items a.unsettled.items a.flying c.add_flight.new.flying a.starts c.args.number there less few counted c.begin_flight.ensures c.self.invariant.0),
+      rw (slots, c.touch_message-2.ensures, c.touch_message.ensures, c.touch_site.ensures, left, c.in_ok-note_served.ensures.ok, c.add_flight.ensures.items, c.in_ok-reserve.ensures.items)
+          (flight_added _ c.args.id c.args.site c.args.number (row_gone f.0 row there c.self.invariant.1)),
     )
 
 pub returns-clause-ok : goal.returns-clause-ok
-returns-clause-ok c =
+returns-clause-ok c = λ entry at.
     let a = c.self.inside in
-    let row = c.remove-row.result in
-    let waiting = a.waiting.items in
+    let p = is_for c.args.id c.args.site in
+    let rows = rows_of a.waiting.items in
     let same = ap (λ (s : State). s.waiting) c.self.view_is in
-    let within : c.args.entry < length waiting = subst (λ ws. c.args.entry < length ws) (sym same) c.requires.within in
-    let there : slice_get waiting c.args.entry ≡ Some row = slice_get_read waiting (length waiting) c.args.entry row refl within c.remove-row.ensures.value in
-    let here : slice_get c.args.self.now.waiting c.args.entry ≡ Some row = ap (λ ws. slice_get ws c.args.entry) (sym same) ∙ there in
+    let f = any_place p rows (ap (list_any p) same ∙ c.requires.there) in
+    let row = c.in-Some.row in
+    let is : f.1 ≡ row = (let both : Some f.1 ≡ Some row = sym f.2.found ∙ sym c.take_row.ensures.taken ∙ c.in-Some.is in cc) in
+    let there : slice_get rows f.0 ≡ Some row = f.2.there ∙ ap (λ (x : Row). Some x) is in
+    let left : rows_of c.take_row.new.waiting.items ≡ remove rows f.0 = c.take_row.ensures.rows ∙ sym (drop_first-Some p rows f.0 f.2.place) in
+    let e = same_place p rows f.0 entry f.2.place (ap (position p) same ∙ at) in
+    let here : slice_get c.args.self.now.waiting entry ≡ Some row = ap (λ ws. slice_get ws entry) (sym same) ∙ ap (slice_get rows) (sym e) ∙ there in
     let slots : heads c.begin_flight.new.pool.items ≡ heads a.admitted.items = ap (λ (m : Pooled). heads m.items) c.begin_flight.ensures ∙ heads_recounted with_flight row.id a.admitted.items in
     let added : c.add_flight.new.flights.items ≡ a.flights.items ++ record { number = c.args.number; row = row } ∷ [] =
     c.add_flight.ensures.items ∙ ap (λ (fs : List Delivery). fs ++ record { number = c.args.number; row = row } ∷ []) c.in_ok-reserve.ensures.items in
     record {
       rest =
-          ap (λ ss. record (state_of a) { admitted = ss; waiting = c.remove-row.new.self.items; flights = c.add_flight.new.flights.items; served = c.note_served.new.served.items; starts = c.args.number }) slots
-          ∙ ap (λ (s : State). record s { waiting = c.remove-row.new.self.items; flights = c.add_flight.new.flights.items; served = c.note_served.new.served.items; starts = c.args.number }) c.self.view_is;
-      waiting = c.remove-row.ensures.items ∙ ap (λ ws. remove ws c.args.entry) same;
+          ap (λ ss. record (state_of a) { admitted = ss; waiting = rows_of c.take_row.new.waiting.items; flights = c.add_flight.new.flights.items; served = c.note_served.new.served.items; starts = c.args.number }) slots
+          ∙ ap (λ (s : State). record s { waiting = rows_of c.take_row.new.waiting.items; flights = c.add_flight.new.flights.items; served = c.note_served.new.served.items; starts = c.args.number }) c.self.view_is;
+      waiting = left ∙ ap (λ k. remove rows k) e ∙ ap (λ ws. remove ws entry) same;
       flights = λ r at.
           let both : Some row ≡ Some r = sym here ∙ at in
           let it : row ≡ r = cc in
@@ -62,3 +70,15 @@ returns-clause-ok c =
           ∙ ap (λ (fs : List Delivery). fs ++ record { number = c.args.number; row = r } ∷ []) (ap (λ (s : State). s.flights) c.self.view_is);
       served = c.in_ok-note_served.ensures.ok ∙ ap (λ (sv : List Served). served_now c.args.id c.args.site c.args.number sv) (ap (λ (s : State). s.served) c.self.view_is);
     }
+
+pub invariant_of-self-in_default : goal.invariant_of-self-in_default
+invariant_of-self-in_default c =
+    let p = is_for c.args.id c.args.site in
+    let rows = rows_of c.self.inside.waiting.items in
+    let bad : true ≡ false = sym (ap (λ (s : State). list_any p s.waiting) c.self.view_is ∙ c.requires.there) ∙ none_any p rows (sym c.in_default.ensures.taken) in cc
+
+pub returns-in_default-clause-ok : goal.returns-in_default-clause-ok
+returns-in_default-clause-ok c = λ entry at.
+    let p = is_for c.args.id c.args.site in
+    let rows = rows_of c.self.inside.waiting.items in
+    let bad : true ≡ false = sym (ap (λ (s : State). list_any p s.waiting) c.self.view_is ∙ c.requires.there) ∙ none_any p rows (sym c.in_default.ensures.taken) in cc

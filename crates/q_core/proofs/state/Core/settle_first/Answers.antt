@@ -8,6 +8,7 @@ use Rattle.q_core.specs.State.{State}
 use Rattle.q_core.specs.View.{state_of}
 use Rattle.q_pool.specs.Kept.{heads}
 use Rattle.q_pool.specs.Pooled.{Pooled}
+use Rattle.q_peers.specs.Numbered.{rows_of}
 use Rattle.q_core.proofs.state.Core.settle_first.Goals as goal
 
 pub invariant_of-self : goal.invariant_of-self
@@ -18,7 +19,7 @@ invariant_of-self c =
     let within : 0 < length us = subst (λ (s : State). 0 < length s.unsettled) (sym c.self.view_is) c.requires in
     let there : slice_get us 0 ≡ Some first = slice_get_read us (length us) 0 first refl within c.remove-first.ensures.value in
     let slots : heads c.lose_unsettled.new.pool.items ≡ heads a.admitted.items = ap (λ (m : Pooled). heads m.items) c.lose_unsettled.ensures ∙ heads_recounted (without_unsettled 1) first.id a.admitted.items in (
-      rw c.remove-first.ensures.items (tied_settled a.params a.admitted c.lose_unsettled.new.pool a.waiting.items a.flights.items us a.flying a.starts 0 first there c.lose_unsettled.ensures c.self.invariant.0),
+      rw c.remove-first.ensures.items (tied_settled a.params a.admitted c.lose_unsettled.new.pool (rows_of a.waiting.items) a.flights.items us a.flying a.starts 0 first there c.lose_unsettled.ensures c.self.invariant.0),
       rw slots c.self.invariant.1,
     )
 

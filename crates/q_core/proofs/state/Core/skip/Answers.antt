@@ -8,19 +8,21 @@ use Rattle.q_core.proofs.state.Core.skip.Goals as goal
 
 pub returns-clause-ok : goal.returns-clause-ok
 unfolding after
-returns-clause-ok c = λ first id site positions there w l a.
-    let r : Row = c.in_ok-row.row in
+returns-clause-ok c = λ entry place first id site positions there w l a.
+    let r : Row = c.in-Some.row in
+    let un = (rw c.in-Some.is at c.in_ok-row.ensures.ok) entry place in
     let k : Row = record { id = id; site = site; positions = positions } in
-    let both : Some r ≡ Some k = sym c.in_ok-row.ensures.ok.row ∙ there in
+    let both : Some r ≡ Some k = sym un.row ∙ there in
     let same : r ≡ k = cc in
-    skip_noted c.note_skip.ensures.rest (subst (λ (x : Row). Matches w c.tidy.new.self (after w l (entries.Skip x.id x.site x.positions))) same (skip_law a c.requires.seen first r c.in_ok-row.ensures.ok c.leave.ensures c.tidy.ensures))
+    skip_noted c.note_skip.ensures.rest (subst (λ (x : Row). Matches w c.tidy.new.self (after w l (entries.Skip x.id x.site x.positions))) same (skip_law a c.requires.seen first r un c.leave.ensures c.tidy.ensures))
 
 pub returns-clause-noted : goal.returns-clause-noted
-returns-clause-noted c = λ r there.
-    let row : Row = c.in_ok-row.row in
-    let both : Some row ≡ Some r = sym c.in_ok-row.ensures.ok.row ∙ there in
+returns-clause-noted c = λ entry place r there.
+    let row : Row = c.in-Some.row in
+    let un = (rw c.in-Some.is at c.in_ok-row.ensures.ok) entry place in
+    let both : Some row ≡ Some r = sym un.row ∙ there in
     let same : row ≡ r = cc in
     record {
-      number = c.note_skip.ensures.noted.number ∙ left_skips c.args.self.now c.unqueue.new.self c.leave.new.self c.tidy.new.self row.site c.in_ok-row.ensures.ok.rest c.leave.ensures c.tidy.ensures;
+      number = c.note_skip.ensures.noted.number ∙ left_skips c.args.self.now c.unqueue.new.self c.leave.new.self c.tidy.new.self row.site un.rest c.leave.ensures c.tidy.ensures;
       positions = c.note_skip.ensures.noted.positions ∙ ap (λ (x : Row). x.positions) same;
     }

@@ -1,12 +1,15 @@
 use Rattle.std.proofs.Common.{◌∙◌, ap, arith, sym}
 use Rattle.q_model.specs.Step.{after}
 use Rattle.q_core.proofs.ChosenLaws.{chosen_row}
+use Rattle.q_core.proofs.RowWalkLaws.{any_place, none_place}
 use Rattle.q_core.proofs.SentLaws.{sent_law, chosen_place}
+use Rattle.q_core.specs.Sending.{is_for}
 use Rattle.q_core.specs.State.{State}
 use Rattle.q_core.proofs.state.Core.start_delivery.Goals as goal
 
-pub returns-in_default-clause-ok : goal.returns-in_default-clause-ok
-returns-in_default-clause-ok c = λ ps w l a rule. absurd (chosen_place a c.args.number c.args.id c.args.site ps rule (sym c.row_for.ensures ∙ c.in_default.is))
+pub returns-then-not-has_row_for-clause-ok : goal.returns-then-not-has_row_for-clause-ok
+returns-then-not-has_row_for-clause-ok c = λ ps w l a rule.
+    absurd (chosen_place a c.args.number c.args.id c.args.site ps rule (none_place (is_for c.args.id c.args.site) c.args.self.now.waiting (sym c.has_row_for.ensures ∙ c.if-not-has_row_for.true)))
 
 pub returns-then-number-self-clause-ok : goal.returns-then-number-self-clause-ok
 returns-then-number-self-clause-ok c = λ ps w l a rule.
@@ -18,4 +21,5 @@ returns-then-number-self-clause-ok c = λ ps w l a rule.
 pub returns-clause-ok : goal.returns-clause-ok
 unfolding after
 returns-clause-ok c = λ ps w l a rule.
-    sent_law a c.requires.seen c.args.number c.args.id c.args.site ps c.in-Some.entry rule (sym c.row_for.ensures ∙ c.in-Some.is) c.in_ok-send.ensures.ok c.count_start.ensures c.tidy.ensures
+    let f = any_place (is_for c.args.id c.args.site) c.args.self.now.waiting (sym c.has_row_for.ensures ∙ c.if-not-has_row_for.false) in
+    sent_law a c.requires.seen c.args.number c.args.id c.args.site ps f.0 rule f.2.place (c.in_ok-send.ensures.ok f.0 f.2.place) c.count_start.ensures c.tidy.ensures

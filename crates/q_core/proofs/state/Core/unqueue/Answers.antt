@@ -1,9 +1,11 @@
-use Rattle.std.proofs.Common.{◌≡◌, ◌∙◌, ◌++◌, ◌<◌, ◌^◌, ap, arith, length, refl, Some, subst, sym}
-use Rattle.std.proofs.lemmas.Option.{slice_get_read}
-use Rattle.std.specs.List.{remove}
-use Rattle.std.specs.Prelude.{slice_get}
+use Rattle.std.proofs.Common.{◌≡◌, ◌∙◌, ◌++◌, ◌<◌, ◌^◌, ap, arith, false, length, Some, subst, sym, true}
+use Rattle.std.specs.List.{list_any, remove}
+use Rattle.std.specs.Prelude.{find, position, slice_get}
+use Rattle.q_core.proofs.ListLaws.{drop_first-Some}
+use Rattle.q_core.proofs.RowWalkLaws.{any_place, none_any, same_place}
 use Rattle.q_core.proofs.StillTidyLaws.{row_gone}
 use Rattle.q_core.specs.Leaving.{put_off_in}
+use Rattle.q_core.specs.Sending.{is_for, row_for}
 use Rattle.q_core.specs.State.{State}
 use Rattle.q_core.proofs.NamedLaws.{needs_named}
 use Rattle.q_core.proofs.PoolTies.{heads_recounted}
@@ -11,29 +13,35 @@ use Rattle.q_core.proofs.TiedLaws.{tied_put_off}
 use Rattle.q_core.specs.Counting.{with_row_put_off}
 use Rattle.q_core.specs.Ties.{AreNamed}
 use Rattle.q_core.specs.View.{state_of}
+use Rattle.q_model.specs.declared.rows.Row.{Row}
 use Rattle.q_model.specs.declared.rows.Unsettled.{Unsettled}
+use Rattle.q_peers.specs.Numbered.{rows_of}
 use Rattle.q_pool.specs.Kept.{heads}
 use Rattle.q_pool.specs.Pooled.{Pooled}
 use Rattle.q_core.proofs.state.Core.unqueue.Goals as goal
 
 pub returns-clause-ok : goal.returns-clause-ok
-returns-clause-ok c =
+returns-clause-ok c = λ entry at.
     let a = c.self.inside in
-    let row = c.remove-row.result in
-    let waiting = a.waiting.items in
+    let p = is_for c.args.id c.args.site.now in
+    let rows = rows_of a.waiting.items in
     let same = ap (λ (s : State). s.waiting) c.self.view_is in
-    let within : c.args.entry < length waiting = subst (λ ws. c.args.entry < length ws) (sym same) c.requires in
-    let there : slice_get waiting c.args.entry ≡ Some row = slice_get_read waiting (length waiting) c.args.entry row refl within c.remove-row.ensures.value in
-    let here : slice_get c.args.self.now.waiting c.args.entry ≡ Some row = ap (λ ws. slice_get ws c.args.entry) (sym same) ∙ there in
-    let needs : c.in_ok-needs.needs.items ≡ put_off_in c.args.self.now row = c.in_ok-needs.ensures row here in
+    let f = any_place p rows (ap (list_any p) same ∙ c.requires.there) in
+    let row = c.in-Some.row in
+    let is : f.1 ≡ row = (let both : Some f.1 ≡ Some row = sym f.2.found ∙ sym c.take_row.ensures.taken ∙ c.in-Some.is in cc) in
+    let there : slice_get rows f.0 ≡ Some row = f.2.there ∙ ap (λ (x : Row). Some x) is in
+    let left : rows_of c.take_row.new.waiting.items ≡ remove rows f.0 = c.take_row.ensures.rows ∙ sym (drop_first-Some p rows f.0 f.2.place) in
+    let for : row_for c.args.self.now c.args.id c.args.site.now ≡ Some row = ap (find p) (sym same) ∙ f.2.found ∙ ap (λ (x : Row). Some x) is in
+    let needs : c.in_ok-needs.needs.items ≡ put_off_in c.args.self.now row = c.in_ok-needs.ensures row for in
     let added : c.extend_from_slice.new.self.items ≡ a.unsettled.items ++ c.deref.result.now = c.in_ok-extend_from_slice.ensures.items in
     let slots : heads c.put_off_row.new.pool.items ≡ heads a.admitted.items = ap (λ (m : Pooled). heads m.items) c.put_off_row.ensures ∙ heads_recounted (with_row_put_off c.len.result) row.id a.admitted.items in
+    let e = same_place p rows f.0 entry f.2.place (ap (position p) same ∙ at) in
     record {
-      row = here;
+      row = ap (λ ws. slice_get ws entry) (sym same) ∙ ap (slice_get rows) (sym e) ∙ there;
       rest =
-          ap (λ ss. record (state_of a) { admitted = ss; waiting = c.remove-row.new.self.items; unsettled = c.extend_from_slice.new.self.items; in_memory = c.saturating_sub-self-inside.result }) slots
-          ∙ ap (λ (s : State). record s { waiting = c.remove-row.new.self.items; unsettled = c.extend_from_slice.new.self.items; in_memory = c.saturating_sub-self-inside.result }) c.self.view_is;
-      waiting = c.remove-row.ensures.items ∙ ap (λ ws. remove ws c.args.entry) same;
+          ap (λ ss. record (state_of a) { admitted = ss; waiting = rows_of c.take_row.new.waiting.items; unsettled = c.extend_from_slice.new.self.items; in_memory = c.saturating_sub-self-inside.result }) slots
+          ∙ ap (λ (s : State). record s { waiting = rows_of c.take_row.new.waiting.items; unsettled = c.extend_from_slice.new.self.items; in_memory = c.saturating_sub-self-inside.result }) c.self.view_is;
+      waiting = left ∙ ap (λ k. remove rows k) e ∙ ap (λ ws. remove ws entry) same;
       unsettled = added ∙ ap (λ us. us ++ c.deref.result.now) (ap (λ (s : State). s.unsettled) c.self.view_is) ∙ ap (λ us. c.args.self.now.unsettled ++ us) (c.deref.ensures.value ∙ needs);
       memory = let few = ap length needs in let memory = ap (λ (s : State). s.in_memory) c.self.view_is in grind (arith, few, memory, c.saturating_sub-self-inside.ensures, c.saturating_sub-done.ensures, c.len-2.ensures, c.len-3.ensures);
     }
@@ -41,18 +49,33 @@ returns-clause-ok c =
 pub invariant_of-self-2 : goal.invariant_of-self-2
 invariant_of-self-2 c =
     let a = c.self.inside in
-    let row = c.remove-row.result in
-    let waiting = a.waiting.items in
+    let p = is_for c.args.id c.args.site.now in
+    let rows = rows_of a.waiting.items in
     let same = ap (λ (s : State). s.waiting) c.self.view_is in
-    let within : c.args.entry < length waiting = subst (λ ws. c.args.entry < length ws) (sym same) c.requires in
-    let there : slice_get waiting c.args.entry ≡ Some row = slice_get_read waiting (length waiting) c.args.entry row refl within c.remove-row.ensures.value in
-    let here : slice_get c.args.self.now.waiting c.args.entry ≡ Some row = ap (λ ws. slice_get ws c.args.entry) (sym same) ∙ there in
-    let needs : c.in_ok-needs.needs.items ≡ put_off_in c.args.self.now row = c.in_ok-needs.ensures row here in
+    let f = any_place p rows (ap (list_any p) same ∙ c.requires.there) in
+    let row = c.in-Some.row in
+    let is : f.1 ≡ row = (let both : Some f.1 ≡ Some row = sym f.2.found ∙ sym c.take_row.ensures.taken ∙ c.in-Some.is in cc) in
+    let there : slice_get rows f.0 ≡ Some row = f.2.there ∙ ap (λ (x : Row). Some x) is in
+    let left : rows_of c.take_row.new.waiting.items ≡ remove rows f.0 = c.take_row.ensures.rows ∙ sym (drop_first-Some p rows f.0 f.2.place) in
+    let for : row_for c.args.self.now c.args.id c.args.site.now ≡ Some row = ap (find p) (sym same) ∙ f.2.found ∙ ap (λ (x : Row). Some x) is in
+    let needs : c.in_ok-needs.needs.items ≡ put_off_in c.args.self.now row = c.in_ok-needs.ensures row for in
     let added : c.extend_from_slice.new.self.items ≡ a.unsettled.items ++ c.deref.result.now = c.in_ok-extend_from_slice.ensures.items in
     let slots : heads c.put_off_row.new.pool.items ≡ heads a.admitted.items = ap (λ (m : Pooled). heads m.items) c.put_off_row.ensures ∙ heads_recounted (with_row_put_off c.len.result) row.id a.admitted.items in
     let named : AreNamed (λ (u : Unsettled). u.id) row.id c.deref.result.now = subst (AreNamed (λ (u : Unsettled). u.id) row.id) (sym (c.deref.ensures.value ∙ needs)) (needs_named _ row.id row.positions _) in
     let few : length (a.unsettled.items ++ c.deref.result.now) < 2 ^ 64 = grind (arith, sym added, c.extend_from_slice.new.self.ok, c.extend_from_slice.new.self.small) in
     let many : c.len.result ≡ length c.deref.result.now = c.len.ensures ∙ sym c.deref.ensures.len in (
-      rw (c.remove-row.ensures.items, added) (tied_put_off a.params a.admitted c.put_off_row.new.pool waiting c.args.entry row a.flights.items a.unsettled.items c.deref.result.now a.flying a.starts c.len.result there many few named c.put_off_row.ensures c.self.invariant.0),
-      rw (slots, c.touch_message.ensures, c.touch_site.ensures, c.remove-row.ensures.items) (row_gone c.args.entry row there c.self.invariant.1),
+      rw (left, added) (tied_put_off a.params a.admitted c.put_off_row.new.pool rows f.0 row a.flights.items a.unsettled.items c.deref.result.now a.flying a.starts c.len.result there many few named c.put_off_row.ensures c.self.invariant.0),
+      rw (slots, c.touch_message.ensures, c.touch_site.ensures, left) (row_gone f.0 row there c.self.invariant.1),
     )
+
+pub invariant_of-self-in_default : goal.invariant_of-self-in_default
+invariant_of-self-in_default c =
+    let p = is_for c.args.id c.args.site.now in
+    let rows = rows_of c.self.inside.waiting.items in
+    let bad : true ≡ false = sym (ap (λ (s : State). list_any p s.waiting) c.self.view_is ∙ c.requires.there) ∙ none_any p rows (sym c.in_default.ensures.taken) in cc
+
+pub returns-in_default-clause-some : goal.returns-in_default-clause-some
+returns-in_default-clause-some c =
+    let p = is_for c.args.id c.args.site.now in
+    let rows = rows_of c.self.inside.waiting.items in
+    let bad : true ≡ false = sym (ap (λ (s : State). list_any p s.waiting) c.self.view_is ∙ c.requires.there) ∙ none_any p rows (sym c.in_default.ensures.taken) in cc
