@@ -1,6 +1,6 @@
 -- A refusal of the host becomes one of the engine, and has its cause.
 use Rattle.std.proofs.Common.{◌≡◌, ◌∙◌, ◌≤◌, ap, arith, Bool, false, refl, sym, true}
-use Rattle.std.specs.Prelude.{◌||◌, Err, IsErrOf, Result}
+use Rattle.std.specs.Prelude.{◌||◌, Err, IsErrOf, Ok, Result}
 use Rattle.q_entries.specs.Causes.{HostCause}
 use Rattle.q_host.specs.Faults.{Faults, TellCause}
 use Rattle.q_host.specs.declared.error.HostError.{HostError}
@@ -21,6 +21,15 @@ told_cause before after faults.Disk made r how is h = absurd (h.no_disk how)
 told_cause before after faults.Tell made r how is h = record { disk_later = h.disk_later; tell_later = h.tell_later; disk = λ of. absurd cc; tell = λ of. h.tell how }
 told_cause before after faults.NoMemory made r how is h = record { disk_later = h.disk_later; tell_later = h.tell_later; disk = λ of. absurd cc; tell = λ of. absurd cc }
 
+-- Nothing was refused.
+pub ok_cause : {T S : Type 0} (before after : Faults) (r : Result T HostError) (made : S) → TellCause before after r → EngineCause {T = S} before after (Ok made)
+ok_cause before after r made h = record { disk_later = h.disk_later; tell_later = h.tell_later; disk = λ of. absurd cc; tell = λ of. absurd cc }
+
+pub made_no_disk : {T S : Type 0} (before after : Faults) (inner : HostError) (made : EngineError) (r : Result T HostError) → r ≡ Err inner → made ≡ refusal_of inner → TellCause before after r → IsErrOf {T = S} (Err made) errors.Disk → ⊥
+made_no_disk before after faults.Disk made r how is h of = h.no_disk how
+made_no_disk before after faults.Tell made r how is h of = cc
+made_no_disk before after faults.NoMemory made r how is h of = cc
+
 -- it isn't one of the spool
 not_of_spool : (inner : HostError) → is_of_spool (refusal_of inner) ≡ false
 not_of_spool faults.Disk = refl
@@ -39,6 +48,12 @@ not_of_event faults.NoMemory = refl
 pub event_apart : {T : Type 0} (made : EngineError) (inner : HostError) → is_of_event made ≡ true → IsErrOf {T = T} (Err made) (refusal_of inner) → ⊥
 event_apart made inner event of =
     let same : made ≡ refusal_of inner = cc in
+    let bad : true ≡ false = sym event ∙ ap is_of_event same ∙ not_of_event inner in cc
+
+-- nor is one of the host one of an event
+pub host_apart : {T : Type 0} (made error : EngineError) (inner : HostError) → made ≡ refusal_of inner → IsErrOf {T = T} (Err made) error → is_of_event error ≡ true → ⊥
+host_apart made error inner is of event =
+    let same : error ≡ refusal_of inner = cc in
     let bad : true ≡ false = sym event ∙ ap is_of_event same ∙ not_of_event inner in cc
 
 or_right : (a b : Bool) → b ≡ true → (a || b) ≡ true

@@ -1,5 +1,7 @@
-use Rattle.q_engine.proofs.Causes.{event_apart, event_cause, event_kind, made_cause}
+use Rattle.std.proofs.Common.{◌≡◌, ◌∙◌, None, Option, Some, sym}
+use Rattle.q_engine.proofs.Causes.{event_apart, event_cause, event_kind, host_apart, made_cause}
 use Rattle.q_engine.proofs.Turns.{passed_on}
+use Rattle.q_engine.specs.declared.error.EngineError.{EngineError}
 use Rattle.q_engine.proofs.engine.Engine.step.Goals as goal
 
 pub returns-in-Err-clause-err : goal.returns-in-Err-clause-err
@@ -16,3 +18,11 @@ returns-in-Some-clause-kinds g c error of = event_kind c.in-Some.error error c.i
 
 pub returns-in-Some-clause-cause : goal.returns-in-Some-clause-cause
 returns-in-Some-clause-cause g c = event_cause (g.H.Host.faults c.args.host.now) c.in-Some.error c.in-Some.ensures.kind
+
+pub returns-in-Err-clause-refused : goal.returns-in-Err-clause-refused
+returns-in-Err-clause-refused g c w l agrees counts error is =
+    let none : ◌≡◌ {A = Option EngineError} None (Some error) = sym c.in_default.is ∙ c.refusal.ensures.ledger w l agrees counts ∙ is in
+    absurd cc
+
+pub returns-in-Err-clause-only_refused : goal.returns-in-Err-clause-only_refused
+returns-in-Err-clause-only_refused g c error of event w l agrees counts = absurd (host_apart c.refusal_of.result error c.in-Err.error c.refusal_of.ensures.exact of event)
