@@ -4,6 +4,9 @@ use Rattle.q_load.proofs.Hearing.{sums_up}
 use Rattle.q_load.proofs.Places.{ok_weaker}
 use Rattle.q_load.proofs.loading.run.Goals as goal
 
+pub hear-requires-clause-stands : goal.hear-requires-clause-stands
+hear-requires-clause-stands g c t = (begun, c.in_ok-begun.ensures.begins t (c.requires t))
+
 pub hear_all-requires-clause-stands : goal.hear_all-requires-clause-stands
 hear_all-requires-clause-stands g c t =
     (behind begun first, c.in_ok-timed.ensures.hears t begun (c.in_ok-begun.ensures.begins t (c.requires t)))
