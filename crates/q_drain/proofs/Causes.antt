@@ -1,8 +1,12 @@
 -- A refusal that is passed on has the cause that it had.
 use Rattle.std.proofs.Common.{◌≡◌, ◌≤◌, arith}
-use Rattle.std.specs.Prelude.{Err, Result}
+use Rattle.std.specs.Prelude.{Err, Ok, Result}
 use Rattle.std.specs.Result.{IsErrAnd}
 use Rattle.q_engine.proofs.DecisionLoops.{same_error}
+use Rattle.q_drain.specs.Faults.{fault_of}
+use Rattle.q_engine.specs.Refusals.{EngineCause}
+use Rattle.q_engine.specs.declared.error.EngineError.{EngineError}
+use Rattle.q_engine.specs.declared.error.EngineError.TheVariants as errors
 use Rattle.q_entries.specs.Causes.{HostCause}
 use Rattle.q_events.proofs.LineParts.{rose_later}
 use Rattle.q_host.specs.Faults.{DiskCause, Faults}
@@ -24,6 +28,20 @@ host_passed before after inner r made h = record {
   disk = λ is. h.disk (same_error r inner Disk made is);
   tell = λ is. h.tell (same_error r inner Tell made is);
 }
+
+-- the engine did what it was asked for
+pub engine_ok : {T S : Type 0} (before after : Faults) (r : Result T EngineError) (made : S) → EngineCause before after r → HostCause {T = S} before after (Ok made)
+engine_ok before after r made h = record { disk_later = h.disk_later; tell_later = h.tell_later; disk = λ is. absurd cc; tell = λ is. absurd cc }
+
+pub engine_passed : {T S : Type 0} (before after : Faults) (why : EngineError) (made : HostError) (r : Result T EngineError) → r ≡ Err why → made ≡ fault_of why → EngineCause before after r → HostCause {T = S} before after (Err made)
+engine_passed before after errors.Disk made r how is h = record { disk_later = h.disk_later; tell_later = h.tell_later; disk = λ of. h.disk how; tell = λ of. absurd cc }
+engine_passed before after errors.Tell made r how is h = record { disk_later = h.disk_later; tell_later = h.tell_later; disk = λ of. absurd cc; tell = λ of. h.tell how }
+engine_passed before after errors.NoMemory made r how is h = record { disk_later = h.disk_later; tell_later = h.tell_later; disk = λ of. absurd cc; tell = λ of. absurd cc }
+engine_passed before after (errors.Unknown n) made r how is h = record { disk_later = h.disk_later; tell_later = h.tell_later; disk = λ of. absurd cc; tell = λ of. absurd cc }
+engine_passed before after (errors.WrongCount n want got) made r how is h = record { disk_later = h.disk_later; tell_later = h.tell_later; disk = λ of. absurd cc; tell = λ of. absurd cc }
+engine_passed before after errors.Untimed made r how is h = record { disk_later = h.disk_later; tell_later = h.tell_later; disk = λ of. absurd cc; tell = λ of. absurd cc }
+engine_passed before after (errors.Limit bound) made r how is h = record { disk_later = h.disk_later; tell_later = h.tell_later; disk = λ of. absurd cc; tell = λ of. absurd cc }
+engine_passed before after (errors.Damaged area name) made r how is h = record { disk_later = h.disk_later; tell_later = h.tell_later; disk = λ of. absurd cc; tell = λ of. absurd cc }
 
 -- no count falls in what goes before
 pub cause_behind : {T : Type 0} (a b c : Faults) (r : Result T HostError) → a.disk ≤ b.disk → a.tell ≤ b.tell → HostCause b c r → HostCause a c r

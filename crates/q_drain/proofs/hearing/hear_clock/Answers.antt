@@ -1,6 +1,7 @@
 use Rattle.std.proofs.Common.{◌≡◌, ◌∙◌, arith, inl, inr, refl, subst, sym, ap, Bool}
 use Rattle.std.specs.Prelude.{Err}
 use Rattle.q_books.specs.HostStands.{TellsCrashes}
+use Rattle.q_drain.proofs.Causes.{engine_ok}
 use Rattle.q_drain.proofs.ClockTurns.{heard_at, heard_part, heard_same, host_fault, IsNew, never_refused, past_now}
 use Rattle.q_drain.specs.Faults.{fault_of}
 use Rattle.q_drain.specs.Heard.{IsFirst}
@@ -45,3 +46,6 @@ returns-in-Err-clause-err g c error is t w l a hops early fs os s first b =
     let same : fault_of why ≡ error = sym c.fault_of.ensures ∙ one in
     heard_part w l a old (g.C.Clock.given c.now-moment.new.self) hops u (g.H.Host.view c.step.new.host) c.args.engine early fs os s c.args.first moment error first c.now-moment.ensures.given late b
     (c.in-Err.ensures.err error (ap (λ e. Err e) (host_fault why kind ∙ ap refusal_of same)) t w k h.stands)
+
+pub returns-in-Ok-clause-cause : goal.returns-in-Ok-clause-cause
+returns-in-Ok-clause-cause g c = engine_ok (g.H.Host.faults c.args.host.now) (g.H.Host.faults c.step.new.host) c.step.result c.in-Ok.next c.step.ensures.cause

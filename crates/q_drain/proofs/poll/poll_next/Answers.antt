@@ -205,3 +205,15 @@ returns-in_err-known-clause-cause g c =
 pub returns-clause-rests : goal.returns-clause-rests
 returns-clause-rests g c = c.open_started.ensures.rests
     ∙ turned_rests g.H.Host.tells (g.H.Host.view c.args.host.now) c.now.result (g.N.Hops.view c.args.hops.now) (g.N.Hops.view c.turn.new.hops) (next_polled c.args.agent.now) c.in_ok-report.field-0 c.args.agent.now c.turn.new.self c.in_ok-report.ensures.ok
+
+pub returns-clause-cause : goal.returns-clause-cause
+returns-clause-cause g c =
+    let turned = c.in_ok-report.ensures.cause in
+    let replied = c.in_ok-engine.ensures.cause in
+    let opened = c.in_ok-known.ensures.cause in
+    record {
+      disk_later = omega (arith, turned.disk_later, replied.disk_later, opened.disk_later);
+      tell_later = omega (arith, turned.tell_later, replied.tell_later, opened.tell_later);
+      disk = λ is. absurd cc;
+      tell = λ is. absurd cc;
+    }

@@ -3,6 +3,7 @@ use Rattle.std.proofs.lemmas.Bool.{and_from}
 use Rattle.std.specs.List.{list_all}
 use Rattle.std.specs.Prelude.{Err}
 use Rattle.q_books.specs.HostStands.{TellsCrashes}
+use Rattle.q_drain.proofs.Causes.{engine_ok, engine_passed}
 use Rattle.q_drain.proofs.ReplyTurns.{accepted_may, fault_halts, halts_nothing, none_refused}
 use Rattle.q_drain.specs.Replied.{reply_event}
 use Rattle.q_engine.specs.Heard.{has_log_code}
@@ -43,3 +44,9 @@ returns-in-Err-clause-err g c error is t w l stands =
     (λ fault same. c.in-Err.ensures.err fault (ap (λ e. Err e) same) t w l stands)
     (λ of. let refused = c.in-Err.ensures.only_refused why refl of w l stands.core stands.counts in ap g.H.Host.view (c.in-Err.ensures.refused w l stands.core stands.counts why refused).1)
     (let one : c.fault_of.result ≡ error = cc in sym c.fault_of.ensures ∙ one)
+
+pub returns-in-Ok-clause-cause : goal.returns-in-Ok-clause-cause
+returns-in-Ok-clause-cause g c = engine_ok (g.H.Host.faults c.args.host.now) (g.H.Host.faults c.step.new.host) c.step.result c.in-Ok.next c.step.ensures.cause
+
+pub returns-in-Err-clause-cause : goal.returns-in-Err-clause-cause
+returns-in-Err-clause-cause g c = engine_passed (g.H.Host.faults c.args.host.now) (g.H.Host.faults c.step.new.host) c.in-Err.error c.fault_of.result c.step.result c.in-Err.is c.fault_of.ensures c.step.ensures.cause
