@@ -1,7 +1,9 @@
 -- A refusal that is passed on has the cause that it had.
-use Rattle.std.proofs.Common.{◌≡◌, ◌≤◌, arith}
+use Rattle.std.proofs.Common.{◌≡◌, ◌≤◌, arith, Option, Some, ℕ}
 use Rattle.std.specs.Prelude.{Err, Ok, Result}
 use Rattle.std.specs.Result.{IsErrAnd}
+use Rattle.q_drain.specs.declared.driver.Drained.{Drained}
+use Rattle.q_drain.specs.declared.driver.Drained.TheVariants.{Unfinished}
 use Rattle.q_engine.proofs.DecisionLoops.{same_error}
 use Rattle.q_drain.specs.Faults.{fault_of}
 use Rattle.q_engine.specs.Refusals.{EngineCause}
@@ -11,7 +13,7 @@ use Rattle.q_entries.specs.Causes.{HostCause}
 use Rattle.q_events.proofs.LineParts.{rose_later}
 use Rattle.q_host.specs.Faults.{DiskCause, Faults}
 use Rattle.q_host.specs.declared.error.HostError.{HostError}
-use Rattle.q_host.specs.declared.error.HostError.TheVariants.{Disk, Tell}
+use Rattle.q_host.specs.declared.error.HostError.TheVariants.{Disk, NoMemory, Tell}
 
 pub disk_passed : {T S : Type 0} (before after : Faults) (inner : HostError) (r : Result T HostError) → IsErrAnd r (λ x. x ≡ inner) → DiskCause {T = S} before after (Err inner) → HostCause before after r
 disk_passed before after inner r made d = record {
@@ -43,6 +45,13 @@ engine_passed before after errors.Untimed made r how is h = record { disk_later 
 engine_passed before after (errors.Limit bound) made r how is h = record { disk_later = h.disk_later; tell_later = h.tell_later; disk = λ of. absurd cc; tell = λ of. absurd cc }
 engine_passed before after (errors.Damaged area name) made r how is h = record { disk_later = h.disk_later; tell_later = h.tell_later; disk = λ of. absurd cc; tell = λ of. absurd cc }
 
+-- where nothing failed, or memory is wanting, no count has to rise
+pub ok_host : {T : Type 0} (before after : Faults) (made : T) → before.disk ≤ after.disk → before.tell ≤ after.tell → HostCause {T = T} before after (Ok made)
+ok_host before after made disk tell = record { disk_later = disk; tell_later = tell; disk = λ is. absurd cc; tell = λ is. absurd cc }
+
+pub memory_host : {T : Type 0} (before after : Faults) → before.disk ≤ after.disk → before.tell ≤ after.tell → HostCause {T = T} before after (Err NoMemory)
+memory_host before after disk tell = record { disk_later = disk; tell_later = tell; disk = λ is. absurd cc; tell = λ is. absurd cc }
+
 -- no count falls in what goes before
 pub cause_behind : {T : Type 0} (a b c : Faults) (r : Result T HostError) → a.disk ≤ b.disk → a.tell ≤ b.tell → HostCause b c r → HostCause a c r
 cause_behind a b c r disk tell h = record {
@@ -51,3 +60,7 @@ cause_behind a b c r disk tell h = record {
   disk = λ is. rose_later a.disk b.disk c.disk disk (h.disk is);
   tell = λ is. rose_later a.tell b.tell c.tell tell (h.tell is);
 }
+
+-- so many rests were given, and no other number
+pub same_rests : (given n : ℕ) → ◌≡◌ {A = Option Drained} (Some (Unfinished given)) (Some (Unfinished n)) → n ≡ given
+same_rests given n is = cc

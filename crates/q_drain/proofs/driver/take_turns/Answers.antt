@@ -1,6 +1,7 @@
 use Rattle.std.proofs.Common.{◌≡◌, ◌≢◌, ◌+◌, [], ap, arith, false, Option, refl, subst, sym, true, ℕ}
 use Rattle.q_agent.specs.Sessions.{Sessions, is_turn_over}
 use Rattle.q_books.specs.HostStands.{TellsCrashes}
+use Rattle.q_drain.proofs.Causes.{memory_host, ok_host, same_rests}
 use Rattle.q_drain.proofs.Exiting.{DrainsSo, counted_behind, drains_first, drains_more, ends_early, ends_full, ends_quiet, ends_unfinished, given_behind, none_behind, order_behind, stops_between}
 use Rattle.q_drain.proofs.Polls.{all_wait}
 use Rattle.q_drain.specs.Drained.{CountsRests, RestsBehind}
@@ -159,18 +160,13 @@ returns-in_default-clause-unfinished g c n is =
     let turn = c.in_ok-served.ensures.rests in
     let same = ap (λ (h : HopsView). h.rests) still in
     let counts = loop.invariant.counts in
-    (cc, omega (arith, all, turn, same, counts))
+    (same_rests c.args.rests n is, omega (arith, all, turn, same, counts))
 
 pub returns-in_default-clause-cause : goal.returns-in_default-clause-cause
 returns-in_default-clause-cause g c =
     let later = c.loop.invariant in
     let cause = c.in_ok-served.ensures.cause in
-    record {
-      disk_later = omega (arith, later.disk_later, cause.disk_later);
-      tell_later = omega (arith, later.tell_later, cause.tell_later);
-      disk = λ is. cc;
-      tell = λ is. cc;
-    }
+    ok_host (g.H.Host.faults c.args.host.now) (g.H.Host.faults c.take_turn.new.host) _ (omega (arith, later.disk_later, cause.disk_later)) (omega (arith, later.tell_later, cause.tell_later))
 
 pub loop-preserved : goal.loop-preserved
 loop-preserved g c =
@@ -218,10 +214,4 @@ returns-clause-err g c error is t w l stands start =
 
 pub returns-clause-cause : goal.returns-clause-cause
 returns-clause-cause g c =
-    let later = c.loop.invariant in
-    record {
-      disk_later = later.disk_later;
-      tell_later = later.tell_later;
-      disk = λ is. cc;
-      tell = λ is. cc;
-    }
+    memory_host (g.H.Host.faults c.args.host.now) (g.H.Host.faults c.loop.host) c.loop.invariant.disk_later c.loop.invariant.tell_later
