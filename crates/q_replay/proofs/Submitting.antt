@@ -2,7 +2,10 @@
 use Rattle.std.proofs.Common.{◌≡◌, ◌≤◌, ap, inl, inr, arith, ℕ, false, true, List, [], ◌∷◌, ◌++◌, Some, None, sym, subst}
 use Rattle.std.specs.Prelude.{Err, IfErr, IfOk, IsErrOf, Ok, Result}
 use Rattle.q_books.specs.HostStands.{HostStands, TellsCrashes}
+use Rattle.q_engine.specs.Refusals.{EngineCause}
 use Rattle.q_engine.specs.Stands.{EngineStands}
+use Rattle.q_engine.specs.declared.error.EngineError.{EngineError}
+use Rattle.q_engine.specs.declared.error.EngineError.TheVariants as engine_errors
 use Rattle.q_engine.specs.declared.engine.Engine.{Engine}
 use Rattle.q_events.specs.Readings.{is_list_end}
 use Rattle.q_events.specs.declared.item.Item.{Item as ListItem}
@@ -17,7 +20,7 @@ use Rattle.q_model.specs.declared.event.Mode.{Mode}
 use Rattle.q_replay.specs.Listings.{gives, Listing}
 use Rattle.q_replay.specs.Reading.{event_of, read_items, TakenItems}
 use Rattle.q_replay.specs.RunEnds.{IsTold, RunEnds}
-use Rattle.q_replay.specs.Takings.{GivesUpItem, NotTaken, ReplayCause, TakesItem, TookItem}
+use Rattle.q_replay.specs.Takings.{GivesUpItem, NotTaken, replay_error, ReplayCause, TakesItem, TookItem}
 use Rattle.q_replay.specs.declared.error.ReplayError.{ReplayError}
 use Rattle.q_replay.specs.declared.error.ReplayError.TheVariants.{Disk, Tell}
 use Rattle.q_replay.proofs.Readings.{ledger_more, ledger_none, ledger_on}
@@ -86,3 +89,21 @@ cause_on a b c inner disk tell h = record {
   disk = λ is. rose_later a.disk b.disk c.disk disk (h.disk (refused_as inner Disk is));
   tell = λ is. rose_later a.tell b.tell c.tell tell (h.tell (refused_as inner Tell is));
 }
+
+-- where nothing failed, no count has to rise
+pub ok_lists : {T : Type 0} (before after : Faults) (made : T) → before.disk ≤ after.disk → before.tell ≤ after.tell → ReplayCause {T = T} before after (Ok made)
+ok_lists before after made disk tell = record { disk_later = disk; tell_later = tell; disk = λ is. absurd cc; tell = λ is. absurd cc }
+
+pub own_error : {T : Type 0} (made error : ReplayError) → IsErrOf {T = T} (Err made) error → made ≡ error
+own_error made error is = cc
+
+-- a refusal of the engine has the cause that it had
+pub engine_passed : {T S : Type 0} (before after : Faults) (line : ℕ) (why : EngineError) (made : ReplayError) (r : Result T EngineError) → r ≡ Err why → made ≡ replay_error line why → EngineCause before after r → ReplayCause {T = S} before after (Err made)
+engine_passed before after line engine_errors.Disk made r how is h = record { disk_later = h.disk_later; tell_later = h.tell_later; disk = λ of. h.disk how; tell = λ of. absurd cc }
+engine_passed before after line engine_errors.Tell made r how is h = record { disk_later = h.disk_later; tell_later = h.tell_later; disk = λ of. absurd cc; tell = λ of. h.tell how }
+engine_passed before after line engine_errors.NoMemory made r how is h = record { disk_later = h.disk_later; tell_later = h.tell_later; disk = λ of. absurd cc; tell = λ of. absurd cc }
+engine_passed before after line (engine_errors.Unknown n) made r how is h = record { disk_later = h.disk_later; tell_later = h.tell_later; disk = λ of. absurd cc; tell = λ of. absurd cc }
+engine_passed before after line (engine_errors.WrongCount n want got) made r how is h = record { disk_later = h.disk_later; tell_later = h.tell_later; disk = λ of. absurd cc; tell = λ of. absurd cc }
+engine_passed before after line engine_errors.Untimed made r how is h = record { disk_later = h.disk_later; tell_later = h.tell_later; disk = λ of. absurd cc; tell = λ of. absurd cc }
+engine_passed before after line (engine_errors.Limit bound) made r how is h = record { disk_later = h.disk_later; tell_later = h.tell_later; disk = λ of. absurd cc; tell = λ of. absurd cc }
+engine_passed before after line (engine_errors.Damaged area name) made r how is h = record { disk_later = h.disk_later; tell_later = h.tell_later; disk = λ of. absurd cc; tell = λ of. absurd cc }

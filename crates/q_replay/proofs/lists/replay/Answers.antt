@@ -12,7 +12,7 @@ use Rattle.q_replay.specs.Takings.{NotTaken, TookItem}
 use Rattle.q_replay.specs.declared.error.ReplayError.TheVariants as errors
 use Rattle.q_replay.proofs.Readings.{ledger_on}
 use Rattle.q_replay.proofs.Replaying.{delivers, ends_done, ends_unbegun, ends_unread, ends_untaken, for_each, for_text, IsGivenTo, may_begin, passed_as, same_new, some_given, went_begins, went_on}
-use Rattle.q_replay.proofs.Submitting.{rose_later}
+use Rattle.q_replay.proofs.Submitting.{own_error, rose_later}
 use Rattle.q_replay.proofs.DamagedSpools.{none_only, only_passed, refused_passed, unread_only, untaken_only}
 use Rattle.q_replay.proofs.lists.replay.Goals as goal
 
@@ -129,8 +129,8 @@ returns-in-Err-clause-cause g c =
     record {
       disk_later = old.invariant.disk_later;
       tell_later = old.invariant.tell_later;
-      disk = λ is. let same : c.list_error.result ≡ errors.Disk = cc in absurd (c.list_error.ensures.no_disk same);
-      tell = λ is. let same : c.list_error.result ≡ errors.Tell = cc in absurd (c.list_error.ensures.no_tell same);
+      disk = λ is. absurd (c.list_error.ensures.no_disk (own_error c.list_error.result errors.Disk is));
+      tell = λ is. absurd (c.list_error.ensures.no_tell (own_error c.list_error.result errors.Tell is));
     }
 
 pub returns-in_err-engine-clause-damaged : goal.returns-in_err-engine-clause-damaged
@@ -169,6 +169,6 @@ returns-in-None-clause-only_damaged g c t = none_only (g.H.Host.view c.take.new.
 pub returns-in-Err-clause-source : goal.returns-in-Err-clause-source
 returns-in-Err-clause-source g c is =
     let old = c.loop-item in
-    let same : c.list_error.result ≡ errors.Source = cc in
+    let same = own_error c.list_error.result errors.Source is in
     rose_later (g.S.Source.faults c.args.source.now) (g.S.Source.faults old.source) (g.S.Source.faults c.read_event.new.source) old.invariant.source_later
     (c.in-Err.ensures.source (ap (λ (e : EventError). Err e) (c.list_error.ensures.source same)))

@@ -1,6 +1,7 @@
 use Rattle.std.proofs.Common.{ap, refl}
 use Rattle.q_books.specs.HostStands.{TellsCrashes}
 use Rattle.q_engine.specs.Refusals.{refusal_of, refused_event}
+use Rattle.q_replay.proofs.Submitting.{engine_passed, ok_lists}
 use Rattle.q_replay.proofs.Takings.{error_is, heard, never_heard, not_refused}
 use Rattle.q_engine.proofs.EventForms.{form}
 use Rattle.q_replay.proofs.taking.hear.Goals as goal
@@ -26,3 +27,11 @@ returns-in-Err-clause-err g c at t w l h =
       refused = λ why is. ap g.H.Host.view (c.in-Err.ensures.refused w l h.core h.counts why is).1;
       only = λ of. c.in-Err.ensures.only_refused error refl of w l h.core h.counts;
     }))
+
+pub returns-in-Ok-clause-cause : goal.returns-in-Ok-clause-cause
+returns-in-Ok-clause-cause g c =
+    ok_lists (g.H.Host.faults c.args.host.now) (g.H.Host.faults c.step.new.host) c.in-Ok.next c.step.ensures.cause.disk_later c.step.ensures.cause.tell_later
+
+pub returns-in-Err-clause-cause : goal.returns-in-Err-clause-cause
+returns-in-Err-clause-cause g c =
+    engine_passed (g.H.Host.faults c.args.host.now) (g.H.Host.faults c.step.new.host) c.args.line c.in-Err.error c.replay_error.result c.step.result c.in-Err.is c.replay_error.ensures.exact c.step.ensures.cause

@@ -1,5 +1,6 @@
 use Rattle.std.proofs.Common.{None, Some}
 use Rattle.q_events.specs.declared.item.Item.TheVariants.{End, Step}
+use Rattle.q_replay.proofs.Submitting.{ok_lists}
 use Rattle.q_replay.proofs.Takings.{for_item, for_item_up, never_restarts, passed_on, restarts}
 use Rattle.q_replay.proofs.taking.take.Goals as goal
 
@@ -36,17 +37,9 @@ returns-in_ok-end-in-End-clause-ok g c t =
     for_item c.args.params c.args.engine End c.args.item None (g.H.Host.view c.args.host.now) (g.H.Host.view c.end.new.host) c.in-End.is (c.in_ok-end-in-End.ensures.ok t)
 
 pub returns-in_ok-hear-in-Step-clause-cause : goal.returns-in_ok-hear-in-Step-clause-cause
-returns-in_ok-hear-in-Step-clause-cause g c = record {
-  disk_later = c.hear.ensures.cause.disk_later;
-  tell_later = c.hear.ensures.cause.tell_later;
-  disk = λ is. cc;
-  tell = λ is. cc;
-}
+returns-in_ok-hear-in-Step-clause-cause g c =
+    ok_lists (g.H.Host.faults c.args.host.now) (g.H.Host.faults c.hear.new.host) _ c.hear.ensures.cause.disk_later c.hear.ensures.cause.tell_later
 
 pub returns-in_ok-begin_life-in-Restart-clause-cause : goal.returns-in_ok-begin_life-in-Restart-clause-cause
-returns-in_ok-begin_life-in-Restart-clause-cause g c = record {
-  disk_later = c.begin_life.ensures.cause.disk_later;
-  tell_later = c.begin_life.ensures.cause.tell_later;
-  disk = λ is. cc;
-  tell = λ is. cc;
-}
+returns-in_ok-begin_life-in-Restart-clause-cause g c =
+    ok_lists (g.H.Host.faults c.args.host.now) (g.H.Host.faults c.begin_life.new.host) _ c.begin_life.ensures.cause.disk_later c.begin_life.ensures.cause.tell_later
