@@ -1,0 +1,7 @@
+pub mod Inserted
+pub mod Items
+pub mod Moves
+pub mod Filed
+pub mod Standing
+pub mod Changes
+pub mod Values

@@ -1,0 +1,17 @@
+use Rattle.std.proofs.Common.{◌∙◌, sym}
+use Rattle.q_peers.proofs.Walks.{found_behind, shorter, still_there}
+use Rattle.q_keyed.specs.Slots.{passes}
+use Rattle.q_keyed.proofs.finding.find_from.Goals as goal
+
+pub loop-at-smaller : goal.loop-at-smaller
+loop-at-smaller g c = shorter c.args.lists.now c.stand_once.ensures c.in-Some.number c.loop-at.at c.next-at.result c.in-Some.is c.next-at.ensures
+
+pub loop-at-preserved : goal.loop-at-preserved
+loop-at-preserved g c =
+    let s = c.args.lists.now in
+    let n = c.in-Some.number in
+    let fails = sym c.is_under.ensures ∙ c.if-is_under.false in
+    record {
+      there = still_there s c.stand_once.ensures n c.loop-at.at c.next-at.result c.in-Some.is c.next-at.ensures;
+      rest = found_behind s c.stand_once.ensures n c.loop-at.at c.next-at.result c.in-Some.is c.next-at.ensures (passes (λ t. g.T.HasKey.eq (g.T.HasKey.key_of t) c.args.key.now) c.args.items.now.items) fails ∙ c.loop-at.invariant.rest;
+    }
