@@ -1,0 +1,17 @@
+//! The line of a transport: the jobs of messages in their order, each with its account of delivery
+//! slots (SCHEDULER_README, "Preemptive scheduling"). A job joins at the end, goes before another
+//! that it preempts, and leaves from anywhere; each call costs the same, however long the line is.
+//!
+//! Room is made once, by `new`; no other call takes memory or can fail. It is an error to make it
+//! without room or for 2^30 jobs and more, and to let a message join where there is no room or
+//! where it has a job. It is none to ask for the job of a message that has none, or to change, move
+//! or remove it: the answer is None, or nothing happens.
+#![tactic(auto)]
+
+mod job;
+mod line;
+#[cfg(test)]
+mod worked;
+
+pub use job::Job;
+pub use line::Line;
