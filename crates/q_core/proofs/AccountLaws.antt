@@ -5,7 +5,7 @@ use Rattle.std.specs.List.{enumerate_from}
 use Rattle.std.proofs.lemmas.List.Sums.{take_while-cons, sum_by-cons}
 use Rattle.q_core.specs.Agrees.{job_of, jobs_of}
 use Rattle.q_core.specs.Sending.{started_job, started_line, with_start}
-use Rattle.q_core.specs.declared.line.Job.{Job}
+use Rattle.q_jobs.specs.declared.job.Job.{Job}
 use Rattle.q_model.specs.Accounts.{is_admit_of, is_start_of, charge_of, charged, since_admit, starts_of}
 use Rattle.q_model.specs.Ids.{id_eq}
 use Rattle.q_model.specs.Ledger.{Ledger}

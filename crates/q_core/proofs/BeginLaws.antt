@@ -4,7 +4,7 @@ use Rattle.std.specs.Prelude.{if◌then◌else◌, nat_lt}
 use Rattle.std.specs.List.{enumerate_from}
 use Rattle.q_core.proofs.ListLaws.{length-numbered}
 use Rattle.q_core.specs.Agrees.{Matches, jobs_of}
-use Rattle.q_core.specs.declared.line.Job.{Job}
+use Rattle.q_jobs.specs.declared.job.Job.{Job}
 use Rattle.q_core.specs.declared.state.Core.{Core}
 use Rattle.q_core.specs.declared.state.Seen.TheVariants.{Unknown}
 use Rattle.q_core.specs.declared.state.Question.TheVariants.{Nothing}

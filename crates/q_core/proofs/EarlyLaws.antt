@@ -9,7 +9,7 @@ use Rattle.q_core.proofs.ListLaws.{find-any, find-passes}
 use Rattle.q_core.specs.Choosing.{current_in, jobs_at}
 use Rattle.q_core.specs.Held.{record_in, is_dead_in}
 use Rattle.q_core.specs.Starting.{can_start_in, flights_at, has_room_in, rows_for}
-use Rattle.q_core.specs.declared.line.Job.{Job}
+use Rattle.q_jobs.specs.declared.job.Job.{Job}
 use Rattle.q_core.specs.declared.state.Core.{Core}
 use Rattle.q_core.specs.UsedSites.{is_dead_with, waits_at_in}
 use Rattle.q_model.proofs.IdLaws.{site_eq-refl, site_eq-true}

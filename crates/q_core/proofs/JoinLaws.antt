@@ -12,7 +12,7 @@ use Rattle.q_core.proofs.NameLaws.{and_true_parts}
 use Rattle.q_core.specs.Agrees.{job_of, jobs_of, slot_of}
 use Rattle.q_core.specs.Loading.{has_record, joined_line, new_sites, rows_in, with_site}
 use Rattle.q_pool.specs.Slots.{changed_at, read_up}
-use Rattle.q_core.specs.declared.line.Job.{Job}
+use Rattle.q_jobs.specs.declared.job.Job.{Job}
 use Rattle.q_laws.proofs.Loaded.{read_to}
 use Rattle.q_laws.specs.Consistency.{IsConsistent, IsFresh}
 use Rattle.q_model.specs.Accounts.{charged, starts_of}

@@ -84,3 +84,4 @@ pub mod TiedLaws
 pub mod NamedLaws
 pub mod GoneLaws
 pub mod RowWalkLaws
+pub mod LineSteps

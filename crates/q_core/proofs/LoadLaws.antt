@@ -18,7 +18,7 @@ use Rattle.q_core.specs.Changes.{IsTidied, is_looked_at}
 use Rattle.q_core.specs.UsedSites.{busy_in, is_unused_in, waits_at_in}
 use Rattle.q_core.specs.Loading.{IsLoaded, joined_line, new_sites, rows_in}
 use Rattle.q_pool.specs.Slots.{changed_at, read_up}
-use Rattle.q_core.specs.declared.line.Job.{Job}
+use Rattle.q_jobs.specs.declared.job.Job.{Job}
 use Rattle.q_pool.specs.declared.slot.Slot.{Slot}
 use Rattle.q_core.specs.declared.state.Core.{Core}
 use Rattle.q_core.specs.declared.state.Seen.{Seen}

@@ -7,7 +7,7 @@ use Rattle.std.specs.Prelude.{◌&&◌, ◌==◌, ◌||◌, count_by, nat_le}
 use Rattle.q_core.proofs.ListLaws.{filter_none}
 use Rattle.q_core.specs.Choosing.{best_in, is_better_in, is_candidate_in, is_fresh_among, pays_in, rest_in}
 use Rattle.q_core.specs.Starting.{can_start_in, is_startable_in, rows_for}
-use Rattle.q_core.specs.declared.line.Job.{Job}
+use Rattle.q_jobs.specs.declared.job.Job.{Job}
 use Rattle.q_pool.specs.declared.slot.Slot.{Slot}
 use Rattle.q_core.specs.declared.state.Core.{Core}
 use Rattle.q_model.specs.declared.id.Id.{Id}

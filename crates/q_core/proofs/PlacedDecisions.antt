@@ -1,8 +1,9 @@
 -- A message that is admitted, and a file that goes to corrupt, stand where the decision says.
+use Rattle.q_jobs.specs.Jobs.{behind_jobs}
 use Rattle.std.proofs.Common.{◌≡◌, ℕ, zero, suc, ◌+◌, Bool, true, false, refl, sym, ap, ◌∙◌, subst, Option, Some, None, option_map}
 use Rattle.std.specs.Option.{option_map_or, option_or}
 use Rattle.std.specs.Prelude.{◌&&◌, ◌^◌, find, if◌then◌else◌, nat_lt, not, option_and_then, position, slice_get}
-use Rattle.q_core.specs.Choosing.{behind_jobs, best_in, choice_in, choices_from, choose_in, current_in, jobs_at, next_start_in, preempt_or}
+use Rattle.q_core.specs.Choosing.{best_in, choice_in, choices_from, choose_in, current_in, jobs_at, next_start_in, preempt_or}
 use Rattle.q_core.specs.Deciding.{clearing_on, decide_in, first_rule_in, scan_look_in, IsPlaced}
 use Rattle.q_core.specs.Facts.{file_pending, file_wants_bounce, picked_decision, picked_next, deferred_place, is_nothing}
 use Rattle.q_core.specs.Held.{due_in, finish_in, free_in, is_dead_in, is_idle_in, may_read_in, wants_sync_in}
@@ -14,7 +15,7 @@ use Rattle.q_core.specs.declared.decision.Decision.TheVariants as decisions
 use Rattle.q_core.specs.declared.decision.FileFacts.{FileFacts}
 use Rattle.q_core.specs.declared.decision.Found.{Found}
 use Rattle.q_core.specs.declared.decision.Found.TheVariants.{Nothing}
-use Rattle.q_core.specs.declared.line.Job.{Job}
+use Rattle.q_jobs.specs.declared.job.Job.{Job}
 use Rattle.q_pool.specs.declared.slot.Slot.{Slot}
 use Rattle.q_core.specs.declared.state.Core.{Core}
 use Rattle.q_core.specs.declared.state.Seen.{Seen}

@@ -1,4 +1,5 @@
 -- A job goes before the current one, which is charged.
+use Rattle.q_jobs.specs.Jobs.{moved_job}
 use Rattle.std.proofs.Common.{◌≡◌, ℕ, ◌+◌, ◌-◌, ◌*◌, ◌≤◌, ◌<◌, ◌^◌, Bool, true, false, cond, List, [], ◌∷◌, map, min, refl, sym, ap, ◌∙◌, subst, Option, Some, None, option_map, option_and_then, arith, if◌then◌else◌, eqb-true, leb-true, ltb-true, zero, suc, zero-add}
 use Rattle.std.proofs.lemmas.List.Sums.{sum_by-cons}
 use Rattle.std.specs.List.{enumerate_from, list_all, list_any}
@@ -13,10 +14,10 @@ use Rattle.q_core.proofs.TidyLaws.{tidy_law}
 use Rattle.q_core.proofs.StartLaws.{same_rest}
 use Rattle.q_core.proofs.StepLaws.{HoldsRaw, IsStillSeen, raw_law}
 use Rattle.q_core.specs.Agrees.{Agrees, AgreesButScan, Matches, job_of, jobs_of}
-use Rattle.q_core.specs.Sending.{charged_job, IsPreempted, moved_job, moved_line, preempted_line, with_charge}
+use Rattle.q_core.specs.Sending.{charged_job, IsPreempted, moved_line, preempted_line, with_charge}
 use Rattle.q_core.specs.Changes.{IsTidied, is_looked_at}
 use Rattle.q_core.specs.Choosing.{rest_in}
-use Rattle.q_core.specs.declared.line.Job.{Job}
+use Rattle.q_jobs.specs.declared.job.Job.{Job}
 use Rattle.q_core.specs.declared.state.Core.{Core}
 use Rattle.q_core.specs.declared.state.Seen.{Seen}
 use Rattle.q_core.specs.declared.state.Seen.TheVariants.{Known, Unknown}

@@ -14,7 +14,7 @@ use Rattle.q_core.specs.Agrees.{Agrees, AgreesButScan, Matches, jobs_of}
 use Rattle.q_core.specs.Sending.{started_line, is_for, IsStarted, IsSent, served_now}
 use Rattle.q_core.specs.Changes.{IsTidied, is_looked_at}
 use Rattle.q_core.specs.UsedSites.{busy_in, is_unused_in, waits_at_in}
-use Rattle.q_core.specs.declared.line.Job.{Job}
+use Rattle.q_jobs.specs.declared.job.Job.{Job}
 use Rattle.q_core.specs.declared.state.Core.{Core}
 use Rattle.q_core.specs.declared.state.Seen.{Seen}
 use Rattle.q_core.specs.declared.state.Seen.TheVariants.{Known, Unknown}

@@ -1,4 +1,5 @@
 -- The choice by what the core holds is the ledger's.
+use Rattle.q_jobs.specs.Jobs.{behind_jobs}
 use Rattle.std.proofs.Common.{◌≡◌, ℕ, ◌+◌, ◌-◌, ◌*◌, ◌≤◌, ◌^◌, Bool, true, false, List, [], ◌∷◌, length, map, min, refl, suc, sym, ap, ◌∙◌, subst, arith, Option, Some, None, option_map, IsTrue}
 use Rattle.std.specs.Prelude.{find, filter, not, ◌&&◌, ◌||◌, ◌==◌, nat_lt, nat_le, count_by, option_and_then, if◌then◌else◌, slice_get, filter_map}
 use Rattle.std.specs.List.{list_any, list_all, enumerate_from, cons_option}
@@ -11,12 +12,12 @@ use Rattle.q_core.specs.Agrees.{AgreesButScan, job_of, jobs_of, slot_of}
 use Rattle.q_laws.proofs.Members.{IsIn, in_filtered, least_in}
 use Rattle.q_laws.proofs.Rests.{rest_few}
 use Rattle.q_laws.specs.Consistency.{IsMemoryConsistent, is_present}
-use Rattle.q_core.specs.Choosing.{behind_jobs, best_in, choice_in, choices_from, choose_in, current_in, is_better_in, is_candidate_in, is_fresh_among, jobs_at, need_in, next_start_in, pays_in, preempt_or, rest_in}
+use Rattle.q_core.specs.Choosing.{best_in, choice_in, choices_from, choose_in, current_in, is_better_in, is_candidate_in, is_fresh_among, jobs_at, need_in, next_start_in, pays_in, preempt_or, rest_in}
 use Rattle.q_core.specs.Decisions.{IsRule}
 use Rattle.q_core.specs.Held.{unread_in}
 use Rattle.q_core.specs.Starting.{can_start_in, flights_at, has_room_in, is_startable_in, last_start_in, next_row_in, rows_for, start_in, start_of_row}
 use Rattle.q_core.specs.declared.decision.Decision.{Decision}
-use Rattle.q_core.specs.declared.line.Job.{Job}
+use Rattle.q_jobs.specs.declared.job.Job.{Job}
 use Rattle.q_pool.specs.declared.slot.Slot.{Slot}
 use Rattle.q_core.specs.declared.state.Core.{Core}
 use Rattle.q_model.specs.Accounts.{charged, rest, starts_of}

@@ -15,7 +15,7 @@ use Rattle.q_core.specs.Tidied.{stays_among, unread_among, waits_at_site}
 use Rattle.q_core.specs.Touched.{AreLandedTouched, DoJobsStay, IsTidyBut, is_touched, jobs_stay, served_stay, sites_stay, touched_with}
 use Rattle.q_core.specs.UsedSites.{busy_in, is_kept_in}
 use Rattle.q_core.specs.Windows.{heard_at}
-use Rattle.q_core.specs.declared.line.Job.{Job}
+use Rattle.q_jobs.specs.declared.job.Job.{Job}
 use Rattle.q_pool.specs.declared.slot.Slot.{Slot}
 use Rattle.q_core.specs.declared.touched.Touched.{Touched}
 use Rattle.q_laws.proofs.Members.{all_at, all_filtered, all_from, in_unmap}

@@ -1,4 +1,5 @@
 -- After each change of lines, and after rows are added, nothing has to go but what was touched.
+use Rattle.q_jobs.specs.Jobs.{moved_job, put_job}
 use Rattle.std.proofs.Common.{◌≡◌, ◌≤◌, ℕ, Bool, true, false, List, [], ◌∷◌, ◌++◌, map, filter, find, not, Option, Some, None, length, inl, inr, refl, sym, ap, ◌∙◌, subst, arith, if◌then◌else◌, replicate, suc, zero}
 use Rattle.std.proofs.lemmas.Bool.{and_from, and_parts, or_left, or_right}
 use Rattle.std.proofs.lemmas.Grind.{common_steps}
@@ -11,11 +12,11 @@ use Rattle.q_core.proofs.StayLaws.{any_appended, stays_by}
 use Rattle.q_core.proofs.StillTidyLaws.{jobs_mapped, lines_mapped, lines_touched, served_touched, sites_kept}
 use Rattle.q_core.proofs.TouchedLaws.{all_everything, touched_here}
 use Rattle.q_core.specs.Loading.{has_record, joined_line, joins_in, new_sites, with_site}
-use Rattle.q_core.specs.Sending.{charged_job, moved_job, preempted_line, put_job, started_job, started_line, with_charge, with_start}
+use Rattle.q_core.specs.Sending.{charged_job, preempted_line, started_job, started_line, with_charge, with_start}
 use Rattle.q_core.specs.Tidied.{stays_among, tidied_jobs, tidied_line, tidied_served, waits_at_site}
 use Rattle.q_core.specs.Touched.{AreFew, DoJobsStay, IsTidyBut, is_touched, jobs_stay, sites_stay, touched_with}
 use Rattle.q_core.specs.UsedSites.{busy_in, forget_in, is_kept_dead_in, is_kept_in, revive_due_in, used_in, waits_at_in}
-use Rattle.q_core.specs.declared.line.Job.{Job}
+use Rattle.q_jobs.specs.declared.job.Job.{Job}
 use Rattle.q_pool.specs.declared.slot.Slot.{Slot}
 use Rattle.q_core.specs.declared.touched.Touched.{Touched}
 use Rattle.q_core.specs.declared.touched.Touched.TheVariants.{Everything, Nothing}

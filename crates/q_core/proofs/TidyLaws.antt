@@ -12,7 +12,7 @@ use Rattle.q_core.specs.Changes.{IsTidied}
 use Rattle.q_core.specs.UsedSites.{forget_in, is_kept_in, is_unused_in, used_in}
 use Rattle.q_core.specs.Scanning.{scan_after, scan_at}
 use Rattle.q_core.specs.Tidied.{tidied_jobs, tidied_line, tidied_served, stays_among, waits_for}
-use Rattle.q_core.specs.declared.line.Job.{Job}
+use Rattle.q_jobs.specs.declared.job.Job.{Job}
 use Rattle.q_core.specs.declared.state.Core.{Core}
 use Rattle.q_core.specs.declared.state.Seen.{Seen}
 use Rattle.q_core.specs.declared.state.Seen.TheVariants.{Known, Unknown}

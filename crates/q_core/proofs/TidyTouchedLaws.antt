@@ -9,7 +9,7 @@ use Rattle.q_core.specs.Tidied.{stays_among, tidied_jobs, tidied_line, tidied_se
 use Rattle.std.specs.List.{enumerate_from}
 use Rattle.q_core.specs.Touched.{DoJobsStay, jobs_stay, served_stay, sites_stay}
 use Rattle.q_core.specs.UsedSites.{forget_in, is_kept_dead_in, is_kept_in, is_unused_in, used_in}
-use Rattle.q_core.specs.declared.line.Job.{Job}
+use Rattle.q_jobs.specs.declared.job.Job.{Job}
 use Rattle.q_pool.specs.declared.slot.Slot.{Slot}
 use Rattle.q_core.specs.declared.touched.Touched.TheVariants.{Nothing, One}
 use Rattle.q_laws.proofs.Members.{IsIn, all_at}

@@ -2,7 +2,7 @@
 use Rattle.std.specs.List.{list_any}
 use Rattle.q_core.specs.Lists.{prefer}
 use Rattle.std.specs.Option.{option_map_or, option_or}
-use Rattle.std.specs.Prelude.{◌&&◌, ◌*◌, ◌+◌, ◌-◌, ◌==◌, [], ◌^◌, Bool, count_by, filter, find, if◌then◌else◌, List, min, nat_le, nat_lt, None, not, Option, option_and_then, slice_get, Some, suc, zero, ℕ, ◌∷◌}
+use Rattle.std.specs.Prelude.{◌&&◌, ◌*◌, ◌+◌, ◌-◌, ◌==◌, [], ◌^◌, Bool, count_by, false, filter, find, if◌then◌else◌, List, min, nat_le, nat_lt, None, not, Option, option_and_then, slice_get, Some, suc, zero, ℕ}
 use Rattle.q_model.specs.declared.id.Id.{Id}
 use Rattle.q_model.specs.Ids.{id_eq}
 use Rattle.q_model.specs.Lists.{least}
@@ -10,7 +10,8 @@ use Rattle.q_model.specs.Settings.{Settings}
 use Rattle.q_core.specs.Held.{unread_in}
 use Rattle.q_core.specs.Starting.{can_start_in, start_in}
 use Rattle.q_core.specs.declared.decision.Decision.{Decision}
-use Rattle.q_core.specs.declared.line.Job.{Job}
+use Rattle.q_jobs.specs.declared.job.Job.{Job}
+use Rattle.q_jobs.specs.Jobs.{behind_jobs, is_job_of}
 use Rattle.q_pool.specs.declared.slot.Slot.{Slot}
 use Rattle.q_core.specs.declared.state.Core.{Core}
 use Rattle.q_core.specs.declared.decision.Decision.TheVariants.{Preempt}
@@ -32,14 +33,13 @@ jobs_at c transport = option_map_or (λ jobs. jobs) (slice_get c.lines transport
 abbrev pub current_in : Core → ℕ → Option Job
 current_in c transport = find (λ j. can_start_in c transport j.id) (jobs_at c transport)
 
--- those behind the id
-abbrev pub behind_jobs : Id → List Job → List Job
-behind_jobs id [] = []
-behind_jobs id (j ∷ js) = if id_eq j.id id then js else behind_jobs id js
-
 -- the id is one of these jobs and has begun nothing
 abbrev pub is_fresh_among : List Job → Id → Bool
 is_fresh_among jobs id = list_any (λ j. id_eq id j.id && (j.starts == 0)) jobs
+
+-- the message has a job among these that has begun nothing
+abbrev pub is_fresh_in : List Job → Id → Bool
+is_fresh_in jobs id = option_map_or (λ j. j.starts == 0) (find (is_job_of id) jobs) false
 
 -- a job with this need may preempt the parent, which has so much left
 abbrev pub pays_in : Settings → Job → ℕ → ℕ → Bool

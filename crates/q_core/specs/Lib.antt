@@ -29,3 +29,4 @@ pub mod Answers
 pub mod Looking
 pub mod Touched
 pub mod RowWalks
+pub mod Lines

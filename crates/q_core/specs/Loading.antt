@@ -24,7 +24,9 @@ use Rattle.q_model.specs.Settings.{Settings, World}
 use Rattle.q_model.specs.SiteRecords.{new_record}
 use Rattle.q_model.specs.Values.{Site, SiteRecord, Taken}
 use Rattle.q_pool.specs.Slots.{changed_at, read_up}
-use Rattle.q_core.specs.declared.line.Job.{Job}
+use Rattle.q_core.specs.Lines.{has_room_for_one, on_jobs}
+use Rattle.q_jobs.specs.declared.job.Job.{Job}
+use Rattle.q_jobs.specs.Jobs.{Jobs}
 use Rattle.q_core.specs.declared.state.Core.{Core}
 use Rattle.q_core.specs.declared.state.Question.TheVariants.{Active, Deferred, Incoming, Nothing, Recipients}
 
@@ -80,6 +82,15 @@ joins_in id rows at jobs = list_any (λ r. r.site.transport == at) rows
 abbrev pub joined_line : Id → List Row → (ℕ × List Job) → List Job
 joined_line id rows line = if joins_in id rows line.0 line.1 then line.1
     ++ record { id = id; starts = 0; charged = 0 } ∷ [] else line.1
+
+-- the line has room, where the message joins it
+abbrev pub can_join : Id → List Row → (ℕ × Jobs) → Bool
+can_join id rows line = not (joins_in id rows line.0 line.1.jobs) || has_room_for_one line.1
+
+-- it joins the line where it has room
+abbrev pub joined_within : Id → List Row → (ℕ × Jobs) → Jobs
+joined_within id rows line = if can_join id rows line then on_jobs (joined_line id rows) line
+    else line.1
 
 -- The message was read up to this position: its recipients wait at their sites.
 pub record IsLoaded (old new : Core) (id : Id) (to : ℕ) (taken : List Taken)

@@ -1,14 +1,13 @@
 -- How deliveries begin in the core.
 use Rattle.std.specs.List.{enumerate_from, remove}
-use Rattle.std.specs.Option.{option_map_or}
 use Rattle.std.specs.Prelude.{◌&&◌, ◌+◌, ◌-◌, ◌++◌, ◌==◌, ◌≡◌, [], ◌^◌, Bool, filter, find, if◌then◌else◌, List, map, min, nat_lt, not, Option, slice_get, Some, ℕ, ◌∷◌}
 use Rattle.q_model.specs.declared.id.Id.{Id}
 use Rattle.q_model.specs.declared.rows.Row.{Row}
 use Rattle.q_model.specs.Sites.{site_eq}
 use Rattle.q_model.specs.Ids.{id_eq}
-use Rattle.q_model.specs.Lists.{drop_first}
 use Rattle.q_model.specs.Values.{Served, Site}
-use Rattle.q_core.specs.declared.line.Job.{Job}
+use Rattle.q_jobs.specs.declared.job.Job.{Job}
+use Rattle.q_jobs.specs.Jobs.{moved_job}
 use Rattle.q_core.specs.declared.state.Core.{Core}
 
 -- a row of the message for the site
@@ -49,17 +48,6 @@ with_charge need left j = record j {
 abbrev pub charged_job : Id → ℕ → ℕ → ℕ → ℕ → Job → Job
 charged_job id transport need left at j = if id_eq id j.id
     && (transport == at) then with_charge need left j else j
-
--- the job stands just before that of the id
-abbrev pub put_job : Job → Id → List Job → List Job
-put_job job parent [] = []
-put_job job parent (j ∷ js) = if id_eq j.id parent then job ∷ j ∷ js else j ∷ put_job job parent js
-
--- the job of the first id stands just before that of the second
-abbrev pub moved_job : Id → Id → List Job → List Job
-moved_job child parent jobs = option_map_or
-    (λ job. put_job job parent (drop_first (λ j. id_eq j.id child) jobs))
-    (find (λ j. id_eq j.id child) jobs) jobs
 
 -- the child's job stands just before its parent's at this transport
 abbrev pub moved_line : Id → Id → ℕ → (ℕ × List Job) → List Job

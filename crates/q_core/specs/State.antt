@@ -10,7 +10,7 @@ use Rattle.q_model.specs.declared.rows.Served.{Served}
 use Rattle.q_model.specs.declared.rows.Unsettled.{Unsettled}
 use Rattle.q_model.specs.Settings.{Settings}
 use Rattle.q_model.specs.Values.{Site, SiteRecord}
-use Rattle.q_core.specs.declared.line.Job.{Job}
+use Rattle.q_jobs.specs.declared.job.Job.{Job}
 use Rattle.q_pool.specs.declared.slot.Slot.{Slot}
 use Rattle.q_core.specs.declared.state.Question.{Question}
 use Rattle.q_core.specs.declared.state.Seen.{Seen}

@@ -7,7 +7,7 @@ use Rattle.q_model.specs.declared.rows.Row.{Row}
 use Rattle.q_model.specs.Sites.{site_eq}
 use Rattle.q_model.specs.Ids.{id_eq}
 use Rattle.q_model.specs.Values.{Served, Site}
-use Rattle.q_core.specs.declared.line.Job.{Job}
+use Rattle.q_jobs.specs.declared.job.Job.{Job}
 use Rattle.q_pool.specs.declared.slot.Slot.{Slot}
 
 -- the row of a message in memory

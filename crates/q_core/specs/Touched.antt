@@ -9,7 +9,7 @@ use Rattle.q_model.specs.Sites.{site_eq}
 use Rattle.q_model.specs.Values.{Served, Site, SiteRecord}
 use Rattle.q_core.specs.Tidied.{stays_among, waits_at_site}
 use Rattle.q_core.specs.UsedSites.{is_kept_in}
-use Rattle.q_core.specs.declared.line.Job.{Job}
+use Rattle.q_jobs.specs.declared.job.Job.{Job}
 use Rattle.q_pool.specs.declared.slot.Slot.{Slot}
 use Rattle.q_core.specs.declared.touched.Touched.{Touched}
 use Rattle.q_core.specs.declared.touched.Touched.TheVariants.{Everything, Nothing, One}

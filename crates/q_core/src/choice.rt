@@ -1,40 +1,19 @@
 //! What a transport does next: a delivery of the current job begins, or another job preempts it
 //! (SCHEDULER_README, "Preemptive scheduling").
-ghost use Rattle.std.specs.Prelude.{◌≡◌, ◌≤◌, ◌<◌, ◌+◌, ◌^◌, nat_lt};
+ghost use Rattle.q_jobs.specs.Jobs.{AreOfOthers, behind_jobs, first_job};
+ghost use Rattle.std.specs.Prelude.{◌&&◌, find, Some, ◌≡◌, ◌≤◌, ◌<◌, ◌+◌, ◌^◌, nat_lt};
 ghost use Rattle.std.specs.Option.{option_copied};
-ghost use Rattle.q_core.specs.Choosing.{behind_jobs, best_in, choice_in, choices_from, choose_in, current_in, is_better_in, is_candidate_in, is_fresh_among, jobs_at, need_in, next_start_in, pays_in, rest_in, better_slot};
-ghost use Rattle.q_core.specs.Starting.{flights_at};
+ghost use Rattle.q_core.specs.Choosing.{best_in, choice_in, choices_from, choose_in, current_in, is_better_in, is_candidate_in, is_fresh_among, is_fresh_in, jobs_at, need_in, next_start_in, pays_in, rest_in, better_slot};
+ghost use Rattle.q_core.specs.Starting.{can_start_in, flights_at};
 
 use crate::decision::Decision;
-use crate::line::Job;
 use crate::names::same_id;
 use crate::rows::waiting_for;
 use crate::state::Core;
+use q_jobs::{Job, Line};
 use q_model::Id;
 use q_params::Params;
 use q_pool::Slot;
-
-/// The jobs behind this one.
-fn jobs_behind(jobs: &[Job], id: Id) -> &[Job]
-    ensures { result.now ≡ behind_jobs id jobs.now }
-{
-    let mut rest = jobs;
-    while let [job, others @ ..] = rest {
-        rest = others;
-        if same_id(job.id, id) {
-            return rest;
-        }
-    }
-    rest
-}
-
-/// Whether the id is a job among these that began no delivery.
-fn is_fresh(jobs: &[Job], id: Id) -> bool
-    ensures { result ≡ is_fresh_among jobs.now id }
-{
-    jobs.iter()
-        .any(|job| same_id(id, job.id) && job.starts == 0)
-}
 
 /// Whether a job with this need may preempt the parent, which has so much left. What its account
 /// lacks stands on the other side, so that no number is below 0.
@@ -52,6 +31,31 @@ fn pays(params: &Params, parent: &Job, left: u64, need: u64) -> bool
     price <= credit
         && cost * need + owed <= begun + left
         && cost * u128::from(params.default_minimum_delivery_slots) <= begun + left
+}
+
+/// The first job in the line with a row that may be sent now.
+fn first_able<'a>(core: &Core, line: &'a Line, transport: u8) -> Option<&'a Job>
+    ensures { option_copied result ≡ find (λ j. can_start_in core.now transport j.id) line.now.jobs }
+{
+    line.stand_apart();
+    let mut at = line.first();
+    while let Some(job) = at {
+        if core.can_start(job.id, transport) {
+            return at;
+        }
+        at = line.behind(job.id);
+    }
+    None
+}
+
+/// Whether the message has a job in the line that began no delivery.
+fn is_fresh(line: &Line, id: Id) -> bool
+    ensures { result ≡ is_fresh_in line.now.jobs id }
+{
+    match line.job(id) {
+        Some(job) => job.starts == 0,
+        None => false,
+    }
 }
 
 impl Core {
@@ -74,14 +78,20 @@ impl Core {
         self.rest(slot.id, transport).min(most) as u32
     }
 
-    /// The jobs of the transport in their order; none where it has no line.
-    pub fn jobs(&self, transport: u8) -> &[Job]
-        ensures { result.now ≡ jobs_at self.now transport }
+    /// The first job of the transport; none where it has no line.
+    pub fn first_job(&self, transport: u8) -> Option<&Job>
+        ensures { option_copied result ≡ first_job (jobs_at self.now transport) }
     {
-        match self.lines.get(usize::from(transport)) {
-            Some(line) => line.jobs(),
-            None => &[],
-        }
+        let line = self.lines.get(usize::from(transport))?;
+        line.first()
+    }
+
+    /// The job right behind that of a message at the transport.
+    pub fn job_behind(&self, transport: u8, id: Id) -> Option<&Job>
+        ensures { option_copied result ≡ first_job (behind_jobs id (jobs_at self.now transport)) }
+    {
+        let line = self.lines.get(usize::from(transport))?;
+        line.behind(id)
     }
 
     /// Whether the transport may begin a delivery more.
@@ -105,9 +115,18 @@ impl Core {
     fn first_able(&self, transport: u8) -> Option<&Job>
         ensures { option_copied result ≡ current_in self.now transport }
     {
-        self.jobs(transport)
-            .iter()
-            .find(|job| self.can_start(job.id, transport))
+        let line = self.lines.get(usize::from(transport))?;
+        first_able(self, line, transport)
+    }
+
+    /// Whether the message has a job at the transport that began no delivery.
+    fn is_fresh(&self, transport: u8, id: Id) -> bool
+        ensures { result ≡ is_fresh_in (jobs_at self.now transport) id }
+    {
+        match self.lines.get(usize::from(transport)) {
+            Some(line) => is_fresh(line, id),
+            None => false,
+        }
     }
 
     fn pays(&self, parent: &Job, left: u64, need: u64) -> bool
@@ -116,13 +135,35 @@ impl Core {
         pays(&self.params, parent, left, need)
     }
 
-    /// Whether the message may preempt the current job; `behind` are the jobs behind that.
-    fn is_candidate(&self, behind: &[Job], parent: &Job, transport: u8, id: Id) -> bool
-        ensures { result ≡ is_candidate_in self.now transport behind.now parent.now id }
+    /// No message has two jobs in the line of a transport: this does nothing, and is there for
+    /// proofs that need it.
+    fn stand_apart(&self, transport: u8)
+        ensures { AreOfOthers (jobs_at self.now transport) }
+    {
+        if let Some(line) = self.lines.get(usize::from(transport)) {
+            line.stand_apart();
+        }
+    }
+
+    /// Whether the message can start and has a job that began nothing behind the current one. Each
+    /// that can start, but the current, stands behind it.
+    fn is_able_behind(&self, parent: &Job, transport: u8, id: Id) -> bool
+        requires { current_in self.now transport ≡ Some parent.now }
+        ensures { result ≡ (is_fresh_among (behind_jobs parent.now.id (jobs_at self.now transport)) id
+            && can_start_in self.now transport id) }
+    {
+        self.stand_apart(transport);
+        !same_id(id, parent.id) && self.is_fresh(transport, id) && self.can_start(id, transport)
+    }
+
+    /// Whether the message may preempt the current job.
+    fn is_candidate(&self, parent: &Job, transport: u8, id: Id) -> bool
+        requires { current_in self.now transport ≡ Some parent.now }
+        ensures { result ≡ is_candidate_in self.now transport
+            (behind_jobs parent.now.id (jobs_at self.now transport)) parent.now id }
     {
         self.params.default_delivery_slot_cost != 0
-            && is_fresh(behind, id)
-            && self.can_start(id, transport)
+            && self.is_able_behind(parent, transport, id)
             && self.pays(
                 parent,
                 self.rest(parent.id, transport),
@@ -142,17 +183,12 @@ impl Core {
     }
 
     /// The better of a message and of the best behind it.
-    fn better(
-        &self,
-        behind: &[Job],
-        parent: &Job,
-        transport: u8,
-        slot: &Slot,
-        best: Option<Slot>,
-    ) -> Option<Slot>
-        ensures { result ≡ better_slot self.now transport behind.now parent.now slot.now best }
+    fn better(&self, parent: &Job, transport: u8, slot: &Slot, best: Option<Slot>) -> Option<Slot>
+        requires { current_in self.now transport ≡ Some parent.now }
+        ensures { result ≡ better_slot self.now transport
+            (behind_jobs parent.now.id (jobs_at self.now transport)) parent.now slot.now best }
     {
-        if !self.is_candidate(behind, parent, transport, slot.id) {
+        if !self.is_candidate(parent, transport, slot.id) {
             return best;
         }
         match best {
@@ -176,18 +212,22 @@ impl Core {
     }
 
     /// The message that preempts the current job; among equals the first admitted.
-    fn best(&self, behind: &[Job], parent: &Job, transport: u8) -> Option<Slot>
-        ensures { result ≡ best_in self.now transport behind.now parent.now }
+    fn best(&self, parent: &Job, transport: u8) -> Option<Slot>
+        requires { current_in self.now transport ≡ Some parent.now }
+        ensures { result ≡ best_in self.now transport
+            (behind_jobs parent.now.id (jobs_at self.now transport)) parent.now }
     {
         if !self.can_be_preempted(parent, transport) {
             return None;
         }
-        self.best_candidate(behind, parent, transport)
+        self.best_candidate(parent, transport)
     }
 
     /// The same, by a walk over all messages in memory.
-    fn best_candidate(&self, behind: &[Job], parent: &Job, transport: u8) -> Option<Slot>
-        ensures { result ≡ best_in self.now transport behind.now parent.now }
+    fn best_candidate(&self, parent: &Job, transport: u8) -> Option<Slot>
+        requires { current_in self.now transport ≡ Some parent.now }
+        ensures { result ≡ best_in self.now transport
+            (behind_jobs parent.now.id (jobs_at self.now transport)) parent.now }
     {
         let mut best = None;
         let places = self.admitted.places();
@@ -195,7 +235,7 @@ impl Core {
         while i > 0 {
             i -= 1;
             if let Some(entry) = &places[i] {
-                best = self.better(behind, parent, transport, &entry.value.slot, best);
+                best = self.better(parent, transport, &entry.value.slot, best);
             }
         }
         best
@@ -203,11 +243,11 @@ impl Core {
 
     /// What the current job of a transport leads to.
     fn choose(&self, parent: Job, transport: u8) -> Option<Decision>
-        requires { self.now.starts < 2 ^ 48 }
+        requires starts { self.now.starts < 2 ^ 48 }
+        requires current { current_in self.now transport ≡ Some parent }
         ensures { result ≡ choose_in self.now transport parent }
     {
-        let behind = jobs_behind(self.jobs(transport), parent.id);
-        match self.best(behind, &parent, transport) {
+        match self.best(&parent, transport) {
             Some(child) => Some(Decision::Preempt {
                 child: child.id,
                 parent: parent.id,

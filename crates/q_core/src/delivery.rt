@@ -3,7 +3,8 @@ ghost use Rattle.std.specs.Prelude.{◌≡◌, ◌≤◌, ◌<◌, ◌&&◌, fil
 ghost use Rattle.std.specs.List.{enumerate_from, list_any};
 ghost use Rattle.q_core.specs.Agrees.{FollowsRule};
 ghost use Rattle.q_core.specs.Lists.{AtFirst};
-ghost use Rattle.q_core.specs.Sending.{started_job, started_line, is_for, IsStarted, IsSent, served_now};
+ghost use Rattle.q_core.specs.Lines.{on_jobs};
+ghost use Rattle.q_core.specs.Sending.{started_line, with_start, is_for, IsStarted, IsSent, served_now};
 ghost use Rattle.q_core.specs.Changes.{IsUnchanged, is_looked_at};
 ghost use Rattle.q_model.specs.Sites.{site_eq};
 ghost use Rattle.q_model.specs.Ids.{id_eq};
@@ -11,46 +12,47 @@ ghost use Rattle.q_model.specs.Next.{start_rule};
 
 use crate::counting::begin_flight;
 use crate::flying::add_flight;
-use crate::line::{Job, Line};
 use crate::names::{same_id, same_site};
 use crate::rows::take_row;
 use crate::state::Core;
 use crate::touched::{touch_message, touch_site};
+use q_jobs::{Job, Line};
 use q_model::{Delivery, Entry, Id, NoMemory, Served, Site};
 
-impl Job {
-    /// Counts a delivery that the message starts at the transport, where this is its job there.
-    fn count_start(&mut self, id: Id, transport: u8, at: usize)
-        ensures { self.new ≡ started_job id transport at self.old }
-    {
-        if same_id(id, self.id) && usize::from(transport) == at && self.starts < 1 << 48 {
-            self.starts += 1;
-        }
-    }
-}
-
-fn start_job(jobs: &mut [Job], id: Id, transport: u8, at: usize)
-    ensures { jobs.new ≡ map (started_job id transport at) jobs.old }
+/// The account with one delivery more; a life begins fewer than 2^48.
+fn with_start(job: Job) -> Job
+    ensures { result ≡ with_start job }
 {
-    for job in jobs.iter_mut() {
-        job.count_start(id, transport, at);
+    if job.starts < 1 << 48 {
+        Job {
+            starts: job.starts + 1,
+            ..job
+        }
+    } else {
+        job
     }
 }
 
-impl Line {
-    fn count_start(&mut self, id: Id, transport: u8, at: usize)
-        ensures { self.new ≡ started_line id transport (at, self.old) }
-    {
-        start_job(&mut self.jobs, id, transport, at);
+/// Counts a delivery that the message starts at the transport, where this is its line.
+fn count_start(line: &mut Line, id: Id, transport: u8, at: usize)
+    ensures { line.new ≡ on_jobs (started_line id transport) (at, line.old) }
+{
+    if usize::from(transport) != at {
+        return;
+    }
+    line.stand_apart();
+    if let Some(job) = line.job(id) {
+        let counted = with_start(*job);
+        line.put(counted);
     }
 }
 
 /// Counts a delivery that the message starts at the transport.
 fn start_at(lines: &mut [Line], id: Id, transport: u8)
-    ensures { lines.new ≡ map (started_line id transport) (enumerate_from 0 lines.old) }
+    ensures { lines.new ≡ map (on_jobs (started_line id transport)) (enumerate_from 0 lines.old) }
 {
     for (at, line) in lines.iter_mut().enumerate() {
-        line.count_start(id, transport, at);
+        count_start(line, id, transport, at);
     }
 }
 

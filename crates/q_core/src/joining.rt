@@ -1,17 +1,14 @@
 //! A message that has come to wait joins lines, and its sites get records.
 ghost use Rattle.std.specs.Prelude.{◌≡◌, ◌<◌, ◌||◌, ◌==◌, [], IfOk, length, map, OnOk, slice_get, Some};
-ghost use Rattle.q_core.specs.Lists.{AtPlace};
-ghost use Rattle.std.specs.List.{enumerate_from, list_any};
-ghost use Rattle.q_model.specs.Ids.{id_eq};
-ghost use Rattle.q_core.specs.Loading.{has_record, joined_line, joins_in, new_sites, with_site};
-ghost use Rattle.q_core.specs.declared.line.Job.{Job};
+ghost use Rattle.std.specs.List.{enumerate_from, list_all, list_any};
+ghost use Rattle.q_core.specs.Loading.{can_join, has_record, joined_within, joins_in, new_sites, with_site};
 ghost use Rattle.q_model.specs.Routes.{world_without_table};
 ghost use Rattle.q_model.specs.SiteRecords.{new_record};
 ghost use Rattle.q_model.specs.declared.rows.Row.{Row};
 
-use crate::line::{Job, Line};
-use crate::names::{same_id, same_site};
+use crate::names::same_site;
 use crate::site_record::WideSiteRecord;
+use q_jobs::Line;
 use q_model::{Health, Id, NoMemory, Row, Site};
 use q_params::Params;
 use std::alloc::Global;
@@ -88,71 +85,46 @@ fn has_row_at(rows: &[Row], at: usize) -> bool
     rows.iter().any(|row| usize::from(row.site.transport) == at)
 }
 
-fn has_job(jobs: &[Job], id: Id) -> bool
-    ensures { result ≡ list_any (λ j. id_eq id j.id) jobs.now }
+/// Whether the message has one of these rows at the transport, and no job in its line.
+fn joins(line: &Line, id: Id, rows: &[Row], at: usize) -> bool
+    ensures { result ≡ joins_in id rows.now at line.now.jobs }
 {
-    jobs.iter().any(|job| same_id(id, job.id))
+    has_row_at(rows, at) && line.job(id).is_none()
 }
 
-/// Whether the message has one of these rows at the transport, and none of these jobs.
-fn joins(jobs: &[Job], id: Id, rows: &[Row], at: usize) -> bool
-    ensures { result ≡ joins_in id rows.now at jobs.now }
+/// Whether the line has room, where the message joins it.
+fn can_join(line: &Line, id: Id, rows: &[Row], at: usize) -> bool
+    ensures { result ≡ can_join id rows.now (at, line.now) }
 {
-    has_row_at(rows, at) && !has_job(jobs, id)
+    !joins(line, id, rows, at) || line.spare() != 0
 }
 
-/// These jobs, and that of the message where it joins them.
-fn joined_jobs(
-    alloc: Global,
-    jobs: &[Job],
-    id: Id,
-    rows: &[Row],
-    at: usize,
-) -> Result<Vec<Job>, NoMemory>
-    ensures { IfOk result (λ joined. joined.items ≡ joined_line id rows.now (at, jobs.now)) }
+/// Whether each line has room that the message joins.
+pub(crate) fn can_join_all(lines: &[Line], id: Id, rows: &[Row]) -> bool
+    ensures { result ≡ list_all (can_join id rows.now) (enumerate_from 0 lines.now) }
 {
-    let mut joined = Vec::new(alloc);
-    joined.extend_from_slice(jobs)?;
-    if joins(jobs, id, rows, at) {
-        joined.push(Job {
-            id,
-            starts: 0,
-            charged: 0,
-        })?;
-    }
-    Ok(joined)
-}
-
-fn joined_at(
-    alloc: Global,
-    lines: &[Line],
-    id: Id,
-    rows: &[Row],
-    at: usize,
-) -> Result<Line, NoMemory>
-    requires { at < length lines.now }
-    ensures { IfOk result (λ line. AtPlace lines.now at
-        (λ jobs. line ≡ joined_line id rows.now (at, jobs))) }
-{
-    let line = &lines[at];
-    let jobs = joined_jobs(alloc, line.jobs(), id, rows, at)?;
-    Ok(Line { jobs })
-}
-
-/// The lines, where the message has joined those that these rows wait for.
-pub(crate) fn joined_lines(
-    alloc: Global,
-    lines: &[Line],
-    id: Id,
-    rows: &[Row],
-) -> Result<Vec<Line>, NoMemory>
-    ensures { IfOk result (λ joined. joined.items
-        ≡ map (joined_line id rows.now) (enumerate_from 0 lines.now)) }
-{
-    let mut joined = Vec::new(alloc);
     for at in 0..lines.len() {
-        let line = joined_at(alloc, lines, id, rows, at)?;
-        joined.push(line)?;
+        if !can_join(&lines[at], id, rows, at) {
+            return false;
+        }
     }
-    Ok(joined)
+    true
+}
+
+/// The message joins the line, where it has come to wait there, and has room.
+fn join(line: &mut Line, id: Id, rows: &[Row], at: usize)
+    ensures { line.new ≡ joined_within id rows.now (at, line.old) }
+{
+    if joins(line, id, rows, at) && line.spare() != 0 {
+        line.join(id);
+    }
+}
+
+/// The message joins the lines in which it has come to wait, where they have room.
+pub(crate) fn join_lines(lines: &mut [Line], id: Id, rows: &[Row])
+    ensures { lines.new ≡ map (joined_within id rows.now) (enumerate_from 0 lines.old) }
+{
+    for (at, line) in lines.iter_mut().enumerate() {
+        join(line, id, rows, at);
+    }
 }

@@ -67,7 +67,7 @@ mod window;
 
 pub use decision::{Decision, FileFacts, Found};
 pub use event::Heard;
-pub use line::Job;
+pub use q_jobs::Job;
 pub use queries::Flight;
 pub use site_record::WideSiteRecord;
 pub use state::Core;

@@ -1,58 +1,22 @@
-//! Jobs, and the line of a transport.
-ghost use Rattle.std.specs.Prelude.{◌≡◌, [], replicate, IfOk};
+//! The lines of all transports, and walks along one.
+ghost use Rattle.std.specs.Prelude.{◌≡◌, ◌≤◌, ◌<◌, ◌^◌, [], find, IfOk, replicate};
+ghost use Rattle.std.specs.Option.{option_copied};
+ghost use Rattle.q_core.specs.Lines.{all_jobs};
 
-use q_model::{Id, NoMemory};
+use q_jobs::Line;
+use q_model::NoMemory;
 use std::alloc::Global;
-use std::marker::Model;
 
-/// A message at a transport, with its account of delivery slots (SCHEDULER_README).
-#[derive(Clone, Copy, Debug)]
-pub struct Job {
-    pub id: Id,
-    /// Deliveries started.
-    pub starts: u64,
-    /// The needs of the jobs that preempted it.
-    pub charged: u64,
-}
-
-/// The jobs of a transport in their order. A contract sees them as their list.
-#[derive(Debug, Drop)]
-pub struct Line {
-    pub(crate) jobs: Vec<Job>,
-}
-
-impl Model for Line {
-    ghost use Rattle.std.specs.Prelude.{List};
-    ghost use Rattle.q_core.specs.declared.line.Job.{Job};
-
-    ghost Value = { List Job };
-
-    ghost view = { λ line. line.jobs.items };
-}
-
-impl Line {
-    fn new(alloc: Global) -> Line
-        ensures { result ≡ [] }
-    {
-        Line {
-            jobs: Vec::new(alloc),
-        }
-    }
-
-    pub(crate) fn jobs(&self) -> &[Job]
-        ensures { result.now ≡ self.now }
-    {
-        self.jobs.as_slice()
-    }
-}
-
-/// So many lines without a job.
-pub(crate) fn empty_lines(alloc: Global, count: u8) -> Result<Vec<Line>, NoMemory>
-    ensures { IfOk result (λ lines. lines.items ≡ replicate count []) }
+/// So many lines without a job, each with room for so many.
+pub(crate) fn empty_lines(alloc: Global, count: u8, room: u32) -> Result<Vec<Line>, NoMemory>
+    requires some { 1 ≤ room }
+    requires few { room < 2 ^ 30 }
+    ensures { IfOk result (λ lines. all_jobs lines.items ≡ replicate count []) }
 {
     let mut lines = Vec::new(alloc);
     for _i in 0..count {
-        lines.push(Line::new(alloc)).map_err(|_| NoMemory)?;
+        let line = Line::new(alloc, room)?;
+        lines.push(line).map_err(|_| NoMemory)?;
     }
     Ok(lines)
 }

@@ -9,7 +9,7 @@ ghost use Rattle.q_pool.specs.Slots.{read_up};
 
 use crate::counting::gain_waiting;
 use crate::grouping::rows_of;
-use crate::joining::{joined_lines, new_sites};
+use crate::joining::{can_join_all, join_lines, new_sites};
 use crate::rows::add_all;
 use crate::state::{Core, Question};
 use crate::touched::{record_limit, touch_all_if, touch_message};
@@ -53,17 +53,19 @@ impl Core {
         ensures err { OnErr result (IsUnchanged self.old self.new) }
     {
         let mut fresh = new_sites(alloc, &self.sites, &rows, &self.params)?;
-        let lines = joined_lines(alloc, &self.lines, id, &rows)?;
         self.sites.reserve(fresh.len())?;
         self.waiting.stand_apart();
         if (self.waiting.spare() as usize) < rows.len() {
             return Err(NoMemory);
         }
+        if !can_join_all(&self.lines, id, &rows) {
+            return Err(NoMemory);
+        }
+        join_lines(&mut self.lines, id, &rows);
         let count = rows.len() as u64;
         add_all(&mut self.waiting, rows);
         gain_waiting(&mut self.admitted, id, count);
         let _ = self.sites.append(&mut fresh);
-        self.lines = lines;
         let many = self.sites.len() > record_limit(&self.params);
         touch_message(&mut self.touched_message, id);
         touch_all_if(&mut self.touched_site, many);

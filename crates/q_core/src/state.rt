@@ -10,10 +10,11 @@ ghost use Rattle.q_params.specs.Ranges.{IsInRange};
 use crate::clock::Clock;
 use crate::decision::Found;
 use crate::flying::Flying;
-use crate::line::{Line, empty_lines};
+use crate::line::empty_lines;
 use crate::names::{same_id, same_site};
 use crate::site_record::WideSiteRecord;
 use crate::touched::Touched;
+use q_jobs::Line;
 use q_model::{
     Delivery, Entry, Id, Mode, Moment, NoMemory, Positions, Request, Scan, Served, Site, Unsettled,
 };
@@ -90,6 +91,7 @@ impl Model for Core {
 
     ghost view = { state_of };
 
+    ghost use Rattle.q_core.specs.Lines.{all_jobs};
     ghost use Rattle.q_core.specs.Ties.{AreTied};
     ghost use Rattle.q_core.specs.Touched.{IsTidyBut};
     ghost use Rattle.q_peers.specs.Numbered.{rows_of};
@@ -98,7 +100,7 @@ impl Model for Core {
     ghost invariant = { λ a. AreTied a.params a.admitted (rows_of a.waiting.items)
         a.flights.items a.unsettled.items a.flying a.starts
         × IsTidyBut a.touched_message a.touched_site a.params.recipient_limit (heads a.admitted.items)
-        (rows_of a.waiting.items) a.flights.items a.lines.items a.served.items a.sites.items };
+        (rows_of a.waiting.items) a.flights.items (all_jobs a.lines.items) a.served.items a.sites.items };
 }
 
 impl Core {
@@ -113,7 +115,7 @@ impl Core {
         ensures answered { IfOk result (λ core. is_answered core.question ≡ true) }
         ensures looked { IfOk result (λ core. is_looked_at core ≡ true) }
     {
-        let lines = empty_lines(alloc, transports)?;
+        let lines = empty_lines(alloc, transports, params.qmgr_message_active_limit)?;
         let admitted = Pool::new(
             alloc,
             params.qmgr_message_active_limit,

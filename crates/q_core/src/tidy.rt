@@ -1,20 +1,19 @@
 //! What holds after each entry: lines, served rows and sites of what is left.
-ghost use Rattle.std.specs.Prelude.{◌≡◌, ◌<◌, IfSome, IsTrue, None, Some, find, length, map, slice_get};
+ghost use Rattle.std.specs.Prelude.{◌≡◌, find, map, option_map};
 ghost use Rattle.std.specs.List.{enumerate_from};
-ghost use Rattle.std.specs.Option.{IfNone, option_copied};
+ghost use Rattle.std.specs.Option.{option_copied};
 ghost use Rattle.q_core.specs.Changes.{HasLeftSite, IsTidied};
-ghost use Rattle.q_core.specs.declared.line.Job.{Job as JobOf};
+ghost use Rattle.q_core.specs.Lines.{on_jobs};
 ghost use Rattle.q_pool.specs.Kept.{heads};
-ghost use Rattle.q_core.specs.Tidied.{leaves_among, tidied_jobs, tidied_line, tidied_served, slot_among, stays_among, unread_among, waits_at_site};
+ghost use Rattle.q_core.specs.Tidied.{leaves_among, tidied_line, tidied_served, slot_among, stays_among, unread_among, waits_at_site};
 ghost use Rattle.q_peers.specs.Numbered.{rows_of};
 
-use crate::line::{Job, Line};
-use crate::preempting::remove_job;
 use crate::rows::{waits_for, waits_for_site};
 use crate::site_record::put_last;
 use crate::state::Core;
 use crate::tidy_touched::{tidy_touched_lines, tidy_touched_served, tidy_touched_sites};
 use crate::touched::{Touched, record_limit, touched_beyond};
+use q_jobs::Line;
 use q_model::{Id, Served, Site};
 use q_peers::Waiting;
 use q_pool::{Pool, Slot};
@@ -45,59 +44,39 @@ pub(crate) fn stays(admitted: &Pool, waiting: &Waiting, id: Id, transport: usize
     waits_for(waiting, id, transport) || unread(admitted, id) != 0
 }
 
-fn job_at(jobs: &[Job], place: usize) -> Job
-    requires { place < length jobs.now }
-    ensures { slice_get jobs.now place ≡ Some result }
+/// The message of the first job that has nothing left.
+fn first_to_leave(line: &Line, admitted: &Pool, waiting: &Waiting, transport: usize) -> Option<Id>
+    ensures { result ≡ option_map (λ j. j.id) (find (leaves_among (heads admitted.now.items)
+        (rows_of waiting.now.items) transport) line.now.jobs) }
 {
-    jobs[place]
-}
-
-/// The place of the first job that has nothing left.
-fn first_to_leave(
-    jobs: &[Job],
-    admitted: &Pool,
-    waiting: &Waiting,
-    transport: usize,
-) -> Option<usize>
-    ensures none { IfNone result
-        (find (leaves_among (heads admitted.now.items) (rows_of waiting.now.items) transport) jobs.now ≡ None) }
-    ensures within { IfSome result (λ i. i < length jobs.now) }
-    ensures leaves { IfSome result (λ i. (j : JobOf) → slice_get jobs.now i ≡ Some j
-        → IsTrue (leaves_among (heads admitted.now.items) (rows_of waiting.now.items) transport j)) }
-{
-    for i in 0..jobs.len() {
-        if !stays(admitted, waiting, job_at(jobs, i).id, transport) {
-            return Some(i);
+    line.stand_apart();
+    let mut at = line.first();
+    while let Some(job) = at {
+        if !stays(admitted, waiting, job.id, transport) {
+            return Some(job.id);
         }
+        at = line.behind(job.id);
     }
     None
 }
 
 /// Takes the jobs that have nothing left out of the line: one leaves at a time, for the most part.
-fn tidy_jobs(jobs: &mut Vec<Job>, admitted: &Pool, waiting: &Waiting, transport: usize)
-    ensures { jobs.new.items ≡ tidied_jobs (heads admitted.now.items) (rows_of waiting.now.items) transport
-        jobs.old.items }
+fn tidy_line(line: &mut Line, admitted: &Pool, waiting: &Waiting, transport: usize)
+    ensures { line.new ≡ on_jobs (tidied_line (heads admitted.now.items)
+        (rows_of waiting.now.items)) (transport, line.old) }
 {
-    while let Some(place) = first_to_leave(jobs, admitted, waiting, transport) {
-        let _ = remove_job(jobs, place);
-    }
-}
-
-impl Line {
-    fn tidy(&mut self, admitted: &Pool, waiting: &Waiting, transport: usize)
-        ensures { self.new ≡ tidied_jobs (heads admitted.now.items) (rows_of waiting.now.items) transport self.old }
-    {
-        tidy_jobs(&mut self.jobs, admitted, waiting, transport);
+    while let Some(id) = first_to_leave(line, admitted, waiting, transport) {
+        line.leave(id);
     }
 }
 
 /// Takes the jobs that have nothing left out of the lines.
 pub(crate) fn tidy_lines(lines: &mut [Line], admitted: &Pool, waiting: &Waiting)
-    ensures { lines.new ≡ map (tidied_line (heads admitted.now.items) (rows_of waiting.now.items))
-        (enumerate_from 0 lines.old) }
+    ensures { lines.new ≡ map (on_jobs (tidied_line (heads admitted.now.items)
+        (rows_of waiting.now.items))) (enumerate_from 0 lines.old) }
 {
     for (transport, line) in lines.iter_mut().enumerate() {
-        line.tidy(admitted, waiting, transport);
+        tidy_line(line, admitted, waiting, transport);
     }
 }
 

@@ -1,7 +1,8 @@
 //! What holds after each entry, where it is known what was touched.
 ghost use Rattle.std.specs.Prelude.{◌≡◌, ◌||◌, filter, map, not, true};
 ghost use Rattle.std.specs.List.{enumerate_from};
-ghost use Rattle.q_core.specs.Tidied.{tidied_jobs, tidied_line, tidied_served, waits_at_site};
+ghost use Rattle.q_core.specs.Lines.{all_jobs, on_jobs};
+ghost use Rattle.q_core.specs.Tidied.{tidied_line, tidied_served, waits_at_site};
 ghost use Rattle.q_pool.specs.Kept.{heads};
 ghost use Rattle.q_core.specs.Touched.{AreFew, DoJobsStay, jobs_stay, served_stay, sites_stay};
 ghost use Rattle.q_core.specs.UsedSites.{forget_in, used_in};
@@ -11,58 +12,36 @@ ghost use Rattle.q_model.specs.SiteRecords.{is_alive};
 ghost use Rattle.q_model.specs.Sites.{site_eq};
 ghost use Rattle.q_peers.specs.Numbered.{rows_of};
 
-use crate::line::{Job, Line};
 use crate::names::{same_id, same_site};
 use crate::site_record::{WideSiteRecord, drop_unused, forget_oldest, is_unused};
 use crate::tidy::{has_row, stays, tidy_lines, tidy_served};
 use crate::touched::Touched;
+use q_jobs::Line;
 use q_model::{Delivery, Id, Served, Site};
 use q_peers::Waiting;
 use q_pool::Pool;
 
-fn is_of_another(job: &Job, id: Id) -> bool
-    ensures { result ≡ not (id_eq job.now.id id) }
-{
-    !same_id(job.id, id)
-}
-
-/// Takes the message's job out.
-fn drop_job(jobs: &mut Vec<Job>, id: Id)
-    ensures { jobs.new.items ≡ filter (λ j. not (id_eq j.id id)) jobs.old.items }
-{
-    jobs.retain(|job| is_of_another(job, id));
-}
-
 /// Takes the message's job out of the line, where it has nothing left.
-fn tidy_job(jobs: &mut Vec<Job>, id: Id, admitted: &Pool, waiting: &Waiting, transport: usize)
-    requires { jobs_stay (One id) (heads admitted.now.items) (rows_of waiting.now.items) transport jobs.old.items
+fn tidy_job(line: &mut Line, id: Id, admitted: &Pool, waiting: &Waiting, transport: usize)
+    requires { jobs_stay (One id) (heads admitted.now.items) (rows_of waiting.now.items) transport line.old.jobs
         ≡ true }
-    ensures { jobs.new.items ≡ tidied_jobs (heads admitted.now.items) (rows_of waiting.now.items) transport
-        jobs.old.items }
+    ensures { line.new ≡ on_jobs (tidied_line (heads admitted.now.items)
+        (rows_of waiting.now.items)) (transport, line.old) }
 {
     if !stays(admitted, waiting, id, transport) {
-        drop_job(jobs, id);
-    }
-}
-
-impl Line {
-    fn tidy_job(&mut self, id: Id, admitted: &Pool, waiting: &Waiting, transport: usize)
-        requires { jobs_stay (One id) (heads admitted.now.items) (rows_of waiting.now.items) transport self.old
-            ≡ true }
-        ensures { self.new ≡ tidied_jobs (heads admitted.now.items) (rows_of waiting.now.items) transport self.old }
-    {
-        tidy_job(&mut self.jobs, id, admitted, waiting, transport);
+        line.leave(id);
     }
 }
 
 /// Takes the message's jobs out of the lines, where they have nothing left.
 fn tidy_message(lines: &mut [Line], id: Id, admitted: &Pool, waiting: &Waiting)
-    requires { DoJobsStay (One id) (heads admitted.now.items) (rows_of waiting.now.items) lines.old }
-    ensures { lines.new ≡ map (tidied_line (heads admitted.now.items) (rows_of waiting.now.items))
-        (enumerate_from 0 lines.old) }
+    requires { DoJobsStay (One id) (heads admitted.now.items) (rows_of waiting.now.items)
+        (all_jobs lines.old) }
+    ensures { lines.new ≡ map (on_jobs (tidied_line (heads admitted.now.items)
+        (rows_of waiting.now.items))) (enumerate_from 0 lines.old) }
 {
     for (transport, line) in lines.iter_mut().enumerate() {
-        line.tidy_job(id, admitted, waiting, transport);
+        tidy_job(line, id, admitted, waiting, transport);
     }
 }
 
@@ -73,9 +52,10 @@ pub(crate) fn tidy_touched_lines(
     admitted: &Pool,
     waiting: &Waiting,
 )
-    requires { DoJobsStay touched.now (heads admitted.now.items) (rows_of waiting.now.items) lines.old }
-    ensures { lines.new ≡ map (tidied_line (heads admitted.now.items) (rows_of waiting.now.items))
-        (enumerate_from 0 lines.old) }
+    requires { DoJobsStay touched.now (heads admitted.now.items) (rows_of waiting.now.items)
+        (all_jobs lines.old) }
+    ensures { lines.new ≡ map (on_jobs (tidied_line (heads admitted.now.items)
+        (rows_of waiting.now.items))) (enumerate_from 0 lines.old) }
 {
     match touched {
         Touched::Nothing => {}

@@ -9,6 +9,9 @@ use q_model::{Id, Mode, Moment, NoMemory, Outcome, Outcomes, Place, SiteState, T
 use q_params::read_params;
 use std::alloc::{AllocError, Global};
 
+/// No text has as many jobs.
+const JOBS: usize = 100;
+
 /// Why a case doesn't go on.
 #[derive(Clone, Copy, Debug)]
 pub(crate) enum Stop {
@@ -191,7 +194,14 @@ impl Driver {
     }
 
     fn write_jobs(&mut self) -> Result<(), Stop> {
-        self.text.jobs(self.core.jobs(0))?;
+        let mut at = self.core.first_job(0).copied();
+        for _ in 0..JOBS {
+            let Some(job) = at else {
+                return Ok(());
+            };
+            self.text.job(&job)?;
+            at = self.core.job_behind(0, job.id).copied();
+        }
         Ok(())
     }
 

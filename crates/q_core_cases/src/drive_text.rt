@@ -65,19 +65,12 @@ impl TraceText {
         self.end()
     }
 
-    fn job(&mut self, job: &Job) -> Result<(), AllocError> {
+    pub(crate) fn job(&mut self, job: &Job) -> Result<(), AllocError> {
         self.begin("job")?;
         self.id(job.id)?;
         self.number(job.starts)?;
         self.number(job.charged)?;
         self.end()
-    }
-
-    pub(crate) fn jobs(&mut self, jobs: &[Job]) -> Result<(), AllocError> {
-        for job in jobs {
-            self.job(job)?;
-        }
-        Ok(())
     }
 
     pub(crate) fn site(&mut self, site: &WideSiteRecord) -> Result<(), AllocError> {

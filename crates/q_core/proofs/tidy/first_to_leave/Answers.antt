@@ -1,12 +1,22 @@
-use Rattle.std.proofs.Common.{◌≡◌, ◌∙◌, ap, false, not, sym}
+use Rattle.std.proofs.Common.{◌∙◌, ap, find, not, sym}
+use Rattle.std.specs.Option.{option_copied}
 use Rattle.q_core.specs.Tidied.{leaves_among}
-use Rattle.q_core.proofs.AtHandLaws.{find_further}
-use Rattle.q_peers.specs.Numbered.{rows_of}
 use Rattle.q_pool.specs.Kept.{heads}
+use Rattle.q_peers.specs.Numbered.{rows_of}
+use Rattle.q_jobs.proofs.LineWalks.{found_behind, from_first, shorter}
+use Rattle.q_jobs.specs.Jobs.{jobs_from}
 use Rattle.q_core.proofs.tidy.first_to_leave.Goals as goal
 
-pub loop-i-preserved : goal.loop-i-preserved
-loop-i-preserved c =
-    let p = leaves_among (heads c.args.admitted.now.items) (rows_of c.args.waiting.now.items) c.args.transport in
-    let at : p c.job_at.result ≡ false = ap not (sym c.stays.ensures ∙ c.if-not-stays.false) in
-    find_further p c.loop-i.i c.args.jobs.now c.job_at.result c.loop-i.invariant c.job_at.ensures at
+pub loop-at-init : goal.loop-at-init
+loop-at-init c =
+    let js = c.args.line.now.jobs in
+    ap (λ o. find (leaves_among (heads c.args.admitted.now.items) (rows_of c.args.waiting.now.items) c.args.transport) (jobs_from o js)) c.first-at.ensures ∙ ap (find (leaves_among (heads c.args.admitted.now.items) (rows_of c.args.waiting.now.items) c.args.transport)) (from_first js)
+
+pub loop-at-smaller : goal.loop-at-smaller
+loop-at-smaller c = shorter c.args.line.now.jobs c.stand_apart.ensures.apart (option_copied c.loop-at.at) (option_copied c.behind-at.result) c.in-Some.job.now (ap option_copied c.in-Some.is) c.behind-at.ensures
+
+pub loop-at-preserved : goal.loop-at-preserved
+loop-at-preserved c =
+    found_behind c.args.line.now.jobs c.stand_apart.ensures.apart (option_copied c.loop-at.at) (option_copied c.behind-at.result) c.in-Some.job.now (ap option_copied c.in-Some.is) c.behind-at.ensures
+    (leaves_among (heads c.args.admitted.now.items) (rows_of c.args.waiting.now.items) c.args.transport) (ap not (sym c.stays.ensures ∙ c.if-not-stays.false))
+    ∙ c.loop-at.invariant

@@ -1,7 +1,9 @@
-use Rattle.std.proofs.Common.{subst, true, List, ap, ◌∙◌, sym, slice_set, slice_index_or, arith, add-one, ◌≡◌, ◌+◌}
+use Rattle.std.proofs.Common.{subst, true, ap, ◌∙◌, sym, slice_set, slice_index_or, arith, add-one, ◌≡◌, ◌+◌}
+use Rattle.q_core.specs.Lines.{on_jobs}
 use Rattle.q_core.specs.Tidied.{tidied_line}
 use Rattle.q_core.specs.Touched.{jobs_stay}
-use Rattle.q_core.specs.declared.line.Job.{Job}
+use Rattle.q_core.proofs.LineSteps.{jobs_in}
+use Rattle.q_jobs.specs.Jobs.{Jobs}
 use Rattle.q_core.specs.declared.touched.Touched.TheVariants.{One}
 use Rattle.q_core.proofs.TidyTouchedLaws.{front_at}
 use Rattle.q_core.proofs.ListLaws.{numbered_front, numbered_more, numbered_all}
@@ -14,19 +16,19 @@ loop-transport-preserved c =
     let i = c.loop-transport.transport in
     let line = c.index-lines-transport.result in
     let count : i ≡ 0 + i = omega arith in
-    ap (slice_set c.loop-transport.lines i) (c.tidy_job.ensures ∙ ap (λ z. tidied_line (heads c.args.admitted.now.items) (rows_of c.args.waiting.now.items) (i, z)) (sym c.index-lines-transport.is))
-    ∙ ap (λ ls. slice_set ls i (tidied_line (heads c.args.admitted.now.items) (rows_of c.args.waiting.now.items) (i, line))) c.loop-transport.invariant
-    ∙ numbered_more (tidied_line (heads c.args.admitted.now.items) (rows_of c.args.waiting.now.items)) 0 i i c.args.lines.now line count c.loop-transport-test.true
+    ap (slice_set c.loop-transport.lines i) (c.tidy_job.ensures ∙ ap (λ z. on_jobs (tidied_line (heads c.args.admitted.now.items) (rows_of c.args.waiting.now.items)) (i, z)) (sym c.index-lines-transport.is))
+    ∙ ap (λ ls. slice_set ls i (on_jobs (tidied_line (heads c.args.admitted.now.items) (rows_of c.args.waiting.now.items)) (i, line))) c.loop-transport.invariant
+    ∙ numbered_more (on_jobs (tidied_line (heads c.args.admitted.now.items) (rows_of c.args.waiting.now.items))) 0 i i c.args.lines.now line count c.loop-transport-test.true
     (c.index-lines-transport.is ∙ ap (λ ls. slice_index_or ls i line) c.loop-transport.invariant)
-    ∙ ap (λ k. numbered_front (tidied_line (heads c.args.admitted.now.items) (rows_of c.args.waiting.now.items)) 0 k c.args.lines.now) (sym (add-one i))
+    ∙ ap (λ k. numbered_front (on_jobs (tidied_line (heads c.args.admitted.now.items) (rows_of c.args.waiting.now.items))) 0 k c.args.lines.now) (sym (add-one i))
 
 pub returns : goal.returns
-returns c = c.loop-transport.invariant ∙ numbered_all (tidied_line (heads c.args.admitted.now.items) (rows_of c.args.waiting.now.items)) 0 c.loop-transport.transport c.args.lines.now c.loop-transport-test.false
+returns c = c.loop-transport.invariant ∙ numbered_all (on_jobs (tidied_line (heads c.args.admitted.now.items) (rows_of c.args.waiting.now.items))) 0 c.loop-transport.transport c.args.lines.now c.loop-transport-test.false
 
 pub tidy_job-requires : goal.tidy_job-requires
 tidy_job-requires c =
     let i = c.loop-transport.transport in
     let line = c.index-lines-transport.result in
-    subst (λ (js : List Job). jobs_stay (One c.args.id) (heads c.args.admitted.now.items) (rows_of c.args.waiting.now.items) i js ≡ true) c.index-lines-transport.is
-    (c.requires i line (front_at (tidied_line (heads c.args.admitted.now.items) (rows_of c.args.waiting.now.items)) 0 i c.args.lines.now line c.loop-transport-test.true
-    (c.index-lines-transport.is ∙ ap (λ ls. slice_index_or ls i line) c.loop-transport.invariant)))
+    subst (λ (l : Jobs). jobs_stay (One c.args.id) (heads c.args.admitted.now.items) (rows_of c.args.waiting.now.items) i l.jobs ≡ true) c.index-lines-transport.is
+    (c.requires i line.jobs (jobs_in i c.args.lines.now line (front_at (on_jobs (tidied_line (heads c.args.admitted.now.items) (rows_of c.args.waiting.now.items))) 0 i c.args.lines.now line c.loop-transport-test.true
+    (c.index-lines-transport.is ∙ ap (λ ls. slice_index_or ls i line) c.loop-transport.invariant))))

@@ -1,14 +1,16 @@
-use Rattle.std.proofs.Common.{◌≡◌, ◌≤◌, ◌<◌, ◌^◌, ◌∙◌, ◌++◌, [], ap, arith, false, length, map, refl, rules, sym}
+use Rattle.std.proofs.Common.{◌≡◌, ◌≤◌, ◌<◌, ◌^◌, ◌∙◌, ◌++◌, [], ap, arith, false, length, map, refl, rules, sym, true}
 use Rattle.std.proofs.lemmas.Grind.{common_steps}
 use Rattle.std.proofs.lemmas.List.{length-append, length-map}
 use Rattle.std.specs.Prelude.{nat_lt}
-use Rattle.std.specs.List.{enumerate_from}
+use Rattle.std.specs.List.{enumerate_from, list_all}
 use Rattle.q_core.proofs.PoolTies.{heads_recounted, present_held}
 use Rattle.q_core.proofs.StillTidyLines.{rows_added}
 use Rattle.q_core.proofs.TiedLaws.{tied_read}
 use Rattle.q_core.specs.Counting.{with_waiting}
 use Rattle.q_core.specs.Held.{is_admitted_in}
-use Rattle.q_core.specs.Loading.{joined_line, new_sites}
+use Rattle.q_core.proofs.LineSteps.{joined_back}
+use Rattle.q_core.specs.Lines.{all_jobs}
+use Rattle.q_core.specs.Loading.{can_join, joined_line, joined_within, new_sites}
 use Rattle.q_core.specs.State.{State}
 use Rattle.q_core.specs.View.{state_of}
 use Rattle.q_pool.specs.Kept.{heads}
@@ -21,7 +23,9 @@ invariant_of-self-2 c =
     let core = c.self.inside in
     let rows = c.args.rows.items in
     let waiting : rows_of c.add_all.new.waiting.items ≡ rows_of core.waiting.items ++ rows = c.add_all.ensures in
-    let lines : c.in_ok-lines.lines.items ≡ map (joined_line c.args.id rows) (enumerate_from 0 core.lines.items) = search rules in
+    let can : list_all (can_join c.args.id rows) (enumerate_from 0 core.lines.items) ≡ true = search rules in
+    let joined = c.join_lines.ensures ∙ ap (λ rs. map (joined_within c.args.id rs) (enumerate_from 0 c.deref_mut.result.now)) c.deref-5.ensures.value in
+    let lines = joined_back c.args.id rows _ _ _ _ joined c.deref_mut.ensures.value c.deref_mut.ensures.len can in
     let sites : c.append.new.self.items ≡ core.sites.items ++ new_sites core.params core.sites.items [] rows = search rules in
     let many = nat_lt c.record_limit.result c.len-3.result in
     let few : many ≡ false → length (core.sites.items ++ new_sites core.params core.sites.items [] rows) ≤ core.params.recipient_limit =
@@ -42,13 +46,17 @@ returns-clause-ok c =
     let core = c.self.inside in
     let rows = c.args.rows.items in
     let waiting : rows_of c.add_all.new.waiting.items ≡ rows_of core.waiting.items ++ rows = c.add_all.ensures in
-    let lines : c.in_ok-lines.lines.items ≡ map (joined_line c.args.id rows) (enumerate_from 0 core.lines.items) = search rules in
+    let can : list_all (can_join c.args.id rows) (enumerate_from 0 core.lines.items) ≡ true = search rules in
+    let joined = c.join_lines.ensures ∙ ap (λ rs. map (joined_within c.args.id rs) (enumerate_from 0 c.deref_mut.result.now)) c.deref-5.ensures.value in
+    let lines = joined_back c.args.id rows _ _ _ _ joined c.deref_mut.ensures.value c.deref_mut.ensures.len can in
     let sites : c.append.new.self.items ≡ core.sites.items ++ new_sites core.params core.sites.items [] rows = search rules in
     let slots : heads c.gain_waiting.new.pool.items ≡ heads core.admitted.items = ap (λ (m : Pooled). heads m.items) c.gain_waiting.ensures ∙ heads_recounted (with_waiting c.len-count.result) c.args.id core.admitted.items in
     record {
       rest =
-          ap (λ ss. record (state_of core) { admitted = ss; waiting = rows_of c.add_all.new.waiting.items; lines = c.in_ok-lines.lines.items; sites = c.append.new.self.items }) slots
-          ∙ ap (λ (s : State). record s { waiting = rows_of c.add_all.new.waiting.items; lines = c.in_ok-lines.lines.items; sites = c.append.new.self.items }) c.self.view_is;
+          rw lines (
+          ap (λ ss. record (state_of core) { admitted = ss; waiting = rows_of c.add_all.new.waiting.items; lines = map (joined_line c.args.id rows) (enumerate_from 0 (all_jobs core.lines.items)); sites = c.append.new.self.items }) slots
+          ∙ ap (λ (s : State). record s { waiting = rows_of c.add_all.new.waiting.items; lines = map (joined_line c.args.id rows) (enumerate_from 0 (all_jobs core.lines.items)); sites = c.append.new.self.items }) c.self.view_is
+          );
       waiting = waiting ∙ ap (λ (s : State). s.waiting ++ rows) c.self.view_is;
       lines = lines ∙ ap (λ (s : State). map (joined_line c.args.id rows) (enumerate_from 0 s.lines)) c.self.view_is;
       sites = sites ∙ ap (λ (s : State). s.sites ++ new_sites s.params s.sites [] rows) c.self.view_is;

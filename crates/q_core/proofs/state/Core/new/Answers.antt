@@ -5,6 +5,7 @@ use Rattle.q_model.specs.Ledger.{opening}
 use Rattle.q_core.proofs.BeginLaws.{open_windows, usable}
 use Rattle.std.proofs.Common.{◌≡◌, ◌∙◌, ◌+◌, [], ap, subst, false, None, refl}
 use Rattle.q_core.proofs.BeginLaws.{begin_law, begin_living, begin_moment}
+use Rattle.q_core.specs.Lines.{all_jobs}
 use Rattle.q_core.specs.declared.state.Core.{Core}
 use Rattle.q_core.specs.declared.state.Seen.TheVariants.{Unknown}
 use Rattle.q_core.specs.declared.state.Question.TheVariants.{Nothing}
@@ -36,7 +37,7 @@ returns-clause-consistent c = λ w book settings count k s.
       in_memory = 0;
       served = c.new-5.result.items;
       unsettled = c.new-6.result.items;
-      lines = c.in_ok-lines.lines.items;
+      lines = all_jobs c.in_ok-lines.lines.items;
       sites = c.new-7.result.items;
       synced = c.new-8.result.items;
       starts = 0;

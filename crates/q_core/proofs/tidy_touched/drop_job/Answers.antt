@@ -1,7 +1,0 @@
-use Rattle.std.proofs.Common.{rules, not}
-use Rattle.std.proofs.lemmas.Fn.{filter_same}
-use Rattle.q_model.specs.Ids.{id_eq}
-use Rattle.q_core.proofs.tidy_touched.drop_job.Goals as goal
-
-pub returns : goal.returns
-returns c = filter_same _ (λ j. not (id_eq j.id c.args.id)) _ (λ x b f' t. search rules) _ _ c.retain.ensures.filtered
