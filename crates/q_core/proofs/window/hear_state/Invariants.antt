@@ -1,6 +1,0 @@
-use Rattle.std.proofs.Common.{◌≡◌, ◌++◌, map, take, drop}
-use Rattle.q_core.specs.Windows.{heard_at}
-use Rattle.q_core.proofs.window.hear_state.Given as goal
-
-abbrev pub invariant-loop-noted : goal.invariant-loop-noted
-invariant-loop-noted l = l.sites ≡ map (heard_at l.params l.site l.busy l.clock.seconds l.state) (take l.noted-index l.initial.sites) ++ drop l.noted-index l.initial.sites

@@ -1,0 +1,34 @@
+//! When dead sites are alive again (SCHEDULER_README; qmgr(8), the trigger F).
+ghost use Rattle.std.specs.Prelude.{◌≡◌, ◌≤◌, filter, map};
+ghost use Rattle.q_dest.specs.Dests.{is_kept, revived_when_dead, revived_when_due};
+
+use crate::sites::Sites;
+use q_model::Moment;
+use q_params::Params;
+
+impl Sites {
+    /// The sites whose time has come are alive again; those of them that are unused are forgotten.
+    pub fn revive_due(&mut self, params: &Params, moment: Moment)
+        requires { moment ≤ 999990000000 }
+        ensures { self.new ≡ record self.old
+            { items = filter is_kept (map (revived_when_due params.now moment) self.old.items) } }
+    {
+        while let Some(found) = self.table.first_due(moment) {
+            self.stand_apart();
+            self.renew(found.site(), &found, found.revived(params));
+        }
+        self.stand_apart();
+    }
+
+    /// All dead sites are alive again; those of them that are unused are forgotten.
+    pub fn revive_all(&mut self, params: &Params)
+        ensures { self.new ≡ record self.old
+            { items = filter is_kept (map (revived_when_dead params.now) self.old.items) } }
+    {
+        while let Some(found) = self.table.first_dead() {
+            self.stand_apart();
+            self.renew(found.site(), &found, found.revived(params));
+        }
+        self.stand_apart();
+    }
+}

@@ -1,0 +1,140 @@
+//! What is known of a site.
+ghost use Rattle.std.specs.Prelude.{◌≡◌, ◌<◌, ◌&&◌, nat_lt, not};
+ghost use Rattle.q_dest.specs.Records.{IsBounded};
+ghost use Rattle.q_model.specs.Revival.{is_due};
+ghost use Rattle.q_model.specs.Routes.{world_without_table};
+ghost use Rattle.q_model.specs.SiteRecords.{is_alive, new_record};
+ghost use Rattle.q_model.specs.Windows.{revived};
+
+use q_model::{Health, Moment, Site};
+use q_params::Params;
+use std::marker::Model;
+
+/// What is known of a site, in numbers wide enough for any feedback. A contract sees it as
+/// the ledger's record.
+#[derive(Clone, Copy, Debug)]
+pub struct WideSiteRecord {
+    pub(crate) site: Site,
+    pub(crate) window: u64,
+    pub(crate) success: u128,
+    pub(crate) failure: u128,
+    pub(crate) cohorts: u128,
+    pub(crate) health: Health,
+}
+
+impl Model for WideSiteRecord {
+    ghost use Rattle.q_model.specs.Values.{SiteRecord};
+
+    ghost Value = { SiteRecord };
+
+    ghost use Rattle.std.specs.Prelude.{◌≡◌, ◌≤◌, ◌^◌, true};
+    ghost use Rattle.q_model.specs.SiteRecords.{is_alive};
+
+    ghost view = { λ d. record {
+      site = d.site;
+      window = d.window;
+      success = d.success;
+      failure = d.failure;
+      cohorts = d.cohorts;
+      health = d.health;
+    } };
+
+    ghost invariant = { λ d. (d.success ≤ 2 ^ 64) × (d.failure ≤ 2 ^ 64) × (d.cohorts ≤ 2 ^ 64)
+        × (is_alive d.health ≡ true → d.cohorts ≤ 2 ^ 63) };
+
+    ghost inverse = { λ r. record {
+      site = r.site;
+      window = r.window;
+      success = r.success;
+      failure = r.failure;
+      cohorts = r.cohorts;
+      health = r.health;
+    } };
+}
+
+impl WideSiteRecord {
+    /// The record of a site that is used anew.
+    pub fn new(site: Site, params: &Params) -> WideSiteRecord
+        ensures { result ≡ new_record (world_without_table params.now) site }
+    {
+        let initial = params
+            .initial_destination_concurrency
+            .min(params.default_destination_concurrency_limit);
+        WideSiteRecord {
+            site,
+            window: u64::from(initial),
+            success: 0,
+            failure: 0,
+            cohorts: 0,
+            health: Health::Alive,
+        }
+    }
+
+    /// Its numbers are bounded, whatever was called: this does nothing, and is there for callers
+    /// whose proofs want to know it.
+    pub fn stay_bounded(&self)
+        ensures { IsBounded self.now }
+    {
+        let _window = self.window;
+    }
+
+    pub fn site(&self) -> &Site
+        ensures { result.now ≡ self.now.site }
+    {
+        &self.site
+    }
+
+    /// How many deliveries to it may be in flight.
+    pub fn window(&self) -> u64
+        ensures { result ≡ self.now.window }
+    {
+        self.window
+    }
+
+    /// Whether it is dead, and until when.
+    pub fn health(&self) -> Health
+        ensures { result ≡ self.now.health }
+    {
+        self.health
+    }
+
+    pub fn is_dead(&self) -> bool
+        ensures { result ≡ not (is_alive self.now.health) }
+    {
+        match self.health {
+            Health::Alive => false,
+            Health::DeadUntil(_) => true,
+        }
+    }
+
+    /// Whether it is alive, and more than so many deliveries may be in flight.
+    pub fn has_space(&self, busy: u64) -> bool
+        ensures { result ≡ (is_alive self.now.health && nat_lt busy self.now.window) }
+    {
+        !self.is_dead() && busy < self.window
+    }
+
+    /// Whether it is dead, and its time has come.
+    pub fn is_due(&self, moment: Moment) -> bool
+        ensures { result ≡ is_due moment self.now.health }
+    {
+        match self.health {
+            Health::Alive => false,
+            Health::DeadUntil(until) => until <= moment,
+        }
+    }
+
+    /// Makes it alive again, with so many deliveries in flight.
+    pub fn revive(&mut self, params: &Params, busy: u64)
+        ensures { self.new ≡ revived (world_without_table params.now) busy self.old }
+    {
+        let initial = params
+            .initial_destination_concurrency
+            .min(params.default_destination_concurrency_limit);
+        self.window = if busy == 0 { u64::from(initial) } else { busy };
+        self.success = 0;
+        self.failure = 0;
+        self.cohorts = 0;
+        self.health = Health::Alive;
+    }
+}
