@@ -210,8 +210,12 @@ impl Life {
         self.bring(alloc)
     }
 
+    /// Whether the first site is dead, which is the only one where sites die.
     fn has_dead_site(&self) -> bool {
-        self.core.site_records().iter().any(|noted| noted.is_dead())
+        match self.core.first_site() {
+            Some(noted) => noted.is_dead(),
+            None => false,
+        }
     }
 
     /// Takes turns until a site dies. The decisions that follow its death aren't taken.

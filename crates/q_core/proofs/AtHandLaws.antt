@@ -1,5 +1,5 @@
 -- Searches of a list from place to place, and what is left of a list without one of its items.
-use Rattle.std.proofs.Common.{◌≡◌, ℕ, ◌+◌, ◌≤◌, Bool, true, false, List, [], ◌∷◌, None, Option, Some, refl, sym, ap, ◌∙◌, arith, suc, zero, length, take, cond, not, filter, find, slice_get}
+use Rattle.std.proofs.Common.{◌≡◌, ℕ, ◌≤◌, Bool, true, false, List, [], ◌∷◌, None, Option, Some, refl, ap, arith, suc, zero, length, take, cond, not, filter, find, slice_get}
 use Rattle.std.specs.List.{remove}
 
 module _ {X : Type 0} (q : X → Bool) where
@@ -17,9 +17,6 @@ module _ {X : Type 0} (q : X → Bool) where
   find_next (suc i) (y ∷ xs) x none at unlike = step y (find q (take i xs)) (find q (take (suc i) xs)) (q y) none (λ h. find_next i xs x h at unlike)
 
   -- none among the places so far, nor at this one
-  pub find_further : (i : ℕ) (xs : List X) (x : X) → find q (take i xs) ≡ None → slice_get xs i ≡ Some x → q x ≡ false → find q (take (i + 1) xs) ≡ None
-  find_further i xs x none at unlike = let next : suc i ≡ i + 1 = omega arith in ap (λ (j : ℕ). find q (take j xs)) (sym next) ∙ find_next i xs x none at unlike
-
   -- none before this place, but there
   pub find_here : (i : ℕ) (xs : List X) (x : X) → find q (take i xs) ≡ None → slice_get xs i ≡ Some x → q x ≡ true → find q xs ≡ Some x
   find_here i [] x none at like = cc

@@ -35,6 +35,7 @@ pub mod ClearLaws
 pub mod WindowLaws
 pub mod MovedLaws
 pub mod SiteLaws
+pub mod UsedLaws
 pub mod NeedsLaws
 pub mod DroppedLaws
 pub mod RowsLaws
@@ -73,11 +74,14 @@ pub mod NeedLaws
 pub mod AtHandLaws
 pub mod TouchedLaws
 pub mod StayLaws
-pub mod KeptLaws
 pub mod StillTidyLaws
 pub mod StillTidyLines
 pub mod TidyTouchedLaws
-pub mod LandedLaws
+pub mod CountLaws
+pub mod Tallies
+pub mod SiteTies
+pub mod SiteChanges
+pub mod SiteViews
 pub mod TieLaws
 pub mod PoolTies
 pub mod TiedLaws

@@ -266,11 +266,6 @@ preempted_elsewhere child parent transport need left at js h =
     ap (λ t. cond t (moved_job child parent (map (charged_job parent transport need left at) js)) (map (charged_job parent transport need left at) js)) (flipped_test at transport ∙ h)
     ∙ charged_elsewhere parent transport need left at js h
 
-pub preempted_here : (child parent : Id) (transport need left at : ℕ) (js : List Job) → (transport == at) ≡ true → preempted_line child parent transport need left (at, js) ≡ moved_job child parent (map (changed_job parent (with_charge need left)) js)
-preempted_here child parent transport need left at js h =
-    ap (λ t. cond t (moved_job child parent (map (charged_job parent transport need left at) js)) (map (charged_job parent transport need left at) js)) (flipped_test at transport ∙ h)
-    ∙ ap (moved_job child parent) (charged_here parent transport need left at js h)
-
 -- What stays of a line.
 found_id : (p : Job → Bool) (i : Id) (js : List Job) (o : Option Job) → find p js ≡ o → option_map (λ (j : Job). j.id) o ≡ Some i → ((j : Job) × (p j ≡ true) × (j.id ≡ i))
 found_id p i js None e h = cc

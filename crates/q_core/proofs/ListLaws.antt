@@ -1,11 +1,10 @@
 -- Searches of lists.
-use Rattle.std.proofs.Common.{◌≡◌, ℕ, ◌<◌, ◌≤◌, Bool, true, false, cond, List, [], ◌∷◌, length, map, refl, sym, ap, ◌∙◌, arith, Option, Some, None, option_map, ◌⊎◌, inl, inr, subst, suc, ◌+◌, not, take_all, zero, set, get_or}
+use Rattle.std.proofs.Common.{◌≡◌, ℕ, ◌<◌, ◌≤◌, Bool, true, false, cond, List, [], ◌∷◌, length, map, refl, sym, ap, ◌∙◌, arith, Option, Some, None, option_map, ◌⊎◌, inl, inr, subst, suc, ◌+◌, not, zero, set, get_or}
 use Rattle.std.specs.Prelude.{find, filter, position, slice_get, ◌||◌, ◌&&◌}
 use Rattle.std.specs.List.{list_any, remove, list_all, position_or_len}
 use Rattle.std.proofs.lemmas.Grind.{common_steps}
 use Rattle.std.proofs.lemmas.Option.{slice_get_cases}
 use Rattle.std.proofs.lemmas.List.Folds.{find_at}
-use Rattle.std.proofs.lemmas.List.{drop_all}
 use Rattle.std.specs.List.{enumerate_from}
 use Rattle.q_model.specs.Lists.{drop_first}
 
@@ -73,11 +72,6 @@ drop_first-remove p (x ∷ xs) = removed_first x xs (drop_first p xs) (position_
 
 pub drop_first-Some : {X : Type 0} (p : X → Bool) (xs : List X) (i : ℕ) → position p xs ≡ Some i → remove xs i ≡ drop_first p xs
 drop_first-Some p xs i h = let e : i ≡ position_or_len p xs = grind (arith, common_steps, h) in ap (remove xs) e ∙ drop_first-remove p xs
-
-pub drop_first-None : {X : Type 0} (p : X → Bool) (xs : List X) → position p xs ≡ None → xs ≡ drop_first p xs
-drop_first-None p xs h =
-    let past : length xs ≤ position_or_len p xs = grind (arith, common_steps, h) in
-    sym (grind (arith, common_steps, take_all (position_or_len p xs) xs past, drop_all (suc (position_or_len p xs)) xs (omega arith))) ∙ drop_first-remove p xs
 
 -- the first i elements, numbered from n on, are mapped
 abbrev pub numbered_front : {X : Type 0} → ((ℕ × X) → X) → ℕ → ℕ → List X → List X

@@ -1,9 +1,8 @@
 -- The first element that passes goes to the end of a list.
-use Rattle.std.proofs.Common.{◌≡◌, ℕ, Bool, true, false, cond, List, [], ◌∷◌, ◌++◌, refl, sym, ap, ◌∙◌, subst, Option, Some, None, inl, inr}
-use Rattle.std.specs.List.{list_any, remove}
+use Rattle.std.proofs.Common.{◌≡◌, Bool, true, false, cond, List, [], ◌∷◌, ◌++◌, refl, sym, ap, ◌∙◌, Option, Some, None}
+use Rattle.std.specs.List.{list_any}
 use Rattle.std.specs.Option.{option_map_or}
-use Rattle.std.specs.Prelude.{◌||◌, filter, find, not, position, slice_get}
-use Rattle.q_core.proofs.ListLaws.{drop_first-Some, position-find}
+use Rattle.std.specs.Prelude.{◌||◌, filter, find, not}
 use Rattle.q_core.proofs.NameLaws.{and_true_parts}
 use Rattle.q_core.specs.Lists.{moved_back}
 use Rattle.q_laws.specs.SitesConsistency.{are_apart}
@@ -11,22 +10,6 @@ use Rattle.q_model.proofs.IdLaws.{site_eq-refl}
 use Rattle.q_model.specs.Sites.{site_eq}
 use Rattle.q_model.specs.Lists.{drop_first}
 use Rattle.q_model.specs.Values.{Site, SiteRecord}
-
--- it is removed at its place, and put behind all others
-pub moved_back-Some : {X : Type 0} (p : X → Bool) (xs ys : List X) (i : ℕ) → position p xs ≡ Some i → ((x : X) → slice_get xs i ≡ Some x → ys ≡ remove xs i ++ x ∷ []) → ys ≡ moved_back p xs
-moved_back-Some p xs ys i h k = elim (position-find p xs) [
-  | inl n ↦ let bad : None ≡ Some i = sym n.0 ∙ h in cc
-  | inr f ↦ let same : Some f.0 ≡ Some i = sym f.2.place ∙ h in
-      let place : f.0 ≡ i = cc in
-      let there : slice_get xs i ≡ Some f.1 = subst (λ n. slice_get xs n ≡ Some f.1) place f.2.there in
-      k f.1 there ∙ ap (λ zs. zs ++ f.1 ∷ []) (drop_first-Some p xs i h) ∙ sym (ap (λ o. option_map_or (λ y. drop_first p xs ++ y ∷ []) o xs) f.2.found)
-]
-
-pub moved_back-None : {X : Type 0} (p : X → Bool) (xs : List X) → position p xs ≡ None → xs ≡ moved_back p xs
-moved_back-None p xs h = elim (position-find p xs) [
-  | inl n ↦ sym (ap (λ o. option_map_or (λ y. drop_first p xs ++ y ∷ []) o xs) n.1)
-  | inr f ↦ let bad : None ≡ Some f.0 = sym h ∙ f.2.place in cc
-]
 
 pub or_false_parts : (a b : Bool) → (a || b) ≡ false → (a ≡ false) × (b ≡ false)
 or_false_parts true b h = cc

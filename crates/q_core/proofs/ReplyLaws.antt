@@ -16,9 +16,8 @@ use Rattle.q_core.proofs.WindowLaws.{heard_law}
 use Rattle.q_core.specs.Agrees.{Agrees, Matches}
 use Rattle.q_core.specs.Changes.{HasLeftSite, IsTidied, is_looked_at}
 use Rattle.q_core.specs.UsedSites.{busy_in, waits_at_in}
-use Rattle.q_core.specs.Leaving.{IsSiteHeard, IsLanded, IsReplied, replied_in}
+use Rattle.q_core.specs.Leaving.{heard_at, IsSiteHeard, IsLanded, IsReplied, replied_in}
 use Rattle.q_core.specs.Queries.{flight_in}
-use Rattle.q_core.specs.Windows.{heard_at}
 use Rattle.q_core.specs.declared.state.Core.{Core}
 use Rattle.q_laws.specs.SitesConsistency.{IsSitesConsistent}
 use Rattle.q_laws.specs.Consistency.{IsConsistent}

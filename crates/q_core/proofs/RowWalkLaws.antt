@@ -12,7 +12,7 @@ use Rattle.q_model.specs.Lists.{drop_first, least}
 use Rattle.q_peers.proofs.Rests.{absent_rest, first_rest, IsOne, next_one, next_rest, rest}
 use Rattle.q_peers.specs.Numbered.{any_row, AreApart, first_such, is_of, next_such, Numbered, row_at, rows_of}
 use Rattle.q_core.proofs.ListLaws.{IsFoundAt, position-find}
-use Rattle.q_core.proofs.TieLaws.{counted_step}
+use Rattle.q_core.proofs.CountLaws.{counted_step}
 use Rattle.q_core.specs.Lists.{better_of, sooner_of}
 use Rattle.q_core.specs.RowWalks.{count_here, is_row_for}
 use Rattle.q_core.specs.Starting.{is_startable_in, last_start_in, next_row_of, rows_for, sent_before, sooner_row}

@@ -1,26 +1,19 @@
 -- Where it is known what was touched, looking at that alone tidies all.
-use Rattle.std.proofs.Common.{◌≡◌, ◌≤◌, ◌<◌, ℕ, ◌+◌, Bool, true, false, cond, List, [], ◌∷◌, filter, map, not, length, refl, sym, ap, ◌∙◌, arith, inl, inr, Some, get_or, suc, zero, if◌then◌else◌}
+use Rattle.std.proofs.Common.{◌≡◌, ◌<◌, ℕ, ◌+◌, Bool, true, false, cond, List, [], ◌∷◌, filter, map, not, length, refl, sym, ap, ◌∙◌, arith, inl, inr, Some, get_or, suc, zero}
 use Rattle.std.proofs.lemmas.Bool.{cases_Bool}
-use Rattle.std.proofs.lemmas.Grind.{common_steps}
-use Rattle.std.proofs.lemmas.List.Sums.{count_by-le-length, length-filter}
-use Rattle.std.specs.Prelude.{◌&&◌, ◌||◌, nat_lt, slice_get}
+use Rattle.std.specs.Prelude.{◌||◌, slice_get}
 use Rattle.q_core.proofs.ListLaws.{numbered_front}
 use Rattle.q_core.specs.Tidied.{stays_among, tidied_jobs, tidied_line, tidied_served, waits_at_site}
 use Rattle.std.specs.List.{enumerate_from}
-use Rattle.q_core.specs.Touched.{DoJobsStay, jobs_stay, served_stay, sites_stay}
-use Rattle.q_core.specs.UsedSites.{forget_in, is_kept_dead_in, is_kept_in, is_unused_in, used_in}
+use Rattle.q_core.specs.Touched.{DoJobsStay, jobs_stay, served_stay}
 use Rattle.q_jobs.specs.declared.job.Job.{Job}
 use Rattle.q_pool.specs.declared.slot.Slot.{Slot}
 use Rattle.q_core.specs.declared.touched.Touched.TheVariants.{Nothing, One}
 use Rattle.q_laws.proofs.Members.{IsIn, all_at}
-use Rattle.q_model.proofs.IdLaws.{id_eq-true, site_eq-true}
+use Rattle.q_model.proofs.IdLaws.{id_eq-true}
 use Rattle.q_model.specs.Ids.{id_eq}
-use Rattle.q_model.specs.Lists.{drop_first}
-use Rattle.q_model.specs.SiteRecords.{is_alive}
-use Rattle.q_model.specs.Sites.{site_eq}
-use Rattle.q_model.specs.Values.{Served, Site, SiteRecord}
+use Rattle.q_model.specs.Values.{Served}
 use Rattle.q_model.specs.declared.id.Id.{Id}
-use Rattle.q_model.specs.declared.rows.Delivery.{Delivery}
 use Rattle.q_model.specs.declared.rows.Row.{Row}
 
 filter_members : {X : Type 0} (p q : X → Bool) (xs : List X) → ((x : X) → IsIn x xs → p x ≡ q x) → filter p xs ≡ filter q xs
@@ -86,49 +79,3 @@ pub served_looked : (w : List Row) (id : Id) (sv : List Served) → served_stay 
 served_looked w id sv h = filter_members (λ (s : Served). not (id_eq s.id id) || waits_at_site w s.id s.site) (λ (s : Served). waits_at_site w s.id s.site) sv
     (λ s inside. either_same (id_eq s.id id) (waits_at_site w s.id s.site) (λ other. tied (id_eq s.id id) (waits_at_site w s.id s.site) other
     (all_at (λ (x : Served). id_eq x.id id || waits_at_site w x.id x.site) s sv h inside)))
-
--- ---- records of sites
-
-sites_whole : (w : List Row) (fs : List Delivery) (st : List SiteRecord) → sites_stay Nothing w fs st ≡ true → used_in w fs st ≡ st
-sites_whole w fs st h = filter_pass (is_kept_in w fs) st (λ r inside. all_at (is_kept_in w fs) r st h inside)
-
-few_kept : (n : ℕ) (p : SiteRecord → Bool) (xs : List SiteRecord) → length xs ≤ n → nat_lt n (length (filter p xs)) ≡ false
-few_kept n p xs h =
-    let fewer : length (filter p xs) ≤ length xs = omega (arith, length-filter p xs, count_by-le-length p xs) in
-    grind (arith, common_steps, h, fewer)
-
--- few records are all kept
-pub none_forgotten : (w : List Row) (fs : List Delivery) (n : ℕ) (xs : List SiteRecord) → length xs ≤ n → forget_in w fs n xs ≡ xs
-none_forgotten w fs n xs h = ap (λ b. if b then drop_first (is_kept_dead_in w fs) xs else xs) (few_kept n (is_kept_dead_in w fs) xs h)
-
-pub sites_untouched : (w : List Row) (fs : List Delivery) (n : ℕ) (st : List SiteRecord) → sites_stay Nothing w fs st ≡ true → length st ≤ n → forget_in w fs n (used_in w fs st) ≡ st
-sites_untouched w fs n st h few = ap (forget_in w fs n) (sites_whole w fs st h) ∙ none_forgotten w fs n st few
-
-pub used_few : (w : List Row) (fs : List Delivery) (n : ℕ) (st : List SiteRecord) → length st ≤ n → forget_in w fs n (used_in w fs st) ≡ used_in w fs st
-used_few w fs n st few = none_forgotten w fs n (used_in w fs st) (omega (arith, few, length-filter (is_kept_in w fs) st, count_by-le-length (is_kept_in w fs) st))
-
-kept_used : (u d : Bool) → u ≡ false → not (u && d) ≡ true
-kept_used true d e = absurd cc
-kept_used false d e = refl
-
-kept_dead : (u d : Bool) → u ≡ true → not (u && not d) ≡ d
-kept_dead false d e = absurd cc
-kept_dead true true e = refl
-kept_dead true false e = refl
-
--- the site is used, and all records are kept
-pub site_used : (w : List Row) (fs : List Delivery) (site : Site) (st : List SiteRecord) → sites_stay (One site) w fs st ≡ true → is_unused_in w fs site ≡ false → used_in w fs st ≡ st
-site_used w fs site st h used = filter_pass (is_kept_in w fs) st (λ r inside. elim (cases_Bool (site_eq r.site site)) [
-  | inl same ↦ kept_used (is_unused_in w fs r.site) (not (not (is_alive r.health))) (ap (is_unused_in w fs) (site_eq-true r.site site same) ∙ used)
-  | inr other ↦ tied (site_eq r.site site) (is_kept_in w fs r) other (all_at (λ (x : SiteRecord). site_eq x.site site || is_kept_in w fs x) r st h inside)
-])
-
--- it isn't, and its record is kept where it is dead
-pub site_unused : (w : List Row) (fs : List Delivery) (site : Site) (st : List SiteRecord) → sites_stay (One site) w fs st ≡ true → is_unused_in w fs site ≡ true →
-    filter (λ (r : SiteRecord). not (site_eq r.site site) || not (is_alive r.health)) st ≡ used_in w fs st
-site_unused w fs site st h unused = filter_members (λ (r : SiteRecord). not (site_eq r.site site) || not (is_alive r.health)) (is_kept_in w fs) st (λ r inside. elim (cases_Bool (site_eq r.site site)) [
-  | inl same ↦ ap (λ b. not b || not (is_alive r.health)) same
-      ∙ sym (kept_dead (is_unused_in w fs r.site) (not (is_alive r.health)) (ap (is_unused_in w fs) (site_eq-true r.site site same) ∙ unused))
-  | inr other ↦ ap (λ b. not b || not (is_alive r.health)) other
-      ∙ sym (tied (site_eq r.site site) (is_kept_in w fs r) other (all_at (λ (x : SiteRecord). site_eq x.site site || is_kept_in w fs x) r st h inside))
-])

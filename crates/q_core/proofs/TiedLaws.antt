@@ -9,7 +9,8 @@ use Rattle.q_core.specs.Counted.{IsCounted}
 use Rattle.q_core.specs.Counting.{counted_as, more, recounted, with_flight, with_row_put_off, with_unsettled, with_waiting, without_flight, without_unsettled}
 use Rattle.q_core.specs.Ties.{AreCounted, AreNamed, AreNumbered, AreTied, count_of, kept_of}
 use Rattle.q_core.proofs.NameLaws.{id_eq-same, id_eq-true}
-use Rattle.q_core.proofs.TieLaws.{count_more, count_within, count_without, tie_kept, tie_left, tie_more, tie_set}
+use Rattle.q_core.proofs.CountLaws.{count_more, count_within, count_without}
+use Rattle.q_core.proofs.TieLaws.{tie_kept, tie_left, tie_more, tie_set}
 use Rattle.q_model.specs.declared.id.Id.{Id}
 use Rattle.q_model.specs.declared.rows.Delivery.{Delivery}
 use Rattle.q_model.specs.declared.rows.Need.TheVariants as needs

@@ -6,7 +6,7 @@ use Rattle.std.specs.Prelude.{◌||◌}
 use Rattle.q_core.specs.Touched.{is_everything, is_touched, touched_with}
 use Rattle.q_core.specs.declared.touched.Touched.{Touched}
 use Rattle.q_core.specs.declared.touched.Touched.TheVariants.{Everything, Nothing, One}
-use Rattle.q_laws.proofs.Members.{IsIn, all_from, all_weaker}
+use Rattle.q_laws.proofs.Members.{IsIn, all_weaker}
 
 abbrev pub Equal : {K : Type 0} → (K → K → Bool) → Type 0
 Equal {K = K} same = (a b : K) → same a b ≡ true → a ≡ b
@@ -63,7 +63,3 @@ all_touched same equal key m k p q xs pass h = all_still same key m (touched_wit
       | inl t ↦ or_left (is_touched same (touched_with same k m) (key x)) (q x) (touched_here same equal k (key x) m t)
       | inr g ↦ or_right (is_touched same (touched_with same k m) (key x)) (q x) g
     ]) h
-
--- everything was touched
-pub all_everything : {K A : Type 0} (same : K → K → Bool) (key : A → K) (q : A → Bool) (xs : List A) → list_all (λ x. is_touched same Everything (key x) || q x) xs ≡ true
-all_everything same key q xs = all_from (λ x. is_touched same Everything (key x) || q x) xs (λ x inside. refl)

@@ -4,7 +4,8 @@ use Rattle.std.specs.Prelude.{◌==◌, if◌then◌else◌, max, nat_le, nat_lt
 use Rattle.std.specs.List.{list_all}
 use Rattle.std.proofs.lemmas.Bool.{leb-true}
 use Rattle.q_core.proofs.NameLaws.{and_true_parts}
-use Rattle.q_core.specs.Windows.{down_in, heard_at, is_too_much, may_widen_in, open_window, up_in}
+use Rattle.q_core.specs.Leaving.{heard_at}
+use Rattle.q_dest.specs.Windows.{down_in, is_too_much, may_widen_in, open_window, up_in}
 use Rattle.q_laws.specs.SitesConsistency.{is_window}
 use Rattle.q_model.specs.Deliveries.{busy}
 use Rattle.q_model.specs.Sites.{site_eq}

@@ -7,7 +7,7 @@ use Rattle.q_model.specs.declared.rows.Request.{Request}
 use Rattle.q_model.specs.declared.rows.Unsettled.{Unsettled}
 use Rattle.q_model.specs.Ids.{id_eq}
 use Rattle.q_model.specs.Scans.{joined_request, new_scan}
-use Rattle.q_model.specs.Values.{Site}
+use Rattle.q_model.specs.Values.{Site, SiteRecord}
 use Rattle.q_model.specs.declared.rows.Request.TheVariants as requests
 use Rattle.q_core.specs.UsedSites.{forget_in, is_left_in, revive_dead_in, revive_due_in, used_in}
 use Rattle.q_core.specs.Facts.{is_nothing}
@@ -79,16 +79,36 @@ pub record HasLeftSite (old new : Core) (site : Site) : Type 0 where
   pub rest : new ≡ record old { sites = new.sites }
   pub sites : new.sites ≡ moved_back (is_left_in old.waiting old.flights site) old.sites
 
+-- the same but for the records of sites
+abbrev pub with_sites : List SiteRecord → Core → Core
+with_sites sites c = record c { sites = sites }
+
+-- those of these records that are of a site that is dead or used
+abbrev pub used_sites : Core → List SiteRecord → List SiteRecord
+used_sites c sites = used_in c.waiting c.flights sites
+
+-- what becomes of these records where a row or a delivery left the site
+abbrev pub left_sites : Core → List SiteRecord → Site → List SiteRecord
+left_sites c sites site = used_sites c (moved_back (is_left_in c.waiting c.flights site) sites)
+
+-- the dead sites whose time has come are alive
+abbrev pub revived_by : ℕ → Core → List SiteRecord
+revived_by moment c = map (revive_due_in c.params c.flights moment) c.sites
+
+-- all dead sites are alive
+abbrev pub all_revived : Core → List SiteRecord
+all_revived c = map (revive_dead_in c.params c.flights) c.sites
+
 -- the time is set, and the sites whose time has come are alive
 pub record IsWoken (old new : Core) (moment : ℕ) : Type 0 where
   pub rest : new ≡ record old { clock = new.clock; timed = true; sites = new.sites }
   pub seconds : new.clock.seconds ≡ moment
-  pub sites : new.sites ≡ map (revive_due_in old.params old.flights moment) old.sites
+  pub sites : new.sites ≡ revived_by moment old
 
 -- all dead sites are alive
 pub record IsRevived (old new : Core) : Type 0 where
   pub rest : new ≡ record old { sites = new.sites }
-  pub sites : new.sites ≡ map (revive_dead_in old.params old.flights) old.sites
+  pub sites : new.sites ≡ all_revived old
 
 -- the slot of this id is changed
 pub record IsSlotChange (old new : Core) (id : Id) (change : Slot → Slot) : Type 0 where

@@ -7,18 +7,20 @@ use Rattle.q_model.specs.Step.{after}
 use Rattle.q_model.specs.declared.entry.Entry.TheVariants as entries
 use Rattle.q_model.specs.declared.id.Id.{Id}
 use Rattle.std.specs.List.{remove}
-use Rattle.std.specs.Prelude.{◌++◌, ◌-◌, ◌==◌, ◌≡◌, filter, length, List, map, None, not, Option, position, slice_get, Some, ℕ}
+use Rattle.std.specs.Prelude.{◌++◌, ◌-◌, ◌==◌, ◌≡◌, filter, if◌then◌else◌, length, List, map, None, not, Option, position, slice_get, Some, ℕ}
 use Rattle.q_model.specs.declared.outcome.Outcome.{Outcome}
 use Rattle.q_model.specs.declared.outcome.SiteState.{SiteState}
 use Rattle.q_model.specs.declared.rows.Delivery.{Delivery}
 use Rattle.q_model.specs.declared.rows.Row.{Row}
 use Rattle.q_model.specs.declared.rows.Unsettled.{Unsettled}
-use Rattle.q_model.specs.Values.{Site}
+use Rattle.q_model.specs.Values.{Site, SiteRecord}
 use Rattle.q_core.specs.UsedSites.{busy_in}
 use Rattle.q_core.specs.Held.{is_dead_in}
 use Rattle.q_core.specs.Needs.{needs_in, needs_put_off}
 use Rattle.q_core.specs.Queries.{expired_in, flight_in}
-use Rattle.q_core.specs.Windows.{heard_at}
+use Rattle.q_dest.specs.Windows.{heard_in}
+use Rattle.q_model.specs.Settings.{Settings}
+use Rattle.q_model.specs.Sites.{site_eq}
 use Rattle.q_core.specs.declared.state.Core.{Core}
 
 -- the first waiting row whose site is dead stands at this place
@@ -61,6 +63,10 @@ abbrev pub AreAdded : Core → Core → ℕ → List Outcome → Option Site →
 AreAdded old new number outcomes None = flight_in old number ≡ None
 AreAdded old new number outcomes (Some site) = (f : Delivery) → flight_in old number ≡ Some f →
     IsReplied old new f outcomes site
+
+-- the record of this site hears that a delivery reached it, or did not
+abbrev pub heard_at : Settings → Site → ℕ → ℕ → SiteState → SiteRecord → SiteRecord
+heard_at p site busy now state r = if site_eq r.site site then heard_in p busy now state r else r
 
 -- the site heard that a delivery reached it or did not; the delivery is still in flight
 pub record IsSiteHeard (old new : Core) (site : Site) (state : SiteState) : Type 0 where

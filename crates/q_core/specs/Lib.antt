@@ -5,7 +5,6 @@ pub mod Counting
 pub mod Facts
 pub mod Lists
 pub mod UsedSites
-pub mod Windows
 pub mod Held
 pub mod Scanning
 pub mod Agrees
@@ -29,4 +28,5 @@ pub mod Answers
 pub mod Looking
 pub mod Touched
 pub mod RowWalks
+pub mod Known
 pub mod Lines

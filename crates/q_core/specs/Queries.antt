@@ -1,9 +1,10 @@
 -- What the core tells of deliveries and of lifetimes.
 use Rattle.std.specs.Option.{option_map_or}
-use Rattle.std.specs.Prelude.{List, Some, None, ◌-◌, ◌==◌, Bool, false, find, if◌then◌else◌, nat_le, Option, ℕ, nat_lt}
+use Rattle.std.specs.Prelude.{[], ◌∷◌, slice_get, List, Some, None, ◌-◌, ◌==◌, Bool, false, find, if◌then◌else◌, nat_le, Option, ℕ, nat_lt}
 use Rattle.q_model.specs.declared.id.Id.{Id}
 use Rattle.q_model.specs.declared.rows.Delivery.{Delivery}
-use Rattle.q_model.specs.Values.{Site}
+use Rattle.q_model.specs.Sites.{site_eq}
+use Rattle.q_model.specs.Values.{Site, SiteRecord}
 use Rattle.q_core.specs.Held.{slot_in}
 use Rattle.q_pool.specs.declared.slot.Slot.{Slot}
 use Rattle.q_core.specs.declared.state.Core.{Core}
@@ -37,3 +38,12 @@ expired_in c id = option_map_or (λ s. slot_expired_in c s) (slot_in c id) false
 -- the positions of the row that was put off last, by its number
 abbrev pub skipped_in : Core → ℕ → Option (List ℕ)
 skipped_in c entry = if c.skips == entry then Some c.skipped else None
+
+-- the records behind that of a site
+abbrev pub records_behind : Site → List SiteRecord → List SiteRecord
+records_behind site [] = []
+records_behind site (r ∷ rs) = if site_eq r.site site then rs else records_behind site rs
+
+-- the first of them
+abbrev pub record_behind : Site → List SiteRecord → Option SiteRecord
+record_behind site rs = slice_get (records_behind site rs) 0

@@ -1,33 +1,47 @@
 -- What always holds of the parts of a core.
 use Rattle.std.specs.Option.{option_map_or}
-use Rattle.std.specs.Prelude.{◌≡◌, ◌≤◌, ◌==◌, [], count_by, find, List, None, ℕ, ◌∷◌}
+use Rattle.std.specs.Prelude.{◌≡◌, ◌≤◌, ◌==◌, [], Bool, count_by, find, List, None, ℕ, ◌∷◌}
 use Rattle.q_core.specs.Counted.{IsCounted}
+use Rattle.q_core.specs.Known.{site_of}
+use Rattle.q_dest.specs.declared.dest.Dest.{Dest}
+use Rattle.q_model.specs.Sites.{site_eq}
 use Rattle.q_model.specs.declared.id.Id.{Id}
 use Rattle.q_model.specs.declared.rows.Delivery.{Delivery}
 use Rattle.q_model.specs.declared.rows.Row.{Row}
 use Rattle.q_model.specs.declared.rows.Unsettled.{Unsettled}
 use Rattle.q_model.specs.Ids.{id_eq}
 use Rattle.q_model.specs.Settings.{Settings}
-use Rattle.q_pool.specs.Kept.{is_of}
 use Rattle.q_pool.specs.Pooled.{Pooled}
 use Rattle.q_pool.specs.declared.kept.Kept.{Kept}
+
+module _ {K D : Type 0} (eq : K → K → Bool) (key : D → K) where
+  -- what is kept under the key, 0 where nothing is
+  abbrev pub tally_of : (D → ℕ) → List D → K → ℕ
+  tally_of g ds k = option_map_or g (find (λ d. eq (key d) k) ds) 0
+
+  -- under each key so many are kept as there are; where nothing is kept there is none
+  abbrev pub AreTallied : {X : Type 0} → (D → ℕ) → (X → K) → List D → List X → Type 0
+  AreTallied g name ds xs = (k : K) → tally_of g ds k ≡ count_by (λ x. eq (name x) k) xs
+
+-- each of these is under the key
+abbrev pub AreNamed : {K X : Type 0} → (X → K) → K → List X → Type 0
+AreNamed name k [] = Unit {0}
+AreNamed name k (x ∷ xs) = (name x ≡ k) × AreNamed name k xs
 
 -- so many of these are of the message
 abbrev pub count_of : {X : Type 0} → (X → Id) → Id → List X → ℕ
 count_of name id xs = count_by (λ x. id_eq (name x) id) xs
 
+abbrev pub message_of : Kept → Id
+message_of k = k.slot.id
+
 -- what is kept of the message, 0 where it isn't in memory
 abbrev pub kept_of : (Kept → ℕ) → List Kept → Id → ℕ
-kept_of g ks id = option_map_or g (find (is_of id) ks) 0
+kept_of = tally_of id_eq message_of
 
 -- of each message so many are kept as there are; of one that isn't in memory there is none
 abbrev pub AreCounted : {X : Type 0} → (Kept → ℕ) → (X → Id) → List Kept → List X → Type 0
-AreCounted g name ks xs = (id : Id) → kept_of g ks id ≡ count_of name id xs
-
--- each of these is of the message
-abbrev pub AreNamed : {X : Type 0} → (X → Id) → Id → List X → Type 0
-AreNamed name id [] = Unit {0}
-AreNamed name id (x ∷ xs) = (name x ≡ id) × AreNamed name id xs
+AreCounted = AreTallied id_eq message_of
 
 -- no two deliveries have one number, and each is at most that of the last start
 abbrev pub AreNumbered : ℕ → List Delivery → Type 0
@@ -49,3 +63,15 @@ pub record AreTied (p : Settings) (m : Pooled) (rows : List Row) (fs : List Deli
   pub waiting : AreCounted (λ k. k.waiting) (λ (r : Row). r.id) m.items rows
   pub flights : AreCounted (λ k. k.flying) (λ (f : Delivery). f.row.id) m.items fs
   pub unsettled : AreCounted (λ k. k.unsettled) (λ (u : Unsettled). u.id) m.items us
+
+-- of each site so many rows wait as are kept; where it has no record none waits
+abbrev pub AreWaitingTied : List Dest → List Row → Type 0
+AreWaitingTied ds rows = AreTallied site_eq site_of (λ d. d.waiting) (λ (r : Row). r.site) ds rows
+
+-- so it is with the deliveries in flight
+abbrev pub AreBusyTied : List Dest → List Delivery → Type 0
+AreBusyTied ds fs = AreTallied site_eq site_of (λ d. d.busy) (λ (f : Delivery). f.row.site) ds fs
+
+pub record AreSitesTied (ds : List Dest) (rows : List Row) (fs : List Delivery) : Type 0 where
+  pub waiting : AreWaitingTied ds rows
+  pub busy : AreBusyTied ds fs

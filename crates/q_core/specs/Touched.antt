@@ -1,14 +1,11 @@
 -- What entries touched since the core was tidied. Only there may something have to go.
 use Rattle.std.specs.List.{list_all}
-use Rattle.std.specs.Prelude.{◌≡◌, ◌≤◌, Bool, ◌==◌, false, if◌then◌else◌, length, List, not, slice_get, Some, true, ◌||◌, ℕ}
+use Rattle.std.specs.Prelude.{◌≡◌, Bool, false, if◌then◌else◌, List, slice_get, Some, true, ◌||◌, ℕ}
 use Rattle.q_model.specs.declared.id.Id.{Id}
-use Rattle.q_model.specs.declared.rows.Delivery.{Delivery}
 use Rattle.q_model.specs.declared.rows.Row.{Row}
 use Rattle.q_model.specs.Ids.{id_eq}
-use Rattle.q_model.specs.Sites.{site_eq}
-use Rattle.q_model.specs.Values.{Served, Site, SiteRecord}
+use Rattle.q_model.specs.Values.{Served}
 use Rattle.q_core.specs.Tidied.{stays_among, waits_at_site}
-use Rattle.q_core.specs.UsedSites.{is_kept_in}
 use Rattle.q_jobs.specs.declared.job.Job.{Job}
 use Rattle.q_pool.specs.declared.slot.Slot.{Slot}
 use Rattle.q_core.specs.declared.touched.Touched.{Touched}
@@ -46,28 +43,8 @@ abbrev pub served_stay : Touched Id → List Row → List Served → Bool
 served_stay touched waiting served = list_all (λ s. is_touched id_eq touched s.id
     || waits_at_site waiting s.id s.site) served
 
--- each record is of a site that is dead or used, but perhaps that of a site that was touched
-abbrev pub sites_stay : Touched Site → List Row → List Delivery → List SiteRecord → Bool
-sites_stay touched waiting flights sites = list_all (λ r. is_touched site_eq touched r.site
-    || is_kept_in waiting flights r) sites
-
--- no more than the limit, where not every site was touched
-abbrev pub AreFew : Touched Site → ℕ → List SiteRecord → Type 0
-AreFew touched limit sites = is_everything touched ≡ false → length sites ≤ limit
-
 -- Nothing has to go but perhaps what was touched.
-pub record IsTidyBut (message : Touched Id) (site : Touched Site) (limit : ℕ) (admitted : List Slot)
-    (waiting : List Row) (flights : List Delivery) (lines : List (List Job)) (served : List Served)
-    (sites : List SiteRecord) : Type 0 where
-  pub jobs : DoJobsStay message admitted waiting lines
-  pub rows : served_stay message waiting served ≡ true
-  pub records : sites_stay site waiting flights sites ≡ true
-  pub few : AreFew site limit sites
-
--- The sites of the deliveries of this number are touched too.
-pub record AreLandedTouched (flights : List Delivery) (number : ℕ)
-    (old new : Touched Site) : Type 0 where
-  pub before : (s : Site) → is_touched site_eq old s ≡ true → is_touched site_eq new s ≡ true
-  pub limit : is_everything new ≡ false → is_everything old ≡ false
-  pub landed : list_all (λ f. not (f.number == number)
-      || is_touched site_eq new f.row.site) flights ≡ true
+pub record IsTidyBut (touched : Touched Id) (admitted : List Slot) (waiting : List Row)
+    (lines : List (List Job)) (served : List Served) : Type 0 where
+  pub jobs : DoJobsStay touched admitted waiting lines
+  pub rows : served_stay touched waiting served ≡ true

@@ -1,4 +1,5 @@
 -- The state that a contract sees, by the core's fields.
+use Rattle.q_core.specs.Known.{known_records}
 use Rattle.q_core.specs.Lines.{all_jobs}
 use Rattle.q_core.specs.State.{State}
 use Rattle.q_core.specs.declared.state.Core.TheInside.{Inside}
@@ -24,7 +25,7 @@ state_of a = record {
   served = a.served.items;
   unsettled = a.unsettled.items;
   lines = all_jobs a.lines.items;
-  sites = a.sites.items;
+  sites = known_records a.sites.items;
   synced = a.synced.items;
   starts = a.starts;
   active = a.active;

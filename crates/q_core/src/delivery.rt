@@ -15,9 +15,12 @@ use crate::flying::add_flight;
 use crate::names::{same_id, same_site};
 use crate::rows::take_row;
 use crate::state::Core;
-use crate::touched::{touch_message, touch_site};
+use crate::touched::touch_message;
 use q_jobs::{Job, Line};
 use q_model::{Delivery, Entry, Id, NoMemory, Served, Site};
+
+/// How many deliveries can be counted at a site. No process limit comes near it.
+const MOST_FLIGHTS: usize = 1 << 30;
 
 /// The account with one delivery more; a life begins fewer than 2^48.
 fn with_start(job: Job) -> Job
@@ -106,6 +109,9 @@ impl Core {
             (IsSent self.old self.new number id site)) }
         ensures err { OnErr result (IsUnchanged self.old self.new) }
     {
+        if self.flights.len() >= MOST_FLIGHTS {
+            return Err(NoMemory);
+        }
         self.flights.reserve(1)?;
         note_served(&mut self.served, id, site, number)?;
         let Some(row) = take_row(&mut self.waiting, id, &site) else {
@@ -113,7 +119,7 @@ impl Core {
         };
         touch_message(&mut self.touched_message, row.id);
         touch_message(&mut self.touched_message, id);
-        touch_site(&mut self.touched_site, &row.site);
+        self.sites.begin(&row.site);
         begin_flight(&mut self.admitted, row.id);
         add_flight(
             &mut self.flights,

@@ -1,13 +1,11 @@
 //! Events without a row: the clock and the triggers (qmgr(8)).
 ghost use Rattle.std.specs.Prelude.{◌≡◌, ◌≤◌, IsTrue};
 ghost use Rattle.q_core.specs.Agrees.{ForLedgers, Matches};
-ghost use Rattle.q_core.specs.Changes.{IsRevived, IsWoken, asked_when_due, is_looked_at};
+ghost use Rattle.q_core.specs.Changes.{IsRevived, IsWoken, all_revived, asked_when_due, is_looked_at, revived_by, used_sites, with_sites};
 ghost use Rattle.q_model.specs.Step.{after};
 
 use crate::clock::Clock;
-use crate::site_record::{has_due, revive_all, revive_due};
 use crate::state::{Core, Seen};
-use crate::touched::{Touched, touch_all_if};
 use q_model::{Entry, Moment, Trigger};
 
 impl Core {
@@ -26,12 +24,13 @@ impl Core {
     /// Sets the clock, and revives the sites whose time has come.
     fn wake(&mut self, moment: Moment)
         requires { moment ≤ 999990000000 }
-        ensures { IsWoken self.old self.new moment }
+        ensures woken { IsWoken self.old (with_sites (revived_by moment self.old) self.new) moment }
+        ensures used { self.new.sites ≡ used_sites self.new (revived_by moment self.old) }
     {
         self.clock = Clock::new(moment);
         self.timed = true;
-        touch_all_if(&mut self.touched_site, has_due(&self.sites, moment));
-        revive_due(&mut self.sites, &self.flights, &self.params, moment);
+        self.sites.stand_apart();
+        self.sites.revive_due(&self.params, moment);
     }
 
     /// Asks for the scan that is due.
@@ -56,10 +55,11 @@ impl Core {
     }
 
     fn revive_all(&mut self)
-        ensures { IsRevived self.old self.new }
+        ensures revived { IsRevived self.old (with_sites (all_revived self.old) self.new) }
+        ensures used { self.new.sites ≡ used_sites self.new (all_revived self.old) }
     {
-        self.touched_site = Touched::Everything;
-        revive_all(&mut self.sites, &self.flights, &self.params);
+        self.sites.stand_apart();
+        self.sites.revive_all(&self.params);
     }
 
     fn hear_scan(&mut self)

@@ -1,82 +1,41 @@
-//! A message that has come to wait joins lines, and its sites get records.
-ghost use Rattle.std.specs.Prelude.{◌≡◌, ◌<◌, ◌||◌, ◌==◌, [], IfOk, length, map, OnOk, slice_get, Some};
+//! A message that has come to wait joins lines, and its rows are counted at their sites.
+ghost use Rattle.std.specs.Prelude.{◌≡◌, ◌<◌, ◌≤◌, ◌+◌, ◌++◌, ◌^◌, ◌==◌, [], length, List, map, slice_get, Some};
 ghost use Rattle.std.specs.List.{enumerate_from, list_all, list_any};
-ghost use Rattle.q_core.specs.Loading.{can_join, has_record, joined_within, joins_in, new_sites, with_site};
-ghost use Rattle.q_model.specs.Routes.{world_without_table};
-ghost use Rattle.q_model.specs.SiteRecords.{new_record};
+ghost use Rattle.q_core.specs.Loading.{can_join, joined_within, joins_in, new_sites};
+ghost use Rattle.q_core.specs.Known.{known_records};
+ghost use Rattle.q_core.specs.Ties.{AreBusyTied, AreWaitingTied};
+ghost use Rattle.q_model.specs.declared.rows.Delivery.{Delivery};
+ghost use Rattle.q_peers.specs.Numbered.{rows_of};
 ghost use Rattle.q_model.specs.declared.rows.Row.{Row};
 
-use crate::names::same_site;
-use crate::site_record::WideSiteRecord;
+use q_dest::Sites;
 use q_jobs::Line;
-use q_model::{Health, Id, NoMemory, Row, Site};
+use q_model::{Id, Row, Site};
 use q_params::Params;
-use std::alloc::Global;
+use q_peers::Waiting;
 
-impl WideSiteRecord {
-    /// The record of a site that is used anew.
-    fn new(site: Site, params: &Params) -> WideSiteRecord
-        ensures { result ≡ new_record (world_without_table params.now) site }
-    {
-        let initial = params
-            .initial_destination_concurrency
-            .min(params.default_destination_concurrency_limit);
-        WideSiteRecord {
-            site,
-            window: u64::from(initial),
-            success: 0,
-            failure: 0,
-            cohorts: 0,
-            health: Health::Alive,
-        }
-    }
-}
-
-fn has_record(sites: &[WideSiteRecord], site: &Site) -> bool
-    ensures { result ≡ has_record sites.now site.now }
-{
-    sites.iter().any(|other| same_site(other.site(), site))
-}
-
-/// Adds a record of the site to the new ones, where it has none.
-fn add_site(
-    fresh: &mut Vec<WideSiteRecord>,
-    records: &[WideSiteRecord],
-    site: &Site,
-    params: &Params,
-) -> Result<(), NoMemory>
-    ensures { OnOk result (fresh.new.items ≡ with_site params.now records.now site.now
-        fresh.old.items) }
-{
-    if has_record(records, site) || has_record(fresh, site) {
-        return Ok(());
-    }
-    fresh.push(WideSiteRecord::new(*site, params))?;
-    Ok(())
-}
-
-fn site_of(rows: &[Row], i: usize) -> Site
+/// The site of the row at a place.
+fn site_at(rows: &[Row], i: usize) -> &Site
     requires { i < length rows.now }
-    ensures { (r : Row) → slice_get rows.now i ≡ Some r → result ≡ r.site }
+    ensures { (r : Row) → slice_get rows.now i ≡ Some r → result.now ≡ r.site }
 {
-    rows[i].site
+    &rows[i].site
 }
 
-/// The records of the sites of these rows that have none.
-pub(crate) fn new_sites(
-    alloc: Global,
-    records: &[WideSiteRecord],
-    rows: &[Row],
-    params: &Params,
-) -> Result<Vec<WideSiteRecord>, NoMemory>
-    ensures { IfOk result (λ fresh. fresh.items ≡ new_sites params.now records.now [] rows.now) }
+/// Counts these rows, of which none waits yet, at their sites. A site that has no record gets one.
+pub(crate) fn count_rows(sites: &mut Sites, rows: &[Row], waiting: &Waiting, params: &Params)
+    requires tied { AreWaitingTied sites.old.items (rows_of waiting.now.items) }
+    requires room { length sites.old.items + length rows.now ≤ sites.old.room }
+    requires few { length (rows_of waiting.now.items) + length rows.now < 2 ^ 32 }
+    ensures known { known_records sites.new.items ≡ known_records sites.old.items
+        ++ new_sites params.now (known_records sites.old.items) [] rows.now }
+    ensures waiting { AreWaitingTied sites.new.items (rows_of waiting.now.items ++ rows.now) }
+    ensures busy { (fs : List Delivery) → AreBusyTied sites.old.items fs
+        → AreBusyTied sites.new.items fs }
 {
-    let mut fresh = Vec::new(alloc);
     for i in 0..rows.len() {
-        let site = site_of(rows, i);
-        add_site(&mut fresh, records, &site, params)?;
+        sites.gain(site_at(rows, i), params);
     }
-    Ok(fresh)
 }
 
 fn has_row_at(rows: &[Row], at: usize) -> bool

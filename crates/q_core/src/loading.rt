@@ -9,10 +9,10 @@ ghost use Rattle.q_pool.specs.Slots.{read_up};
 
 use crate::counting::gain_waiting;
 use crate::grouping::rows_of;
-use crate::joining::{can_join_all, join_lines, new_sites};
+use crate::joining::{can_join_all, count_rows, join_lines};
 use crate::rows::add_all;
 use crate::state::{Core, Question};
-use crate::touched::{record_limit, touch_all_if, touch_message};
+use crate::touched::touch_message;
 use q_model::{Batch, Cursor, Entry, Id, NoMemory, Row, Site};
 use std::alloc::Global;
 
@@ -46,29 +46,29 @@ impl Core {
     }
 
     /// Takes the rows of the message in, which is in memory.
-    fn add_rows(&mut self, alloc: Global, id: Id, rows: Vec<Row>) -> Result<(), NoMemory>
+    fn add_rows(&mut self, id: Id, rows: Vec<Row>) -> Result<(), NoMemory>
         requires own { AreRowsOf id rows.items }
         requires there { is_admitted_in self.old id ≡ true }
         ensures ok { OnOk result (AreRowsAdded self.old self.new id rows.items) }
         ensures err { OnErr result (IsUnchanged self.old self.new) }
     {
-        let mut fresh = new_sites(alloc, &self.sites, &rows, &self.params)?;
-        self.sites.reserve(fresh.len())?;
         self.waiting.stand_apart();
         if (self.waiting.spare() as usize) < rows.len() {
+            return Err(NoMemory);
+        }
+        self.sites.stand_apart();
+        if (self.sites.spare() as usize) < rows.len() {
             return Err(NoMemory);
         }
         if !can_join_all(&self.lines, id, &rows) {
             return Err(NoMemory);
         }
         join_lines(&mut self.lines, id, &rows);
+        count_rows(&mut self.sites, &rows, &self.waiting, &self.params);
         let count = rows.len() as u64;
         add_all(&mut self.waiting, rows);
         gain_waiting(&mut self.admitted, id, count);
-        let _ = self.sites.append(&mut fresh);
-        let many = self.sites.len() > record_limit(&self.params);
         touch_message(&mut self.touched_message, id);
-        touch_all_if(&mut self.touched_site, many);
         Ok(())
     }
 
@@ -125,7 +125,7 @@ impl Core {
         ensures err { OnErr result (IsUnchanged self.old self.new) }
     {
         let rows = self.read_rows(alloc, id, taken)?;
-        self.add_rows(alloc, id, rows)?;
+        self.add_rows(id, rows)?;
         self.note_read(id, to);
         self.count_read(taken.len());
         self.end_question();

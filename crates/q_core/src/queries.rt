@@ -1,11 +1,11 @@
 //! What the core tells of the life: its clock, and the deliveries in flight.
-ghost use Rattle.std.specs.Prelude.{◌≡◌, ◌≤◌, find, IsTrue, map, nat_lt, option_map, Some};
+ghost use Rattle.std.specs.Prelude.{◌≡◌, ◌≤◌, find, IsTrue, map, nat_lt, option_map, slice_get, Some};
 ghost use Rattle.std.specs.Option.{option_copied};
 ghost use Rattle.q_core.specs.Agrees.{ForLedgers};
 ghost use Rattle.q_model.specs.Memory.{is_admitted};
 ghost use Rattle.q_core.specs.Held.{is_admitted_in};
 ghost use Rattle.q_core.specs.Lists.{better_of};
-ghost use Rattle.q_core.specs.Queries.{expired_in, flight_in, flight_shown, slot_expired_in, skipped_in, started_earlier};
+ghost use Rattle.q_core.specs.Queries.{expired_in, flight_in, flight_shown, record_behind, slot_expired_in, skipped_in, started_earlier};
 ghost use Rattle.q_model.specs.Book.{message_of};
 ghost use Rattle.q_model.specs.Deliveries.{flight_of};
 ghost use Rattle.q_model.specs.Lists.{least};
@@ -14,9 +14,9 @@ ghost use Rattle.q_model.specs.Past.{starts};
 ghost use Rattle.q_model.specs.Times.{is_expired};
 
 use crate::names::{same_id, same_site};
-use crate::site_record::WideSiteRecord;
 use crate::state::{Core, Question};
 use q_backoff::expired;
+use q_dest::WideSiteRecord;
 use q_model::{Delivery, Id, Moment, Row, Site};
 use q_pool::Slot;
 use std::marker::Model;
@@ -95,11 +95,18 @@ impl Core {
         self.has_slot(id)
     }
 
-    /// The records of sites that have recipients waiting or in flight, or are dead.
-    pub fn site_records(&self) -> &[WideSiteRecord]
-        ensures { result.now ≡ self.now.sites }
+    /// The first record of a site that has recipients waiting or in flight, or is dead.
+    pub fn first_site(&self) -> Option<WideSiteRecord>
+        ensures { result ≡ slice_get self.now.sites 0 }
     {
-        self.sites.as_slice()
+        self.sites.first()
+    }
+
+    /// The record right behind that of a site.
+    pub fn site_behind(&self, site: &Site) -> Option<WideSiteRecord>
+        ensures { result ≡ record_behind site.now self.now.sites }
+    {
+        self.sites.behind(site)
     }
 
     /// The number of this life's last start, 0 for none.

@@ -1,16 +1,16 @@
 //! A delivery in flight ends.
-ghost use Rattle.std.specs.Prelude.{◌≡◌, ◌==◌, filter, IfOk, IsTrue, not, OnErr, OnOk};
+ghost use Rattle.std.specs.Prelude.{◌≡◌, ◌≤◌, ◌==◌, filter, IfOk, IfSome, IsTrue, not, OnErr, OnOk, Some};
 ghost use Rattle.q_core.specs.Agrees.{FollowsAllowed};
-ghost use Rattle.q_core.specs.Changes.{IsUnchanged, is_looked_at};
+ghost use Rattle.q_core.specs.Changes.{IsUnchanged, is_looked_at, left_sites, with_sites};
+ghost use Rattle.q_core.specs.Queries.{flight_in};
+ghost use Rattle.q_core.specs.UsedSites.{busy_in};
+ghost use Rattle.q_model.specs.declared.rows.Delivery.{Delivery as DeliveryOf};
 ghost use Rattle.q_core.specs.Leaving.{AreAdded, IsSiteHeard, IsLanded, replied_in};
 
 use crate::counting::{end_flight, gain_unsettled};
 use crate::flying::recount;
 use crate::needs::needs;
-use crate::site_record::busy;
 use crate::state::Core;
-use crate::touched::{touch_landed, touch_site};
-use crate::window::hear_state;
 use q_model::{Delivery, Entry, NoMemory, Outcome, Site, SiteState, Unsettled};
 use std::alloc::Global;
 
@@ -51,6 +51,7 @@ impl Core {
         outcomes: &[Outcome],
     ) -> Result<Option<Site>, NoMemory>
         ensures ok { IfOk result (λ site. AreAdded self.old self.new number outcomes.now site) }
+        ensures busy { IfOk result (λ o. IfSome o (λ site. 1 ≤ busy_in self.new.flights site)) }
         ensures err { OnErr result (IsUnchanged self.old self.new) }
     {
         let Some(delivery) = self.delivery(number) else {
@@ -68,28 +69,28 @@ impl Core {
 
     /// Lets the site hear of a delivery that is still in flight.
     fn hear_site(&mut self, site: &Site, state: SiteState)
+        requires { 1 ≤ busy_in self.old.flights site.now }
         ensures { IsSiteHeard self.old self.new site.now state }
     {
-        touch_site(&mut self.touched_site, site);
-        let deliveries = busy(&self.flights, site) as u64;
-        hear_state(
-            &mut self.sites,
-            site,
-            &self.params,
-            deliveries,
-            self.clock,
-            state,
-        );
+        let moment = self.clock.seconds;
+        self.sites.stand_apart();
+        self.sites.hear(site, &self.params, moment, state);
     }
 
+    /// The delivery of this number is over. Where nothing goes to its site any more, the site is
+    /// forgotten, or goes behind the others if it is dead.
     fn land(&mut self, number: u64)
-        ensures { IsLanded self.old self.new number }
+        ensures landed { IsLanded self.old (with_sites self.old.sites self.new) number }
+        ensures left { (f : DeliveryOf) → flight_in self.old number ≡ Some f
+            → self.new.sites ≡ left_sites self.new self.old.sites f.row.site }
     {
         let Some(delivery) = self.delivery(number) else {
             return;
         };
         let id = delivery.row.id;
-        touch_landed(&mut self.touched_site, &self.flights, number);
+        let site = delivery.row.site;
+        self.sites.stand_apart();
+        self.sites.land(&site);
         land(&mut self.flights, number);
         end_flight(&mut self.admitted, id);
         recount(&mut self.flying, &self.flights);
@@ -113,7 +114,6 @@ impl Core {
         };
         self.hear_site(&site, state);
         self.land(number);
-        self.leave(&site);
         self.tidy();
         Ok(())
     }

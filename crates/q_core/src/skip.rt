@@ -3,7 +3,7 @@ ghost use Rattle.std.specs.Prelude.{◌≡◌, IfOk, IfSome, IsTrue, OnErr, OnOk
 ghost use Rattle.std.specs.List.{list_any};
 ghost use Rattle.std.specs.Option.{is_some, option_copied};
 ghost use Rattle.q_core.specs.Lists.{AtFirst, AtPlace};
-ghost use Rattle.q_core.specs.Changes.{IsUnchanged, is_looked_at};
+ghost use Rattle.q_core.specs.Changes.{IsUnchanged, is_looked_at, left_sites, with_sites};
 ghost use Rattle.q_core.specs.Leaving.{IsFirstDead, IsLastSkip, IsUnqueued, put_off_in, SkipsRowAt};
 ghost use Rattle.q_core.specs.Sending.{is_for, row_for};
 ghost use Rattle.q_model.specs.declared.rows.Row.{Row as RowOf};
@@ -12,7 +12,7 @@ use crate::counting::put_off_row;
 use crate::needs::put_off;
 use crate::rows::{first_row, take_row};
 use crate::state::Core;
-use crate::touched::{touch_message, touch_site};
+use crate::touched::touch_message;
 use q_model::{Entry, Id, NoMemory, Positions, Row, Site, Unsettled};
 use std::alloc::Global;
 
@@ -41,11 +41,14 @@ impl Core {
         }
     }
 
-    /// Takes the message's first row for the site out, and adds what its recipients need.
+    /// Takes the message's first row for the site out, and adds what its recipients need. Where
+    /// nothing goes to the site any more, it is forgotten, or goes behind the others if it is dead.
     fn unqueue(&mut self, alloc: Global, id: Id, site: &Site) -> Result<Option<Row>, NoMemory>
         requires there { list_any (is_for id site.now) self.old.waiting ≡ true }
         ensures ok { IfOk result (λ o. IfSome o (λ r. AtFirst (is_for id site.now) self.old.waiting
-            (λ entry. IsUnqueued self.old self.new entry r))) }
+            (λ entry. IsUnqueued self.old (with_sites self.old.sites self.new) entry r))) }
+        ensures left { IfOk result (λ o. IfSome o (λ r. self.new.sites
+            ≡ left_sites self.new self.old.sites r.site)) }
         ensures some { IfOk result (λ o. is_some o ≡ true) }
         ensures err { OnErr result (IsUnchanged self.old self.new) }
     {
@@ -55,7 +58,8 @@ impl Core {
             return Ok(None);
         };
         touch_message(&mut self.touched_message, row.id);
-        touch_site(&mut self.touched_site, &row.site);
+        self.sites.stand_apart();
+        self.sites.leave(&row.site);
         put_off_row(&mut self.admitted, row.id, needs.len() as u64);
         let done = row.positions.len().saturating_sub(needs.len());
         self.in_memory = self.in_memory.saturating_sub(done as u64);
@@ -85,7 +89,6 @@ impl Core {
         let Some(row) = self.unqueue(alloc, id, site)? else {
             return Ok(());
         };
-        self.leave(&row.site);
         self.tidy();
         self.note_skip(row.positions);
         Ok(())

@@ -6,7 +6,6 @@ ghost use Rattle.q_peers.specs.Numbered.{rows_of};
 
 use crate::decision::Decision;
 use crate::names::{same_id, same_site};
-use crate::site_record::busy;
 use crate::state::Core;
 use q_model::{Id, Row, Served, Site};
 use q_peers::Waiting;
@@ -22,10 +21,7 @@ impl Core {
     fn has_room(&self, site: &Site) -> bool
         ensures { result ≡ has_room_in self.now site.now }
     {
-        match self.site_record(site) {
-            Some(noted) => noted.has_space(busy(&self.flights, site) as u64),
-            None => false,
-        }
+        self.sites.has_space(site)
     }
 
     fn is_startable(&self, row: &Row) -> bool

@@ -4,16 +4,15 @@ ghost use Rattle.std.specs.Option.{option_copied};
 ghost use Rattle.q_core.specs.Agrees.{AgreesIfConsistent, AgreesIfOrderly, ForFirst};
 ghost use Rattle.q_core.specs.Changes.{is_looked_at};
 ghost use Rattle.q_core.specs.Deciding.{is_answered};
-ghost use Rattle.q_core.specs.Held.{record_in, is_dead_in, slot_in};
+ghost use Rattle.q_core.specs.Held.{is_dead_in, slot_in};
 ghost use Rattle.q_params.specs.Ranges.{IsInRange};
 
 use crate::clock::Clock;
 use crate::decision::Found;
 use crate::flying::Flying;
 use crate::line::empty_lines;
-use crate::names::{same_id, same_site};
-use crate::site_record::WideSiteRecord;
 use crate::touched::Touched;
+use q_dest::Sites;
 use q_jobs::Line;
 use q_model::{
     Delivery, Entry, Id, Mode, Moment, NoMemory, Positions, Request, Scan, Served, Site, Unsettled,
@@ -65,7 +64,7 @@ pub struct Core {
     pub(crate) served: Vec<Served>,
     pub(crate) unsettled: Vec<Unsettled>,
     pub(crate) lines: Vec<Line>,
-    pub(crate) sites: Vec<WideSiteRecord>,
+    pub(crate) sites: Sites,
     pub(crate) synced: Vec<Id>,
     pub(crate) starts: u64,
     pub(crate) active: Seen,
@@ -77,9 +76,8 @@ pub struct Core {
     /// The number of the row that was put off last, 0 for none, and its positions.
     pub(crate) skips: u32,
     pub(crate) skipped: Positions,
-    /// What entries touched since the core was tidied.
+    /// The messages that entries touched since the core was tidied.
     pub(crate) touched_message: Touched<Id>,
-    pub(crate) touched_site: Touched<Site>,
 }
 
 impl Model for Core {
@@ -92,15 +90,16 @@ impl Model for Core {
     ghost view = { state_of };
 
     ghost use Rattle.q_core.specs.Lines.{all_jobs};
-    ghost use Rattle.q_core.specs.Ties.{AreTied};
+    ghost use Rattle.q_core.specs.Ties.{AreSitesTied, AreTied};
     ghost use Rattle.q_core.specs.Touched.{IsTidyBut};
     ghost use Rattle.q_peers.specs.Numbered.{rows_of};
     ghost use Rattle.q_pool.specs.Kept.{heads};
 
     ghost invariant = { λ a. AreTied a.params a.admitted (rows_of a.waiting.items)
         a.flights.items a.unsettled.items a.flying a.starts
-        × IsTidyBut a.touched_message a.touched_site a.params.recipient_limit (heads a.admitted.items)
-        (rows_of a.waiting.items) a.flights.items (all_jobs a.lines.items) a.served.items a.sites.items };
+        × IsTidyBut a.touched_message (heads a.admitted.items) (rows_of a.waiting.items)
+        (all_jobs a.lines.items) a.served.items
+        × AreSitesTied a.sites.items (rows_of a.waiting.items) a.flights.items };
 }
 
 impl Core {
@@ -123,6 +122,7 @@ impl Core {
             params.qmgr_message_recipient_minimum,
         )?;
         let waiting = Waiting::new(alloc, params.qmgr_message_recipient_limit)?;
+        let sites = Sites::new(alloc, 2 * params.qmgr_message_recipient_limit)?;
         Ok(Core {
             params,
             transports,
@@ -142,7 +142,7 @@ impl Core {
             served: Vec::new(alloc),
             unsettled: Vec::new(alloc),
             lines,
-            sites: Vec::new(alloc),
+            sites,
             synced: Vec::new(alloc),
             starts: 0,
             active: Seen::Unknown,
@@ -153,7 +153,6 @@ impl Core {
             skips: 0,
             skipped: Positions::new(alloc),
             touched_message: Touched::Nothing,
-            touched_site: Touched::Nothing,
         })
     }
 
@@ -167,21 +166,9 @@ impl Core {
         }
     }
 
-    /// What is known of this site.
-    pub(crate) fn site_record(&self, site: &Site) -> Option<&WideSiteRecord>
-        ensures { option_copied result ≡ record_in self.now site.now }
-    {
-        self.sites
-            .iter()
-            .find(|noted| same_site(noted.site(), site))
-    }
-
     pub(crate) fn is_dead_site(&self, site: &Site) -> bool
         ensures { result ≡ is_dead_in self.now site.now }
     {
-        match self.site_record(site) {
-            Some(noted) => noted.is_dead(),
-            None => false,
-        }
+        self.sites.is_dead(site)
     }
 }

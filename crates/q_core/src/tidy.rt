@@ -2,19 +2,20 @@
 ghost use Rattle.std.specs.Prelude.{◌≡◌, find, map, option_map};
 ghost use Rattle.std.specs.List.{enumerate_from};
 ghost use Rattle.std.specs.Option.{option_copied};
-ghost use Rattle.q_core.specs.Changes.{HasLeftSite, IsTidied};
+ghost use Rattle.q_core.specs.Changes.{IsTidied};
 ghost use Rattle.q_core.specs.Lines.{on_jobs};
+ghost use Rattle.q_core.specs.Known.{forgotten};
 ghost use Rattle.q_pool.specs.Kept.{heads};
 ghost use Rattle.q_core.specs.Tidied.{leaves_among, tidied_line, tidied_served, slot_among, stays_among, unread_among, waits_at_site};
 ghost use Rattle.q_peers.specs.Numbered.{rows_of};
 
 use crate::rows::{waits_for, waits_for_site};
-use crate::site_record::put_last;
 use crate::state::Core;
-use crate::tidy_touched::{tidy_touched_lines, tidy_touched_served, tidy_touched_sites};
-use crate::touched::{Touched, record_limit, touched_beyond};
+use crate::tidy_touched::{tidy_touched_lines, tidy_touched_served};
+use crate::touched::{Touched, record_limit};
+use q_dest::Sites;
 use q_jobs::Line;
-use q_model::{Id, Served, Site};
+use q_model::{Id, Served};
 use q_peers::Waiting;
 use q_pool::{Pool, Slot};
 
@@ -93,24 +94,26 @@ pub(crate) fn tidy_served(served: &mut Vec<Served>, waiting: &Waiting)
     served.retain(|last| has_row(last, waiting));
 }
 
-impl Core {
-    /// Notes that a row left the site, before that entry is tidied up.
-    pub(crate) fn leave(&mut self, site: &Site)
-        ensures { HasLeftSite self.old self.new site.now }
-    {
-        put_last(&mut self.sites, &self.waiting, &self.flights, site);
+/// Forgets the dead site that nothing goes to for the longest time, where more than `limit` are.
+fn forget_oldest(sites: &mut Sites, limit: usize)
+    ensures { sites.new ≡ record sites.old { items = forgotten limit sites.old.items } }
+{
+    if sites.remembered() as usize > limit {
+        sites.forget();
     }
+}
 
-    /// Tidies after an entry that takes no row from a site.
+impl Core {
+    /// Tidies after an entry.
     pub(crate) fn tidy(&mut self)
         ensures { IsTidied self.old self.new }
     {
         let limit = record_limit(&self.params);
-        let (message, site) = (&self.touched_message, &self.touched_site);
+        let message = &self.touched_message;
+        self.sites.stand_apart();
         tidy_touched_lines(&mut self.lines, message, &self.admitted, &self.waiting);
         tidy_touched_served(&mut self.served, message, &self.waiting);
-        tidy_touched_sites(&mut self.sites, site, &self.waiting, &self.flights, limit);
+        forget_oldest(&mut self.sites, limit);
         self.touched_message = Touched::Nothing;
-        self.touched_site = touched_beyond(&self.sites, limit);
     }
 }

@@ -4,20 +4,16 @@ ghost use Rattle.std.specs.List.{enumerate_from};
 ghost use Rattle.q_core.specs.Lines.{all_jobs, on_jobs};
 ghost use Rattle.q_core.specs.Tidied.{tidied_line, tidied_served, waits_at_site};
 ghost use Rattle.q_pool.specs.Kept.{heads};
-ghost use Rattle.q_core.specs.Touched.{AreFew, DoJobsStay, jobs_stay, served_stay, sites_stay};
-ghost use Rattle.q_core.specs.UsedSites.{forget_in, used_in};
+ghost use Rattle.q_core.specs.Touched.{DoJobsStay, jobs_stay, served_stay};
 ghost use Rattle.q_core.specs.declared.touched.Touched.TheVariants.{One};
 ghost use Rattle.q_model.specs.Ids.{id_eq};
-ghost use Rattle.q_model.specs.SiteRecords.{is_alive};
-ghost use Rattle.q_model.specs.Sites.{site_eq};
 ghost use Rattle.q_peers.specs.Numbered.{rows_of};
 
-use crate::names::{same_id, same_site};
-use crate::site_record::{WideSiteRecord, drop_unused, forget_oldest, is_unused};
+use crate::names::same_id;
 use crate::tidy::{has_row, stays, tidy_lines, tidy_served};
 use crate::touched::Touched;
 use q_jobs::Line;
-use q_model::{Delivery, Id, Served, Site};
+use q_model::{Id, Served};
 use q_peers::Waiting;
 use q_pool::Pool;
 
@@ -93,53 +89,5 @@ pub(crate) fn tidy_touched_served(
         Touched::Nothing => {}
         Touched::One(id) => tidy_served_of(served, *id, waiting),
         Touched::Everything => tidy_served(served, waiting),
-    }
-}
-
-fn is_other_or_dead(noted: &WideSiteRecord, site: &Site) -> bool
-    ensures { result ≡ (not (site_eq noted.now.site site.now) || not (is_alive noted.now.health)) }
-{
-    !same_site(noted.site(), site) || noted.is_dead()
-}
-
-/// Drops the site's record, where it is alive.
-fn drop_alive(sites: &mut Vec<WideSiteRecord>, site: &Site)
-    ensures { sites.new.items ≡ filter (λ r. not (site_eq r.site site.now)
-        || not (is_alive r.health)) sites.old.items }
-{
-    sites.retain(|noted| is_other_or_dead(noted, site));
-}
-
-/// Drops the site's record, where it is alive and not used.
-fn tidy_site(sites: &mut Vec<WideSiteRecord>, site: &Site, waiting: &Waiting, flights: &[Delivery])
-    requires { sites_stay (One site.now) (rows_of waiting.now.items) flights.now sites.old.items ≡ true }
-    ensures { sites.new.items ≡ used_in (rows_of waiting.now.items) flights.now sites.old.items }
-{
-    if is_unused(waiting, flights, site) {
-        drop_alive(sites, site);
-    }
-}
-
-/// Drops the records of sites that are alive and not used, and forgets the dead site that is
-/// unused longest, where more than `limit` are.
-pub(crate) fn tidy_touched_sites(
-    sites: &mut Vec<WideSiteRecord>,
-    touched: &Touched<Site>,
-    waiting: &Waiting,
-    flights: &[Delivery],
-    limit: usize,
-)
-    requires stay { sites_stay touched.now (rows_of waiting.now.items) flights.now sites.old.items ≡ true }
-    requires few { AreFew touched.now limit sites.old.items }
-    ensures { sites.new.items ≡ forget_in (rows_of waiting.now.items) flights.now limit
-        (used_in (rows_of waiting.now.items) flights.now sites.old.items) }
-{
-    match touched {
-        Touched::Nothing => {}
-        Touched::One(site) => tidy_site(sites, site, waiting, flights),
-        Touched::Everything => {
-            drop_unused(sites, waiting, flights);
-            forget_oldest(sites, waiting, flights, limit);
-        }
     }
 }

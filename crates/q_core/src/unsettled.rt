@@ -8,7 +8,6 @@ ghost use Rattle.q_core.specs.UsedSites.{is_dead_with};
 ghost use Rattle.q_peers.specs.Numbered.{rows_of};
 
 use crate::decision::Decision;
-use crate::site_record::WideSiteRecord;
 use crate::state::Core;
 use q_model::{Failure, Need, Row, Unsettled};
 use q_peers::Waiting;
@@ -31,13 +30,6 @@ fn needed(row: &Unsettled) -> Decision
             position: row.position,
         },
     }
-}
-
-/// Whether the site is dead, and a row waits there.
-fn is_dead_with(waiting: &Waiting, noted: &WideSiteRecord) -> bool
-    ensures { result ≡ is_dead_with (rows_of waiting.now.items) noted.now }
-{
-    noted.is_dead() && waiting.waits_at(noted.site())
 }
 
 /// The first of these rows whose site is dead.
@@ -73,9 +65,8 @@ impl Core {
     fn waits_at_dead(&self) -> bool
         ensures { result ≡ list_any (is_dead_with self.now.waiting) self.now.sites }
     {
-        self.sites
-            .iter()
-            .any(|noted| is_dead_with(&self.waiting, noted))
+        self.sites.stand_apart();
+        self.sites.dead_waiting() != 0
     }
 
     /// The first waiting row whose site is dead.

@@ -12,6 +12,9 @@ use std::alloc::{AllocError, Global};
 /// No text has as many jobs.
 const JOBS: usize = 100;
 
+/// More sites than any row has.
+const SITES: u32 = 100;
+
 /// Why a case doesn't go on.
 #[derive(Clone, Copy, Debug)]
 pub(crate) enum Stop {
@@ -206,8 +209,13 @@ impl Driver {
     }
 
     fn write_sites(&mut self) -> Result<(), Stop> {
-        for site in self.core.site_records() {
-            self.text.site(site)?;
+        let mut at = self.core.first_site();
+        for _ in 0..SITES {
+            let Some(site) = at else {
+                return Ok(());
+            };
+            self.text.site(&site)?;
+            at = self.core.site_behind(site.site());
         }
         Ok(())
     }

@@ -30,6 +30,7 @@ invariant_of-self c =
     let slots : heads c.push.new.self.items ≡ heads a.admitted.items ++ c.args.slot ∷ [] = ap (λ (m : Pooled). heads m.items) c.push.ensures ∙ heads_more a.admitted.items _ in (
       tied_more a.params a.admitted c.push.new.self (rows_of a.waiting.items) a.flights.items a.unsettled.items a.flying a.starts c.args.slot c.push.ensures c.self.invariant.0,
       rw slots (slot_entered _ c.self.invariant.1),
+      c.self.invariant.2,
     )
 
 pub returns : goal.returns

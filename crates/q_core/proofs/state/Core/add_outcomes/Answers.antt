@@ -16,6 +16,7 @@ use Rattle.q_pool.specs.Kept.{heads}
 use Rattle.q_pool.specs.Pooled.{Pooled}
 use Rattle.q_pool.specs.declared.kept.Kept.{Kept}
 use Rattle.q_peers.specs.Numbered.{rows_of}
+use Rattle.q_core.proofs.SiteTies.{flies_there}
 use Rattle.q_core.proofs.state.Core.add_outcomes.Goals as goal
 
 pub invariant_of-self-2 : goal.invariant_of-self-2
@@ -33,7 +34,15 @@ invariant_of-self-2 c =
     let many : c.len-3.result ≡ length c.deref.result.now = c.len-3.ensures ∙ sym c.deref.ensures.len in (
       rw added (tied_replied a.params a.admitted c.gain_unsettled.new.pool (rows_of a.waiting.items) a.flights.items a.unsettled.items c.deref.result.now a.flying a.starts f.row.id own.0 c.len-3.result own.1 many few named c.gain_unsettled.ensures t),
       rw slots c.self.invariant.1,
+      c.self.invariant.2,
     )
+
+pub returns-clause-busy : goal.returns-clause-busy
+returns-clause-busy c =
+    let a = c.self.inside in
+    let f = c.in-Some.delivery.now in
+    let at : flight_in (state_of a) c.args.number ≡ Some f = ap (λ (s : State). flight_in s c.args.number) c.self.view_is ∙ sym c.delivery.ensures ∙ ap option_copied c.in-Some.is in
+    flies_there c.args.number f a.flights.items at
 
 pub returns-clause-ok : goal.returns-clause-ok
 returns-clause-ok c = λ g found.

@@ -1,7 +1,5 @@
-use Rattle.std.proofs.Common.{◌≡◌, ◌≤◌, ◌<◌, ◌^◌, ◌∙◌, ◌++◌, [], ap, arith, false, length, map, refl, rules, sym, true}
-use Rattle.std.proofs.lemmas.Grind.{common_steps}
+use Rattle.std.proofs.Common.{◌≡◌, ◌<◌, ◌^◌, ◌∙◌, ◌++◌, [], ap, arith, length, map, refl, rules, subst, true}
 use Rattle.std.proofs.lemmas.List.{length-append, length-map}
-use Rattle.std.specs.Prelude.{nat_lt}
 use Rattle.std.specs.List.{enumerate_from, list_all}
 use Rattle.q_core.proofs.PoolTies.{heads_recounted, present_held}
 use Rattle.q_core.proofs.StillTidyLines.{rows_added}
@@ -12,33 +10,38 @@ use Rattle.q_core.proofs.LineSteps.{joined_back}
 use Rattle.q_core.specs.Lines.{all_jobs}
 use Rattle.q_core.specs.Loading.{can_join, joined_line, joined_within, new_sites}
 use Rattle.q_core.specs.State.{State}
+use Rattle.q_core.specs.Known.{known_records}
+use Rattle.q_core.specs.Ties.{AreSitesTied, AreWaitingTied}
 use Rattle.q_core.specs.View.{state_of}
 use Rattle.q_pool.specs.Kept.{heads}
 use Rattle.q_pool.specs.Pooled.{Pooled}
 use Rattle.q_peers.specs.Numbered.{Numbered, rows_of}
 use Rattle.q_core.proofs.state.Core.add_rows.Goals as goal
 
-pub invariant_of-self-2 : goal.invariant_of-self-2
-invariant_of-self-2 c =
+pub invariant_of-self : goal.invariant_of-self
+invariant_of-self c =
     let core = c.self.inside in
     let rows = c.args.rows.items in
+    let ds = core.sites.items in
+    let fs = core.flights.items in
     let waiting : rows_of c.add_all.new.waiting.items ≡ rows_of core.waiting.items ++ rows = c.add_all.ensures in
     let can : list_all (can_join c.args.id rows) (enumerate_from 0 core.lines.items) ≡ true = search rules in
-    let joined = c.join_lines.ensures ∙ ap (λ rs. map (joined_within c.args.id rs) (enumerate_from 0 c.deref_mut.result.now)) c.deref-5.ensures.value in
+    let joined = c.join_lines.ensures ∙ ap (λ rs. map (joined_within c.args.id rs) (enumerate_from 0 c.deref_mut.result.now)) c.deref-3.ensures.value in
     let lines = joined_back c.args.id rows _ _ _ _ joined c.deref_mut.ensures.value c.deref_mut.ensures.len can in
-    let sites : c.append.new.self.items ≡ core.sites.items ++ new_sites core.params core.sites.items [] rows = search rules in
-    let many = nat_lt c.record_limit.result c.len-3.result in
-    let few : many ≡ false → length (core.sites.items ++ new_sites core.params core.sites.items [] rows) ≤ core.params.recipient_limit =
-    λ e. rw (sym sites) (grind (arith, common_steps, e, c.len-3.ensures, c.record_limit.ensures)) in
     let own = present_held (state_of core) core.admitted.items refl c.args.id (ap (λ (s : State). is_admitted_in s c.args.id) c.self.view_is ∙ c.requires.there) in
     let count : c.len-count.result ≡ length rows = search rules in
     let total = length-append (rows_of core.waiting.items) rows in
     let same = length-map core.waiting.items (λ (k : Numbered). k.row) in
-    let new : c.len-2.result ≡ length rows = search rules in
+    let new : c.len.result ≡ length rows = search rules in
     let fits : length (rows_of core.waiting.items ++ rows) < 2 ^ 64 = omega (arith, total, same, new, c.stand_apart.ensures.within, c.stand_apart.ensures.few, c.spare.ensures, c.if-spare-len.false) in
+    let tied : AreSitesTied c.count_rows.new.sites.items (rows_of core.waiting.items ++ rows) fs = record {
+      waiting = subst (λ rs. AreWaitingTied c.count_rows.new.sites.items (rows_of core.waiting.items ++ rs)) c.deref-4.ensures.value c.count_rows.ensures.waiting;
+      busy = c.count_rows.ensures.busy fs c.self.invariant.2.busy;
+    } in
     let slots : heads c.gain_waiting.new.pool.items ≡ heads core.admitted.items = ap (λ (m : Pooled). heads m.items) c.gain_waiting.ensures ∙ heads_recounted (with_waiting c.len-count.result) c.args.id core.admitted.items in (
-      rw waiting (tied_read core.params core.admitted c.gain_waiting.new.pool (rows_of core.waiting.items) rows core.flights.items core.unsettled.items core.flying core.starts c.args.id own.0 c.len-count.result own.1 count fits c.requires.own c.gain_waiting.ensures c.self.invariant.0),
-      rw (slots, c.touch_message.ensures, c.touch_all_if.ensures, waiting, lines, sites) (rows_added core.params c.args.id rows many few c.self.invariant.1),
+      rw waiting (tied_read core.params core.admitted c.gain_waiting.new.pool (rows_of core.waiting.items) rows fs core.unsettled.items core.flying core.starts c.args.id own.0 c.len-count.result own.1 count fits c.requires.own c.gain_waiting.ensures c.self.invariant.0),
+      rw (slots, c.touch_message.ensures, waiting, lines) (rows_added c.args.id rows c.self.invariant.1),
+      rw waiting tied,
     )
 
 pub returns-clause-ok : goal.returns-clause-ok
@@ -47,17 +50,18 @@ returns-clause-ok c =
     let rows = c.args.rows.items in
     let waiting : rows_of c.add_all.new.waiting.items ≡ rows_of core.waiting.items ++ rows = c.add_all.ensures in
     let can : list_all (can_join c.args.id rows) (enumerate_from 0 core.lines.items) ≡ true = search rules in
-    let joined = c.join_lines.ensures ∙ ap (λ rs. map (joined_within c.args.id rs) (enumerate_from 0 c.deref_mut.result.now)) c.deref-5.ensures.value in
+    let joined = c.join_lines.ensures ∙ ap (λ rs. map (joined_within c.args.id rs) (enumerate_from 0 c.deref_mut.result.now)) c.deref-3.ensures.value in
     let lines = joined_back c.args.id rows _ _ _ _ joined c.deref_mut.ensures.value c.deref_mut.ensures.len can in
-    let sites : c.append.new.self.items ≡ core.sites.items ++ new_sites core.params core.sites.items [] rows = search rules in
+    let known : known_records c.count_rows.new.sites.items ≡ known_records core.sites.items ++ new_sites core.params (known_records core.sites.items) [] rows =
+    c.count_rows.ensures.known ∙ ap (λ rs. known_records core.sites.items ++ new_sites core.params (known_records core.sites.items) [] rs) c.deref-4.ensures.value in
     let slots : heads c.gain_waiting.new.pool.items ≡ heads core.admitted.items = ap (λ (m : Pooled). heads m.items) c.gain_waiting.ensures ∙ heads_recounted (with_waiting c.len-count.result) c.args.id core.admitted.items in
     record {
       rest =
           rw lines (
-          ap (λ ss. record (state_of core) { admitted = ss; waiting = rows_of c.add_all.new.waiting.items; lines = map (joined_line c.args.id rows) (enumerate_from 0 (all_jobs core.lines.items)); sites = c.append.new.self.items }) slots
-          ∙ ap (λ (s : State). record s { waiting = rows_of c.add_all.new.waiting.items; lines = map (joined_line c.args.id rows) (enumerate_from 0 (all_jobs core.lines.items)); sites = c.append.new.self.items }) c.self.view_is
+          ap (λ ss. record (state_of core) { admitted = ss; waiting = rows_of c.add_all.new.waiting.items; lines = map (joined_line c.args.id rows) (enumerate_from 0 (all_jobs core.lines.items)); sites = known_records c.count_rows.new.sites.items }) slots
+          ∙ ap (λ (s : State). record s { waiting = rows_of c.add_all.new.waiting.items; lines = map (joined_line c.args.id rows) (enumerate_from 0 (all_jobs core.lines.items)); sites = known_records c.count_rows.new.sites.items }) c.self.view_is
           );
       waiting = waiting ∙ ap (λ (s : State). s.waiting ++ rows) c.self.view_is;
       lines = lines ∙ ap (λ (s : State). map (joined_line c.args.id rows) (enumerate_from 0 s.lines)) c.self.view_is;
-      sites = sites ∙ ap (λ (s : State). s.sites ++ new_sites s.params s.sites [] rows) c.self.view_is;
+      sites = known ∙ ap (λ (s : State). s.sites ++ new_sites s.params s.sites [] rows) c.self.view_is;
     }

@@ -11,7 +11,7 @@ use Rattle.q_core.proofs.state.Core.count_start.Goals as goal
 pub invariant_of-self : goal.invariant_of-self
 invariant_of-self c =
     let lines = lines_back _ _ _ _ _ c.start_at.ensures c.deref_mut.ensures.value c.deref_mut.ensures.len in
-    rw lines (c.self.invariant.0, start_counted c.args.id _ c.self.invariant.1)
+    rw lines (c.self.invariant.0, start_counted c.args.id _ c.self.invariant.1, c.self.invariant.2)
 
 pub returns : goal.returns
 returns c =

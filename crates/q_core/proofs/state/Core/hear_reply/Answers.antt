@@ -1,8 +1,12 @@
-use Rattle.std.proofs.Common.{◌≡◌, ◌∙◌, sym, subst, Option, None, Some}
+use Rattle.std.proofs.Common.{◌≡◌, ◌∙◌, ap, sym, subst, Option, None, Some}
 use Rattle.q_model.specs.Step.{after}
 use Rattle.q_model.specs.Values.{Site}
 use Rattle.q_core.proofs.ReplyLaws.{reply_in_flight, reply_law}
 use Rattle.q_core.specs.Leaving.{AreAdded}
+use Rattle.q_core.proofs.UsedLaws.{has_left, tidied_left}
+use Rattle.q_core.specs.Changes.{left_sites}
+use Rattle.q_core.specs.Queries.{flight_in}
+use Rattle.q_core.specs.declared.state.Core.{Core}
 use Rattle.q_core.proofs.state.Core.hear_reply.Goals as goal
 
 none_found : {X : Type 0} (o : Option X) (x : X) → o ≡ None → o ≡ Some x → ⊥
@@ -19,4 +23,11 @@ returns-clause-ok c = λ w l a may.
     let f = reply_in_flight a c.args.number c.args.state c.args.outcomes.now may in
     let added : AreAdded c.args.self.now c.add_outcomes.new.self c.args.number c.args.outcomes.now (Some c.in-Some.site) =
     subst (λ (o : Option Site). AreAdded c.args.self.now c.add_outcomes.new.self c.args.number c.args.outcomes.now o) c.in-Some.is c.in_ok-site.ensures.ok in
-    reply_law a c.requires.seen c.args.number c.args.state c.args.outcomes.now c.in-Some.site f.0 f.1 (added f.0 f.1) c.hear_site.ensures c.land.ensures c.leave.ensures c.tidy.ensures
+    let replied = added f.0 f.1 in
+    let v = c.hear_site.new.self in
+    let y = c.land.new.self in
+    let flying : flight_in v c.args.number ≡ Some f.0 =
+    ap (λ (s : Core). flight_in s c.args.number) c.hear_site.ensures.rest ∙ ap (λ (s : Core). flight_in s c.args.number) replied.rest ∙ f.1 in
+    let left : y.sites ≡ left_sites y v.sites c.in-Some.site = c.land.ensures.left f.0 flying ∙ ap (left_sites y v.sites) (sym replied.there) in
+    reply_law a c.requires.seen c.args.number c.args.state c.args.outcomes.now c.in-Some.site f.0 f.1 replied c.hear_site.ensures c.land.ensures.landed
+    (has_left y c.tidy.new.self v.sites c.in-Some.site left) (tidied_left y c.tidy.new.self v.sites c.in-Some.site left c.tidy.ensures)

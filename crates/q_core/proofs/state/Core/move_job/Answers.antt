@@ -11,7 +11,7 @@ pub invariant_of-self : goal.invariant_of-self
 invariant_of-self c =
     let f = preempted_line c.args.child c.args.parent c.args.transport c.args.need c.args.left in
     let lines = lines_back f _ _ _ _ c.preempt_at.ensures c.deref_mut.ensures.value c.deref_mut.ensures.len in
-    rw lines (c.self.invariant.0, job_moved c.args.child c.args.parent c.args.transport c.args.need c.args.left c.self.invariant.1)
+    rw lines (c.self.invariant.0, job_moved c.args.child c.args.parent c.args.transport c.args.need c.args.left c.self.invariant.1, c.self.invariant.2)
 
 pub returns : goal.returns
 returns c =

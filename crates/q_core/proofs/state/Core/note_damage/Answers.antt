@@ -17,6 +17,7 @@ invariant_of-self c =
     ap (λ (m : Pooled). heads m.items) c.damage.ensures ∙ heads_kept c.args.id with_damage a.admitted.items in (
       tied_kept a.params a.admitted c.damage.new.self (rows_of a.waiting.items) a.flights.items a.unsettled.items a.flying a.starts c.args.id with_damage (λ s. refl) c.damage.ensures c.self.invariant.0,
       rw (slots, c.touch_message.ensures) (slots_touched c.args.id (unread_other c.args.id with_damage (λ s. refl) (heads a.admitted.items)) c.self.invariant.1),
+      c.self.invariant.2,
     )
 
 pub returns : goal.returns

@@ -1,5 +1,37 @@
-use Rattle.q_core.proofs.StillTidyLines.{sites_all_touched}
+use Rattle.std.proofs.Common.{◌≡◌, ◌∙◌, ap, filter, map, refl}
+use Rattle.q_core.proofs.SiteChanges.{sites_kept}
+use Rattle.q_core.proofs.SiteViews.{dead_apart, dead_tied, dead_used}
+use Rattle.q_core.specs.Changes.{all_revived}
+use Rattle.q_core.specs.Known.{known_records}
+use Rattle.q_core.specs.State.{State}
+use Rattle.q_core.specs.UsedSites.{revive_dead_in, used_in}
+use Rattle.q_dest.specs.Dests.{Dests, is_kept, revived_when_dead}
+use Rattle.q_peers.specs.Numbered.{rows_of}
 use Rattle.q_core.proofs.state.Core.revive_all.Goals as goal
 
 pub invariant_of-self : goal.invariant_of-self
-invariant_of-self c = (c.self.invariant.0, sites_all_touched _ c.self.invariant.1)
+invariant_of-self c =
+    let core = c.self.inside in
+    let rows = rows_of core.waiting.items in
+    let fs = core.flights.items in
+    let ds = core.sites.items in
+    let apart = c.stand_apart.ensures.apart in
+    let tie = c.self.invariant.2 in
+    let p = core.params in
+    let sites : c.revive_all.new.self.items ≡ filter is_kept (map (revived_when_dead p) ds) = ap (λ (x : Dests). x.items) c.revive_all.ensures in
+    rw sites (c.self.invariant.0, c.self.invariant.1, sites_kept rows fs (map (revived_when_dead p) ds) (dead_apart rows fs ds apart tie p) (dead_tied rows fs ds apart tie p))
+
+pub returns-clause-revived : goal.returns-clause-revived
+returns-clause-revived c = record {
+  rest = ap (λ (s : State). record s { sites = all_revived c.args.self.now }) c.self.view_is;
+  sites = refl;
+}
+
+pub returns-clause-used : goal.returns-clause-used
+returns-clause-used c =
+    let core = c.self.inside in
+    let rows = rows_of core.waiting.items in
+    let fs = core.flights.items in
+    ap (λ (x : Dests). known_records x.items) c.revive_all.ensures
+    ∙ dead_used rows fs core.sites.items c.stand_apart.ensures.apart c.self.invariant.2 core.params
+    ∙ ap (λ (s : State). used_in rows fs (map (revive_dead_in s.params s.flights) s.sites)) c.self.view_is

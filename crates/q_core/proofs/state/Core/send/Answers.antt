@@ -1,9 +1,14 @@
-use Rattle.std.proofs.Common.{◌≡◌, ◌∙◌, ◌++◌, ◌<◌, ◌^◌, ◌∷◌, [], ap, arith, false, length, List, Some, subst, sym, true}
+use Rattle.std.proofs.Common.{◌≡◌, ◌∙◌, ◌++◌, ◌<◌, ◌^◌, ◌∷◌, [], ap, arith, false, length, List, map, refl, Some, subst, sym, true}
 use Rattle.std.specs.List.{list_any, remove}
 use Rattle.std.specs.Prelude.{position, slice_get}
 use Rattle.q_core.proofs.ListLaws.{drop_first-Some}
 use Rattle.q_core.proofs.RowWalkLaws.{any_place, none_any, same_place}
+use Rattle.q_core.proofs.CountLaws.{count_within}
+use Rattle.q_core.proofs.SiteChanges.{known_stays, sites_begun}
 use Rattle.q_core.proofs.StillTidyLaws.{flight_added, row_gone}
+use Rattle.q_core.specs.Known.{known_records}
+use Rattle.q_dest.specs.Dests.{begun, changed_at, Dests}
+use Rattle.q_model.specs.Sites.{site_eq}
 use Rattle.q_core.specs.Sending.{is_for, served_now}
 use Rattle.q_core.specs.State.{State}
 use Rattle.q_model.specs.Values.{Served}
@@ -35,11 +40,20 @@ invariant_of-self-2 c =
     c.add_flight.ensures.items ∙ ap (λ (fs : List Delivery). fs ++ record { number = c.args.number; row = row } ∷ []) c.in_ok-reserve.ensures.items in
     let less = subst (λ (s : State). s.starts < c.args.number) (sym c.self.view_is) c.requires.next in
     let few : length (a.flights.items ++ record { number = c.args.number; row = row } ∷ []) < 2 ^ 64 = grind (arith, sym added, c.add_flight.new.flights.ok, c.add_flight.new.flights.small) in
+    let sites : c.begin.new.self.items ≡ map (changed_at row.site begun) a.sites.items = ap (λ (x : Dests). x.items) c.begin.ensures in
     let counted = subst (λ (fs : List Delivery). IsCounted fs c.add_flight.new.flying) added c.add_flight.ensures.counted in (
       rw (left, added) (tied_sent a.params a.admitted c.begin_flight.new.pool rows f.0 row a.flights.items a.unsettled.items a.flying c.add_flight.new.flying a.starts c.args.number there less few counted c.begin_flight.ensures c.self.invariant.0),
-      rw (slots, c.touch_message-2.ensures, c.touch_message.ensures, c.touch_site.ensures, left, c.in_ok-note_served.ensures.ok, c.add_flight.ensures.items, c.in_ok-reserve.ensures.items)
-          (flight_added _ c.args.id c.args.site c.args.number (row_gone f.0 row there c.self.invariant.1)),
+      rw (slots, c.touch_message-2.ensures, c.touch_message.ensures, left, c.in_ok-note_served.ensures.ok) (flight_added c.args.id c.args.site c.args.number (row_gone f.0 row there c.self.invariant.1)),
+      rw (sites, left, added) (sites_begun rows f.0 row c.args.number a.flights.items a.sites.items there c.self.invariant.2),
     )
+
+pub begin-requires : goal.begin-requires
+begin-requires c =
+    let a = c.self.inside in
+    let site = c.in-Some.row.site in
+    let tie = c.self.invariant.2.busy site in
+    let within = count_within (λ (f : Delivery). site_eq f.row.site site) a.flights.items in
+    omega (arith, tie, within, c.len.ensures, c.if-len-ge-MOST_FLIGHTS.false)
 
 pub returns-clause-ok : goal.returns-clause-ok
 returns-clause-ok c = λ entry at.
@@ -57,9 +71,11 @@ returns-clause-ok c = λ entry at.
     let slots : heads c.begin_flight.new.pool.items ≡ heads a.admitted.items = ap (λ (m : Pooled). heads m.items) c.begin_flight.ensures ∙ heads_recounted with_flight row.id a.admitted.items in
     let added : c.add_flight.new.flights.items ≡ a.flights.items ++ record { number = c.args.number; row = row } ∷ [] =
     c.add_flight.ensures.items ∙ ap (λ (fs : List Delivery). fs ++ record { number = c.args.number; row = row } ∷ []) c.in_ok-reserve.ensures.items in
+    let known : known_records c.begin.new.self.items ≡ known_records a.sites.items = ap (λ (x : Dests). known_records x.items) c.begin.ensures ∙ known_stays row.site begun (λ d. refl) a.sites.items in
     record {
       rest =
-          ap (λ ss. record (state_of a) { admitted = ss; waiting = rows_of c.take_row.new.waiting.items; flights = c.add_flight.new.flights.items; served = c.note_served.new.served.items; starts = c.args.number }) slots
+          ap (λ rs. record (state_of a) { admitted = heads c.begin_flight.new.pool.items; waiting = rows_of c.take_row.new.waiting.items; flights = c.add_flight.new.flights.items; served = c.note_served.new.served.items; sites = rs; starts = c.args.number }) known
+          ∙ ap (λ ss. record (state_of a) { admitted = ss; waiting = rows_of c.take_row.new.waiting.items; flights = c.add_flight.new.flights.items; served = c.note_served.new.served.items; starts = c.args.number }) slots
           ∙ ap (λ (s : State). record s { waiting = rows_of c.take_row.new.waiting.items; flights = c.add_flight.new.flights.items; served = c.note_served.new.served.items; starts = c.args.number }) c.self.view_is;
       waiting = left ∙ ap (λ k. remove rows k) e ∙ ap (λ ws. remove ws entry) same;
       flights = λ r at.

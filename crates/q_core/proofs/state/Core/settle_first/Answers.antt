@@ -21,6 +21,7 @@ invariant_of-self c =
     let slots : heads c.lose_unsettled.new.pool.items ≡ heads a.admitted.items = ap (λ (m : Pooled). heads m.items) c.lose_unsettled.ensures ∙ heads_recounted (without_unsettled 1) first.id a.admitted.items in (
       rw c.remove-first.ensures.items (tied_settled a.params a.admitted c.lose_unsettled.new.pool (rows_of a.waiting.items) a.flights.items us a.flying a.starts 0 first there c.lose_unsettled.ensures c.self.invariant.0),
       rw slots c.self.invariant.1,
+      c.self.invariant.2,
     )
 
 pub returns-clause-change : goal.returns-clause-change

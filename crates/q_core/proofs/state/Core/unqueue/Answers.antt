@@ -1,9 +1,15 @@
-use Rattle.std.proofs.Common.{◌≡◌, ◌∙◌, ◌++◌, ◌<◌, ◌^◌, ap, arith, false, length, Some, subst, sym, true}
+use Rattle.std.proofs.Common.{◌≡◌, ◌∙◌, ◌++◌, ◌<◌, ◌^◌, ap, arith, false, filter, length, refl, Some, subst, sym, true}
 use Rattle.std.specs.List.{list_any, remove}
 use Rattle.std.specs.Prelude.{find, position, slice_get}
 use Rattle.q_core.proofs.ListLaws.{drop_first-Some}
 use Rattle.q_core.proofs.RowWalkLaws.{any_place, none_any, same_place}
+use Rattle.q_core.proofs.SiteChanges.{sites_left, sites_settled}
+use Rattle.q_core.proofs.SiteViews.{settled_used}
 use Rattle.q_core.proofs.StillTidyLaws.{row_gone}
+use Rattle.q_core.specs.Known.{known_records}
+use Rattle.q_core.specs.Lists.{moved_back}
+use Rattle.q_core.specs.UsedSites.{is_left_in, used_in}
+use Rattle.q_dest.specs.Dests.{Dests, is_kept, left as left_dest, settled}
 use Rattle.q_core.specs.Leaving.{put_off_in}
 use Rattle.q_core.specs.Sending.{is_for, row_for}
 use Rattle.q_core.specs.State.{State}
@@ -39,8 +45,8 @@ returns-clause-ok c = λ entry at.
     record {
       row = ap (λ ws. slice_get ws entry) (sym same) ∙ ap (slice_get rows) (sym e) ∙ there;
       rest =
-          ap (λ ss. record (state_of a) { admitted = ss; waiting = rows_of c.take_row.new.waiting.items; unsettled = c.extend_from_slice.new.self.items; in_memory = c.saturating_sub-self-inside.result }) slots
-          ∙ ap (λ (s : State). record s { waiting = rows_of c.take_row.new.waiting.items; unsettled = c.extend_from_slice.new.self.items; in_memory = c.saturating_sub-self-inside.result }) c.self.view_is;
+          ap (λ ss. record (state_of a) { admitted = ss; waiting = rows_of c.take_row.new.waiting.items; unsettled = c.extend_from_slice.new.self.items; in_memory = c.saturating_sub-self-inside.result; sites = c.args.self.now.sites }) slots
+          ∙ ap (λ (s : State). record s { waiting = rows_of c.take_row.new.waiting.items; unsettled = c.extend_from_slice.new.self.items; in_memory = c.saturating_sub-self-inside.result; sites = c.args.self.now.sites }) c.self.view_is;
       waiting = left ∙ ap (λ k. remove rows k) e ∙ ap (λ ws. remove ws entry) same;
       unsettled = added ∙ ap (λ us. us ++ c.deref.result.now) (ap (λ (s : State). s.unsettled) c.self.view_is) ∙ ap (λ us. c.args.self.now.unsettled ++ us) (c.deref.ensures.value ∙ needs);
       memory = let few = ap length needs in let memory = ap (λ (s : State). s.in_memory) c.self.view_is in grind (arith, few, memory, c.saturating_sub-self-inside.ensures, c.saturating_sub-done.ensures, c.len-2.ensures, c.len-3.ensures);
@@ -63,10 +69,29 @@ invariant_of-self-2 c =
     let slots : heads c.put_off_row.new.pool.items ≡ heads a.admitted.items = ap (λ (m : Pooled). heads m.items) c.put_off_row.ensures ∙ heads_recounted (with_row_put_off c.len.result) row.id a.admitted.items in
     let named : AreNamed (λ (u : Unsettled). u.id) row.id c.deref.result.now = subst (AreNamed (λ (u : Unsettled). u.id) row.id) (sym (c.deref.ensures.value ∙ needs)) (needs_named _ row.id row.positions _) in
     let few : length (a.unsettled.items ++ c.deref.result.now) < 2 ^ 64 = grind (arith, sym added, c.extend_from_slice.new.self.ok, c.extend_from_slice.new.self.small) in
+    let sites : c.leave.new.self.items ≡ filter is_kept (settled row.site left_dest a.sites.items) = ap (λ (x : Dests). x.items) c.leave.ensures in
     let many : c.len.result ≡ length c.deref.result.now = c.len.ensures ∙ sym c.deref.ensures.len in (
       rw (left, added) (tied_put_off a.params a.admitted c.put_off_row.new.pool rows f.0 row a.flights.items a.unsettled.items c.deref.result.now a.flying a.starts c.len.result there many few named c.put_off_row.ensures c.self.invariant.0),
-      rw (slots, c.touch_message.ensures, c.touch_site.ensures, left) (row_gone f.0 row there c.self.invariant.1),
+      rw (slots, c.touch_message.ensures, left) (row_gone f.0 row there c.self.invariant.1),
+      rw (sites, left) (sites_settled (remove rows f.0) a.flights.items row.site left_dest (λ d. refl) a.sites.items c.stand_apart.ensures.apart (sites_left rows f.0 row a.flights.items a.sites.items there c.self.invariant.2)),
     )
+
+pub returns-clause-left : goal.returns-clause-left
+returns-clause-left c =
+    let a = c.self.inside in
+    let p = is_for c.args.id c.args.site.now in
+    let rows = rows_of a.waiting.items in
+    let same = ap (λ (s : State). s.waiting) c.self.view_is in
+    let f = any_place p rows (ap (list_any p) same ∙ c.requires.there) in
+    let row = c.in-Some.row in
+    let is : f.1 ≡ row = (let both : Some f.1 ≡ Some row = sym f.2.found ∙ sym c.take_row.ensures.taken ∙ c.in-Some.is in cc) in
+    let there : slice_get rows f.0 ≡ Some row = f.2.there ∙ ap (λ (x : Row). Some x) is in
+    let left : rows_of c.take_row.new.waiting.items ≡ remove rows f.0 = c.take_row.ensures.rows ∙ sym (drop_first-Some p rows f.0 f.2.place) in
+    let fs = a.flights.items in
+    ap (λ (x : Dests). known_records x.items) c.leave.ensures
+    ∙ settled_used (remove rows f.0) fs row.site left_dest (λ d. refl) a.sites.items c.stand_apart.ensures.apart (sites_left rows f.0 row fs a.sites.items there c.self.invariant.2)
+    ∙ ap (λ rs. used_in rs fs (moved_back (is_left_in rs fs row.site) (known_records a.sites.items))) (sym left)
+    ∙ ap (λ (s : State). used_in (rows_of c.take_row.new.waiting.items) fs (moved_back (is_left_in (rows_of c.take_row.new.waiting.items) fs row.site) s.sites)) c.self.view_is
 
 pub invariant_of-self-in_default : goal.invariant_of-self-in_default
 invariant_of-self-in_default c =
