@@ -1,5 +1,5 @@
 -- A refusal of the host becomes one of the engine, and has its cause.
-use Rattle.std.proofs.Common.{◌≡◌, ◌∙◌, ◌≤◌, ap, arith, Bool, false, refl, sym, true}
+use Rattle.std.proofs.Common.{◌≡◌, ◌∙◌, ◌≤◌, ap, arith, Bool, false, Option, refl, Some, subst, sym, true}
 use Rattle.std.specs.Prelude.{◌||◌, Err, IsErrOf, Ok, Result}
 use Rattle.q_entries.specs.Causes.{HostCause}
 use Rattle.q_host.specs.Faults.{Faults, TellCause}
@@ -71,3 +71,18 @@ event_cause before made event = record {
   disk = λ of. absurd (event_apart made faults.Disk event of);
   tell = λ of. absurd (event_apart made faults.Tell event of);
 }
+
+-- where all was done there is no refusal
+pub done_cause : {T S : Type 0} (before after : Faults) (r : Result T HostError) (made : S) → HostCause before after r → EngineCause {T = S} before after (Ok made)
+done_cause before after r made h = record { disk_later = h.disk_later; tell_later = h.tell_later; disk = λ of. absurd cc; tell = λ of. absurd cc }
+
+-- what was refused is what the ledger refuses
+
+same_error : (o asked : Option EngineError) (made error : EngineError) → o ≡ Some made → o ≡ asked → asked ≡ Some error → made ≡ error
+same_error o asked made error is agrees of = let both : Some made ≡ Some error = sym is ∙ agrees ∙ of in cc
+
+pub refused_so : {T : Type 0} (o asked : Option EngineError) (made error : EngineError) → o ≡ Some made → o ≡ asked → asked ≡ Some error → IsErrOf {T = T} (Err made) error
+refused_so {T} o asked made error is agrees of = subst (λ (e : EngineError). IsErrOf {T = T} (Err made) e) (same_error o asked made error is agrees of) refl
+
+pub asked_so : {T : Type 0} (o asked : Option EngineError) (made error : EngineError) → o ≡ Some made → o ≡ asked → IsErrOf {T = T} (Err made) error → asked ≡ Some error
+asked_so o asked made error is agrees of = let same : made ≡ error = cc in sym agrees ∙ is ∙ ap Some same

@@ -1,5 +1,5 @@
-use Rattle.std.proofs.Common.{◌≡◌, ◌∙◌, None, Option, Some, sym}
-use Rattle.q_engine.proofs.Causes.{event_apart, event_cause, event_kind, host_apart, made_cause}
+use Rattle.std.proofs.Common.{◌≡◌, ◌∙◌, None, Option, refl, Some, sym}
+use Rattle.q_engine.proofs.Causes.{asked_so, done_cause, event_apart, event_cause, event_kind, host_apart, made_cause, refused_so}
 use Rattle.q_engine.proofs.Turns.{passed_on}
 use Rattle.q_engine.specs.declared.error.EngineError.{EngineError}
 use Rattle.q_engine.proofs.engine.Engine.step.Goals as goal
@@ -26,3 +26,19 @@ returns-in-Err-clause-refused g c w l agrees counts error is =
 
 pub returns-in-Err-clause-only_refused : goal.returns-in-Err-clause-only_refused
 returns-in-Err-clause-only_refused g c error of event w l agrees counts = absurd (host_apart c.refusal_of.result error c.in-Err.error c.refusal_of.ensures.exact of event)
+
+pub returns-in-Some-clause-refused : goal.returns-in-Some-clause-refused
+returns-in-Some-clause-refused g c w l agrees counts error is =
+    (refused_so c.refusal.result _ c.in-Some.error error c.in-Some.is (c.refusal.ensures.ledger w l agrees counts) is, refl)
+
+pub returns-in-Some-clause-only_refused : goal.returns-in-Some-clause-only_refused
+returns-in-Some-clause-only_refused g c error of event w l agrees counts =
+    asked_so c.refusal.result _ c.in-Some.error error c.in-Some.is (c.refusal.ensures.ledger w l agrees counts) of
+
+pub returns-in-Ok-clause-refused : goal.returns-in-Ok-clause-refused
+returns-in-Ok-clause-refused g c w l agrees counts error is =
+    let none : ◌≡◌ {A = Option EngineError} None (Some error) = sym c.in_default.is ∙ c.refusal.ensures.ledger w l agrees counts ∙ is in
+    absurd cc
+
+pub returns-in-Ok-clause-cause : goal.returns-in-Ok-clause-cause
+returns-in-Ok-clause-cause g c = done_cause (g.H.Host.faults c.args.host.now) (g.H.Host.faults c.take.new.host) c.take.result _ c.take.ensures.cause
