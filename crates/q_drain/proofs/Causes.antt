@@ -1,16 +1,17 @@
 -- A refusal that is passed on has the cause that it had.
-use Rattle.std.proofs.Common.{◌≡◌, ◌≤◌, arith, Option, Some, ℕ}
+use Rattle.std.proofs.Common.{◌≡◌, ◌≤◌, arith, Option, refl, Some, true, ℕ}
 use Rattle.std.specs.Prelude.{Err, Ok, Result}
 use Rattle.std.specs.Result.{IsErrAnd}
 use Rattle.q_drain.specs.declared.driver.Drained.{Drained}
 use Rattle.q_drain.specs.declared.driver.Drained.TheVariants.{Unfinished}
 use Rattle.q_engine.proofs.DecisionLoops.{same_error}
 use Rattle.q_drain.specs.Faults.{fault_of}
-use Rattle.q_engine.specs.Refusals.{EngineCause}
+use Rattle.q_engine.specs.Refusals.{EngineCause, is_of_host, refusal_of}
 use Rattle.q_engine.specs.declared.error.EngineError.{EngineError}
 use Rattle.q_engine.specs.declared.error.EngineError.TheVariants as errors
 use Rattle.q_entries.specs.Causes.{HostCause}
 use Rattle.q_events.proofs.LineParts.{rose_later}
+use Rattle.q_events.specs.declared.error.Bound.{Bound}
 use Rattle.q_host.specs.Faults.{DiskCause, Faults}
 use Rattle.q_host.specs.declared.error.HostError.{HostError}
 use Rattle.q_host.specs.declared.error.HostError.TheVariants.{Disk, NoMemory, Tell}
@@ -64,3 +65,13 @@ cause_behind a b c r disk tell h = record {
 -- so many rests were given, and no other number
 pub same_rests : (given n : ℕ) → ◌≡◌ {A = Option Drained} (Some (Unfinished given)) (Some (Unfinished n)) → n ≡ given
 same_rests given n is = cc
+
+-- an end at a bound
+pub limit_cause : {T S : Type 0} (before after : Faults) (bound : Bound) (r : Result T HostError) → HostCause before after r → EngineCause {T = S} before after (Err (errors.Limit bound))
+limit_cause before after bound r h = record { disk_later = h.disk_later; tell_later = h.tell_later; disk = λ of. absurd cc; tell = λ of. absurd cc }
+
+-- a refusal of the host is one
+pub host_kind : (error : HostError) → is_of_host (refusal_of error) ≡ true
+host_kind Disk = refl
+host_kind Tell = refl
+host_kind NoMemory = refl

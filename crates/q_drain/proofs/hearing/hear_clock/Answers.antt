@@ -1,7 +1,7 @@
 use Rattle.std.proofs.Common.{◌≡◌, ◌∙◌, arith, inl, inr, refl, subst, sym, ap, Bool}
 use Rattle.std.specs.Prelude.{Err}
 use Rattle.q_books.specs.HostStands.{TellsCrashes}
-use Rattle.q_drain.proofs.Causes.{engine_ok}
+use Rattle.q_drain.proofs.Causes.{engine_ok, engine_passed}
 use Rattle.q_drain.proofs.ClockTurns.{heard_at, heard_part, heard_same, host_fault, IsNew, never_refused, past_now}
 use Rattle.q_drain.specs.Faults.{fault_of}
 use Rattle.q_drain.specs.Heard.{IsFirst}
@@ -49,3 +49,6 @@ returns-in-Err-clause-err g c error is t w l a hops early fs os s first b =
 
 pub returns-in-Ok-clause-cause : goal.returns-in-Ok-clause-cause
 returns-in-Ok-clause-cause g c = engine_ok (g.H.Host.faults c.args.host.now) (g.H.Host.faults c.step.new.host) c.step.result c.in-Ok.next c.step.ensures.cause
+
+pub returns-in-Err-clause-cause : goal.returns-in-Err-clause-cause
+returns-in-Err-clause-cause g c = engine_passed (g.H.Host.faults c.args.host.now) (g.H.Host.faults c.step.new.host) c.in-Err.error c.fault_of.result c.step.result c.in-Err.is c.fault_of.ensures c.step.ensures.cause

@@ -1,6 +1,7 @@
 use Rattle.std.proofs.Common.{◌+◌, ◌∙◌, arith, Option, refl, subst}
 use Rattle.std.specs.Prelude.{IfSome}
 use Rattle.q_books.specs.HostStands.{TellsCrashes}
+use Rattle.q_drain.proofs.Causes.{cause_behind, host_passed, memory_host, ok_host}
 use Rattle.q_drain.proofs.PollingAll.{fails_then, filled_then, may_serve, served_none, served_then, stops_serving}
 use Rattle.q_drain.proofs.Polls.{some_then}
 use Rattle.q_drain.specs.Polling.{IsPolling, KeepsSome}
@@ -85,3 +86,19 @@ returns-clause-err g c error is t w l a clock early fs s known turns h =
     let m = loop.invariant.on t w l a clock early fs s known turns h in
     fails_then w l a z z (g.H.Host.view c.args.host.now) v v loop.served loop.agent s m error
     (stops_serving w l a z v loop.served loop.agent m.early m.flights m.story error lawful m.serving)
+
+pub returns-in_err-next-clause-cause : goal.returns-in_err-next-clause-cause
+returns-in_err-next-clause-cause g c =
+    let b = g.H.Host.faults c.loop.host in
+    let before = c.loop.invariant in
+    cause_behind (g.H.Host.faults c.args.host.now) b (g.H.Host.faults c.poll_next.new.host) c.from_residual.result before.disk_later before.tell_later
+    (host_passed b (g.H.Host.faults c.poll_next.new.host) c.in_err-next.field-0.0 c.from_residual.result c.from_residual.ensures.1 c.in_err-next.ensures.cause)
+
+pub returns-in_default-clause-cause : goal.returns-in_default-clause-cause
+returns-in_default-clause-cause g c =
+    let before = c.loop.invariant in
+    let polled = c.in_ok-next.ensures.cause in
+    ok_host (g.H.Host.faults c.args.host.now) (g.H.Host.faults c.poll_next.new.host) _ (omega (arith, before.disk_later, polled.disk_later)) (omega (arith, before.tell_later, polled.tell_later))
+
+pub returns-clause-cause : goal.returns-clause-cause
+returns-clause-cause g c = memory_host (g.H.Host.faults c.args.host.now) (g.H.Host.faults c.loop.host) c.loop.invariant.disk_later c.loop.invariant.tell_later

@@ -5,7 +5,7 @@ use Rattle.q_agent.specs.Answers.{IsStanding, Turned}
 use Rattle.q_agent.specs.Sessions.{next_polled}
 use Rattle.q_agent.specs.declared.report.Report.{Report}
 use Rattle.q_books.specs.HostStands.{TellsCrashes}
-use Rattle.q_drain.proofs.Causes.{cause_behind, disk_passed}
+use Rattle.q_drain.proofs.Causes.{cause_behind, disk_passed, host_passed, ok_host}
 use Rattle.q_drain.proofs.PollTurns.{ends_poll, fills_up, keeps_some, may_open_more, may_poll, opening_fails, poll_fails, polls_less, polls_on, reply_fails, reply_fits, served_on, served_replied, stands_still}
 use Rattle.q_drain.proofs.Polls.{some_unpolled, turned_over, turned_rests}
 use Rattle.q_engine.proofs.DecisionLoops.{same_error}
@@ -217,3 +217,28 @@ returns-clause-cause g c =
       disk = λ is. absurd cc;
       tell = λ is. absurd cc;
     }
+
+pub returns-in_default-clause-rests : goal.returns-in_default-clause-rests
+returns-in_default-clause-rests g c =
+    turned_rests g.H.Host.tells (g.H.Host.view c.args.host.now) c.now.result (g.N.Hops.view c.args.hops.now) (g.N.Hops.view c.turn.new.hops) (next_polled c.args.agent.now) c.in_ok-report.field-0 c.args.agent.now c.turn.new.self c.in_ok-report.ensures.ok
+
+pub returns-in_default-clause-cause : goal.returns-in_default-clause-cause
+returns-in_default-clause-cause g c =
+    let turned = c.in_ok-report.ensures.cause in
+    ok_host (g.H.Host.faults c.args.host.now) (g.H.Host.faults c.turn.new.host) _ turned.disk_later turned.tell_later
+
+pub returns-then-last_number-ge-DELIVERIES-clause-cause : goal.returns-then-last_number-ge-DELIVERIES-clause-cause
+returns-then-last_number-ge-DELIVERIES-clause-cause g c =
+    let turned = c.in_ok-report.ensures.cause in
+    ok_host (g.H.Host.faults c.args.host.now) (g.H.Host.faults c.turn.new.host) _ turned.disk_later turned.tell_later
+
+pub returns-in_err-engine-clause-rests : goal.returns-in_err-engine-clause-rests
+returns-in_err-engine-clause-rests g c =
+    turned_rests g.H.Host.tells (g.H.Host.view c.args.host.now) c.now.result (g.N.Hops.view c.args.hops.now) (g.N.Hops.view c.turn.new.hops) (next_polled c.args.agent.now) c.in_ok-report.field-0 c.args.agent.now c.turn.new.self c.in_ok-report.ensures.ok
+
+pub returns-in_err-engine-clause-cause : goal.returns-in_err-engine-clause-cause
+returns-in_err-engine-clause-cause g c =
+    let b = g.H.Host.faults c.turn.new.host in
+    let turned = c.in_ok-report.ensures.cause in
+    cause_behind (g.H.Host.faults c.args.host.now) b (g.H.Host.faults c.tell_reply.new.host) c.from_residual-in_err-engine.result turned.disk_later turned.tell_later
+    (host_passed b (g.H.Host.faults c.tell_reply.new.host) c.in_err-engine.field-0.0 c.from_residual-in_err-engine.result c.from_residual-in_err-engine.ensures.1 c.in_err-engine.ensures.cause)

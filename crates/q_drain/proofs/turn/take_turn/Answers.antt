@@ -189,3 +189,7 @@ returns-in_err-served-clause-cause g c =
     cause_behind (g.H.Host.faults c.args.host.now) b (g.H.Host.faults c.poll_all.new.host) c.from_residual-in_err-served.result
     (omega (arith, heard.disk_later, opened.disk_later)) (omega (arith, heard.tell_later, opened.tell_later))
     (host_passed b (g.H.Host.faults c.poll_all.new.host) c.in_err-served.field-0.0 c.from_residual-in_err-served.result c.from_residual-in_err-served.ensures.1 c.in_err-served.ensures.cause)
+
+pub returns-in_err-engine-clause-cause : goal.returns-in_err-engine-clause-cause
+returns-in_err-engine-clause-cause g c =
+    host_passed (g.H.Host.faults c.args.host.now) (g.H.Host.faults c.hear_clock.new.host) c.in_err-engine.field-0.0 c.from_residual.result c.from_residual.ensures.1 c.in_err-engine.ensures.cause
