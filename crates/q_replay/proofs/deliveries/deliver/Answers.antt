@@ -1,4 +1,4 @@
-use Rattle.std.proofs.Common.{subst}
+use Rattle.std.proofs.Common.{◌≡◌, ◌∙◌, ap, subst}
 use Rattle.std.specs.Prelude.{Err, IfErr, Ok, Result}
 use Rattle.q_books.specs.HostStands.{TellsCrashes}
 use Rattle.q_drain.specs.Drained.{Drains, IsDrainError}
@@ -14,6 +14,7 @@ use Rattle.q_replay.proofs.DamagedSpools.{only_passed, refused_passed, untaken_o
 use Rattle.q_replay.proofs.Delivering.{at_start, begun_stands, begun_told, delivers_all, drain_failed, leaves_some, never_delivers, never_ended, stands_quiet}
 use Rattle.q_replay.proofs.Readings.{ledger_on}
 use Rattle.q_replay.proofs.Replaying.{IsGivenTo, may_begin, passed_as, some_given}
+use Rattle.q_replay.proofs.Submitting.{cause_on, engine_passed}
 use Rattle.q_replay.specs.Deliveries.{begun_on, DeliveryEnds, life_told}
 use Rattle.q_replay.proofs.deliveries.deliver.Goals as goal
 
@@ -155,3 +156,16 @@ returns-in-Err-clause-ends g c t b h orderly w settings table_is =
 
 pub returns-in-Err-clause-damaged : goal.returns-in-Err-clause-damaged
 returns-in-Err-clause-damaged g c t area name damage = absurd (c.in_ok-begun.ensures.undamaged t area name damage)
+
+pub returns-in-Ok-Unfinished-clause-unfinished : goal.returns-in-Ok-Unfinished-clause-unfinished
+returns-in-Ok-Unfinished-clause-unfinished g c n is =
+    let same : c.in-Ok-Unfinished.rests ≡ n = cc in
+    c.drain.ensures.unfinished n (c.in-Ok-Unfinished.is ∙ ap {B = Result Drained EngineError} (λ (d : Drained). Ok d) (c.in-Ok-Unfinished.field-0-is ∙ ap Unfinished same))
+
+pub returns-in-Err-clause-cause : goal.returns-in-Err-clause-cause
+returns-in-Err-clause-cause g c =
+    let b = g.H.Host.faults c.begin_life.new.host in
+    let d = g.H.Host.faults c.drain.new.host in
+    let begun = c.in_ok-begun.ensures.cause in
+    cause_on (g.H.Host.faults c.args.host.now) b d c.replay_error.result begun.disk_later begun.tell_later
+    (engine_passed b d 0 c.in-Err.error c.replay_error.result c.drain.result c.in-Err.is c.replay_error.ensures.exact c.drain.ensures.cause)

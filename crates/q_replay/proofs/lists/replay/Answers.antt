@@ -1,5 +1,5 @@
 use Rattle.std.proofs.Common.{◌≡◌, ◌∙◌, ap, arith, false, None, Option, Some, subst, sym, true}
-use Rattle.std.specs.Prelude.{Err, is_none}
+use Rattle.std.specs.Prelude.{Err, is_none, Result}
 use Rattle.q_books.specs.HostStands.{TellsCrashes}
 use Rattle.q_engine.specs.declared.engine.Engine.{Engine}
 use Rattle.q_events.specs.Readings.{is_list_end}
@@ -8,11 +8,12 @@ use Rattle.q_events.specs.States.{EventsState, text_left, unread_list}
 use Rattle.q_model.specs.Ledger.{opening}
 use Rattle.q_model.specs.declared.event.Mode.TheVariants.{Deliver}
 use Rattle.q_replay.specs.ReplayEnds.{ReplayEnds}
-use Rattle.q_replay.specs.Takings.{NotTaken, TookItem}
+use Rattle.q_replay.specs.Takings.{NotTaken, ReplayCause, TookItem}
+use Rattle.q_replay.specs.declared.error.ReplayError.{ReplayError}
 use Rattle.q_replay.specs.declared.error.ReplayError.TheVariants as errors
 use Rattle.q_replay.proofs.Readings.{ledger_on}
 use Rattle.q_replay.proofs.Replaying.{delivers, ends_done, ends_unbegun, ends_unread, ends_untaken, for_each, for_text, IsGivenTo, may_begin, passed_as, same_new, some_given, went_begins, went_on}
-use Rattle.q_replay.proofs.Submitting.{own_error, rose_later}
+use Rattle.q_replay.proofs.Submitting.{cause_on, own_error, rose_later}
 use Rattle.q_replay.proofs.DamagedSpools.{none_only, only_passed, refused_passed, unread_only, untaken_only}
 use Rattle.q_replay.proofs.lists.replay.Goals as goal
 
@@ -172,3 +173,12 @@ returns-in-Err-clause-source g c is =
     let same = own_error c.list_error.result errors.Source is in
     rose_later (g.S.Source.faults c.args.source.now) (g.S.Source.faults old.source) (g.S.Source.faults c.read_event.new.source) old.invariant.source_later
     (c.in-Err.ensures.source (ap (λ (e : EventError). Err e) (c.list_error.ensures.source same)))
+
+pub returns-in_err-next-clause-cause : goal.returns-in_err-next-clause-cause
+returns-in_err-next-clause-cause g c =
+    let old = c.loop-item in
+    let a = g.H.Host.faults c.args.host.now in
+    let d = g.H.Host.faults c.take.new.host in
+    let error = c.in_err-next.field-0.0 in
+    passed_as c.from_residual-in_err-next.result error (λ (r : Result (Unit {0}) ReplayError). ReplayCause a d r) c.from_residual-in_err-next.ensures.1
+    (cause_on a (g.H.Host.faults old.host) d error old.invariant.disk_later old.invariant.tell_later c.in_err-next.ensures.cause)

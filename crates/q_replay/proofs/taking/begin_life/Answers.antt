@@ -5,6 +5,7 @@ use Rattle.q_engine.specs.declared.error.EngineError.TheVariants as engine_error
 use Rattle.q_replay.proofs.DamagedSpools.{begun_damaged, begun_only, none_only, Unbegun}
 use Rattle.q_replay.proofs.Takings.{error_is, never_begins, took_life}
 use Rattle.q_restart.proofs.OneSight.{sound-undamaged}
+use Rattle.q_replay.proofs.Submitting.{ok_lists}
 use Rattle.q_replay.proofs.taking.begin_life.Goals as goal
 
 pub returns-in-Ok-clause-ok : goal.returns-in-Ok-clause-ok
@@ -65,3 +66,6 @@ returns-in-Err-clause-only_damaged g c t =
       untouched = λ of. c.in-Err.ensures.untouched error refl of t;
     } in
     rw c.replay_error.ensures.exact (begun_only v x c.args.line error u)
+
+pub returns-in-Ok-clause-cause : goal.returns-in-Ok-clause-cause
+returns-in-Ok-clause-cause g c = ok_lists (g.H.Host.faults c.args.host.now) (g.H.Host.faults c.begin.new.host) c.in-Ok.engine c.begin.ensures.cause.disk_later c.begin.ensures.cause.tell_later

@@ -1,7 +1,12 @@
-use Rattle.std.proofs.Common.{None, Some}
+use Rattle.std.proofs.Common.{arith, None, Option, Some}
+use Rattle.std.specs.Prelude.{Result}
+use Rattle.q_engine.specs.declared.engine.Engine.{Engine}
 use Rattle.q_events.specs.declared.item.Item.TheVariants.{End, Step}
-use Rattle.q_replay.proofs.Submitting.{ok_lists}
+use Rattle.q_replay.proofs.Replaying.{passed_as}
+use Rattle.q_replay.proofs.Submitting.{cause_on, ok_lists}
 use Rattle.q_replay.proofs.Takings.{for_item, for_item_up, never_restarts, passed_on, restarts}
+use Rattle.q_replay.specs.Takings.{ReplayCause}
+use Rattle.q_replay.specs.declared.error.ReplayError.{ReplayError}
 use Rattle.q_replay.proofs.taking.take.Goals as goal
 
 pub returns-in_ok-hear-in-Step-clause-ok : goal.returns-in_ok-hear-in-Step-clause-ok
@@ -43,3 +48,27 @@ returns-in_ok-hear-in-Step-clause-cause g c =
 pub returns-in_ok-begin_life-in-Restart-clause-cause : goal.returns-in_ok-begin_life-in-Restart-clause-cause
 returns-in_ok-begin_life-in-Restart-clause-cause g c =
     ok_lists (g.H.Host.faults c.args.host.now) (g.H.Host.faults c.begin_life.new.host) _ c.begin_life.ensures.cause.disk_later c.begin_life.ensures.cause.tell_later
+
+pub returns-in_err-hear-in-Step-clause-cause : goal.returns-in_err-hear-in-Step-clause-cause
+returns-in_err-hear-in-Step-clause-cause g c =
+    let a = g.H.Host.faults c.args.host.now in
+    let d = g.H.Host.faults c.hear.new.host in
+    let error = c.in_err-hear-in-Step.field-0.0 in
+    passed_as c.from_residual.result error (λ (r : Result (Option Engine) ReplayError). ReplayCause a d r) c.from_residual.ensures.1 (cause_on a a d error (omega arith) (omega arith) c.in_err-hear-in-Step.ensures.cause)
+
+pub returns-in_err-begin_life-in-Restart-clause-cause : goal.returns-in_err-begin_life-in-Restart-clause-cause
+returns-in_err-begin_life-in-Restart-clause-cause g c =
+    let a = g.H.Host.faults c.args.host.now in
+    let d = g.H.Host.faults c.begin_life.new.host in
+    let error = c.in_err-begin_life-in-Restart.field-0.0 in
+    passed_as c.from_residual-in_err-begin_life-in-Restart.result error (λ (r : Result (Option Engine) ReplayError). ReplayCause a d r) c.from_residual-in_err-begin_life-in-Restart.ensures.1 (cause_on a a d error (omega arith) (omega arith) c.in_err-begin_life-in-Restart.ensures.cause)
+
+pub returns-in_err-end-in-End-clause-cause : goal.returns-in_err-end-in-End-clause-cause
+returns-in_err-end-in-End-clause-cause g c =
+    let a = g.H.Host.faults c.args.host.now in
+    let d = g.H.Host.faults c.end.new.host in
+    let error = c.in_err-end-in-End.field-0.0 in
+    passed_as c.from_residual-in_err-end-in-End.result error (λ (r : Result (Option Engine) ReplayError). ReplayCause a d r) c.from_residual-in_err-end-in-End.ensures.1 (cause_on a a d error (omega arith) (omega arith) c.in_err-end-in-End.ensures.cause)
+
+pub returns-in_ok-end-in-End-clause-cause : goal.returns-in_ok-end-in-End-clause-cause
+returns-in_ok-end-in-End-clause-cause g c = ok_lists (g.H.Host.faults c.args.host.now) (g.H.Host.faults c.end.new.host) _ c.end.ensures.cause.disk_later c.end.ensures.cause.tell_later
