@@ -167,5 +167,5 @@ returns-in-Err-clause-cause g c =
     let b = g.H.Host.faults c.begin_life.new.host in
     let d = g.H.Host.faults c.drain.new.host in
     let begun = c.in_ok-begun.ensures.cause in
-    cause_on (g.H.Host.faults c.args.host.now) b d c.replay_error.result begun.disk_later begun.tell_later
+    cause_on {S = Drained} (g.H.Host.faults c.args.host.now) b d c.replay_error.result begun.disk_later begun.tell_later
     (engine_passed b d 0 c.in-Err.error c.replay_error.result c.drain.result c.in-Err.is c.replay_error.ensures.exact c.drain.ensures.cause)
