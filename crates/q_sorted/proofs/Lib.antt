@@ -1,0 +1,10 @@
+pub mod Order
+pub mod Rising
+pub mod Cuts
+pub mod Finding
+pub mod Editing
+pub mod Filling
+pub mod Laying
+pub mod Filtering
+pub mod Calls
+pub mod EntryRows
