@@ -1,0 +1,6 @@
+pub mod Standing
+pub mod Foremost
+pub mod Walk
+pub mod Marking
+pub mod Marked
+pub mod Renewal
