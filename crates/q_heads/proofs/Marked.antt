@@ -65,7 +65,7 @@ pub sound_inserted : (entries marks new left : Entries) (classes : List ℕ) (so
 sound_inserted entries marks new left classes sound e class from to come below of is next renewed room =
     subst (λ (s : Entries). IsSound s left classes) (sym come)
     (sound_renewed entries marks classes sound e.group class from of is (inserted e entries.items) left to (next ∙ ap (λ (s : Entries). mark_in class e.group s.items) come) renewed room (known_inserted (length classes) e entries.items below sound.known)
-        (λ n other. first_as_one_comes e n entries.items (ne_eqb e.group n (λ same. other (sym same)))))
+    (λ n other. first_as_one_comes e n entries.items (ne_eqb e.group n (λ same. other (sym same)))))
 
 -- an entry goes
 pub sound_left : (entries marks new left : Entries) (classes : List ℕ) (sound : IsSound entries marks classes) (e : Entry) (class : ℕ) (from to : Option Entry) → new ≡ record entries { items = filter (is_another e) entries.items } → class ≡ class_of e.group classes
@@ -73,7 +73,7 @@ pub sound_left : (entries marks new left : Entries) (classes : List ℕ) (sound 
 sound_left entries marks new left classes sound e class from to gone of is next renewed room =
     subst (λ (s : Entries). IsSound s left classes) (sym gone)
     (sound_renewed entries marks classes sound e.group class from of is (filter (is_another e) entries.items) left to (next ∙ ap (λ (s : Entries). mark_in class e.group s.items) gone) renewed room (known_left (length classes) e entries.items sound.known)
-        (λ n other. first_as_one_goes e n entries.items (ne_eqb e.group n (λ same. other (sym same)))))
+    (λ n other. first_as_one_goes e n entries.items (ne_eqb e.group n (λ same. other (sym same)))))
 
 -- nothing goes from a lane that isn't there
 pub none_goes : (entries marks : Entries) (classes : List ℕ) (v : Lanes) (e : Entry) → IsSound entries marks classes → seen entries classes ≡ v → length classes ≤ e.group → v ≡ record v { items = filter (is_another e) v.items }
@@ -93,8 +93,7 @@ module _ (s : Lanes) (marks : List Entry) (rising : Rises marks) (marked : AreMa
   head_of_mark : (class : ℕ) (m : Entry) → stands m marks ≡ true → m.group ≡ class → (e : Entry) × IsHeadOf class s e × (m ≡ mark_of class e) × (find (is_of m.item) s.items ≡ Some e)
   head_of_mark class m h of =
       let is = mark_is s.classes s.items marks marked m h in
-      let own : class_of m.item s.classes ≡ class = sym (ap (λ (x : Entry). x.group) is.is) ∙ of in
-      (
+      let own : class_of m.item s.classes ≡ class = sym (ap (λ (x : Entry). x.group) is.is) ∙ of in (
         is.head,
         record { of_class = ap (λ (n : ℕ). class_of n s.classes) is.lane ∙ own; first = ap (λ (n : ℕ). find (is_of n) s.items) is.lane ∙ is.first },
         is.is ∙ ap (λ (n : ℕ). mark_of n is.head) own,
@@ -115,8 +114,8 @@ module _ (s : Lanes) (marks : List Entry) (rising : Rises marks) (marked : AreMa
       let there = found (is_of class) m marks h in
       let is = head_of_mark class m there.0 (eqb-true m.group class there.1) in
       is.3 ∙ sym (foremost_is class s (heads_of class s) is.0 (λ x k. head_from class s x k) (head_stands class s is.0 is.1) (λ x k.
-          sym (before_ahead class x is.0) ∙ ap (goes_before (mark_of class x)) (sym is.2)
-          ∙ first_found (is_of class) m (mark_of class x) marks rising h (mark_of_head class x (head_from class s x k)) (eq-eqb class class refl)))
+      sym (before_ahead class x is.0) ∙ ap (goes_before (mark_of class x)) (sym is.2)
+      ∙ first_found (is_of class) m (mark_of class x) marks rising h (mark_of_head class x (head_from class s x k)) (eq-eqb class class refl)))
 
   module _ (h : Entry) where
     -- a head behind it
@@ -151,6 +150,6 @@ module _ (s : Lanes) (marks : List Entry) (rising : Rises marks) (marked : AreMa
         let is = head_of_mark class m there.0 of in
         let ahead : goes_ahead h is.0 ≡ true = sym (before_ahead class h is.0) ∙ ap (goes_before mark) (sym is.2) ∙ there.1 in
         is.3 ∙ sym (foremost_is class s (heads_behind h s) is.0 (λ x k. (behind_parts x k).0)
-            (stands_filtered (goes_ahead h) is.0 (heads_of class s) ∙ and_from (goes_ahead h is.0) (stands is.0 (heads_of class s)) ahead (head_stands class s is.0 is.1)) (λ x k.
-            let own = behind_mark x k in
-            sym (before_ahead class x is.0) ∙ ap (goes_before (mark_of class x)) (sym is.2) ∙ first_found (goes_before mark) m (mark_of class x) marks rising next own.0 own.1))
+        (stands_filtered (goes_ahead h) is.0 (heads_of class s) ∙ and_from (goes_ahead h is.0) (stands is.0 (heads_of class s)) ahead (head_stands class s is.0 is.1)) (λ x k.
+        let own = behind_mark x k in
+        sym (before_ahead class x is.0) ∙ ap (goes_before (mark_of class x)) (sym is.2) ∙ first_found (goes_before mark) m (mark_of class x) marks rising next own.0 own.1))

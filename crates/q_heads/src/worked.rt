@@ -18,6 +18,7 @@ enum Call {
 }
 
 const LANES: u32 = 5;
+
 const ROOM: u32 = 7;
 
 /// Calls, and after each the heads of a class.
@@ -121,8 +122,9 @@ fn make(heads: &mut Heads, call: Call)
 {
     match call {
         Call::Insert(parts) => {
-            if parts.0 < LANES && heads.spare() > 0 {
-                heads.insert(entry_of(parts));
+            let entry = entry_of(parts);
+            if entry.group < LANES && heads.spare() > 0 {
+                heads.insert(entry);
             }
         }
         Call::Remove(parts) => heads.remove(&entry_of(parts)),
@@ -138,10 +140,11 @@ fn make(heads: &mut Heads, call: Call)
 fn next(heads: &Heads, parts: Parts) -> Option<Parts>
     requires { heads.now.lanes ≡ LANES }
 {
-    if parts.0 >= LANES {
+    let entry = entry_of(parts);
+    if entry.group >= LANES {
         return None;
     }
-    parts_of(heads.behind(&entry_of(parts)))
+    parts_of(heads.behind(&entry))
 }
 
 /// Whether a walk along the heads of the class comes by these.
