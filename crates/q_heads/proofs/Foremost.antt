@@ -8,6 +8,7 @@ use Rattle.q_sorted.specs.declared.entry.Entry.{Entry}
 use Rattle.q_sorted.specs.Entries.{is_of}
 use Rattle.q_heads.specs.Lanes.{class_of, foremost, goes_ahead, heads_of, is_head, is_same, is_the, Lanes}
 use Rattle.q_heads.specs.Marks.{stands}
+use Rattle.q_heads.specs.Walking.{IsHeadOf}
 use Rattle.q_heads.proofs.Standing.{any_none, found, found_only, none_any, none_found, none_stand, same_is, same_refl, stands_filtered, stands_here, stands_later}
 
 pub ahead_along : (a b c : Entry) → goes_ahead a b ≡ true → goes_ahead b c ≡ true → goes_ahead a c ≡ true
@@ -21,11 +22,6 @@ not_ahead_back a b h = grind (arith, nat_tests)
 
 same_lane : (a b : Entry) → goes_ahead a b ≡ false → goes_ahead b a ≡ false → a.group ≡ b.group
 same_lane a b h k = grind (arith, nat_tests)
-
--- the entry is the head of a lane of the class
-pub record IsHeadOf (class : ℕ) (s : Lanes) (e : Entry) : Type 0 where
-  pub of_class : class_of e.group s.classes ≡ class
-  pub first : find (is_of e.group) s.items ≡ Some e
 
 the_is : (e : Entry) (o : Option Entry) → is_the e o ≡ true → o ≡ Some e
 the_is e None h = absurd cc

@@ -4,3 +4,4 @@ pub mod Walk
 pub mod Marking
 pub mod Marked
 pub mod Renewal
+pub mod LaneRows

@@ -1,19 +1,16 @@
 -- What a walk along the heads of a class comes to, from the first one and on behind each: for
 -- callers' proofs.
-use Rattle.std.proofs.Common.{◌≡◌, ◌∙◌, [], ap, arith, Bool, false, inl, inr, List, None, refl, Some, sym, true, ℕ}
+use Rattle.std.proofs.Common.{◌≡◌, ◌∙◌, [], ap, arith, Bool, false, inl, inr, List, None, Option, refl, Some, sym, true, ℕ}
 use Rattle.std.proofs.lemmas.Bool.{and_from, and_parts, both_ways, cases_Bool, eq-eqb, eqb-true, false_from_ne_true}
 use Rattle.std.proofs.lemmas.Bool.Decides.{nat_tests}
-use Rattle.std.specs.Prelude.{filter, find}
+use Rattle.std.specs.Prelude.{◌==◌, filter, find}
 use Rattle.q_sorted.specs.declared.entry.Entry.{Entry}
 use Rattle.q_sorted.specs.Entries.{goes_before, is_of, Rises}
 use Rattle.q_heads.specs.Lanes.{class_of, foremost, goes_ahead, heads_behind, heads_of, Lanes}
 use Rattle.q_heads.specs.Marks.{stands}
-use Rattle.q_heads.proofs.Foremost.{foremost_is, foremost_none, foremost_stands, head_from, head_stands, IsHeadOf, none_ahead_of, none_foremost, same_head}
-use Rattle.q_heads.proofs.Standing.{first_found, found, stands_filtered}
-
--- the entries that pass the test don't go ahead
-pub record FailAhead (class : ℕ) (s : Lanes) (test : Entry → Bool) (e : Entry) : Type 0 where
-  pub fails : (x : Entry) → IsHeadOf class s x → goes_ahead x e ≡ true → test x ≡ false
+use Rattle.q_heads.specs.Walking.{FailAhead, HasHead, IsHeadOf}
+use Rattle.q_heads.proofs.Foremost.{foremost_is, foremost_none, foremost_stands, head_from, head_stands, none_ahead_of, none_foremost, same_head}
+use Rattle.q_heads.proofs.Standing.{first_found, found, none_found, stands_filtered}
 
 no_such : (e : Entry) (xs : List Entry) → xs ≡ [] → stands e xs ≡ true → ⊥
 no_such e xs none h = both_ways (stands e xs) (ap (stands e) none) h
@@ -87,10 +84,28 @@ module _ (class : ℕ) (s : Lanes) where
         let both = and_parts (test x) (stands x (heads_of class s)) (sym (stands_filtered test x (heads_of class s)) ∙ k) in
         both_ways (test x) (fails x (head_from class s x both.1)) both.0)
 
-not_ahead_within : (e h : Entry) → e.group ≡ h.group → goes_before e h ≡ false → goes_ahead e h ≡ false
+-- The head of an entry's lane.
+pub lane_head : (class lane : ℕ) (s : Lanes) (e : Entry) → class_of lane s.classes ≡ class → find (is_of lane) s.items ≡ Some e → IsHeadOf class s e
+lane_head class lane s e of first =
+    let same = eqb-true e.group lane (found (is_of lane) e s.items first).1 in
+    record { of_class = ap (λ (n : ℕ). class_of n s.classes) same ∙ of; first = ap (λ (n : ℕ). find (is_of n) s.items) same ∙ first }
+
+has_step : (class : ℕ) (s : Lanes) (e : Entry) (o : Option Entry) → find (is_of e.group) s.items ≡ o → class_of e.group s.classes ≡ class → Rises s.items → stands e s.items ≡ true → HasHead class s e
+has_step class s e None first of rising there = absurd (both_ways (e.group == e.group) (none_found (is_of e.group) e s.items first there) (eq-eqb e.group e.group refl))
+has_step class s e (Some h) first of rising there = record {
+  head = h;
+  is = lane_head class e.group s h of first;
+  lane = eqb-true h.group e.group (found (is_of e.group) h s.items first).1;
+  first = first_found (is_of e.group) h e s.items rising first there (eq-eqb e.group e.group refl);
+}
+
+-- each entry's lane has one
+pub has_head : (class : ℕ) (s : Lanes) (e : Entry) → class_of e.group s.classes ≡ class → Rises s.items → stands e s.items ≡ true → HasHead class s e
+has_head class s e of rising there = has_step class s e (find (is_of e.group) s.items) refl of rising there
+
+not_ahead_within : (e h : Entry) → h.group ≡ e.group → goes_before e h ≡ false → goes_ahead e h ≡ false
 not_ahead_within e h same k = grind (arith, nat_tests)
 
--- the head of an entry's lane doesn't go behind it
-pub head_first : (s : Lanes) (e h : Entry) → Rises s.items → stands e s.items ≡ true → find (is_of e.group) s.items ≡ Some h → goes_ahead e h ≡ false
-head_first s e h rising there first =
-    not_ahead_within e h (sym (eqb-true h.group e.group (found (is_of e.group) h s.items first).1)) (first_found (is_of e.group) h e s.items rising first there (eq-eqb e.group e.group refl))
+-- and the entry doesn't go ahead of it
+pub not_ahead_of_head : (class : ℕ) (s : Lanes) (e : Entry) (has : HasHead class s e) → goes_ahead e has.head ≡ false
+not_ahead_of_head class s e has = not_ahead_within e has.head has.lane has.first
