@@ -6,8 +6,7 @@ use Rattle.std.specs.List.{list_any}
 use Rattle.std.specs.Prelude.{◌==◌, find}
 use Rattle.q_sorted.specs.declared.entry.Entry.{Entry}
 use Rattle.q_sorted.specs.Entries.{is_of}
-use Rattle.q_heads.specs.Lanes.{class_of, foremost, goes_ahead, heads_of, is_head, is_same, is_the, Lanes}
-use Rattle.q_heads.specs.Marks.{stands}
+use Rattle.q_heads.specs.Lanes.{class_of, foremost, goes_ahead, heads_of, is_head, is_same, is_the, Lanes, stands}
 use Rattle.q_heads.specs.Walking.{IsHeadOf}
 use Rattle.q_heads.proofs.Standing.{any_none, found, found_only, none_any, none_found, none_stand, same_is, same_refl, stands_filtered, stands_here, stands_later}
 

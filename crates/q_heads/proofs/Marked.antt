@@ -6,8 +6,8 @@ use Rattle.std.specs.Option.{IfNone}
 use Rattle.std.specs.Prelude.{◌==◌, filter, find, IfSome}
 use Rattle.q_sorted.specs.declared.entry.Entry.{Entry}
 use Rattle.q_sorted.specs.Entries.{Entries, goes_before, inserted, is_another, is_of, Rises}
-use Rattle.q_heads.specs.Lanes.{class_of, foremost, goes_ahead, heads_behind, heads_of, is_the, Lanes}
-use Rattle.q_heads.specs.Marks.{AreKnown, AreMarks, IsSound, mark_in, mark_of, seen, stands}
+use Rattle.q_heads.specs.Lanes.{AreKnown, class_of, foremost, goes_ahead, heads_behind, heads_of, is_the, Lanes, stands}
+use Rattle.q_heads.specs.Marks.{AreMarks, IsSound, mark_in, mark_of, seen}
 use Rattle.q_heads.proofs.Foremost.{foremost_is, foremost_none, head_from, head_stands}
 use Rattle.q_heads.specs.Walking.{IsHeadOf}
 use Rattle.q_heads.proofs.Marking.{first_as_one_comes, first_as_one_goes, known_inserted, known_left, mark_is, mark_room, mark_stands, mark_there, nothing_goes, other_mark}

@@ -9,8 +9,8 @@ use Rattle.std.specs.Option.{IfNone}
 use Rattle.std.specs.Prelude.{eqb, filter, find, IfSome}
 use Rattle.q_sorted.specs.declared.entry.Entry.{Entry}
 use Rattle.q_sorted.specs.Entries.{goes_before, inserted, is_another, is_of, Rises}
-use Rattle.q_heads.specs.Lanes.{class_of, is_same, is_the}
-use Rattle.q_heads.specs.Marks.{AreKnown, AreMarks, mark_in, mark_of, stands}
+use Rattle.q_heads.specs.Lanes.{AreKnown, class_of, is_same, is_the, stands}
+use Rattle.q_heads.specs.Marks.{AreMarks, mark_in, mark_of}
 use Rattle.q_heads.proofs.Standing.{all_stand, found, not_itself, same_is, same_refl, stands_here, stands_later}
 
 -- The first of a lane, as an entry of another lane comes or goes.

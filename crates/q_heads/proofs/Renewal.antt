@@ -3,8 +3,8 @@ use Rattle.std.proofs.Common.{◌≡◌, ◌∙◌, ◌≤◌, ◌<◌, ◌||◌
 use Rattle.std.specs.Option.{IfNone}
 use Rattle.std.specs.Prelude.{IfSome}
 use Rattle.q_sorted.specs.declared.entry.Entry.{Entry}
-use Rattle.q_heads.specs.Lanes.{is_same, is_the}
-use Rattle.q_heads.specs.Marks.{are_same, stands, with_mark, without}
+use Rattle.q_heads.specs.Lanes.{is_same, is_the, stands}
+use Rattle.q_heads.specs.Marks.{are_same, with_mark, without}
 use Rattle.q_heads.proofs.Standing.{fewer_left, same_is, stands_inserted, stands_left}
 
 -- what is taken out leaves room

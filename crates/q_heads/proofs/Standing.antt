@@ -8,8 +8,7 @@ use Rattle.std.specs.Prelude.{◌==◌, filter, find}
 use Rattle.q_sorted.specs.declared.entry.Entry.{Entry}
 use Rattle.q_sorted.specs.Entries.{goes_before, inserted, is_another, Rises}
 use Rattle.q_sorted.proofs.Order.{not_back, same_between}
-use Rattle.q_heads.specs.Lanes.{is_same}
-use Rattle.q_heads.specs.Marks.{stands}
+use Rattle.q_heads.specs.Lanes.{is_same, stands}
 
 -- Sameness.
 pub same_refl : (e : Entry) → is_same e e ≡ true

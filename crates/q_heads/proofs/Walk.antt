@@ -6,8 +6,7 @@ use Rattle.std.proofs.lemmas.Bool.Decides.{nat_tests}
 use Rattle.std.specs.Prelude.{◌==◌, filter, find}
 use Rattle.q_sorted.specs.declared.entry.Entry.{Entry}
 use Rattle.q_sorted.specs.Entries.{goes_before, is_of, Rises}
-use Rattle.q_heads.specs.Lanes.{class_of, foremost, goes_ahead, heads_behind, heads_of, Lanes}
-use Rattle.q_heads.specs.Marks.{stands}
+use Rattle.q_heads.specs.Lanes.{class_of, foremost, goes_ahead, heads_behind, heads_of, Lanes, stands}
 use Rattle.q_heads.specs.Walking.{FailAhead, HasHead, IsHeadOf}
 use Rattle.q_heads.proofs.Foremost.{foremost_is, foremost_none, foremost_stands, head_from, head_stands, none_ahead_of, none_foremost, same_head}
 use Rattle.q_heads.proofs.Standing.{first_found, found, none_found, stands_filtered}

@@ -1,6 +1,6 @@
 -- What a contract sees of entries in lanes.
-use Rattle.std.specs.Prelude.{◌&&◌, ◌||◌, ◌==◌, Bool, false, filter, find, get_or, List, nat_lt, not, Option, ℕ}
-use Rattle.std.specs.List.{list_any}
+use Rattle.std.specs.Prelude.{◌<◌, ◌&&◌, ◌||◌, ◌==◌, Bool, false, filter, find, get_or, List, nat_lt, not, Option, ℕ}
+use Rattle.std.specs.List.{AllByRecursion, list_any}
 use Rattle.std.specs.Option.{option_map_or}
 use Rattle.q_sorted.specs.declared.entry.Entry.{Entry}
 use Rattle.q_sorted.specs.Entries.{is_of}
@@ -13,13 +13,22 @@ pub record Lanes : Type 0 where
   pub room : ℕ
   pub lanes : ℕ
 
+-- each entry's lane is one of so many
+abbrev pub AreKnown : ℕ → List Entry → Type 0
+AreKnown lanes items = AllByRecursion (λ e. e.group < lanes) items
+
 abbrev pub is_same : Entry → Entry → Bool
 is_same e x = (x.group == e.group) && (x.key == e.key) && (x.item == e.item)
 
--- the entry is the one that there is
+-- the entry is one of these
+abbrev pub stands : Entry → List Entry → Bool
+stands e xs = list_any (is_same e) xs
+
+-- there is one, and it is this entry
 abbrev pub is_the : Entry → Option Entry → Bool
 is_the e found = option_map_or (is_same e) found false
 
+-- the class of a lane
 abbrev pub class_of : ℕ → List ℕ → ℕ
 class_of lane classes = get_or classes lane 0
 

@@ -1,12 +1,8 @@
 -- The marks, which keep the lanes' heads in order.
-use Rattle.std.specs.Prelude.{◌≡◌, ◌<◌, Bool, false, filter, find, length, List, None, Option, option_map, Some, true, ℕ}
-use Rattle.std.specs.List.{AllByRecursion, list_any}
+use Rattle.std.specs.Prelude.{◌≡◌, Bool, false, filter, find, length, List, None, Option, option_map, Some, true, ℕ}
 use Rattle.q_sorted.specs.declared.entry.Entry.{Entry}
 use Rattle.q_sorted.specs.Entries.{Entries, inserted, is_another, is_of}
-use Rattle.q_heads.specs.Lanes.{class_of, is_same, is_the, Lanes}
-
-abbrev pub stands : Entry → List Entry → Bool
-stands e xs = list_any (is_same e) xs
+use Rattle.q_heads.specs.Lanes.{AreKnown, class_of, is_same, is_the, Lanes, stands}
 
 -- what stands for an entry among marks: its key and its lane, in the lane's class
 abbrev pub mark_of : ℕ → Entry → Entry
@@ -36,9 +32,6 @@ are_same a b = false
 abbrev pub AreMarks : List ℕ → List Entry → List Entry → Type 0
 AreMarks classes items marks =
     (x : Entry) → stands x marks ≡ is_the x (mark_in (class_of x.item classes) x.item items)
-
-abbrev pub AreKnown : ℕ → List Entry → Type 0
-AreKnown lanes items = AllByRecursion (λ e. e.group < lanes) items
 
 -- what a contract sees of entries and classes
 abbrev pub seen : Entries → List ℕ → Lanes

@@ -1,8 +1,7 @@
 //! The entries and their heads.
 ghost use Rattle.std.specs.Prelude.{◌≡◌, ◌≤◌, ◌<◌, ◌-◌, ◌^◌, [], filter, find, IfOk, length, None, replicate, set};
 ghost use Rattle.q_sorted.specs.Entries.{inserted, is_another, is_of, Rises};
-ghost use Rattle.q_heads.specs.Lanes.{class_of, foremost, heads_behind, heads_of};
-ghost use Rattle.q_heads.specs.Marks.{AreKnown};
+ghost use Rattle.q_heads.specs.Lanes.{AreKnown, class_of, foremost, heads_behind, heads_of};
 
 use crate::marks::{mark_in, mark_of, renew};
 use q_sorted::{Entry, Sorted};
@@ -106,6 +105,7 @@ impl Heads {
             { items = filter (is_another entry.now) self.old.items } }
     {
         let lane = entry.group;
+        // no entry stands in a lane that there isn't
         if lane as usize >= self.classes.len() {
             return;
         }
@@ -137,7 +137,6 @@ impl Heads {
     pub fn first(&self, class: u32) -> Option<Entry>
         ensures { result ≡ foremost (heads_of class self.now) }
     {
-        self.entries.stand_sorted();
         self.marks.stand_sorted();
         let mark = self.marks.first_of(class)?;
         self.entries.first_of(mark.item)
@@ -148,7 +147,6 @@ impl Heads {
         requires { head.now.group < self.now.lanes }
         ensures { result ≡ foremost (heads_behind head.now self.now) }
     {
-        self.entries.stand_sorted();
         self.marks.stand_sorted();
         let class = class_of(&self.classes, head.group);
         let mark = self.marks.behind(&mark_of(class, head))?;

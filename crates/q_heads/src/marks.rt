@@ -2,8 +2,8 @@
 ghost use Rattle.std.specs.Prelude.{◌≡◌, ◌<◌, ◌&&◌, ◌||◌, IfSome, length, not, true};
 ghost use Rattle.std.specs.Option.{IfNone};
 ghost use Rattle.q_sorted.specs.declared.entry.Entry.{Entry};
-ghost use Rattle.q_heads.specs.Lanes.{is_same, is_the};
-ghost use Rattle.q_heads.specs.Marks.{are_same, mark_in, mark_of, stands, with_mark, without};
+ghost use Rattle.q_heads.specs.Lanes.{is_same, is_the, stands};
+ghost use Rattle.q_heads.specs.Marks.{are_same, mark_in, mark_of, with_mark, without};
 
 use q_sorted::{Entry, Sorted};
 

@@ -1,7 +1,8 @@
 use Rattle.std.proofs.Common.{◌∙◌, ◌<◌, ap, length, subst, sym}
 use Rattle.std.specs.Prelude.{IfSome}
 use Rattle.q_sorted.specs.Entries.{Entries}
-use Rattle.q_heads.specs.Marks.{stands, with_mark}
+use Rattle.q_heads.specs.Lanes.{stands}
+use Rattle.q_heads.specs.Marks.{with_mark}
 use Rattle.q_heads.proofs.Renewal.{kept, renewed, room_for, room_left}
 use Rattle.q_heads.proofs.marks.renew.Goals as goal
 
