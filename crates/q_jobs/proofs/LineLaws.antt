@@ -1,5 +1,5 @@
 -- The calls of a line in the words of keyed items.
-use Rattle.std.proofs.Common.{◌≡◌, ◌∙◌, ◌∷◌, ◌<◌, ◌≤◌, [], ap, arith, Bool, cond, false, length, List, map, None, Option, refl, Some, sym, true, ℕ}
+use Rattle.std.proofs.Common.{◌≡◌, ◌∙◌, ◌∷◌, ◌<◌, ◌≤◌, [], ap, arith, Bool, cond, false, length, List, map, None, Option, refl, Some, subst, sym, true, ℕ}
 use Rattle.std.specs.Option.{option_map_or}
 use Rattle.std.specs.Prelude.{filter, find, IfSome, not}
 use Rattle.q_model.proofs.IdLaws.{id_eq-true}
@@ -52,6 +52,16 @@ own_key id (Some x) y h e = let same : x ≡ y = cc in ap (λ (j : Job). j.id) s
 module _ (id : Id) (n : ℕ) (ks : List (Numbered Job)) (apart : AreApart ks) (keys : AreKeysApart id_eq (λ (j : Job). j.id) ks) (found : first_such (is_job_of id) ks ≡ Some n) where
   pub own : IfSome (item_at n ks) (λ j. j.id ≡ id)
   own = let it = held_item (is_job_of id) n ks apart found in own_key id (item_at n ks) it.0 it.1 it.2
+
+  -- the job that stands there
+  pub own_job : (job : Job) → item_at n ks ≡ Some job → job.id ≡ id
+  own_job job there = subst (λ (o : Option Job). IfSome o (λ j. j.id ≡ id)) there own
+
+  pub not_gone : item_at n ks ≡ None → ⊥
+  not_gone none =
+      let it = held_item (is_job_of id) n ks apart found in
+      let some : ◌≡◌ {A = Option Job} None (Some it.0) = sym none ∙ it.1 in
+      cc
 
   pub put_there : (job : Job) → job.id ≡ id → values_of (map (put_at n job) ks) ≡ map (account_in job) (values_of ks)
   put_there job same =

@@ -1,5 +1,5 @@
 -- For callers: walks along a line, and a change of the job of one message.
-use Rattle.std.proofs.Common.{◌≡◌, ◌∙◌, ◌∷◌, ◌<◌, [], ap, arith, Bool, cond, false, length, List, map, None, Option, refl, Some, suc, sym, true, ℕ}
+use Rattle.std.proofs.Common.{◌≡◌, ◌∙◌, ◌∷◌, ◌<◌, [], ap, arith, Bool, cond, false, length, List, map, None, Option, refl, Some, suc, sym, true}
 use Rattle.std.specs.Prelude.{find}
 use Rattle.q_model.proofs.IdLaws.{id_eq-refl, id_eq-true}
 use Rattle.q_model.specs.declared.id.Id.{Id}
@@ -38,7 +38,7 @@ lacks_behind_step : (id of : Id) (j : Job) (js : List Job) (t : Bool) → find (
 lacks_behind_step id of j js true h rest = h
 lacks_behind_step id of j js false h rest = rest
 
-lacks_behind : (id of : Id) (js : List Job) → find (is_job_of id) js ≡ None → find (is_job_of id) (behind_jobs of js) ≡ None
+pub lacks_behind : (id of : Id) (js : List Job) → find (is_job_of id) js ≡ None → find (is_job_of id) (behind_jobs of js) ≡ None
 lacks_behind id of [] h = refl
 lacks_behind id of (j ∷ js) h =
     let parts = lacks_head id j js h in

@@ -1,15 +1,16 @@
 -- What a contract sees of a line of jobs, and what each call makes of it.
 use Rattle.std.specs.Option.{option_map_or}
-use Rattle.std.specs.Prelude.{◌≡◌, [], ◌∷◌, Bool, find, if◌then◌else◌, List, None, not, Option, slice_get, Some, ℕ}
+use Rattle.std.specs.Prelude.{◌<◌, ◌≡◌, [], ◌∷◌, Bool, find, if◌then◌else◌, List, None, not, Option, slice_get, Some, ℕ}
 use Rattle.q_model.specs.declared.id.Id.{Id}
 use Rattle.q_model.specs.Ids.{id_eq}
 use Rattle.q_model.specs.Lists.{drop_first}
 use Rattle.q_jobs.specs.declared.job.Job.{Job}
 
--- the jobs in their order, and how many have room
+-- the jobs in their order, how many have room, and the ranks of the jobs in the same order
 pub record Jobs : Type 0 where
   pub jobs : List Job
   pub room : ℕ
+  pub ranks : List ℕ
 
 -- the job is that of the message
 abbrev pub is_job_of : Id → Job → Bool
@@ -19,6 +20,21 @@ is_job_of id j = id_eq j.id id
 abbrev pub AreOfOthers : List Job → Type 0
 AreOfOthers [] = Unit {0}
 AreOfOthers (j ∷ js) = (find (is_job_of j.id) js ≡ None) × AreOfOthers js
+
+-- the rank of the message's job, where the jobs have these ranks
+abbrev pub rank_of : Id → List Job → List ℕ → Option ℕ
+rank_of id [] ranks = None
+rank_of id (j ∷ js) [] = None
+rank_of id (j ∷ js) (r ∷ rs) = if id_eq j.id id then Some r else rank_of id js rs
+
+-- each is greater than the one before it, and the first than this
+abbrev pub RiseFrom : ℕ → List ℕ → Type 0
+RiseFrom low [] = Unit {0}
+RiseFrom low (r ∷ rs) = (low < r) × RiseFrom r rs
+
+-- ranks rise along the line, and none is 0
+abbrev pub AreRising : List ℕ → Type 0
+AreRising ranks = RiseFrom 0 ranks
 
 abbrev pub fresh_job : Id → Job
 fresh_job id = record { id = id; starts = 0; charged = 0 }

@@ -51,30 +51,38 @@ fn id(serial: u32) -> Id {
     }
 }
 
-/// The message joins, where it has no job.
-fn join(line: &mut Line, id: Id)
+/// The message joins, where it has no job. It says whether all jobs were ranked anew.
+fn join(line: &mut Line, id: Id) -> bool
     requires { length line.old.jobs < line.old.room }
 {
     match line.job(id) {
         None => line.join(id),
-        Some(_) => {}
+        Some(_) => false,
     }
 }
 
-fn carry_out(line: &mut Line, call: Call) {
+/// Does a call, where it is none in error, and says whether all jobs were ranked anew.
+fn carry_out(line: &mut Line, call: Call) -> bool {
     match call {
         Call::Join(serial) => {
-            if line.spare() != 0 {
-                join(line, id(serial));
+            if line.spare() == 0 {
+                return false;
             }
+            join(line, id(serial))
         }
-        Call::Put(serial, starts, charged) => line.put(Job {
-            id: id(serial),
-            starts,
-            charged,
-        }),
+        Call::Put(serial, starts, charged) => {
+            line.put(Job {
+                id: id(serial),
+                starts,
+                charged,
+            });
+            false
+        }
         Call::Before(child, parent) => line.put_before(id(child), id(parent)),
-        Call::Leave(serial) => line.leave(id(serial)),
+        Call::Leave(serial) => {
+            line.leave(id(serial));
+            false
+        }
     }
 }
 
@@ -83,13 +91,19 @@ fn account(job: Option<&Job>) -> Option<Account> {
     Some((job.id.serial, job.starts, job.charged))
 }
 
-/// Whether just these jobs stand, in this order, and each is found by its message.
+/// Whether just these jobs stand, in this order, each is found by its message, and their ranks rise.
 fn stands(line: &Line, want: &[Account]) -> bool {
     let mut at = account(line.first());
+    let mut rank = Some(0);
     for wanted in want {
         if at != Some(*wanted) || account(line.job(id(wanted.0))) != Some(*wanted) {
             return false;
         }
+        let next = line.rank(id(wanted.0));
+        if next <= rank {
+            return false;
+        }
+        rank = next;
         at = account(line.behind(id(wanted.0)));
     }
     at.is_none()
@@ -101,10 +115,29 @@ fn jobs_after_each_call(rt: HostRuntime) -> Result<(), Fail> {
     assert!(rt; stands(&line, &[]));
     for i in 0..ROWS.len() {
         let (call, want) = ROWS[i];
-        carry_out(&mut line, call);
+        assert_eq!(rt; carry_out(&mut line, call), false, "row {i}");
         assert!(rt; stands(&line, want), "row {i}");
         assert_eq!(rt; line.spare() as usize, 4usize.saturating_sub(want.len()));
     }
     assert!(rt; line.behind(id(1)).is_none());
+    assert!(rt; line.rank(id(1)).is_none());
+    Ok(())
+}
+
+#[test]
+fn ranked_anew_at_each_fifth(rt: HostRuntime) -> Result<(), Fail> {
+    let mut line = Line::new(rt.alloc(), 4)?;
+    carry_out(&mut line, Call::Join(1));
+    carry_out(&mut line, Call::Join(2));
+    for count in 1..16u32 {
+        let child = 1 + count % 2;
+        let parent = 3 - child;
+        let anew = carry_out(&mut line, Call::Before(child, parent));
+        assert_eq!(rt; anew, count % 5 == 0, "call {count}");
+        assert!(rt;
+            stands(&line, &[(child, 0, 0), (parent, 0, 0)]),
+            "call {count}"
+        );
+    }
     Ok(())
 }

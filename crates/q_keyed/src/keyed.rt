@@ -94,7 +94,8 @@ impl<T: HasKey + Drop> Keyed<T> {
         item_at(&self.items, number)
     }
 
-    /// Adds an item behind all others, and gives the number that it has from now on.
+    /// Adds an item behind all others, and gives the number that it has from now on. Numbers are
+    /// those below the room, so a caller may keep more of an item by its number.
     pub fn push(&mut self, item: T) -> u32
         requires room { length self.old.items < self.old.room }
         requires absent { first_such (λ t. T.eq (T.key_of t) (T.key_of item)) self.old.items ≡ None }
@@ -102,6 +103,7 @@ impl<T: HasKey + Drop> Keyed<T> {
           items = self.old.items ++ record { number = result; item = item } ∷ [];
         } }
         ensures fresh { find (has_number result) self.old.items ≡ None }
+        ensures below { result < self.old.room }
     {
         self.order.stand_once();
         let Some(number) = self.order.first(FREE) else {
@@ -124,6 +126,7 @@ impl<T: HasKey + Drop> Keyed<T> {
         ensures items { self.new ≡ record self.old
             { items = inserted_at at (record { number = result; item = item }) self.old.items } }
         ensures fresh { find (has_number result) self.old.items ≡ None }
+        ensures below { result < self.old.room }
     {
         self.order.stand_once();
         let Some(number) = self.order.first(FREE) else {

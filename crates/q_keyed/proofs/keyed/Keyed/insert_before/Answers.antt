@@ -88,3 +88,9 @@ returns-clause-fresh g c =
     let n = c.in-Some.number in
     sym (ap (λ (v : Items g.row.T.Denot). find (has_number n) v.items) c.self.view_is)
     ∙ absent_item n a.items.items (get_or a.order.lists 0 []) (lacks g.T.HasKey.eq g.T.HasKey.key_of g.T.HasKey.hash g.met.T.HasKey.is_same g.met.T.HasKey.is_own a.items.items a.order a.by_key a.live a.room c.self.invariant c.stand_once.ensures c.in-Some.number (sym c.first.ensures ∙ c.in-Some.is))
+
+pub returns-clause-below : goal.returns-clause-below
+returns-clause-below g c =
+    let a = c.self.inside in
+    let below = known g.T.HasKey.eq g.T.HasKey.key_of g.T.HasKey.hash g.met.T.HasKey.is_same g.met.T.HasKey.is_own a.items.items a.order a.by_key a.live a.room c.self.invariant c.stand_once.ensures c.in-Some.number (sym c.first.ensures ∙ c.in-Some.is) in
+    subst (λ (v : Items g.row.T.Denot). c.in-Some.number < v.room) c.self.view_is below
