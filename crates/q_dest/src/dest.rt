@@ -3,11 +3,11 @@ ghost use Rattle.std.specs.Prelude.{◌≡◌, ◌+◌, ◌<◌, ◌≤◌, ◌^
 ghost use Rattle.q_dest.specs.Dests.{begun, gained, has_space, heard, is_dead, is_dead_waiting, is_kept, is_remembered, is_unused, landed, left, new_dest, revived_now, with_known};
 ghost use Rattle.q_dest.specs.Ranks.{dead_rank, time_rank};
 
-use crate::hash::site_hash;
 use crate::site_record::WideSiteRecord;
 use q_keyed::HasKey;
 use q_model::{Health, Moment, Site, SiteState};
 use q_params::Params;
+use q_peers::site_hash;
 
 /// What is known of a site, and what goes to it.
 #[derive(Clone, Copy, Debug)]

@@ -18,7 +18,6 @@
 mod counting;
 mod dest;
 mod events;
-mod hash;
 mod moving;
 mod revival;
 mod site_record;

@@ -15,14 +15,15 @@ fn hash_with(hash: u64, byte: u8) -> u64
     (hash * 31 + u64::from(byte)) % MODULUS
 }
 
-fn site_hash(site: &Site) -> u64
+/// The hash of a site's transport and next hop.
+pub fn site_hash(site: &Site) -> u32
     ensures { result ≡ site_hash site.now }
 {
     let mut hash = u64::from(site.transport);
     for byte in site.hop.bytes() {
         hash = hash_with(hash, *byte);
     }
-    hash
+    hash as u32
 }
 
 /// The bucket of a message, of so many.
@@ -40,5 +41,5 @@ pub(crate) fn site_bucket(site: &Site, buckets: u32) -> u32
     ensures is { result ≡ site_hash site.now % buckets }
     ensures below { result < buckets }
 {
-    (site_hash(site) % u64::from(buckets)) as u32
+    site_hash(site) % buckets
 }

@@ -21,4 +21,5 @@ mod walk;
 #[cfg(test)]
 mod worked;
 
+pub use bucket::site_hash;
 pub use waiting::Waiting;
