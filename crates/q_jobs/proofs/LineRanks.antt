@@ -1,5 +1,5 @@
 -- For callers: what the ranks of jobs say of where the jobs stand.
-use Rattle.std.proofs.Common.{◌≡◌, ◌∙◌, ◌∷◌, ◌<◌, [], ap, arith, Bool, cond, false, length, List, None, refl, Some, sym, true, ℕ}
+use Rattle.std.proofs.Common.{◌≡◌, ◌∙◌, ◌∷◌, ◌<◌, [], ap, arith, Bool, cond, false, length, List, map, None, refl, Some, sym, true, ℕ}
 use Rattle.std.specs.List.{AllByRecursion}
 use Rattle.std.specs.Option.{is_some}
 use Rattle.std.specs.Prelude.{find}
@@ -7,7 +7,7 @@ use Rattle.q_model.proofs.IdLaws.{id_eq-true}
 use Rattle.q_model.specs.declared.id.Id.{Id}
 use Rattle.q_model.specs.Ids.{id_eq}
 use Rattle.q_jobs.specs.declared.job.Job.{Job}
-use Rattle.q_jobs.specs.Jobs.{AreOfOthers, AreRising, behind_jobs, is_job_of, rank_of, RiseFrom}
+use Rattle.q_jobs.specs.Jobs.{account_in, AreOfOthers, AreRising, behind_jobs, is_job_of, rank_of, RiseFrom}
 use Rattle.q_jobs.proofs.LineWalks.{lacks_behind}
 
 some_step : (id : Id) (j : Job) (js : List Job) (q : ℕ) (rs : List ℕ) (t : Bool) → is_some (rank_of id js rs) ≡ is_some (find (is_job_of id) js) →
@@ -20,6 +20,21 @@ pub ranked_with_job : (id : Id) (js : List Job) (rs : List ℕ) → length rs �
 ranked_with_job id [] rs each = refl
 ranked_with_job id (j ∷ js) [] each = absurd (omega (arith, each))
 ranked_with_job id (j ∷ js) (q ∷ rs) each = some_step id j js q rs (id_eq j.id id) (ranked_with_job id js rs (omega (arith, each)))
+
+-- jobs that change, but for their messages, keep their ranks
+pub rank_changed : (id : Id) (f : Job → Job) (js : List Job) (rs : List ℕ) → ((j : Job) → (f j).id ≡ j.id) → rank_of id (map f js) rs ≡ rank_of id js rs
+rank_changed id f [] rs same = refl
+rank_changed id f (j ∷ js) [] same = refl
+rank_changed id f (j ∷ js) (q ∷ rs) same =
+    ap (λ i. cond (id_eq i id) (Some q) (rank_of id (map f js) rs)) (same j) ∙ ap (λ o. cond (id_eq j.id id) (Some q) o) (rank_changed id f js rs same)
+
+account_step : (job j : Job) (t : Bool) → id_eq j.id job.id ≡ t → (cond t job j).id ≡ j.id
+account_step job j true e = sym (id_eq-true j.id job.id e)
+account_step job j false e = refl
+
+-- so with another account of one
+pub rank_put : (id : Id) (job : Job) (js : List Job) (rs : List ℕ) → rank_of id (map (account_in job) js) rs ≡ rank_of id js rs
+rank_put id job js rs = rank_changed id (account_in job) js rs (λ j. account_step job j (id_eq j.id job.id) refl)
 
 low_step : (limit q r : ℕ) (id : Id) (js : List Job) (rs : List ℕ) (t : Bool) → q < limit → cond t (Some q) (rank_of id js rs) ≡ Some r → (rank_of id js rs ≡ Some r → r < limit) → r < limit
 low_step limit q r id js rs true low h rest = let same : q ≡ r = cc in omega (arith, same, low)

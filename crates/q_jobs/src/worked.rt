@@ -91,7 +91,7 @@ fn account(job: Option<&Job>) -> Option<Account> {
     Some((job.id.serial, job.starts, job.charged))
 }
 
-/// Whether just these jobs stand, in this order, each is found by its message, and their ranks rise.
+/// Whether just these jobs stand, in this order, each found by its message, and their ranks rise.
 fn stands(line: &Line, want: &[Account]) -> bool {
     let mut at = account(line.first());
     let mut rank = Some(0);

@@ -3,7 +3,7 @@ use Rattle.std.specs.Prelude.{find}
 use Rattle.q_keyed.proofs.Values.{none_sought}
 use Rattle.q_keyed.specs.Numbered.{Items}
 use Rattle.q_jobs.specs.declared.job.Job.{Job}
-use Rattle.q_jobs.specs.Jobs.{fresh_job, is_job_of, Jobs, rank_of}
+use Rattle.q_jobs.specs.Jobs.{is_job_of, Jobs, rank_of}
 use Rattle.q_jobs.proofs.LineSteps.{free_in, kept_more}
 use Rattle.q_jobs.proofs.RankLaws.{rank_in}
 use Rattle.q_jobs.proofs.line.Line.join.Goals as goal
@@ -21,5 +21,5 @@ pub returns-clause-kept : goal.returns-clause-kept
 returns-clause-kept c = λ h other differ.
     let a = c.self.inside in
     ap (λ (v : Items Job). rank_in other c.push.new.self.ranks v.items) c.push-number.ensures.items
-    ∙ kept_more c.args.id other differ (record { number = c.push-number.result; item = fresh_job c.args.id }) refl a.ranks.ranks c.push.new.self.ranks a.jobs.items c.push-number.ensures.fresh (c.push.ensures.kept h)
+    ∙ kept_more c.args.id other differ _ refl a.ranks.ranks c.push.new.self.ranks a.jobs.items c.push-number.ensures.fresh (c.push.ensures.kept h)
     ∙ ap (λ (v : Jobs). rank_of other v.jobs v.ranks) c.self.view_is
