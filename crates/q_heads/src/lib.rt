@@ -13,9 +13,9 @@
 //! beside; no other call takes memory or can fail. It is an error to make it without room or lanes,
 //! or for 2^30 of either and more, and to put an entry where there is no room or into a lane that
 //! there isn't. It is one to give a class to a lane that there isn't or that has entries, and to
-//! ask what is behind an entry of a lane that there isn't. It is none to put an entry that is there,
-//! or to take out one that isn't: then nothing happens. Nor is it to ask for the first of a lane or
-//! of a class that has none, also where there isn't such a one: then the answer is None.
+//! ask what is behind an entry of a lane that there isn't. It is none to put an entry that is
+//! there, or to take out one that isn't: then nothing happens. Nor is it to ask for the first of a
+//! lane or of a class that has none, also where there isn't such a one: then the answer is None.
 #![tactic(auto)]
 
 mod heads;
