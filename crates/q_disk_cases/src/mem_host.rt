@@ -10,41 +10,78 @@ fn name(text: &str) -> Result<Name, Fail> {
     Ok(Name::new(text.as_bytes()).ok_or("no name")?)
 }
 
-// Puts 70 files into an area, the last of them first.
-fn fill(alloc: Global, host: &mut MemHost, area: Area) -> Result<(), Fail> {
-    for i in (0..70).rev() {
-        let text = format!(in alloc; "{i:02}")?;
-        host.put_file(area, name(text.as_str())?, b"x")?;
+// Puts 300 files into an area in mixed order, and one each into the areas before and behind it.
+fn fill(alloc: Global, host: &mut MemHost) -> Result<(), Fail> {
+    for i in 0..300 {
+        let text = format!(in alloc; "{:03}", i * 7 % 300)?;
+        host.put_file(Area::Deferred, name(text.as_str())?, b"x")?;
     }
+    host.put_file(Area::Active, name("500")?, b"abc")?;
+    host.put_file(Area::Hold, name("000")?, b"abc")?;
     Ok(())
+}
+
+// Whether the names are so many numbers in a row, from the first on.
+fn are_numbered(alloc: Global, names: &Names, first: usize, count: usize) -> Result<bool, Fail> {
+    if names.len() != count {
+        return Ok(false);
+    }
+    for i in 0..count {
+        let text = format!(in alloc; "{:03}", first + i)?;
+        if names.get(i) != name(text.as_str())? {
+            return Ok(false);
+        }
+    }
+    Ok(true)
 }
 
 #[test]
 fn lists_names_in_order(rt: HostRuntime) -> Result<(), Fail> {
     let alloc = rt.alloc();
     let mut host = MemHost::new(alloc);
-    fill(alloc, &mut host, Area::Deferred)?;
-    host.put_file(Area::Active, name("00")?, b"abc")?;
+    fill(alloc, &mut host)?;
     let mut names = Names::new(alloc)?;
-    // the name to go on from, how many come, and the first and the last of them
+    // the name to go on from, and the first and the count of those that come
     let rows = [
-        (None, 64, "00", "63"),
-        (Some("63"), 6, "64", "69"),
-        (Some("00"), 64, "01", "64"),
-        (Some("0"), 64, "00", "63"),
-        (Some("68"), 1, "69", "69"),
+        (None, 0, 64),
+        (Some("063"), 64, 64),
+        (Some("0630"), 64, 64),
+        (Some("0"), 0, 64),
+        (Some("199"), 200, 64),
+        (Some("235"), 236, 64),
+        (Some("236"), 237, 63),
+        (Some("298"), 299, 1),
+        (Some("299"), 0, 0),
+        (Some("z"), 0, 0),
     ];
-    for (after, count, first, last) in rows {
+    for (after, first, count) in rows {
         let after = match after {
             Some(text) => Some(name(text)?),
             None => None,
         };
         host.list_after(Area::Deferred, after, &mut names)?;
-        assert_eq!(rt; names.len(), count);
-        assert!(rt; names.as_slice().first() == Some(&name(first)?));
-        assert!(rt; names.as_slice().last() == Some(&name(last)?));
+        assert!(rt; are_numbered(alloc, &names, first, count)?);
     }
-    host.list_after(Area::Deferred, Some(name("69")?), &mut names)?;
+    Ok(())
+}
+
+#[test]
+fn lists_what_stays(rt: HostRuntime) -> Result<(), Fail> {
+    let alloc = rt.alloc();
+    let mut host = MemHost::new(alloc);
+    fill(alloc, &mut host)?;
+    let mut names = Names::new(alloc)?;
+    // one more behind the others, one put a second time, and one less
+    defer(&rt, &mut host, name("500")?)?;
+    host.put_file(Area::Deferred, name("298")?, b"again")?;
+    remove(&rt, &mut host, Area::Deferred, name("299")?)?;
+    host.list_after(Area::Deferred, Some(name("297")?), &mut names)?;
+    assert!(rt; names.as_slice() == [name("298")?, name("500")?].as_slice());
+    assert_eq!(rt;
+        host.file(Area::Deferred, name("298")?),
+        Some(&b"again"[..])
+    );
+    host.list_after(Area::Active, None, &mut names)?;
     assert_eq!(rt; names.len(), 0);
     Ok(())
 }

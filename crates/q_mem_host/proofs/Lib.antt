@@ -1,11 +1,14 @@
 mod Crashes
+mod Edits
 mod Effects
-mod Firsts
 mod History
 mod Keeping
 mod Leasts
+mod Listings
+mod Order
 mod Outcomes
 mod Results
+mod Searches
 mod Sound
 mod Steps
 mod Tables

@@ -1,8 +1,9 @@
 -- Lists of entries as tables.
-use Rattle.std.proofs.Common.{◌≡◌, ℕ, Bool, true, false, not, List, [], ◌∷◌, ◌++◌, if◌then◌else◌, Option, Some, None, filter, refl, sym, ◌∙◌, ap, subst}
+use Rattle.std.proofs.Common.{◌≡◌, ℕ, Bool, true, false, List, [], ◌∷◌, ◌++◌, if◌then◌else◌, Option, Some, None, IsSome, refl, sym, ◌∙◌, ap, subst, true≢false}
+use Rattle.std.specs.List.{AllByRecursion}
 use Rattle.q_model.specs.declared.spot.Area.{Area}
-use Rattle.q_host.specs.Files.{Placed, put, same_place}
-use Rattle.q_host.proofs.Puts.{put-here, put-other, put-is, same_place-true, same_place-refl}
+use Rattle.q_host.specs.Files.{same_place}
+use Rattle.q_host.proofs.Puts.{same_place-true}
 use Rattle.q_mem_host.specs.Kept.{Kept}
 use Rattle.q_mem_host.specs.Data.{kept, table}
 use Rattle.q_mem_host.specs.declared.entries.Entry.{Entry}
@@ -29,40 +30,20 @@ elsewhere e a n b m here differ =
     let both = same_place-true e.area e.name a n here in
     subst (λ a'. same_place a' e.name b m ≡ false) (sym both.0) (subst (λ n'. same_place a n' b m ≡ false) (sym both.1) differ)
 
--- the entries of one place are left out
-pub table-filter : (es : List Entry) (a : Area) (n : List ℕ) → table (filter (λ e. not (same_place e.area e.name a n)) es) ≡ put (table es) a n None
-table-filter es a n = put-is (table es) (table (filter (λ e. not (same_place e.area e.name a n)) es)) a n None (none es) (others es)
-  where
-    none : (es : List Entry) → table (filter (λ e. not (same_place e.area e.name a n)) es) a n ≡ None
-    none [] = refl
-    none (e ∷ es) = by (same_place e.area e.name a n) refl (none es)
-      where
-        by : (t : Bool) → same_place e.area e.name a n ≡ t → table (filter (λ x. not (same_place x.area x.name a n)) es) a n ≡ None
-            → table (if not t then e ∷ filter (λ x. not (same_place x.area x.name a n)) es else filter (λ x. not (same_place x.area x.name a n)) es) a n ≡ None
-        by true s rest = rest
-        by false s rest = ap (λ t. if t then Some (kept e.file) else table (filter (λ x. not (same_place x.area x.name a n)) es) a n) s ∙ rest
+-- the entry is at another place
+abbrev pub IsElsewhere : Area → List ℕ → Entry → Type 0
+IsElsewhere a n e = same_place e.area e.name a n ≡ false
 
-    others : (es : List Entry) (b : Area) (m : List ℕ) → same_place a n b m ≡ false → table (filter (λ e. not (same_place e.area e.name a n)) es) b m ≡ table es b m
-    others [] b m h = refl
-    others (e ∷ es) b m h = by (same_place e.area e.name a n) refl (others es b m h) (λ here. elsewhere e a n b m here h)
-      where
-        by : (t : Bool) → same_place e.area e.name a n ≡ t → table (filter (λ x. not (same_place x.area x.name a n)) es) b m ≡ table es b m
-            → (same_place e.area e.name a n ≡ true → same_place e.area e.name b m ≡ false)
-            → table (if not t then e ∷ filter (λ x. not (same_place x.area x.name a n)) es else filter (λ x. not (same_place x.area x.name a n)) es) b m ≡ table (e ∷ es) b m
-        by true s rest away = rest ∙ sym (ap (λ t. if t then Some (kept e.file) else table es b m) (away s))
-        by false s rest away = ap (λ (o : Option Kept). if same_place e.area e.name b m then Some (kept e.file) else o) rest
+pub none_there : (es : List Entry) (a : Area) (n : List ℕ) → AllByRecursion (IsElsewhere a n) es → table es a n ≡ None
+none_there [] a n h = refl
+none_there (e ∷ es) a n h = ap (λ t. if t then Some (kept e.file) else table es a n) h.0 ∙ none_there es a n h.1
 
-pub table-put : (es : List Entry) (e : Entry) (f : Placed Kept) → table es ≡ put f e.area e.name None → table (es ++ e ∷ []) ≡ put f e.area e.name (Some (kept e.file))
-table-put es e f h = put-is f (table (es ++ e ∷ [])) e.area e.name (Some (kept e.file)) here others
-  where
-    here : table (es ++ e ∷ []) e.area e.name ≡ Some (kept e.file)
-    here = table-push es e e.area e.name ∙ ap (λ (o : Option Kept). or_else o (table (e ∷ []) e.area e.name)) (ap (λ (t : Placed Kept). t e.area e.name) h ∙ put-here f e.area e.name None)
-        ∙ ap (λ t. if t then Some (kept e.file) else None) (same_place-refl e.area e.name)
+among_step : (P : Entry → Type 0) (e : Entry) (a : Area) (n : List ℕ) (rest : Option Kept) (t : Bool) → same_place e.area e.name a n ≡ t → P e → IsSome (if t then Some (kept e.file) else rest)
+    → (IsSome rest → (x : Entry) × P x × (same_place x.area x.name a n ≡ true)) → (x : Entry) × P x × (same_place x.area x.name a n ≡ true)
+among_step P e a n rest true here p some others = (e, p, here)
+among_step P e a n rest false here p some others = others some
 
-    id_left : (o : Option Kept) → or_else o None ≡ o
-    id_left None = refl
-    id_left (Some k) = refl
-
-    others : (b : Area) (m : List ℕ) → same_place e.area e.name b m ≡ false → table (es ++ e ∷ []) b m ≡ f b m
-    others b m s = table-push es e b m ∙ ap (λ t. or_else (table es b m) (if t then Some (kept e.file) else None)) s ∙ id_left (table es b m)
-        ∙ ap (λ (t : Placed Kept). t b m) h ∙ put-other f e.area e.name None b m s
+-- the entry of a place, with what holds of each entry
+pub among : (P : Entry → Type 0) (es : List Entry) (a : Area) (n : List ℕ) → AllByRecursion P es → IsSome (table es a n) → (x : Entry) × P x × (same_place x.area x.name a n ≡ true)
+among P [] a n h some = absurd (true≢false (sym some))
+among P (e ∷ es) a n h some = among_step P e a n (table es a n) (same_place e.area e.name a n) refl h.0 some (λ rest. among P es a n h.1 rest)

@@ -1,11 +1,12 @@
 -- What the data of a host in memory stand for.
-use Rattle.std.specs.Prelude.{◌≡◌, ◌<◌, ℕ, true, List, [], ◌∷◌, length, take, slice_get, if◌then◌else◌, Some, None, Vec, unwrap_or}
+use Rattle.std.specs.Prelude.{◌≡◌, ℕ, List, [], ◌∷◌, if◌then◌else◌, Some, None, Vec, unwrap_or}
 use Rattle.q_model.specs.declared.spot.Area.{Area}
 use Rattle.std.specs.Option.{option_map}
 use Rattle.std.specs.declared.alloc.Global.{Global}
 use Rattle.q_host.specs.Files.{put, same_place, Placed}
 use Rattle.q_mem_host.specs.Kept.{Kept}
 use Rattle.q_mem_host.specs.Event.{Event, host_state_of}
+use Rattle.q_mem_host.specs.Order.{InOrder}
 use Rattle.q_mem_host.specs.declared.file.File.{File}
 use Rattle.q_mem_host.specs.declared.entries.Entry.{Entry}
 
@@ -26,12 +27,6 @@ abbrev pub table : List Entry → Placed Kept
 table [] a n = None
 table (e ∷ es) a n = if same_place e.area e.name a n then Some (kept e.file) else table es a n
 
--- the first entry of a place has this index
-pub record IsFirst (es : List Entry) (i : ℕ) (a : Area) (n : List ℕ) : Type 0 where
-  pub within : i < length es
-  pub here : (e : Entry) → slice_get es i ≡ Some e → same_place e.area e.name a n ≡ true
-  pub before : table (take i es) a n ≡ None
-
 -- the file of the place is changed by a function, and all else is as before
 abbrev pub IsChanged : Area → List ℕ → (Kept → Kept) → List Entry → List Entry → Type 0
 IsChanged a n change old new = table new ≡ put (table old) a n (option_map change (table old a n))
@@ -40,7 +35,8 @@ IsChanged a n change old new = table new ≡ put (table old) a n (option_map cha
 abbrev pub IsMoved : Area → List ℕ → Area → List ℕ → List Entry → List Entry → Type 0
 IsMoved a n b m old new = table new ≡ put (put (table old) a n None) b m (table old a n)
 
--- the files and the told bytes are those that the history leads to
+-- the entries stand in order, and the files and the told bytes are those that the history leads to
 pub record KeepsUp (entries : List Entry) (bytes : List ℕ) (h : List Event) : Type 0 where
+  pub order : InOrder entries
   pub disk : table entries ≡ (host_state_of h).disk
   pub told : bytes ≡ (host_state_of h).told

@@ -6,5 +6,5 @@ pub mod Data
 pub mod Record
 pub mod Plans
 pub mod Memo
-pub mod Least
+pub mod Order
 pub mod Planned

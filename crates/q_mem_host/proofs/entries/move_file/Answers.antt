@@ -3,13 +3,17 @@ use Rattle.q_host.specs.Files.{Placed, put}
 use Rattle.q_mem_host.specs.Kept.{Kept}
 use Rattle.q_mem_host.specs.Data.{kept, table}
 use Rattle.q_mem_host.specs.declared.entries.Entry.{Entry}
-use Rattle.q_mem_host.proofs.Firsts.{first_in, first_found, first_removed}
+use Rattle.q_mem_host.proofs.Edits.{at_in, file_there, order_in, taken_order, taken_out}
 use Rattle.q_mem_host.proofs.entries.move_file.Goals as goal
 
-pub returns-in-Some : goal.returns-in-Some
-returns-in-Some c =
+pub put_file-requires-clause-order : goal.put_file-requires-clause-order
+put_file-requires-clause-order c =
+    order_in _ _ c.remove-entry.ensures.by_index.2 (taken_order c.args.entries.now.items c.in-Some.i c.args.area c.args.name c.requires.order (at_in _ _ _ _ _ c.deref.ensures.value c.in-Some.ensures.some) c.remove-entry.result c.remove-entry.ensures.value)
+
+pub returns-in-Some-clause-moved : goal.returns-in-Some-clause-moved
+returns-in-Some-clause-moved c =
     let es = c.args.entries.now.items in
     let e = c.remove-entry.result in
-    c.put_file.ensures
-    ∙ ap (λ (t : Placed Kept). put t c.args.to c.args.new (Some (kept e.file))) (c.take_away.ensures.table ∙ ap (λ (l : List Entry). put (table l) c.args.area c.args.name None) c.remove-entry.ensures.by_index.2 ∙ first_removed es c.in-Some.i c.args.area c.args.name (first_in _ _ _ _ _ c.deref.ensures.value c.in-Some.ensures.some) e c.remove-entry.ensures.value)
-    ∙ ap (λ (o : Option Kept). put (put (table es) c.args.area c.args.name None) c.args.to c.args.new o) (sym (first_found es c.in-Some.i c.args.area c.args.name (first_in _ _ _ _ _ c.deref.ensures.value c.in-Some.ensures.some) e c.remove-entry.ensures.value))
+    c.put_file.ensures.table
+    ∙ ap (λ (t : Placed Kept). put t c.args.to c.args.new (Some (kept e.file))) (ap (λ (l : List Entry). table l) c.remove-entry.ensures.by_index.2 ∙ taken_out es c.in-Some.i c.args.area c.args.name c.requires.order (at_in _ _ _ _ _ c.deref.ensures.value c.in-Some.ensures.some) e c.remove-entry.ensures.value)
+    ∙ ap (λ (o : Option Kept). put (put (table es) c.args.area c.args.name None) c.args.to c.args.new o) (sym (file_there es c.in-Some.i c.args.area c.args.name c.requires.order (at_in _ _ _ _ _ c.deref.ensures.value c.in-Some.ensures.some) e c.remove-entry.ensures.value))

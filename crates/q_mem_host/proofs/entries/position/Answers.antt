@@ -1,6 +1,5 @@
-use Rattle.std.proofs.Common.{sym, ◌∙◌}
-use Rattle.q_mem_host.proofs.Firsts.{none_more}
+use Rattle.q_mem_host.proofs.Edits.{gap_empty}
 use Rattle.q_mem_host.proofs.entries.position.Goals as goal
 
-pub loop-i-preserved : goal.loop-i-preserved
-loop-i-preserved c = none_more c.args.entries.now c.loop-i.i c.index-entries-i.result c.args.area c.args.name c.loop-i-test.true c.index-entries-i.is c.loop-i.invariant (sym c.is_at.ensures ∙ c.if-is_at.false)
+pub returns-in-Err-clause-none : goal.returns-in-Err-clause-none
+returns-in-Err-clause-none c = λ none. gap_empty c.args.entries.now _ c.args.area c.args.name.now c.in-Err.ensures.missing

@@ -1,7 +1,7 @@
-use Rattle.std.proofs.Common.{◌≡◌, length}
-use Rattle.q_mem_host.specs.Data.{table}
-use Rattle.q_mem_host.proofs.Leasts.{SoFar}
+use Rattle.std.proofs.Common.{◌≡◌, ◌+◌, length}
+use Rattle.q_mem_host.proofs.Listings.{AreListed}
 use Rattle.q_mem_host.proofs.listing.list_names.Given as goal
 
-abbrev pub invariant-loop : goal.invariant-loop
-invariant-loop l = record { so_far : SoFar (table l.entries l.area) l.fn.after l.last l.out; count : length l.out ≡ l.counter }
+-- the names are those of the entries so far
+abbrev pub invariant-loop-i : goal.invariant-loop-i
+invariant-loop-i l = record { listed : AreListed l.entries l.i l.area l.fn.after l.out; count : l.start + length l.out ≡ l.i }
