@@ -1,0 +1,7 @@
+pub mod WithLine
+mod LineSets
+mod Having
+mod HavingLines
+mod PeerLaws
+mod NumberedWalk
+mod TurnSteps

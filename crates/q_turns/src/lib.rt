@@ -1,0 +1,19 @@
+//! Whose turn it is: the jobs of all transports in their lines, and their peers. A job is a message
+//! at a transport, and a peer is a message at a site, of which rows wait there (SCHEDULER_README,
+//! "Preemptive scheduling"). It knows of each transport the first job that can be sent something.
+//!
+//! A job joins its line before a row of its message waits at the transport, and leaves behind the
+//! last one. Room is made once, by `new`; no other call takes memory or can fail. It is an error to
+//! let a job join where it stands already or has no room, or leave while rows of it wait; to let a
+//! row come without a job or without room for its peer; and to put a job before itself, or before
+//! one that isn't there. It is none to ask for, change or lose what isn't there.
+#![tactic(auto)]
+
+mod current;
+mod lines;
+mod peer;
+mod peers;
+mod turns;
+
+pub use peer::Peer;
+pub use turns::Turns;

@@ -1,0 +1,98 @@
+//! A peer.
+ghost use Rattle.std.specs.Prelude.{◌≡◌, ◌+◌, ◌<◌, ◌^◌};
+ghost use Rattle.q_turns.specs.Turns.{gained, key_hash, lost, new_peer};
+
+use q_keyed::HasKey;
+use q_model::{Id, Site};
+use q_peers::site_hash;
+
+/// A message at a site for which rows of it wait.
+#[derive(Clone, Copy, Debug)]
+pub struct Peer {
+    pub id: Id,
+    pub site: Site,
+    /// How many rows wait.
+    pub waiting: u32,
+}
+
+/// What a peer is found by.
+#[derive(Clone, Copy, Debug)]
+pub struct PeerKey {
+    pub id: Id,
+    pub site: Site,
+}
+
+/// A prime, and the greatest number of 31 bits.
+const MODULUS: u64 = 2_147_483_647;
+
+/// A number that is taken from both.
+fn key_hash(id: Id, site: &Site) -> u32
+    ensures { result ≡ key_hash (record { id = id; site = site.now }) }
+{
+    ((u64::from(site_hash(site)) * 31 + u64::from(id.serial)) % MODULUS) as u32
+}
+
+impl HasKey for Peer {
+    ghost use Rattle.q_turns.specs.Turns.{key_eq, key_hash, key_of};
+    ghost use Rattle.q_turns.specs.KeyLaws.{key_eq-refl, key_eq-true};
+
+    type Key = PeerKey;
+
+    ghost key_of = { key_of };
+
+    ghost eq = { key_eq };
+
+    ghost hash = { key_hash };
+
+    fn has_key(&self, key: &PeerKey) -> bool {
+        self.id == key.id && self.site == key.site
+    }
+
+    fn hash(&self) -> u32 {
+        key_hash(self.id, &self.site)
+    }
+
+    fn hash_of(key: &PeerKey) -> u32 {
+        key_hash(key.id, &key.site)
+    }
+
+    ghost is_same = { key_eq-true };
+
+    ghost is_own = { key_eq-refl };
+}
+
+impl Peer {
+    /// One for which one row waits.
+    pub(crate) fn new(id: Id, site: Site) -> Peer
+        ensures { result ≡ new_peer id site }
+    {
+        Peer {
+            id,
+            site,
+            waiting: 1,
+        }
+    }
+
+    /// One row more waits.
+    pub(crate) fn gained(&self) -> Peer
+        requires { self.now.waiting + 1 < 2 ^ 32 }
+        ensures { result ≡ gained self.now }
+    {
+        Peer {
+            id: self.id,
+            site: self.site,
+            waiting: self.waiting + 1,
+        }
+    }
+
+    /// One row less waits.
+    pub(crate) fn lost(&self) -> Peer
+        ensures { result ≡ lost self.now }
+    {
+        Peer {
+            id: self.id,
+            site: self.site,
+            waiting: self.waiting.saturating_sub(1),
+        }
+    }
+}

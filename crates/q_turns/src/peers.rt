@@ -1,0 +1,62 @@
+//! Rows come to wait and leave.
+ghost use Rattle.std.specs.Prelude.{◌≡◌, ◌+◌, ◌<◌, ◌^◌, length, true};
+ghost use Rattle.q_turns.specs.Turns.{gained_at, lost_at, may_wait, waiting_for};
+
+use crate::peer::{Peer, PeerKey};
+use crate::turns::Turns;
+use q_model::{Id, Site};
+
+impl Turns {
+    /// How many rows of the message wait for the site.
+    pub fn waiting(&self, id: Id, site: &Site) -> u32
+        ensures { result ≡ waiting_for id site.now self.now.peers }
+    {
+        self.peers.stand_apart();
+        let key = PeerKey { id, site: *site };
+        let Some(number) = self.peers.find(&key) else {
+            return 0;
+        };
+        match self.peers.get(number) {
+            Some(peer) => peer.waiting,
+            None => 0,
+        }
+    }
+
+    /// One row more of the message waits for the site. It has a job at the transport, where that has
+    /// a line.
+    pub fn gain(&mut self, id: Id, site: &Site)
+        requires job { may_wait self.old.lines site.now.transport id ≡ true }
+        requires few { waiting_for id site.now self.old.peers + 1 < 2 ^ 32 }
+        requires room { length self.old.peers < self.old.room }
+        ensures { self.new ≡ record self.old { peers = gained_at id site.now self.old.peers } }
+    {
+        self.peers.stand_apart();
+        let key = PeerKey { id, site: *site };
+        let Some(number) = self.peers.find(&key) else {
+            let _number = self.peers.push(Peer::new(id, *site));
+            return;
+        };
+        if let Some(peer) = self.peers.get(number).copied() {
+            self.peers.put(number, peer.gained());
+        }
+    }
+
+    /// One row less of the message waits for the site.
+    pub fn lose(&mut self, id: Id, site: &Site)
+        ensures { self.new ≡ record self.old { peers = lost_at id site.now self.old.peers } }
+    {
+        self.peers.stand_apart();
+        let key = PeerKey { id, site: *site };
+        let Some(number) = self.peers.find(&key) else {
+            return;
+        };
+        let Some(peer) = self.peers.get(number).copied() else {
+            return;
+        };
+        if peer.waiting > 1 {
+            self.peers.put(number, peer.lost());
+        } else {
+            let _peer = self.peers.remove(number);
+        }
+    }
+}
