@@ -1,5 +1,5 @@
 -- Each peer has a job and rows that wait, as peers come, change and leave.
-use Rattle.std.proofs.Common.{◌≡◌, ◌∙◌, ◌∷◌, ◌++◌, [], ap, Bool, cond, false, List, map, None, Option, option_map, not, refl, Some, subst, true, ℕ}
+use Rattle.std.proofs.Common.{◌≡◌, ◌∙◌, ◌∷◌, ◌++◌, [], ap, Bool, cond, false, List, map, option_map, not, refl, Some, subst, true, ℕ}
 use Rattle.std.specs.Prelude.{◌==◌, filter, find}
 use Rattle.q_jobs.specs.declared.job.Job.{Job}
 use Rattle.q_keyed.proofs.Values.{changed_where}

@@ -1,5 +1,5 @@
 -- Each peer keeps its job, as the jobs of a line change.
-use Rattle.std.proofs.Common.{◌≡◌, ◌∙◌, ◌∷◌, ◌++◌, ◌<◌, [], ap, arith, Bool, cond, false, inl, inr, length, List, map, None, Option, refl, Some, subst, suc, sym, true, zero, ℕ}
+use Rattle.std.proofs.Common.{◌≡◌, ◌∙◌, ◌∷◌, ◌++◌, ◌<◌, [], ap, Bool, cond, false, inl, inr, length, List, map, None, Option, refl, Some, subst, suc, sym, true, zero, ℕ}
 use Rattle.std.proofs.lemmas.Bool.{both_ways, eq-eqb, lt-ltb, ltb-true, or_cases, or_left, or_right}
 use Rattle.std.proofs.lemmas.List.Folds.{list_any-append}
 use Rattle.std.specs.List.{list_any}
@@ -8,12 +8,12 @@ use Rattle.std.specs.Prelude.{◌||◌, ◌==◌, ◌&&◌, filter, find, nat_lt
 use Rattle.q_jobs.specs.declared.job.Job.{Job}
 use Rattle.q_jobs.specs.Jobs.{account_in, fresh_job, is_job_of, is_job_of_another, moved_job, put_job}
 use Rattle.q_model.proofs.EachLaws.{find-passes}
-use Rattle.q_model.proofs.IdLaws.{id_eq-refl, id_eq-true}
+use Rattle.q_model.proofs.IdLaws.{id_eq-true}
 use Rattle.q_model.specs.declared.id.Id.{Id}
 use Rattle.q_model.specs.Ids.{id_eq}
 use Rattle.q_model.specs.Lists.{drop_first}
 use Rattle.q_turns.specs.declared.peer.Peer.{Peer}
-use Rattle.q_turns.specs.Turns.{has_job, HaveJobs, is_peer_for, line_at, may_wait, waits, with_line}
+use Rattle.q_turns.specs.Turns.{has_job, HaveJobs, is_peer_for, line_at, may_wait, with_line}
 use Rattle.q_turns.proofs.WithLine.{length_with}
 
 -- A row may wait where there is a job, or no line.

@@ -1,5 +1,5 @@
 -- One line in the place of another, and lines that are empty.
-use Rattle.std.proofs.Common.{◌≡◌, ◌∙◌, ◌∷◌, ◌<◌, [], ap, arith, get_or, length, List, map, refl, set, Some, subst, suc, sym, true, zero, ℕ}
+use Rattle.std.proofs.Common.{◌≡◌, ◌∙◌, ◌∷◌, ◌<◌, [], ap, arith, get_or, length, List, refl, set, Some, subst, suc, sym, true, zero, ℕ}
 use Rattle.std.proofs.lemmas.Bool.{ltb-true}
 use Rattle.std.specs.Prelude.{ltb, replicate, slice_get}
 use Rattle.q_jobs.specs.declared.job.Job.{Job}
@@ -16,6 +16,9 @@ pub below_jobs : (t : ℕ) (ls : List Jobs) → t < length (jobs_of ls) → t < 
 below_jobs t [] h = h
 below_jobs zero (x ∷ ls) h = omega arith
 below_jobs (suc t) (x ∷ ls) h = let there = below_jobs t ls (omega (arith, h)) in omega (arith, there)
+
+pub below_seen : (t : ℕ) (ls : List Jobs) (seen : List (List Job)) → jobs_of ls ≡ seen → t < length seen → t < length (jobs_of ls)
+below_seen t ls seen is below = subst (λ js. t < length js) (sym is) below
 
 -- a line that a contract sees
 pub at_there : (t : ℕ) (ls : List Jobs) (l : Jobs) (seen : List (List Job)) → jobs_of ls ≡ seen → t < length seen → l ≡ get_or ls t l → slice_get ls t ≡ Some l
@@ -34,6 +37,11 @@ pub room_at : (room t : ℕ) (ls : List Jobs) (l : Jobs) → HaveRoom room ls �
 room_at room t [] l have h = cc
 room_at room zero (x ∷ ls) l have h = let same : x ≡ l = cc in subst (λ (k : Jobs). k.room ≡ room) same have.0
 room_at room (suc t) (x ∷ ls) l have h = room_at room t ls l have.1 h
+
+pub count_set : (t : ℕ) (l : Jobs) (ls : List Jobs) → length (set ls t l) ≡ length ls
+count_set t l [] = refl
+count_set zero l (x ∷ ls) = refl
+count_set (suc t) l (x ∷ ls) = ap suc (count_set t l ls)
 
 pub jobs_set : (t : ℕ) (l : Jobs) (g : List Job → List Job) (ls : List Jobs) → l.jobs ≡ g (line_at t (jobs_of ls)) → jobs_of (set ls t l) ≡ with_line t g (jobs_of ls)
 jobs_set t l g [] h = refl

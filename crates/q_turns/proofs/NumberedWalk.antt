@@ -1,11 +1,11 @@
 -- A walk along items under numbers.
-use Rattle.std.proofs.Common.{◌≡◌, ◌∙◌, ◌∷◌, ◌+◌, ◌<◌, [], ap, arith, Bool, cond, false, length, List, None, Option, option_map, refl, Some, suc, sym, true, ℕ}
-use Rattle.std.proofs.lemmas.Bool.{eqb-true, or_left}
+use Rattle.std.proofs.Common.{◌≡◌, ◌∙◌, ◌∷◌, [], ap, Bool, cond, false, List, None, Option, option_map, refl, Some, subst, sym, true, ℕ}
+use Rattle.std.proofs.lemmas.Bool.{eqb-true}
 use Rattle.std.specs.List.{list_any}
 use Rattle.std.specs.Option.{is_some}
-use Rattle.std.specs.Prelude.{◌==◌, ◌||◌, find}
+use Rattle.std.specs.Prelude.{◌==◌, find, IfSome}
 use Rattle.q_model.proofs.EachLaws.{find-any}
-use Rattle.q_keyed.specs.Numbered.{AreApart, first_number, has_number, item_at, next_number, Numbered, values_of}
+use Rattle.q_keyed.specs.Numbered.{AreApart, first_number, has_number, item_at, next_number, Numbered}
 use Rattle.q_peers.proofs.Numbers.{flipped, own_test}
 
 module _ {T : Type 0} where
@@ -96,22 +96,42 @@ module _ {T : Type 0} where
       ap (λ o. from_on o ks) here ∙ from_here n x ks there
       ∙ ap (λ ls. record { number = n; item = x } ∷ ls) (sym (from_next n ks apart) ∙ ap (λ o. from_on o ks) (sym is))
 
-  from_none_step : (n : ℕ) (k : Numbered T) (ks : List (Numbered T)) (t : Bool) → option_map (λ (k : Numbered T). k.item) (cond t (Some k) (find (has_number n) ks)) ≡ None → (item_at n ks ≡ None → from_on (Some n) ks ≡ []) → cond t (k ∷ ks) (from_on (Some n) ks) ≡ []
-  from_none_step n k ks true none rest = cc
-  from_none_step n k ks false none rest = rest none
+  -- a walk comes by items that there are
+  abbrev pub StandsIn : List (Numbered T) → Option ℕ → Type 0
+  StandsIn ks at = IfSome at (λ n. is_some (item_at n ks) ≡ true)
 
-  -- nothing is behind a number that none has
-  pub from_none : (n : ℕ) (ks : List (Numbered T)) → item_at n ks ≡ None → from_on (Some n) ks ≡ []
-  from_none n [] none = refl
-  from_none n (k ∷ ks) none = from_none_step n k ks (k.number == n) none (from_none n ks)
+  own_stands : (k : Numbered T) (ks : List (Numbered T)) → is_some (item_at k.number (k ∷ ks)) ≡ true
+  own_stands k ks = ap (λ t. is_some (option_map (λ (k : Numbered T). k.item) (cond t (Some k) (find (has_number k.number) ks)))) (own_test k.number)
 
-  module _ (n : ℕ) (x : T) (at next : Option ℕ) (ks : List (Numbered T)) (apart : AreApart ks) (here : at ≡ Some n) (there : item_at n ks ≡ Some x) (is : next ≡ next_number n ks) where
-    pub fewer_on : length (from_on next ks) < length (from_on at ks)
-    fewer_on = let more : length (from_on at ks) ≡ suc (length (from_on next ks)) = ap length (one_on n x at next ks apart here there is) in omega (arith, more)
+  more_step : (i : ℕ) (k : Numbered T) (ks : List (Numbered T)) (t : Bool) → is_some (item_at i ks) ≡ true → is_some (option_map (λ (k : Numbered T). k.item) (cond t (Some k) (find (has_number i) ks))) ≡ true
+  more_step i k ks true h = refl
+  more_step i k ks false h = h
 
-    pub passes_on : (test : T → Bool) → test x ≡ true → list_any test (values_of (from_on at ks)) ≡ true
-    passes_on test h = ap (λ ls. list_any test (values_of ls)) (one_on n x at next ks apart here there is) ∙ or_left (test x) (list_any test (values_of (from_on next ks))) h
+  more_stands : (k : Numbered T) (ks : List (Numbered T)) (o : Option ℕ) → StandsIn ks o → StandsIn (k ∷ ks) o
+  more_stands k ks None h = tt
+  more_stands k ks (Some i) h = more_step i k ks (k.number == i) h
 
-    pub fails_on : (test : T → Bool) → test x ≡ false → list_any test (values_of (from_on next ks)) ≡ list_any test (values_of (from_on at ks))
-    fails_on test h =
-        sym (ap (λ ls. list_any test (values_of ls)) (one_on n x at next ks apart here there is) ∙ ap (λ b. b || list_any test (values_of (from_on next ks))) h)
+  first_of_stands : (ks : List (Numbered T)) → StandsIn ks (first_number ks)
+  first_of_stands [] = tt
+  first_of_stands (k ∷ ks) = own_stands k ks
+
+  next_of_step : (n : ℕ) (k : Numbered T) (ks : List (Numbered T)) (t : Bool) → StandsIn ks (next_number n ks) → StandsIn (k ∷ ks) (cond t (first_number ks) (next_number n ks))
+  next_of_step n k ks true rest = more_stands k ks (first_number ks) (first_of_stands ks)
+  next_of_step n k ks false rest = more_stands k ks (next_number n ks) rest
+
+  next_of_stands : (n : ℕ) (ks : List (Numbered T)) → StandsIn ks (next_number n ks)
+  next_of_stands n [] = tt
+  next_of_stands n (k ∷ ks) = next_of_step n k ks (k.number == n) (next_of_stands n ks)
+
+  pub first_stands : (at : Option ℕ) (ks : List (Numbered T)) → at ≡ first_number ks → StandsIn ks at
+  first_stands at ks is = subst (StandsIn ks) (sym is) (first_of_stands ks)
+
+  pub next_stands : (n : ℕ) (next : Option ℕ) (ks : List (Numbered T)) → next ≡ next_number n ks → StandsIn ks next
+  next_stands n next ks is = subst (StandsIn ks) (sym is) (next_of_stands n ks)
+
+  some_step : (o : Option T) → is_some o ≡ true → (x : T) × (o ≡ Some x)
+  some_step None h = absurd cc
+  some_step (Some x) h = (x, refl)
+
+  pub item_stands : (n : ℕ) (at : Option ℕ) (ks : List (Numbered T)) → at ≡ Some n → StandsIn ks at → (x : T) × (item_at n ks ≡ Some x)
+  item_stands n at ks here h = some_step (item_at n ks) (subst (StandsIn ks) here h)

@@ -1,7 +1,6 @@
 -- The calls of peers in the words of keyed items.
-use Rattle.std.proofs.Common.{◌≡◌, ◌∙◌, ◌∷◌, ◌++◌, ◌+◌, ◌-◌, ◌<◌, ◌≤◌, [], ap, arith, Bool, cond, false, List, map, None, Option, refl, Some, subst, sym, true, ℕ}
-use Rattle.std.proofs.lemmas.Bool.{and_parts, le-ltb, lt-ltb, ltb-true}
-use Rattle.std.proofs.lemmas.List.{map-append}
+use Rattle.std.proofs.Common.{◌≡◌, ◌∙◌, ◌∷◌, ◌++◌, ◌+◌, ◌-◌, ◌<◌, ◌≤◌, [], ap, arith, cond, false, List, map, None, Option, refl, Some, subst, sym, true, ℕ}
+use Rattle.std.proofs.lemmas.Bool.{and_parts, le-ltb, lt-ltb}
 use Rattle.std.specs.List.{list_any}
 use Rattle.std.specs.Option.{is_some, option_map_or}
 use Rattle.std.specs.Prelude.{filter, find, IfSome, not}
@@ -105,15 +104,6 @@ module _ (id : Id) (site : Site) (ks : List (Numbered Peer)) (none : first_such 
   pub waiting_nowhere : 0 ≡ waiting_for id site (values_of ks)
   waiting_nowhere = ap (λ o. option_map_or (λ (q : Peer). q.waiting) o 0) (sym not_found)
 
-  none_there : list_any (is_peer id site) (values_of ks) ≡ false
-  none_there = sym (find-any (is_peer id site) (values_of ks)) ∙ ap is_some not_found
-
-  pub gain_nowhere : (m : ℕ) (x : Peer) → x ≡ new_peer id site → values_of (ks ++ record { number = m; item = x } ∷ []) ≡ gained_at id site (values_of ks)
-  gain_nowhere m x is =
-      map-append (λ (k : Numbered Peer). k.item) ks (record { number = m; item = x } ∷ [])
-      ∙ ap (λ y. values_of ks ++ y ∷ []) is
-      ∙ ap (λ b. cond b (map (changed_at id site gained) (values_of ks)) (values_of ks ++ new_peer id site ∷ [])) (sym none_there)
-
   pub lose_nowhere : AllWait (values_of ks) → lost_at id site (values_of ks) ≡ values_of ks
   lose_nowhere all = ap (filter waits) (change_none (is_peer id site) lost (values_of ks) (none_passes (is_peer id site) ks none)) ∙ keep_waiting (values_of ks) all
 
@@ -126,3 +116,7 @@ none_left p h = le-ltb 0 (p.waiting - 1) (omega (arith, h))
 
 pub one_waits : (p : Peer) → waits (gained p) ≡ true
 one_waits p = lt-ltb 0 (p.waiting + 1) (omega arith)
+
+pub gain_absent : (id : Id) (site : Site) (ps : List Peer) → find (is_peer id site) ps ≡ None → ps ++ new_peer id site ∷ [] ≡ gained_at id site ps
+gain_absent id site ps none =
+    ap (λ b. cond b (map (changed_at id site gained) ps) (ps ++ new_peer id site ∷ [])) (sym (sym (find-any (is_peer id site) ps) ∙ ap is_some none))

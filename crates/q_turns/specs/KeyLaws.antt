@@ -1,5 +1,5 @@
 -- Keys of peers that are equal are one and the same.
-use Rattle.std.proofs.Common.{◌≡◌, ◌∙◌, ap, Bool, false, refl, sym, true}
+use Rattle.std.proofs.Common.{◌≡◌, ◌∙◌, ap, Bool, false, refl, true}
 use Rattle.std.specs.Prelude.{◌&&◌}
 use Rattle.q_model.proofs.IdLaws.{id_eq-refl, id_eq-true, site_eq-refl, site_eq-true}
 use Rattle.q_model.specs.declared.id.Id.{Id}

@@ -1,3 +1,6 @@
 pub mod Turns
+pub mod Heading
+pub mod Laning
+pub mod Moving
 pub mod Sound
 pub mod KeyLaws

@@ -2,6 +2,12 @@
 //! at a transport, and a peer is a message at a site, of which rows wait there (SCHEDULER_README,
 //! "Preemptive scheduling"). It knows of each transport the first job that can be sent something.
 //!
+//! To find that job, no call walks along a line or over all peers. A site for which rows wait has a
+//! lane, and in it its peers stand by the ranks of their jobs. The first ones of the transport's
+//! lanes, their heads, stand in order again, and are asked one by one; each that is passed is at a
+//! site that is full. As a job goes before another, its peers move in their lanes; and in the very
+//! rare call that finds no rank left all jobs of a transport are ranked anew, in a walk.
+//!
 //! A job joins its line before a row of its message waits at the transport, and leaves behind the
 //! last one. Room is made once, by `new`; no other call takes memory or can fail. It is an error to
 //! let a job join where it stands already or has no room, or leave while rows of it wait; to let a
@@ -10,7 +16,11 @@
 #![tactic(auto)]
 
 mod current;
+mod heading;
+mod lane;
+mod laning;
 mod lines;
+mod moving;
 mod peer;
 mod peers;
 mod turns;

@@ -5,6 +5,8 @@ ghost use Rattle.q_jobs.specs.Jobs.{account_in, fresh_job, is_job_of, is_job_of_
 ghost use Rattle.q_model.specs.Ids.{id_eq};
 ghost use Rattle.q_turns.specs.Turns.{has_job, is_peer_for, line_at, with_line};
 
+use crate::heading::rank_at;
+use crate::moving::{move_job, place_anew};
 use crate::turns::Turns;
 use q_jobs::Job;
 use q_model::Id;
@@ -18,9 +20,19 @@ impl Turns {
         ensures { self.new ≡ record self.old
             { lines = with_line transport (λ jobs. jobs ++ fresh_job id ∷ []) self.old.lines } }
     {
+        self.lanes.stand_apart();
         let line = &mut self.lines[transport];
-        let _anew = line.join(id);
+        let anew = line.join(id);
         line.stand_apart();
+        if anew {
+            place_anew(
+                &mut self.heads,
+                &self.lines,
+                &self.lanes,
+                &self.peers,
+                transport,
+            );
+        }
     }
 
     /// Puts another account in the place of that of the same message.
@@ -54,8 +66,32 @@ impl Turns {
         ensures { self.new ≡ record self.old
             { lines = with_line transport (moved_job child parent) self.old.lines } }
     {
+        self.lanes.stand_apart();
+        let from = rank_at(&self.lines, transport, child);
         let line = &mut self.lines[transport];
-        let _anew = line.put_before(child, parent);
+        let anew = line.put_before(child, parent);
         line.stand_apart();
+        if anew {
+            place_anew(
+                &mut self.heads,
+                &self.lines,
+                &self.lanes,
+                &self.peers,
+                transport,
+            );
+            return;
+        }
+        if let Some(from) = from {
+            move_job(
+                &mut self.heads,
+                &self.lines,
+                &self.lanes,
+                &self.peers,
+                &self.messages,
+                child,
+                transport,
+                from,
+            );
+        }
     }
 }

@@ -1,12 +1,34 @@
 //! Rows come to wait and leave.
-ghost use Rattle.std.specs.Prelude.{◌≡◌, ◌+◌, ◌<◌, ◌^◌, length, true};
-ghost use Rattle.q_turns.specs.Turns.{gained_at, lost_at, may_wait, waiting_for};
+ghost use Rattle.std.specs.Prelude.{◌≡◌, ◌+◌, ◌++◌, ◌<◌, ◌^◌, [], ◌∷◌, find, length, None, true};
+ghost use Rattle.q_turns.specs.Turns.{gained_at, is_peer, lost_at, may_wait, waiting_for, waits};
 
+use crate::heading::{head_of, message_entry};
+use crate::laning::{drop_lane, make_lane, put_in, take_out};
 use crate::peer::{Peer, PeerKey};
 use crate::turns::Turns;
 use q_model::{Id, Site};
 
 impl Turns {
+    /// A peer comes behind all others, with a lane and its entries.
+    fn come(&mut self, peer: Peer)
+        requires absent { find (is_peer peer.id peer.site) self.old.peers ≡ None }
+        requires waits { waits peer ≡ true }
+        requires job { may_wait self.old.lines peer.site.transport peer.id ≡ true }
+        requires room { length self.old.peers < self.old.room }
+        ensures { self.new ≡ record self.old { peers = self.old.peers ++ peer ∷ [] } }
+    {
+        self.peers.stand_apart();
+        self.lanes.stand_apart();
+        self.heads.stand_sorted();
+        self.messages.stand_sorted();
+        make_lane(&mut self.lanes, &mut self.heads, &peer.site);
+        self.lanes.stand_apart();
+        let number = self.peers.push(peer);
+        self.messages.insert(message_entry(&peer, number));
+        let head = head_of(&self.lines, &self.lanes, number, &peer);
+        put_in(&mut self.heads, head);
+    }
+
     /// How many rows of the message wait for the site.
     pub fn waiting(&self, id: Id, site: &Site) -> u32
         ensures { result ≡ waiting_for id site.now self.now.peers }
@@ -22,8 +44,8 @@ impl Turns {
         }
     }
 
-    /// One row more of the message waits for the site. It has a job at the transport, where that has
-    /// a line.
+    /// One row more of the message waits for the site. It has a job at the transport, where that
+    /// has a line.
     pub fn gain(&mut self, id: Id, site: &Site)
         requires job { may_wait self.old.lines site.now.transport id ≡ true }
         requires few { waiting_for id site.now self.old.peers + 1 < 2 ^ 32 }
@@ -33,7 +55,7 @@ impl Turns {
         self.peers.stand_apart();
         let key = PeerKey { id, site: *site };
         let Some(number) = self.peers.find(&key) else {
-            let _number = self.peers.push(Peer::new(id, *site));
+            self.come(Peer::new(id, *site));
             return;
         };
         if let Some(peer) = self.peers.get(number).copied() {
@@ -46,6 +68,7 @@ impl Turns {
         ensures { self.new ≡ record self.old { peers = lost_at id site.now self.old.peers } }
     {
         self.peers.stand_apart();
+        self.lanes.stand_apart();
         let key = PeerKey { id, site: *site };
         let Some(number) = self.peers.find(&key) else {
             return;
@@ -55,8 +78,12 @@ impl Turns {
         };
         if peer.waiting > 1 {
             self.peers.put(number, peer.lost());
-        } else {
-            let _peer = self.peers.remove(number);
+            return;
         }
+        self.messages.remove(&message_entry(&peer, number));
+        let head = head_of(&self.lines, &self.lanes, number, &peer);
+        take_out(&mut self.heads, head);
+        drop_lane(&mut self.lanes, &self.heads, &peer.site);
+        let _peer = self.peers.remove(number);
     }
 }

@@ -5,10 +5,13 @@ ghost use Rattle.q_jobs.specs.Jobs.{behind_jobs, first_job, is_job_of};
 ghost use Rattle.q_turns.specs.Sound.{jobs_of};
 ghost use Rattle.q_turns.specs.Turns.{AreApart, AreLinesApart, HaveJobs, line_at};
 
+use crate::lane::Lane;
 use crate::peer::Peer;
+use q_heads::Heads;
 use q_jobs::{Job, Line};
 use q_keyed::Keyed;
 use q_model::Id;
+use q_sorted::Sorted;
 use std::alloc::{AllocError, Global};
 use std::marker::Model;
 
@@ -17,6 +20,12 @@ use std::marker::Model;
 pub struct Turns {
     pub(crate) lines: Vec<Line>,
     pub(crate) peers: Keyed<Peer>,
+    /// The sites of peers, each with a number.
+    pub(crate) lanes: Keyed<Lane>,
+    /// The numbers of peers, in the lanes of their sites by the ranks of their jobs.
+    pub(crate) heads: Heads,
+    /// The numbers of peers, by their messages.
+    pub(crate) messages: Sorted,
     /// How many jobs each line has room for.
     pub(crate) line_room: u32,
 }
@@ -35,7 +44,7 @@ impl Model for Turns {
       room = a.peers.room;
     } };
 
-    ghost invariant = { λ a. IsSound a.lines.items (values_of a.peers.items) a.line_room };
+    ghost invariant = { λ a. IsSound a.lines.items a.peers a.lanes a.heads a.messages a.line_room };
 }
 
 /// So many lines without a job, each with room for so many.
@@ -71,9 +80,15 @@ impl Turns {
     {
         let lines = empty_lines(alloc, transports, line_room)?;
         let peers = Keyed::new(alloc, room)?;
+        let lanes = Keyed::new(alloc, room)?;
+        let heads = Heads::new(alloc, room, room)?;
+        let messages = Sorted::new(alloc, room)?;
         Ok(Turns {
             lines,
             peers,
+            lanes,
+            heads,
+            messages,
             line_room,
         })
     }

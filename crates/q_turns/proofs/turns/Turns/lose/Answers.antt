@@ -1,10 +1,16 @@
-use Rattle.std.proofs.Common.{◌∙◌, ap, map, refl, subst, sym}
+use Rattle.std.proofs.Common.{◌∙◌, ap, map, refl, sym}
+use Rattle.std.specs.Prelude.{filter}
+use Rattle.q_heads.specs.Lanes.{Lanes}
 use Rattle.q_keyed.specs.Numbered.{Items, put_at, values_of}
+use Rattle.q_sorted.specs.declared.entry.Entry.{Entry}
+use Rattle.q_sorted.specs.Entries.{is_another}
 use Rattle.q_turns.proofs.Having.{all_wait}
 use Rattle.q_turns.proofs.PeerLaws.{go_there, have_less, have_there, lose_nowhere, lose_there, more_left, none_left, not_gone}
-use Rattle.q_turns.proofs.TurnSteps.{peers_seen, sound_peers}
+use Rattle.q_turns.proofs.TurnSteps.{sound_from, sound_less, sound_put}
+use Rattle.q_turns.proofs.TurnViews.{peers_seen}
 use Rattle.q_turns.specs.declared.peer.Peer.{Peer}
-use Rattle.q_turns.specs.Sound.{IsSound, jobs_of}
+use Rattle.q_turns.specs.Laning.{empty_lane, lanes_without}
+use Rattle.q_turns.specs.Sound.{jobs_of}
 use Rattle.q_turns.specs.Turns.{lost_at, waits}
 use Rattle.q_turns.proofs.turns.Turns.lose.Goals as goal
 
@@ -13,7 +19,7 @@ returns-in_default c =
     let a = c.self.inside in
     sym c.self.view_is
     ∙ peers_seen a.lines.items a.peers a.peers a.line_room c.args.self.now (lost_at c.args.id c.args.site.now) c.self.view_is refl
-    (sym (lose_nowhere c.args.id c.args.site.now a.peers.items (sym c.find.ensures ∙ c.in_default.is) (all_wait (jobs_of a.lines.items) (values_of a.peers.items) c.self.invariant.jobs)))
+    (sym (lose_nowhere c.args.id c.args.site.now a.peers.items (sym c.find.ensures ∙ c.in_default.is) (all_wait (jobs_of a.lines.items) (values_of a.peers.items) c.self.invariant.lines_are.jobs)))
 
 -- it was found under that number
 pub returns-in_default-copied : goal.returns-in_default-copied
@@ -24,11 +30,14 @@ pub invariant_of-self : goal.invariant_of-self
 invariant_of-self c =
     let a = c.self.inside in
     let s = c.stand_apart.ensures in
+    let n = c.in-Some.number in
     let p = c.in-Some-copied.peer in
-    subst (λ (v : Items Peer). IsSound a.lines.items (values_of v.items) a.line_room) (sym c.put.ensures)
-    (sound_peers a.lines.items (values_of a.peers.items) _ a.line_room c.self.invariant
-    (have_there c.args.id c.args.site.now c.in-Some.number p a.peers.items s.apart s.keys (sym c.find.ensures ∙ c.in-Some.is) (sym (c.copied.ensures ∙ c.get.ensures) ∙ c.in-Some-copied.is)
-    (jobs_of a.lines.items) c.lost.result c.self.invariant.jobs (ap (λ (q : Peer). q.id) c.lost.ensures) (ap (λ (q : Peer). q.site) c.lost.ensures) (ap waits c.lost.ensures ∙ more_left p c.if-peer-gt1.true)))
+    let x = c.lost.result in
+    let id = ap (λ (q : Peer). q.id) c.lost.ensures in
+    let site = ap (λ (q : Peer). q.site) c.lost.ensures in
+    sound_from a.lines.items _ c.put.new.self a.lanes a.lanes a.heads a.heads a.messages a.messages a.line_room c.put.ensures refl refl refl
+    (sound_put a.lines.items a.peers a.lanes a.heads a.messages a.line_room c.self.invariant n p x (sym (c.copied.ensures ∙ c.get.ensures) ∙ c.in-Some-copied.is) id site
+    (have_there c.args.id c.args.site.now n p a.peers.items s.apart s.keys (sym c.find.ensures ∙ c.in-Some.is) (sym (c.copied.ensures ∙ c.get.ensures) ∙ c.in-Some-copied.is) (jobs_of a.lines.items) x c.self.invariant.lines_are.jobs id site (ap waits c.lost.ensures ∙ more_left p c.if-peer-gt1.true)))
 
 pub returns-then-peer-gt1 : goal.returns-then-peer-gt1
 returns-then-peer-gt1 c =
@@ -41,19 +50,24 @@ returns-then-peer-gt1 c =
     (ap (λ (v : Items Peer). values_of v.items) c.put.ensures
     ∙ ap (λ x. values_of (map (put_at n x) a.peers.items)) c.lost.ensures
     ∙ lose_there c.args.id c.args.site.now n p a.peers.items s.apart s.keys (sym c.find.ensures ∙ c.in-Some.is) (sym (c.copied.ensures ∙ c.get.ensures) ∙ c.in-Some-copied.is)
-    (more_left p c.if-peer-gt1.true) (all_wait (jobs_of a.lines.items) (values_of a.peers.items) c.self.invariant.jobs))
+    (more_left p c.if-peer-gt1.true) (all_wait (jobs_of a.lines.items) (values_of a.peers.items) c.self.invariant.lines_are.jobs))
 
-pub invariant_of-self-else-peer-gt1 : goal.invariant_of-self-else-peer-gt1
-invariant_of-self-else-peer-gt1 c =
+pub invariant_of-self-2 : goal.invariant_of-self-2
+invariant_of-self-2 c =
     let a = c.self.inside in
     let s = c.stand_apart.ensures in
-    subst (λ (v : Items Peer). IsSound a.lines.items (values_of v.items) a.line_room) (sym c.remove-peer.ensures.items)
-    (sound_peers a.lines.items (values_of a.peers.items) _ a.line_room c.self.invariant
-    (have_less c.args.id c.args.site.now c.in-Some.number c.in-Some-copied.peer a.peers.items s.apart s.keys (sym c.find.ensures ∙ c.in-Some.is) (sym (c.copied.ensures ∙ c.get.ensures) ∙ c.in-Some-copied.is)
-    (jobs_of a.lines.items) c.self.invariant.jobs))
+    let n = c.in-Some.number in
+    let p = c.in-Some-copied.peer in
+    sound_from a.lines.items _ c.remove-peer.new.self _ c.drop_lane.new.lanes _ c.take_out.new.heads _ c.remove.new.self a.line_room
+    c.remove-peer.ensures.items
+    (c.drop_lane.ensures ∙ ap (λ (v : Lanes). record a.lanes { items = lanes_without (empty_lane p.site a.lanes.items v.items) a.lanes.items }) c.take_out.ensures)
+    c.take_out.ensures
+    (c.remove.ensures ∙ ap (λ (e : Entry). record a.messages { items = filter (is_another e) a.messages.items }) c.message_entry.ensures)
+    (sound_less a.lines.items a.peers a.lanes a.heads a.messages a.line_room c.self.invariant n p c.head_of-head.result (sym (c.copied.ensures ∙ c.get.ensures) ∙ c.in-Some-copied.is) c.head_of-head.ensures c.stand_apart-2.ensures.apart c.stand_apart-2.ensures.keys
+    (have_less c.args.id c.args.site.now n p a.peers.items s.apart s.keys (sym c.find.ensures ∙ c.in-Some.is) (sym (c.copied.ensures ∙ c.get.ensures) ∙ c.in-Some-copied.is) (jobs_of a.lines.items) c.self.invariant.lines_are.jobs))
 
-pub returns-else-peer-gt1 : goal.returns-else-peer-gt1
-returns-else-peer-gt1 c =
+pub returns : goal.returns
+returns c =
     let a = c.self.inside in
     let s = c.stand_apart.ensures in
     let p = c.in-Some-copied.peer in
@@ -61,4 +75,4 @@ returns-else-peer-gt1 c =
     (ap (λ (v : Items Peer). v.room) c.remove-peer.ensures.items)
     (ap (λ (v : Items Peer). values_of v.items) c.remove-peer.ensures.items
     ∙ go_there c.args.id c.args.site.now c.in-Some.number p a.peers.items s.apart s.keys (sym c.find.ensures ∙ c.in-Some.is) (sym (c.copied.ensures ∙ c.get.ensures) ∙ c.in-Some-copied.is)
-    (none_left p c.if-peer-gt1.false) (all_wait (jobs_of a.lines.items) (values_of a.peers.items) c.self.invariant.jobs))
+    (none_left p c.if-peer-gt1.false) (all_wait (jobs_of a.lines.items) (values_of a.peers.items) c.self.invariant.lines_are.jobs))

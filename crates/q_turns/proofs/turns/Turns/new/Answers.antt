@@ -1,18 +1,18 @@
-use Rattle.std.proofs.Common.{◌∙◌, [], ap, replicate, subst, sym}
-use Rattle.q_jobs.specs.declared.job.Job.{Job}
-use Rattle.q_keyed.specs.Numbered.{Items, values_of}
+use Rattle.std.proofs.Common.{◌∙◌, ◌<◌, ◌^◌, ap, arith, replicate, subst, sym}
+use Rattle.q_keyed.specs.Numbered.{Items}
 use Rattle.q_turns.proofs.LineSets.{empty_line, jobs_empty}
-use Rattle.q_turns.proofs.TurnSteps.{lines_with, sound_empty, turning}
+use Rattle.q_turns.proofs.TurnSteps.{sound_empty, sound_from}
+use Rattle.q_turns.proofs.TurnViews.{lines_with, turning}
 use Rattle.q_turns.specs.declared.peer.Peer.{Peer}
 use Rattle.q_turns.specs.Sound.{IsSound}
-use Rattle.q_turns.specs.Turns.{Turning}
 use Rattle.q_turns.proofs.turns.Turns.new.Goals as goal
 
 pub invariant_of-result : goal.invariant_of-result
 invariant_of-result c =
-    subst (λ ls. IsSound ls (values_of c.in_ok-peers.peers.items) c.args.line_room) (sym c.in_ok-lines.ensures)
-    (subst (λ (v : Items Peer). IsSound (replicate c.args.transports (empty_line c.args.line_room)) (values_of v.items) c.args.line_room) (sym c.in_ok-peers.ensures)
-    (sound_empty c.args.transports c.args.line_room))
+    let few : c.args.transports < 2 ^ 32 = omega arith in
+    subst (λ ls. IsSound ls c.in_ok-peers.peers c.in_ok-lanes.lanes c.in_ok-heads.heads c.in_ok-messages.messages c.args.line_room) (sym c.in_ok-lines.ensures)
+    (sound_from (replicate c.args.transports (empty_line c.args.line_room)) _ c.in_ok-peers.peers _ c.in_ok-lanes.lanes _ c.in_ok-heads.heads _ c.in_ok-messages.messages c.args.line_room c.in_ok-peers.ensures c.in_ok-lanes.ensures c.in_ok-heads.ensures c.in_ok-messages.ensures
+    (sound_empty c.args.transports c.args.line_room c.args.room few))
 
 pub returns : goal.returns
 returns c =

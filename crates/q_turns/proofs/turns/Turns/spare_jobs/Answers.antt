@@ -10,6 +10,6 @@ returns c =
     let line = c.index.result.now in
     let there = at_there t a.lines.items line c.args.self.now.lines (ap (λ (s : Turning). s.lines) c.self.view_is) c.requires c.index.ensures in
     c.spare.ensures
-    ∙ ap (λ n. n - length line.jobs) (room_at a.line_room t a.lines.items line c.self.invariant.room there)
+    ∙ ap (λ n. n - length line.jobs) (room_at a.line_room t a.lines.items line c.self.invariant.lines_are.room there)
     ∙ ap (λ js. a.line_room - length js) (sym (jobs_at t a.lines.items line there))
     ∙ ap (λ (s : Turning). s.line_room - length (line_at t s.lines)) c.self.view_is
