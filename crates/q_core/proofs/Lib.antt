@@ -88,4 +88,8 @@ pub mod TiedLaws
 pub mod NamedLaws
 pub mod GoneLaws
 pub mod RowWalkLaws
+pub mod PeerTies
+pub mod AbleLaws
+pub mod JoinedJobs
 pub mod LineSteps
+pub mod PreemptKinds

@@ -9,55 +9,54 @@ use Rattle.q_model.specs.declared.rows.Row.{Row}
 use Rattle.q_model.specs.Ids.{id_eq}
 use Rattle.q_core.proofs.AtHandLaws.{filter_whole}
 use Rattle.q_core.proofs.ListLaws.{find-passes}
-use Rattle.q_core.proofs.StillTidyLaws.{numbered_back}
-use Rattle.q_core.specs.Tidied.{leaves_among, stays_among, tidied_jobs}
+use Rattle.q_core.specs.Tidied.{leaves_among, stays_among, tidied_jobs, unread_among, waits_for}
 use Rattle.q_pool.specs.declared.slot.Slot.{Slot}
 use Rattle.q_core.specs.Choosing.{is_fresh_among, is_fresh_in}
-use Rattle.q_core.specs.Lines.{all_jobs, on_jobs}
 use Rattle.q_core.specs.Loading.{can_join, joined_line, joined_within, joins_in}
 use Rattle.q_core.specs.Sending.{charged_job, preempted_line, started_job, with_charge, with_start}
 use Rattle.q_jobs.proofs.LineWalks.{flipped}
 use Rattle.q_peers.proofs.Numbers.{flipped as flipped_test}
+use Rattle.q_turns.proofs.WithLine.{eq-self}
 use Rattle.q_jobs.specs.declared.job.Job.{Job}
-use Rattle.q_jobs.specs.Jobs.{AreOfOthers, behind_jobs, changed_job, is_job_of, is_job_of_another, Jobs, moved_job}
-
--- all lines, without their room
-pub jobs_over : (f : (ℕ × List Job) → List Job) (n : ℕ) (ls : List Jobs) → all_jobs (map (on_jobs f) (enumerate_from n ls)) ≡ map f (enumerate_from n (all_jobs ls))
-jobs_over f n [] = refl
-jobs_over f n (l ∷ ls) = ap (λ js. f (n, l.jobs) ∷ js) (jobs_over f (n + 1) ls)
-
--- where all jobs stay
-pub whole_over : (f : (ℕ × List Job) → List Job) (n : ℕ) (ls : List Jobs) → map f (enumerate_from n (all_jobs ls)) ≡ all_jobs ls → map (on_jobs f) (enumerate_from n ls) ≡ ls
-whole_over f n [] h = refl
-whole_over f n (l ∷ ls) h =
-    let first : f (n, l.jobs) ≡ l.jobs = cc in
-    let rest : map f (enumerate_from (n + 1) (all_jobs ls)) ≡ all_jobs ls = cc in
-    ap (λ js. record { jobs = js; room = l.room } ∷ map (on_jobs f) (enumerate_from (n + 1) ls)) first
-    ∙ ap (λ ks. l ∷ ks) (whole_over f (n + 1) ls rest)
+use Rattle.q_jobs.specs.Jobs.{AreOfOthers, behind_jobs, changed_job, fresh_job, is_job_of, is_job_of_another, moved_job}
 
 join_parts : (a b : Bool) → (a && b) ≡ true → (a ≡ true) × (b ≡ true)
 join_parts true b h = (refl, h)
 join_parts false b h = cc
 
 -- where each has room
-pub joined_over : (id : Id) (rows : List Row) (n : ℕ) (ls : List Jobs) → list_all (can_join id rows) (enumerate_from n ls) ≡ true →
-    all_jobs (map (joined_within id rows) (enumerate_from n ls)) ≡ map (joined_line id rows) (enumerate_from n (all_jobs ls))
-joined_over id rows n [] h = refl
-joined_over id rows n (l ∷ ls) h =
-    let parts = join_parts (can_join id rows (n, l)) (list_all (can_join id rows) (enumerate_from (n + 1) ls)) h in
-    ap (λ t. (cond t (on_jobs (joined_line id rows) (n, l)) l).jobs ∷ all_jobs (map (joined_within id rows) (enumerate_from (n + 1) ls))) parts.0
-    ∙ ap (λ js. joined_line id rows (n, l.jobs) ∷ js) (joined_over id rows (n + 1) ls parts.1)
+pub joined_over : (id : Id) (rows : List Row) (room n : ℕ) (ls : List (List Job)) → list_all (can_join id rows room) (enumerate_from n ls) ≡ true →
+    map (joined_within id rows room) (enumerate_from n ls) ≡ map (joined_line id rows) (enumerate_from n ls)
+joined_over id rows room n [] h = refl
+joined_over id rows room n (js ∷ ls) h =
+    let parts = join_parts (can_join id rows room (n, js)) (list_all (can_join id rows room) (enumerate_from (n + 1) ls)) h in
+    ap (λ t. cond t (joined_line id rows (n, js)) js ∷ map (joined_within id rows room) (enumerate_from (n + 1) ls)) parts.0
+    ∙ ap (λ ks. joined_line id rows (n, js) ∷ ks) (joined_over id rows room (n + 1) ls parts.1)
 
-pub jobs_in : (i : ℕ) (ls : List Jobs) (l : Jobs) → slice_get ls i ≡ Some l → slice_get (all_jobs ls) i ≡ Some l.jobs
-jobs_in i [] l h = cc
-jobs_in zero (k ∷ ls) l h = let same : k ≡ l = cc in ap (λ (x : Jobs). Some x.jobs) same
-jobs_in (suc i) (k ∷ ls) l h = jobs_in i ls l h
+-- A message joins one line, or doesn't.
+module _ (id : Id) (rows : List Row) (room at : ℕ) (js : List Job) where
+  join_step : (j r : Bool) → j ≡ true → r ≡ true → cond (not j || r) (cond j (js ++ fresh_job id ∷ []) js) js ≡ js ++ fresh_job id ∷ []
+  join_step true true e f = refl
+  join_step true false e f = cc
+  join_step false r e f = cc
 
--- the line of a transport, where it has one
-pub jobs_of_line : (i : ℕ) (ls : List Jobs) → option_map_or (λ jobs. jobs) (slice_get (all_jobs ls) i) [] ≡ option_map_or (λ (l : Jobs). l.jobs) (slice_get ls i) []
-jobs_of_line i [] = refl
-jobs_of_line zero (l ∷ ls) = refl
-jobs_of_line (suc i) (l ∷ ls) = jobs_of_line i ls
+  pub joined_there : joins_in id rows at js ≡ true → nat_lt (length js) room ≡ true → joined_within id rows room (at, js) ≡ js ++ fresh_job id ∷ []
+  joined_there h k = join_step (joins_in id rows at js) (nat_lt (length js) room) h k
+
+  not_step : (j r : Bool) → j ≡ false → cond (not j || r) (cond j (js ++ fresh_job id ∷ []) js) js ≡ js
+  not_step true r e = cc
+  not_step false r e = refl
+
+  pub joined_not : joins_in id rows at js ≡ false → joined_within id rows room (at, js) ≡ js
+  joined_not h = not_step (joins_in id rows at js) (nat_lt (length js) room) h
+
+  full_step : (j r : Bool) → r ≡ false → cond (not j || r) (cond j (js ++ fresh_job id ∷ []) js) js ≡ js
+  full_step true true e = cc
+  full_step true false e = refl
+  full_step false r e = refl
+
+  pub joined_full : nat_lt (length js) room ≡ false → joined_within id rows room (at, js) ≡ js
+  joined_full h = full_step (joins_in id rows at js) (nat_lt (length js) room) h
 
 -- A start counts in the line of its transport alone.
 and_false : (b : Bool) → (b && false) ≡ false
@@ -137,7 +136,7 @@ none_fresh_step : (id : Id) (j : Job) (js : List Job) (t : Bool) → id_eq j.id 
 none_fresh_step id j js true e h rest = cc
 none_fresh_step id j js false e h rest = ap (λ t. (t && (j.starts == 0)) || is_fresh_among js id) (flipped id j.id ∙ e) ∙ rest h
 
-none_fresh : (id : Id) (js : List Job) → find (is_job_of id) js ≡ None → is_fresh_among js id ≡ false
+pub none_fresh : (id : Id) (js : List Job) → find (is_job_of id) js ≡ None → is_fresh_among js id ≡ false
 none_fresh id [] h = refl
 none_fresh id (j ∷ js) h = none_fresh_step id j js (id_eq j.id id) refl h (none_fresh id js)
 
@@ -266,6 +265,11 @@ preempted_elsewhere child parent transport need left at js h =
     ap (λ t. cond t (moved_job child parent (map (charged_job parent transport need left at) js)) (map (charged_job parent transport need left at) js)) (flipped_test at transport ∙ h)
     ∙ charged_elsewhere parent transport need left at js h
 
+pub preempted_here : (child parent : Id) (transport need left : ℕ) (js : List Job) → preempted_line child parent transport need left (transport, js) ≡ moved_job child parent (map (changed_job parent (with_charge need left)) js)
+preempted_here child parent transport need left js =
+    ap (λ t. cond t (moved_job child parent (map (charged_job parent transport need left transport) js)) (map (charged_job parent transport need left transport) js)) (eq-self transport)
+    ∙ ap (moved_job child parent) (charged_here parent transport need left transport js (eq-self transport))
+
 -- What stays of a line.
 found_id : (p : Job → Bool) (i : Id) (js : List Job) (o : Option Job) → find p js ≡ o → option_map (λ (j : Job). j.id) o ≡ Some i → ((j : Job) × (p j ≡ true) × (j.id ≡ i))
 found_id p i js None e h = cc
@@ -290,39 +294,42 @@ tidied_out a w n i js h =
     let gone : stays_among a w n i ≡ false = ap (stays_among a w n) (sym f.2) ∙ not_true (stays_among a w n f.0.id) f.1 in
     filter_out (λ j. stays_among a w n j.id) (is_job_of_another i) (λ j e. ap (stays_among a w n) (id_eq-true j.id i (same_id (id_eq j.id i) e)) ∙ gone) js
 
+or_parts : (u b : Bool) → (not u || b) ≡ false → b ≡ false
+or_parts true b h = h
+or_parts false b h = cc
+
+-- of a message that has nothing left no row waits
+pub waits_not : (a : List Slot) (w : List Row) (n : ℕ) (i : Id) → stays_among a w n i ≡ false → waits_for w i n ≡ false
+waits_not a w n i h = or_parts (unread_among a i == 0) (waits_for w i n) h
+
+pub stays_not : (a : List Slot) (w : List Row) (n : ℕ) (i : Id) (js : List Job) → option_map (λ (j : Job). j.id) (find (leaves_among a w n) js) ≡ Some i → waits_for w i n ≡ false
+stays_not a w n i js h =
+    let f = found_id (leaves_among a w n) i js (find (leaves_among a w n) js) refl h in
+    waits_not a w n i (ap (stays_among a w n) (sym f.2) ∙ not_true (stays_among a w n f.0.id) f.1)
+
 pub none_leave : (a : List Slot) (w : List Row) (n : ℕ) (js : List Job) → option_map (λ (j : Job). j.id) (find (leaves_among a w n) js) ≡ None → tidied_jobs a w n js ≡ js
 none_leave a w n js h = filter_whole (λ (j : Job). stays_among a w n j.id) js (none_id (find (leaves_among a w n) js) h)
 
--- The lines before a place, where one more is looked at.
-pub all_more : (p : (ℕ × Jobs) → Bool) (n i j : ℕ) (ls : List Jobs) (l : Jobs) → j ≡ n + i → i < length ls → l ≡ get_or ls i l → list_all p (enumerate_from n (take i ls)) ≡ true → p (j, l) ≡ true →
-    list_all p (enumerate_from n (take (suc i) ls)) ≡ true
-all_more p n i j [] l e there is h q = absurd (omega (arith, there))
-all_more p n zero j (k ∷ ks) l e there is h q =
+-- The elements before a place, where one more is looked at.
+pub all_more : {X : Type 0} (p : (ℕ × X) → Bool) (n i j : ℕ) (xs : List X) (x : X) → j ≡ n + i → slice_get xs i ≡ Some x → list_all p (enumerate_from n (take i xs)) ≡ true → p (j, x) ≡ true →
+    list_all p (enumerate_from n (take (suc i) xs)) ≡ true
+all_more p n i j [] x e there h q = cc
+all_more p n zero j (y ∷ ys) x e there h q =
     let count : j ≡ n = omega (arith, e) in
-    ap (λ x. p (n, x) && true) (sym is) ∙ ap (λ m. p (m, l) && true) (sym count) ∙ ap (λ t. t && true) q
-all_more p n (suc i) j (k ∷ ks) l e there is h q =
-    let parts = join_parts (p (n, k)) (list_all p (enumerate_from (n + 1) (take i ks))) h in
+    let is : y ≡ x = cc in
+    ap (λ z. p (n, z) && true) is ∙ ap (λ m. p (m, x) && true) (sym count) ∙ ap (λ t. t && true) q
+all_more p n (suc i) j (y ∷ ys) x e there h q =
+    let parts = join_parts (p (n, y)) (list_all p (enumerate_from (n + 1) (take i ys))) h in
     let count : j ≡ n + 1 + i = omega (arith, e) in
-    let within : i < length ks = omega (arith, there) in
-    ap (λ t. t && list_all p (enumerate_from (n + 1) (take (suc i) ks))) parts.0 ∙ all_more p (n + 1) i j ks l count within is parts.1 q
+    ap (λ t. t && list_all p (enumerate_from (n + 1) (take (suc i) ys))) parts.0 ∙ all_more p (n + 1) i j ys x count there parts.1 q
 
 -- one that fails is enough
-pub not_all : (p : (ℕ × Jobs) → Bool) (n i j : ℕ) (ls : List Jobs) (l : Jobs) → j ≡ n + i → i < length ls → l ≡ get_or ls i l → p (j, l) ≡ false → list_all p (enumerate_from n ls) ≡ false
-not_all p n i j [] l e there is q = absurd (omega (arith, there))
-not_all p n zero j (k ∷ ks) l e there is q =
+pub not_all : {X : Type 0} (p : (ℕ × X) → Bool) (n i j : ℕ) (xs : List X) (x : X) → j ≡ n + i → slice_get xs i ≡ Some x → p (j, x) ≡ false → list_all p (enumerate_from n xs) ≡ false
+not_all p n i j [] x e there q = cc
+not_all p n zero j (y ∷ ys) x e there q =
     let count : j ≡ n = omega (arith, e) in
-    ap (λ x. p (n, x) && list_all p (enumerate_from (n + 1) ks)) (sym is) ∙ ap (λ m. p (m, l) && list_all p (enumerate_from (n + 1) ks)) (sym count) ∙ ap (λ t. t && list_all p (enumerate_from (n + 1) ks)) q
-not_all p n (suc i) j (k ∷ ks) l e there is q =
+    let is : y ≡ x = cc in
+    ap (λ z. p (n, z) && list_all p (enumerate_from (n + 1) ys)) is ∙ ap (λ m. p (m, x) && list_all p (enumerate_from (n + 1) ys)) (sym count) ∙ ap (λ t. t && list_all p (enumerate_from (n + 1) ys)) q
+not_all p n (suc i) j (y ∷ ys) x e there q =
     let count : j ≡ n + 1 + i = omega (arith, e) in
-    let within : i < length ks = omega (arith, there) in
-    ap (λ t. p (n, k) && t) (not_all p (n + 1) i j ks l count within is q) ∙ and_false (p (n, k))
-
--- Lines that were changed in place and written back.
-pub lines_back : (f : (ℕ × List Job) → List Job) (n : ℕ) (xs front old : List Jobs) → xs ≡ map (on_jobs f) (enumerate_from 0 front) → front ≡ old → length front ≡ n →
-    all_jobs (take n (xs ++ drop (length xs) old)) ≡ map f (enumerate_from 0 (all_jobs old))
-lines_back f n xs front old e h k = ap all_jobs (numbered_back (on_jobs f) n xs front old e h k) ∙ jobs_over f 0 old
-
--- Lines that a message joined, where each has room.
-pub joined_back : (id : Id) (rows : List Row) (n : ℕ) (xs front old : List Jobs) → xs ≡ map (joined_within id rows) (enumerate_from 0 front) → front ≡ old → length front ≡ n →
-    list_all (can_join id rows) (enumerate_from 0 old) ≡ true → all_jobs (take n (xs ++ drop (length xs) old)) ≡ map (joined_line id rows) (enumerate_from 0 (all_jobs old))
-joined_back id rows n xs front old e h k can = ap all_jobs (numbered_back (joined_within id rows) n xs front old e h k) ∙ joined_over id rows 0 old can
+    ap (λ t. p (n, y) && t) (not_all p (n + 1) i j ys x count there q) ∙ and_false (p (n, y))

@@ -1,8 +1,8 @@
 -- Rows and outcomes are of the message that they are made for.
-use Rattle.std.proofs.Common.{◌≡◌, Bool, cond, List, [], ◌∷◌, ◌++◌, length, None, Option, refl, Some, true, false, ℕ}
-use Rattle.std.specs.Prelude.{◌&&◌, nat_lt, option_map}
+use Rattle.std.proofs.Common.{◌≡◌, Bool, cond, List, [], ◌∷◌, ◌++◌, ap, length, None, Option, refl, Some, suc, sym, true, false, zero, ◌∙◌, ℕ}
+use Rattle.std.specs.Prelude.{◌&&◌, nat_lt, option_map, slice_get}
 use Rattle.q_core.specs.Loading.{AreRowsOf, rows_in}
-use Rattle.std.specs.List.{cons_option}
+use Rattle.std.specs.List.{cons_option, list_all}
 use Rattle.q_core.specs.Needs.{need_in, needs_in}
 use Rattle.q_core.specs.Ties.{AreNamed}
 use Rattle.q_model.specs.Batches.{join_rows}
@@ -37,3 +37,18 @@ pub needs_named : (expired : Bool) (id : Id) (ps : List ℕ) (os : List Outcome)
 needs_named expired id [] os = tt
 needs_named expired id (p ∷ ps) [] = tt
 needs_named expired id (p ∷ ps) (o ∷ os) = need_step id p (needs_in expired id ps os) (need_in expired o) (needs_named expired id ps os)
+
+pub named_at : {K X : Type 0} (name : X → K) (k : K) (xs : List X) (i : ℕ) (x : X) → AreNamed name k xs → slice_get xs i ≡ Some x → name x ≡ k
+named_at name k [] i x h e = cc
+named_at name k (y ∷ ys) zero x h e = let same : y ≡ x = cc in ap name (sym same) ∙ h.0
+named_at name k (y ∷ ys) (suc i) x h e = named_at name k ys i x h.1 e
+
+both_parts : (a b : Bool) → (a && b) ≡ true → (a ≡ true) × (b ≡ true)
+both_parts true b h = (refl, h)
+both_parts false b h = cc
+
+-- where all pass, so does the one at a place
+pub passes_at : {X : Type 0} (p : X → Bool) (xs : List X) (i : ℕ) (x : X) → list_all p xs ≡ true → slice_get xs i ≡ Some x → p x ≡ true
+passes_at p [] i x h e = cc
+passes_at p (y ∷ ys) zero x h e = let same : y ≡ x = cc in ap p (sym same) ∙ (both_parts (p y) (list_all p ys) h).0
+passes_at p (y ∷ ys) (suc i) x h e = passes_at p ys i x (both_parts (p y) (list_all p ys) h).1 e

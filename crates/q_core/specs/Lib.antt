@@ -29,4 +29,3 @@ pub mod Looking
 pub mod Touched
 pub mod RowWalks
 pub mod Known
-pub mod Lines

@@ -24,9 +24,7 @@ use Rattle.q_model.specs.Settings.{Settings, World}
 use Rattle.q_model.specs.SiteRecords.{new_record}
 use Rattle.q_model.specs.Values.{Site, SiteRecord, Taken}
 use Rattle.q_pool.specs.Slots.{changed_at, read_up}
-use Rattle.q_core.specs.Lines.{has_room_for_one, on_jobs}
 use Rattle.q_jobs.specs.declared.job.Job.{Job}
-use Rattle.q_jobs.specs.Jobs.{Jobs}
 use Rattle.q_core.specs.declared.state.Core.{Core}
 use Rattle.q_core.specs.declared.state.Question.TheVariants.{Active, Deferred, Incoming, Nothing, Recipients}
 
@@ -83,13 +81,13 @@ abbrev pub joined_line : Id → List Row → (ℕ × List Job) → List Job
 joined_line id rows line = if joins_in id rows line.0 line.1 then line.1
     ++ record { id = id; starts = 0; charged = 0 } ∷ [] else line.1
 
--- the line has room, where the message joins it
-abbrev pub can_join : Id → List Row → (ℕ × Jobs) → Bool
-can_join id rows line = not (joins_in id rows line.0 line.1.jobs) || has_room_for_one line.1
+-- the line, which has room for so many jobs, has it for one more, where the message joins it
+abbrev pub can_join : Id → List Row → ℕ → (ℕ × List Job) → Bool
+can_join id rows room line = not (joins_in id rows line.0 line.1) || nat_lt (length line.1) room
 
 -- it joins the line where it has room
-abbrev pub joined_within : Id → List Row → (ℕ × Jobs) → Jobs
-joined_within id rows line = if can_join id rows line then on_jobs (joined_line id rows) line
+abbrev pub joined_within : Id → List Row → ℕ → (ℕ × List Job) → List Job
+joined_within id rows room line = if can_join id rows room line then joined_line id rows line
     else line.1
 
 -- The message was read up to this position: its recipients wait at their sites.

@@ -13,6 +13,8 @@ use Rattle.q_model.specs.Ids.{id_eq}
 use Rattle.q_model.specs.Settings.{Settings}
 use Rattle.q_pool.specs.Pooled.{Pooled}
 use Rattle.q_pool.specs.declared.kept.Kept.{Kept}
+use Rattle.q_turns.specs.declared.peer.Peer.{Peer}
+use Rattle.q_turns.specs.Turns.{key_eq, key_of}
 
 module _ {K D : Type 0} (eq : K → K → Bool) (key : D → K) where
   -- what is kept under the key, 0 where nothing is
@@ -71,6 +73,11 @@ AreWaitingTied ds rows = AreTallied site_eq site_of (λ d. d.waiting) (λ (r : R
 -- so it is with the deliveries in flight
 abbrev pub AreBusyTied : List Dest → List Delivery → Type 0
 AreBusyTied ds fs = AreTallied site_eq site_of (λ d. d.busy) (λ (f : Delivery). f.row.site) ds fs
+
+-- of each message so many rows wait at each site as its peer there says
+abbrev pub ArePeersTied : List Peer → List Row → Type 0
+ArePeersTied ps rows =
+    AreTallied key_eq key_of (λ p. p.waiting) (λ (r : Row). record { id = r.id; site = r.site }) ps rows
 
 pub record AreSitesTied (ds : List Dest) (rows : List Row) (fs : List Delivery) : Type 0 where
   pub waiting : AreWaitingTied ds rows

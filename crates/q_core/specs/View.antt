@@ -1,6 +1,5 @@
 -- The state that a contract sees, by the core's fields.
 use Rattle.q_core.specs.Known.{known_records}
-use Rattle.q_core.specs.Lines.{all_jobs}
 use Rattle.q_core.specs.State.{State}
 use Rattle.q_core.specs.declared.state.Core.TheInside.{Inside}
 use Rattle.q_peers.specs.Numbered.{rows_of}
@@ -24,7 +23,7 @@ state_of a = record {
   in_memory = a.in_memory;
   served = a.served.items;
   unsettled = a.unsettled.items;
-  lines = all_jobs a.lines.items;
+  lines = a.turns.lines;
   sites = known_records a.sites.items;
   synced = a.synced.items;
   starts = a.starts;

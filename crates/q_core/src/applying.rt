@@ -156,6 +156,7 @@ impl Core {
             (Decision.Preempt child parent transport need) }
         ensures { Applies self.old (Decision.Preempt child parent transport need) self.new }
     {
+        self.stand_apart(transport);
         self.preempt(child, parent, transport, need);
     }
 }

@@ -10,7 +10,7 @@ use crate::decision::Decision;
 use crate::names::same_id;
 use crate::rows::waiting_for;
 use crate::state::Core;
-use q_jobs::{Job, Line};
+use q_jobs::Job;
 use q_model::Id;
 use q_params::Params;
 use q_pool::Slot;
@@ -31,31 +31,6 @@ fn pays(params: &Params, parent: &Job, left: u64, need: u64) -> bool
     price <= credit
         && cost * need + owed <= begun + left
         && cost * u128::from(params.default_minimum_delivery_slots) <= begun + left
-}
-
-/// The first job in the line with a row that may be sent now.
-fn first_able<'a>(core: &Core, line: &'a Line, transport: u8) -> Option<&'a Job>
-    ensures { option_copied result ≡ find (λ j. can_start_in core.now transport j.id) line.now.jobs }
-{
-    line.stand_apart();
-    let mut at = line.first();
-    while let Some(job) = at {
-        if core.can_start(job.id, transport) {
-            return at;
-        }
-        at = line.behind(job.id);
-    }
-    None
-}
-
-/// Whether the message has a job in the line that began no delivery.
-fn is_fresh(line: &Line, id: Id) -> bool
-    ensures { result ≡ is_fresh_in line.now.jobs id }
-{
-    match line.job(id) {
-        Some(job) => job.starts == 0,
-        None => false,
-    }
 }
 
 impl Core {
@@ -82,16 +57,14 @@ impl Core {
     pub fn first_job(&self, transport: u8) -> Option<&Job>
         ensures { option_copied result ≡ first_job (jobs_at self.now transport) }
     {
-        let line = self.lines.get(usize::from(transport))?;
-        line.first()
+        self.turns.first(usize::from(transport))
     }
 
     /// The job right behind that of a message at the transport.
     pub fn job_behind(&self, transport: u8, id: Id) -> Option<&Job>
         ensures { option_copied result ≡ first_job (behind_jobs id (jobs_at self.now transport)) }
     {
-        let line = self.lines.get(usize::from(transport))?;
-        line.behind(id)
+        self.turns.behind(usize::from(transport), id)
     }
 
     /// Whether the transport may begin a delivery more.
@@ -108,23 +81,16 @@ impl Core {
         if !self.has_process(transport) {
             return None;
         }
-        self.first_able(transport)
-    }
-
-    /// The first job in the line with a row that may be sent now.
-    fn first_able(&self, transport: u8) -> Option<&Job>
-        ensures { option_copied result ≡ current_in self.now transport }
-    {
-        let line = self.lines.get(usize::from(transport))?;
-        first_able(self, line, transport)
+        self.turns.stand_apart();
+        self.turns.current(usize::from(transport), &self.sites)
     }
 
     /// Whether the message has a job at the transport that began no delivery.
     fn is_fresh(&self, transport: u8, id: Id) -> bool
         ensures { result ≡ is_fresh_in (jobs_at self.now transport) id }
     {
-        match self.lines.get(usize::from(transport)) {
-            Some(line) => is_fresh(line, id),
+        match self.turns.job(usize::from(transport), id) {
+            Some(job) => job.starts == 0,
             None => false,
         }
     }
@@ -137,12 +103,10 @@ impl Core {
 
     /// No message has two jobs in the line of a transport: this does nothing, and is there for
     /// proofs that need it.
-    fn stand_apart(&self, transport: u8)
+    pub(crate) fn stand_apart(&self, transport: u8)
         ensures { AreOfOthers (jobs_at self.now transport) }
     {
-        if let Some(line) = self.lines.get(usize::from(transport)) {
-            line.stand_apart();
-        }
+        self.turns.stand_apart();
     }
 
     /// Whether the message can start and has a job that began nothing behind the current one. Each

@@ -3,7 +3,6 @@ ghost use Rattle.std.specs.Prelude.{◌≡◌, ◌≤◌, ◌<◌, ◌&&◌, fil
 ghost use Rattle.std.specs.List.{enumerate_from, list_any};
 ghost use Rattle.q_core.specs.Agrees.{FollowsRule};
 ghost use Rattle.q_core.specs.Lists.{AtFirst};
-ghost use Rattle.q_core.specs.Lines.{on_jobs};
 ghost use Rattle.q_core.specs.Sending.{started_line, with_start, is_for, IsStarted, IsSent, served_now};
 ghost use Rattle.q_core.specs.Changes.{IsUnchanged, is_looked_at};
 ghost use Rattle.q_model.specs.Sites.{site_eq};
@@ -16,8 +15,9 @@ use crate::names::{same_id, same_site};
 use crate::rows::take_row;
 use crate::state::Core;
 use crate::touched::touch_message;
-use q_jobs::{Job, Line};
+use q_jobs::Job;
 use q_model::{Delivery, Entry, Id, NoMemory, Served, Site};
+use q_turns::Turns;
 
 /// How many deliveries can be counted at a site. No process limit comes near it.
 const MOST_FLIGHTS: usize = 1 << 30;
@@ -36,26 +36,16 @@ fn with_start(job: Job) -> Job
     }
 }
 
-/// Counts a delivery that the message starts at the transport, where this is its line.
-fn count_start(line: &mut Line, id: Id, transport: u8, at: usize)
-    ensures { line.new ≡ on_jobs (started_line id transport) (at, line.old) }
-{
-    if usize::from(transport) != at {
-        return;
-    }
-    line.stand_apart();
-    if let Some(job) = line.job(id) {
-        let counted = with_start(*job);
-        line.put(counted);
-    }
-}
-
 /// Counts a delivery that the message starts at the transport.
-fn start_at(lines: &mut [Line], id: Id, transport: u8)
-    ensures { lines.new ≡ map (on_jobs (started_line id transport)) (enumerate_from 0 lines.old) }
+fn count_start(turns: &mut Turns, id: Id, transport: u8)
+    ensures { turns.new ≡ record turns.old { lines = map (started_line id transport)
+        (enumerate_from 0 turns.old.lines) } }
 {
-    for (at, line) in lines.iter_mut().enumerate() {
-        count_start(line, id, transport, at);
+    let at = usize::from(transport);
+    turns.stand_apart();
+    if let Some(job) = turns.job(at, id) {
+        let counted = with_start(*job);
+        turns.put(at, counted);
     }
 }
 
@@ -120,6 +110,8 @@ impl Core {
         touch_message(&mut self.touched_message, row.id);
         touch_message(&mut self.touched_message, id);
         self.sites.begin(&row.site);
+        self.turns.stand_apart();
+        self.turns.lose(row.id, &row.site);
         begin_flight(&mut self.admitted, row.id);
         add_flight(
             &mut self.flights,
@@ -134,7 +126,7 @@ impl Core {
     fn count_start(&mut self, id: Id, site: &Site)
         ensures { IsStarted self.old self.new id site.now.transport }
     {
-        start_at(&mut self.lines, id, site.transport);
+        count_start(&mut self.turns, id, site.transport);
     }
 
     /// Starts the delivery of this number: of the row of the message that is next for the site.

@@ -1,18 +1,19 @@
 //! A message that has come to wait joins lines, and its rows are counted at their sites.
-ghost use Rattle.std.specs.Prelude.{◌≡◌, ◌<◌, ◌≤◌, ◌+◌, ◌++◌, ◌^◌, ◌==◌, [], length, List, map, slice_get, Some};
+ghost use Rattle.std.specs.Prelude.{◌≡◌, ◌<◌, ◌≤◌, ◌+◌, ◌++◌, ◌^◌, ◌==◌, [], length, List, map, slice_get, Some, true};
 ghost use Rattle.std.specs.List.{enumerate_from, list_all, list_any};
-ghost use Rattle.q_core.specs.Loading.{can_join, joined_within, joins_in, new_sites};
+ghost use Rattle.q_core.specs.Loading.{AreRowsOf, can_join, joined_within, joins_in, new_sites};
 ghost use Rattle.q_core.specs.Known.{known_records};
-ghost use Rattle.q_core.specs.Ties.{AreBusyTied, AreWaitingTied};
+ghost use Rattle.q_core.specs.Ties.{AreBusyTied, ArePeersTied, AreWaitingTied};
 ghost use Rattle.q_model.specs.declared.rows.Delivery.{Delivery};
 ghost use Rattle.q_peers.specs.Numbered.{rows_of};
 ghost use Rattle.q_model.specs.declared.rows.Row.{Row};
+ghost use Rattle.q_turns.specs.Turns.{line_at, may_wait, with_line};
 
 use q_dest::Sites;
-use q_jobs::Line;
 use q_model::{Id, Row, Site};
 use q_params::Params;
 use q_peers::Waiting;
+use q_turns::Turns;
 
 /// The site of the row at a place.
 fn site_at(rows: &[Row], i: usize) -> &Site
@@ -45,25 +46,27 @@ fn has_row_at(rows: &[Row], at: usize) -> bool
 }
 
 /// Whether the message has one of these rows at the transport, and no job in its line.
-fn joins(line: &Line, id: Id, rows: &[Row], at: usize) -> bool
-    ensures { result ≡ joins_in id rows.now at line.now.jobs }
+fn joins(turns: &Turns, id: Id, rows: &[Row], at: usize) -> bool
+    ensures { result ≡ joins_in id rows.now at (line_at at turns.now.lines) }
 {
-    has_row_at(rows, at) && line.job(id).is_none()
+    has_row_at(rows, at) && turns.job(at, id).is_none()
 }
 
 /// Whether the line has room, where the message joins it.
-fn can_join(line: &Line, id: Id, rows: &[Row], at: usize) -> bool
-    ensures { result ≡ can_join id rows.now (at, line.now) }
+fn can_join(turns: &Turns, id: Id, rows: &[Row], at: usize) -> bool
+    requires { at < length turns.now.lines }
+    ensures { result ≡ can_join id rows.now turns.now.line_room (at, line_at at turns.now.lines) }
 {
-    !joins(line, id, rows, at) || line.spare() != 0
+    !joins(turns, id, rows, at) || turns.spare_jobs(at) != 0
 }
 
 /// Whether each line has room that the message joins.
-pub(crate) fn can_join_all(lines: &[Line], id: Id, rows: &[Row]) -> bool
-    ensures { result ≡ list_all (can_join id rows.now) (enumerate_from 0 lines.now) }
+pub(crate) fn can_join_all(turns: &Turns, id: Id, rows: &[Row]) -> bool
+    ensures { result ≡ list_all (can_join id rows.now turns.now.line_room)
+        (enumerate_from 0 turns.now.lines) }
 {
-    for at in 0..lines.len() {
-        if !can_join(&lines[at], id, rows, at) {
+    for at in 0..turns.transports() {
+        if !can_join(turns, id, rows, at) {
             return false;
         }
     }
@@ -71,19 +74,38 @@ pub(crate) fn can_join_all(lines: &[Line], id: Id, rows: &[Row]) -> bool
 }
 
 /// The message joins the line, where it has come to wait there, and has room.
-fn join(line: &mut Line, id: Id, rows: &[Row], at: usize)
-    ensures { line.new ≡ joined_within id rows.now (at, line.old) }
+fn join(turns: &mut Turns, id: Id, rows: &[Row], at: usize)
+    requires { at < length turns.old.lines }
+    ensures { turns.new ≡ record turns.old { lines = with_line at
+        (λ jobs. joined_within id rows.now turns.old.line_room (at, jobs)) turns.old.lines } }
 {
-    if joins(line, id, rows, at) && line.spare() != 0 {
-        line.join(id);
+    if joins(turns, id, rows, at) && turns.spare_jobs(at) != 0 {
+        turns.join(at, id);
     }
 }
 
 /// The message joins the lines in which it has come to wait, where they have room.
-pub(crate) fn join_lines(lines: &mut [Line], id: Id, rows: &[Row])
-    ensures { lines.new ≡ map (joined_within id rows.now) (enumerate_from 0 lines.old) }
+pub(crate) fn join_lines(turns: &mut Turns, id: Id, rows: &[Row])
+    ensures { turns.new ≡ record turns.old { lines = map
+        (joined_within id rows.now turns.old.line_room) (enumerate_from 0 turns.old.lines) } }
 {
-    for (at, line) in lines.iter_mut().enumerate() {
-        join(line, id, rows, at);
+    for at in 0..turns.transports() {
+        join(turns, id, rows, at);
+    }
+}
+
+/// Counts these rows of the message, of which none waits yet, at their peers. It has a job at the
+/// transport of each that has a line.
+pub(crate) fn count_peers(turns: &mut Turns, id: Id, rows: &[Row], waiting: &Waiting)
+    requires own { AreRowsOf id rows.now }
+    requires jobs { list_all (λ r. may_wait turns.old.lines r.site.transport id) rows.now ≡ true }
+    requires tied { ArePeersTied turns.old.peers (rows_of waiting.now.items) }
+    requires room { length turns.old.peers + length rows.now ≤ turns.old.room }
+    requires few { length (rows_of waiting.now.items) + length rows.now < 2 ^ 32 }
+    ensures rest { turns.new ≡ record turns.old { peers = turns.new.peers } }
+    ensures tied { ArePeersTied turns.new.peers (rows_of waiting.now.items ++ rows.now) }
+{
+    for i in 0..rows.len() {
+        turns.gain(id, site_at(rows, i));
     }
 }

@@ -41,7 +41,6 @@ mod joining;
 pub mod laws;
 mod leaving;
 mod leftover;
-mod line;
 mod loading;
 mod marking;
 mod names;

@@ -9,7 +9,7 @@ ghost use Rattle.q_pool.specs.Slots.{read_up};
 
 use crate::counting::gain_waiting;
 use crate::grouping::rows_of;
-use crate::joining::{can_join_all, count_rows, join_lines};
+use crate::joining::{can_join_all, count_peers, count_rows, join_lines};
 use crate::rows::add_all;
 use crate::state::{Core, Question};
 use crate::touched::touch_message;
@@ -60,10 +60,15 @@ impl Core {
         if (self.sites.spare() as usize) < rows.len() {
             return Err(NoMemory);
         }
-        if !can_join_all(&self.lines, id, &rows) {
+        self.turns.stand_apart();
+        if (self.turns.spare_peers() as usize) < rows.len() {
             return Err(NoMemory);
         }
-        join_lines(&mut self.lines, id, &rows);
+        if !can_join_all(&self.turns, id, &rows) {
+            return Err(NoMemory);
+        }
+        join_lines(&mut self.turns, id, &rows);
+        count_peers(&mut self.turns, id, &rows, &self.waiting);
         count_rows(&mut self.sites, &rows, &self.waiting, &self.params);
         let count = rows.len() as u64;
         add_all(&mut self.waiting, rows);

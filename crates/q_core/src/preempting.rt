@@ -1,16 +1,18 @@
 //! A job goes before the current one (SCHEDULER_README, "Preemptive scheduling").
 ghost use Rattle.q_jobs.specs.Jobs.{changed_job};
-ghost use Rattle.std.specs.Prelude.{◌≡◌, IsTrue, map};
+ghost use Rattle.std.specs.Prelude.{◌≡◌, false, IsTrue, map, true};
 ghost use Rattle.std.specs.List.{enumerate_from};
 ghost use Rattle.q_core.specs.Agrees.{FollowsRule};
-ghost use Rattle.q_core.specs.Lines.{on_jobs};
+ghost use Rattle.q_model.specs.Ids.{id_eq};
+ghost use Rattle.q_turns.specs.Turns.{has_job, with_line};
 ghost use Rattle.q_core.specs.Sending.{IsPreempted, preempted_line, with_charge};
 ghost use Rattle.q_core.specs.Changes.{is_looked_at};
 ghost use Rattle.q_model.specs.Next.{start_rule};
 
 use crate::state::Core;
-use q_jobs::{Job, Line};
+use q_jobs::Job;
 use q_model::{Entry, Id};
+use q_turns::Turns;
 
 /// The account, charged with the need of a job that preempts this one, which has so much left. It
 /// holds that: it is no more than this one has begun and has left.
@@ -25,48 +27,43 @@ fn with_charge(job: Job, need: u64, left: u64) -> Job
 }
 
 /// Charges the need to the message's job.
-fn charge(line: &mut Line, id: Id, need: u64, left: u64)
-    ensures { line.new ≡ record line.old
-        { jobs = map (changed_job id (with_charge need left)) line.old.jobs } }
+fn charge(turns: &mut Turns, transport: usize, id: Id, need: u64, left: u64)
+    ensures { turns.new ≡ record turns.old { lines = with_line transport
+        (map (changed_job id (with_charge need left))) turns.old.lines } }
 {
-    line.stand_apart();
-    if let Some(job) = line.job(id) {
+    turns.stand_apart();
+    if let Some(job) = turns.job(transport, id) {
         let charged = with_charge(*job, need, left);
-        line.put(charged);
-    }
-}
-
-/// The child goes before the parent, where this is the line of the transport, and its need is
-/// charged to the parent.
-fn preempt(line: &mut Line, child: Id, parent: Id, transport: u8, need: u64, left: u64, at: usize)
-    ensures { line.new ≡ on_jobs (preempted_line child parent transport need left) (at, line.old) }
-{
-    if usize::from(transport) == at {
-        charge(line, parent, need, left);
-        line.put_before(child, parent);
+        turns.put(transport, charged);
     }
 }
 
 /// The child goes before the parent at the transport, and its need is charged to the parent.
-fn preempt_at(lines: &mut [Line], child: Id, parent: Id, transport: u8, need: u64, left: u64)
-    ensures { lines.new ≡ map (on_jobs (preempted_line child parent transport need left))
-        (enumerate_from 0 lines.old) }
+fn preempt(turns: &mut Turns, child: Id, parent: Id, transport: u8, need: u64, left: u64)
+    requires other { id_eq child parent ≡ false }
+    requires parent { has_job turns.old.lines transport parent ≡ true }
+    ensures { turns.new ≡ record turns.old { lines = map
+        (preempted_line child parent transport need left) (enumerate_from 0 turns.old.lines) } }
 {
-    for (at, line) in lines.iter_mut().enumerate() {
-        preempt(line, child, parent, transport, need, left, at);
-    }
+    let at = usize::from(transport);
+    charge(turns, at, parent, need, left);
+    turns.put_before(at, child, parent);
 }
 
 impl Core {
     fn move_job(&mut self, child: Id, parent: Id, transport: u8, need: u64, left: u64)
+        requires other { id_eq child parent ≡ false }
+        requires parent { has_job self.old.lines transport parent ≡ true }
         ensures { IsPreempted self.old self.new child parent transport need left }
     {
-        preempt_at(&mut self.lines, child, parent, transport, need, left);
+        preempt(&mut self.turns, child, parent, transport, need, left);
     }
 
     /// The child goes before the parent, the current job of the transport, at this need.
     pub(crate) fn preempt(&mut self, child: Id, parent: Id, transport: u8, need: u32)
         requires seen { IsTrue (is_looked_at self.old) }
+        requires other { id_eq child parent ≡ false }
+        requires parent { has_job self.old.lines transport parent ≡ true }
         ensures { FollowsRule self.old self.new start_rule (Entry.Preempt child parent transport need) }
     {
         let left = self.rest(parent, transport);

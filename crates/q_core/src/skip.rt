@@ -60,6 +60,8 @@ impl Core {
         touch_message(&mut self.touched_message, row.id);
         self.sites.stand_apart();
         self.sites.leave(&row.site);
+        self.turns.stand_apart();
+        self.turns.lose(row.id, &row.site);
         put_off_row(&mut self.admitted, row.id, needs.len() as u64);
         let done = row.positions.len().saturating_sub(needs.len());
         self.in_memory = self.in_memory.saturating_sub(done as u64);

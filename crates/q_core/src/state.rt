@@ -10,16 +10,15 @@ ghost use Rattle.q_params.specs.Ranges.{IsInRange};
 use crate::clock::Clock;
 use crate::decision::Found;
 use crate::flying::Flying;
-use crate::line::empty_lines;
 use crate::touched::Touched;
 use q_dest::Sites;
-use q_jobs::Line;
 use q_model::{
     Delivery, Entry, Id, Mode, Moment, NoMemory, Positions, Request, Scan, Served, Site, Unsettled,
 };
 use q_params::Params;
 use q_peers::Waiting;
 use q_pool::{Pool, Slot};
+use q_turns::Turns;
 use std::alloc::Global;
 use std::marker::Model;
 
@@ -63,7 +62,7 @@ pub struct Core {
     pub(crate) in_memory: u64,
     pub(crate) served: Vec<Served>,
     pub(crate) unsettled: Vec<Unsettled>,
-    pub(crate) lines: Vec<Line>,
+    pub(crate) turns: Turns,
     pub(crate) sites: Sites,
     pub(crate) synced: Vec<Id>,
     pub(crate) starts: u64,
@@ -89,8 +88,7 @@ impl Model for Core {
 
     ghost view = { state_of };
 
-    ghost use Rattle.q_core.specs.Lines.{all_jobs};
-    ghost use Rattle.q_core.specs.Ties.{AreSitesTied, AreTied};
+    ghost use Rattle.q_core.specs.Ties.{ArePeersTied, AreSitesTied, AreTied};
     ghost use Rattle.q_core.specs.Touched.{IsTidyBut};
     ghost use Rattle.q_peers.specs.Numbered.{rows_of};
     ghost use Rattle.q_pool.specs.Kept.{heads};
@@ -98,8 +96,9 @@ impl Model for Core {
     ghost invariant = { λ a. AreTied a.params a.admitted (rows_of a.waiting.items)
         a.flights.items a.unsettled.items a.flying a.starts
         × IsTidyBut a.touched_message (heads a.admitted.items) (rows_of a.waiting.items)
-        (all_jobs a.lines.items) a.served.items
-        × AreSitesTied a.sites.items (rows_of a.waiting.items) a.flights.items };
+        a.turns.lines a.served.items
+        × AreSitesTied a.sites.items (rows_of a.waiting.items) a.flights.items
+        × ArePeersTied a.turns.peers (rows_of a.waiting.items) };
 }
 
 impl Core {
@@ -114,7 +113,12 @@ impl Core {
         ensures answered { IfOk result (λ core. is_answered core.question ≡ true) }
         ensures looked { IfOk result (λ core. is_looked_at core ≡ true) }
     {
-        let lines = empty_lines(alloc, transports, params.qmgr_message_active_limit)?;
+        let turns = Turns::new(
+            alloc,
+            transports,
+            params.qmgr_message_active_limit,
+            params.qmgr_message_recipient_limit,
+        )?;
         let admitted = Pool::new(
             alloc,
             params.qmgr_message_active_limit,
@@ -141,7 +145,7 @@ impl Core {
             in_memory: 0,
             served: Vec::new(alloc),
             unsettled: Vec::new(alloc),
-            lines,
+            turns,
             sites,
             synced: Vec::new(alloc),
             starts: 0,

@@ -1,23 +1,25 @@
 //! What holds after each entry: lines, served rows and sites of what is left.
-ghost use Rattle.std.specs.Prelude.{◌≡◌, find, map, option_map};
+ghost use Rattle.std.specs.Prelude.{◌≡◌, ◌<◌, false, filter, find, length, map, option_map};
 ghost use Rattle.std.specs.List.{enumerate_from};
 ghost use Rattle.std.specs.Option.{option_copied};
 ghost use Rattle.q_core.specs.Changes.{IsTidied};
-ghost use Rattle.q_core.specs.Lines.{on_jobs};
+ghost use Rattle.q_core.specs.Ties.{ArePeersTied};
 ghost use Rattle.q_core.specs.Known.{forgotten};
+ghost use Rattle.q_jobs.specs.Jobs.{is_job_of_another};
 ghost use Rattle.q_pool.specs.Kept.{heads};
-ghost use Rattle.q_core.specs.Tidied.{leaves_among, tidied_line, tidied_served, slot_among, stays_among, unread_among, waits_at_site};
+ghost use Rattle.q_core.specs.Tidied.{leaves_among, tidied_jobs, tidied_line, tidied_served, slot_among, stays_among, unread_among, waits_at_site, waits_for as waits_for_in};
 ghost use Rattle.q_peers.specs.Numbered.{rows_of};
+ghost use Rattle.q_turns.specs.Turns.{line_at, with_line};
 
 use crate::rows::{waits_for, waits_for_site};
 use crate::state::Core;
 use crate::tidy_touched::{tidy_touched_lines, tidy_touched_served};
 use crate::touched::{Touched, record_limit};
 use q_dest::Sites;
-use q_jobs::Line;
 use q_model::{Id, Served};
 use q_peers::Waiting;
 use q_pool::{Pool, Slot};
+use q_turns::Turns;
 
 fn slot(admitted: &Pool, id: Id) -> Option<&Slot>
     ensures { option_copied result ≡ slot_among (heads admitted.now.items) id }
@@ -46,38 +48,53 @@ pub(crate) fn stays(admitted: &Pool, waiting: &Waiting, id: Id, transport: usize
 }
 
 /// The message of the first job that has nothing left.
-fn first_to_leave(line: &Line, admitted: &Pool, waiting: &Waiting, transport: usize) -> Option<Id>
+fn first_to_leave(turns: &Turns, admitted: &Pool, waiting: &Waiting, transport: usize) -> Option<Id>
     ensures { result ≡ option_map (λ j. j.id) (find (leaves_among (heads admitted.now.items)
-        (rows_of waiting.now.items) transport) line.now.jobs) }
+        (rows_of waiting.now.items) transport) (line_at transport turns.now.lines)) }
 {
-    line.stand_apart();
-    let mut at = line.first();
+    turns.stand_apart();
+    let mut at = turns.first(transport);
     while let Some(job) = at {
         if !stays(admitted, waiting, job.id, transport) {
             return Some(job.id);
         }
-        at = line.behind(job.id);
+        at = turns.behind(transport, job.id);
     }
     None
 }
 
-/// Takes the jobs that have nothing left out of the line: one leaves at a time, for the most part.
-fn tidy_line(line: &mut Line, admitted: &Pool, waiting: &Waiting, transport: usize)
-    ensures { line.new ≡ on_jobs (tidied_line (heads admitted.now.items)
-        (rows_of waiting.now.items)) (transport, line.old) }
+/// The message, of which no row waits at the transport, leaves its line.
+pub(crate) fn leave_line(turns: &mut Turns, id: Id, waiting: &Waiting, transport: usize)
+    requires there { transport < length turns.old.lines }
+    requires tied { ArePeersTied turns.old.peers (rows_of waiting.now.items) }
+    requires done { waits_for_in (rows_of waiting.now.items) id transport ≡ false }
+    ensures { turns.new ≡ record turns.old { lines = with_line transport
+        (filter (is_job_of_another id)) turns.old.lines } }
 {
-    while let Some(id) = first_to_leave(line, admitted, waiting, transport) {
-        line.leave(id);
+    turns.stand_apart();
+    turns.leave(transport, id);
+}
+
+/// Takes the jobs that have nothing left out of the line: one leaves at a time, for the most part.
+fn tidy_line(turns: &mut Turns, admitted: &Pool, waiting: &Waiting, transport: usize)
+    requires there { transport < length turns.old.lines }
+    requires tied { ArePeersTied turns.old.peers (rows_of waiting.now.items) }
+    ensures { turns.new ≡ record turns.old { lines = with_line transport (tidied_jobs
+        (heads admitted.now.items) (rows_of waiting.now.items) transport) turns.old.lines } }
+{
+    while let Some(id) = first_to_leave(turns, admitted, waiting, transport) {
+        leave_line(turns, id, waiting, transport);
     }
 }
 
 /// Takes the jobs that have nothing left out of the lines.
-pub(crate) fn tidy_lines(lines: &mut [Line], admitted: &Pool, waiting: &Waiting)
-    ensures { lines.new ≡ map (on_jobs (tidied_line (heads admitted.now.items)
-        (rows_of waiting.now.items))) (enumerate_from 0 lines.old) }
+pub(crate) fn tidy_lines(turns: &mut Turns, admitted: &Pool, waiting: &Waiting)
+    requires { ArePeersTied turns.old.peers (rows_of waiting.now.items) }
+    ensures { turns.new ≡ record turns.old { lines = map (tidied_line (heads admitted.now.items)
+        (rows_of waiting.now.items)) (enumerate_from 0 turns.old.lines) } }
 {
-    for (transport, line) in lines.iter_mut().enumerate() {
-        tidy_line(line, admitted, waiting, transport);
+    for transport in 0..turns.transports() {
+        tidy_line(turns, admitted, waiting, transport);
     }
 }
 
@@ -111,7 +128,7 @@ impl Core {
         let limit = record_limit(&self.params);
         let message = &self.touched_message;
         self.sites.stand_apart();
-        tidy_touched_lines(&mut self.lines, message, &self.admitted, &self.waiting);
+        tidy_touched_lines(&mut self.turns, message, &self.admitted, &self.waiting);
         tidy_touched_served(&mut self.served, message, &self.waiting);
         forget_oldest(&mut self.sites, limit);
         self.touched_message = Touched::Nothing;

@@ -1,62 +1,67 @@
 //! What holds after each entry, where it is known what was touched.
-ghost use Rattle.std.specs.Prelude.{◌≡◌, ◌||◌, filter, map, not, true};
+ghost use Rattle.std.specs.Prelude.{◌≡◌, ◌<◌, ◌||◌, filter, length, map, not, true};
 ghost use Rattle.std.specs.List.{enumerate_from};
-ghost use Rattle.q_core.specs.Lines.{all_jobs, on_jobs};
-ghost use Rattle.q_core.specs.Tidied.{tidied_line, tidied_served, waits_at_site};
+ghost use Rattle.q_core.specs.Ties.{ArePeersTied};
+ghost use Rattle.q_core.specs.Tidied.{tidied_jobs, tidied_line, tidied_served, waits_at_site};
 ghost use Rattle.q_pool.specs.Kept.{heads};
 ghost use Rattle.q_core.specs.Touched.{DoJobsStay, jobs_stay, served_stay};
 ghost use Rattle.q_core.specs.declared.touched.Touched.TheVariants.{One};
 ghost use Rattle.q_model.specs.Ids.{id_eq};
 ghost use Rattle.q_peers.specs.Numbered.{rows_of};
+ghost use Rattle.q_turns.specs.Turns.{line_at, with_line};
 
 use crate::names::same_id;
-use crate::tidy::{has_row, stays, tidy_lines, tidy_served};
+use crate::tidy::{has_row, leave_line, stays, tidy_lines, tidy_served};
 use crate::touched::Touched;
-use q_jobs::Line;
 use q_model::{Id, Served};
 use q_peers::Waiting;
 use q_pool::Pool;
+use q_turns::Turns;
 
 /// Takes the message's job out of the line, where it has nothing left.
-fn tidy_job(line: &mut Line, id: Id, admitted: &Pool, waiting: &Waiting, transport: usize)
-    requires { jobs_stay (One id) (heads admitted.now.items) (rows_of waiting.now.items) transport line.old.jobs
-        ≡ true }
-    ensures { line.new ≡ on_jobs (tidied_line (heads admitted.now.items)
-        (rows_of waiting.now.items)) (transport, line.old) }
+fn tidy_job(turns: &mut Turns, id: Id, admitted: &Pool, waiting: &Waiting, transport: usize)
+    requires there { transport < length turns.old.lines }
+    requires tied { ArePeersTied turns.old.peers (rows_of waiting.now.items) }
+    requires others { jobs_stay (One id) (heads admitted.now.items) (rows_of waiting.now.items)
+        transport (line_at transport turns.old.lines) ≡ true }
+    ensures { turns.new ≡ record turns.old { lines = with_line transport (tidied_jobs
+        (heads admitted.now.items) (rows_of waiting.now.items) transport) turns.old.lines } }
 {
     if !stays(admitted, waiting, id, transport) {
-        line.leave(id);
+        leave_line(turns, id, waiting, transport);
     }
 }
 
 /// Takes the message's jobs out of the lines, where they have nothing left.
-fn tidy_message(lines: &mut [Line], id: Id, admitted: &Pool, waiting: &Waiting)
-    requires { DoJobsStay (One id) (heads admitted.now.items) (rows_of waiting.now.items)
-        (all_jobs lines.old) }
-    ensures { lines.new ≡ map (on_jobs (tidied_line (heads admitted.now.items)
-        (rows_of waiting.now.items))) (enumerate_from 0 lines.old) }
+fn tidy_message(turns: &mut Turns, id: Id, admitted: &Pool, waiting: &Waiting)
+    requires tied { ArePeersTied turns.old.peers (rows_of waiting.now.items) }
+    requires others { DoJobsStay (One id) (heads admitted.now.items) (rows_of waiting.now.items)
+        turns.old.lines }
+    ensures { turns.new ≡ record turns.old { lines = map (tidied_line (heads admitted.now.items)
+        (rows_of waiting.now.items)) (enumerate_from 0 turns.old.lines) } }
 {
-    for (transport, line) in lines.iter_mut().enumerate() {
-        tidy_job(line, id, admitted, waiting, transport);
+    for transport in 0..turns.transports() {
+        tidy_job(turns, id, admitted, waiting, transport);
     }
 }
 
 /// Takes the jobs that have nothing left out of the lines.
 pub(crate) fn tidy_touched_lines(
-    lines: &mut [Line],
+    turns: &mut Turns,
     touched: &Touched<Id>,
     admitted: &Pool,
     waiting: &Waiting,
 )
-    requires { DoJobsStay touched.now (heads admitted.now.items) (rows_of waiting.now.items)
-        (all_jobs lines.old) }
-    ensures { lines.new ≡ map (on_jobs (tidied_line (heads admitted.now.items)
-        (rows_of waiting.now.items))) (enumerate_from 0 lines.old) }
+    requires tied { ArePeersTied turns.old.peers (rows_of waiting.now.items) }
+    requires others { DoJobsStay touched.now (heads admitted.now.items)
+        (rows_of waiting.now.items) turns.old.lines }
+    ensures { turns.new ≡ record turns.old { lines = map (tidied_line (heads admitted.now.items)
+        (rows_of waiting.now.items)) (enumerate_from 0 turns.old.lines) } }
 {
     match touched {
         Touched::Nothing => {}
-        Touched::One(id) => tidy_message(lines, *id, admitted, waiting),
-        Touched::Everything => tidy_lines(lines, admitted, waiting),
+        Touched::One(id) => tidy_message(turns, *id, admitted, waiting),
+        Touched::Everything => tidy_lines(turns, admitted, waiting),
     }
 }
 

@@ -1,29 +1,36 @@
-use Rattle.std.proofs.Common.{◌≡◌, ◌∙◌, ap, false, List, rules, sym, true}
+use Rattle.std.proofs.Common.{◌≡◌, ◌∙◌, ◌+◌, ap, arith, map, sym}
+use Rattle.std.specs.List.{enumerate_from}
 use Rattle.std.specs.Option.{option_copied}
-use Rattle.std.specs.Prelude.{◌==◌}
 use Rattle.q_core.proofs.LineSteps.{own_started, started_elsewhere, started_here}
-use Rattle.q_core.specs.Sending.{with_start}
+use Rattle.q_core.specs.Sending.{started_line, with_start}
 use Rattle.q_jobs.proofs.LineWalks.{none_changed, put_changes}
-use Rattle.q_jobs.specs.declared.job.Job.{Job}
+use Rattle.q_jobs.specs.Jobs.{account_in, changed_job}
+use Rattle.q_turns.proofs.WithLine.{apart_at, eq-self, found_there, one_line, with_both, with_same}
+use Rattle.q_turns.specs.Turns.{line_at, Turning, with_line}
 use Rattle.q_core.proofs.delivery.count_start.Goals as goal
 
-pub returns-then-from-at : goal.returns-then-from-at
-returns-then-from-at c =
-    let other : (c.args.transport == c.args.at) ≡ false = search rules in
-    ap (λ (js : List Job). record { jobs = js; room = c.args.line.now.room }) (sym (started_elsewhere c.args.id c.args.transport c.args.at c.args.line.now.jobs other))
+pub put-requires : goal.put-requires
+put-requires c = record { there = found_there c.from-at.result c.args.id c.args.turns.now.lines c.in-Some.job.now (sym c.job.ensures ∙ ap option_copied c.in-Some.is) }
 
 pub returns-in-Some : goal.returns-in-Some
 returns-in-Some c =
-    let here : (c.args.transport == c.args.at) ≡ true = search rules in
+    let t = c.from-at.result in
+    let ls = c.args.turns.now.lines in
+    let js = line_at t ls in
     let found = sym c.job.ensures ∙ ap option_copied c.in-Some.is in
+    let counted = c.with_start-counted.result in
     c.put.ensures
-    ∙ ap (λ (js : List Job). record { jobs = js; room = c.args.line.now.room })
-    (put_changes c.args.id with_start c.with_start-counted.result c.in-Some.job.now c.args.line.now.jobs c.stand_apart.ensures.apart (own_started c.args.id c.with_start-counted.result c.in-Some.job.now c.args.line.now.jobs c.with_start-counted.ensures found) found c.with_start-counted.ensures
-    ∙ sym (started_here c.args.id c.args.transport c.args.at c.args.line.now.jobs here))
+    ∙ ap (λ xs. record c.args.turns.now { lines = xs })
+    (with_both t (map (account_in counted)) (map (changed_job c.args.id with_start)) ls
+    (put_changes c.args.id with_start counted c.in-Some.job.now js (apart_at t ls c.stand_apart.ensures.lines) (own_started c.args.id counted c.in-Some.job.now js c.with_start-counted.ensures found) found c.with_start-counted.ensures)
+    ∙ one_line (started_line c.args.id t) (map (changed_job c.args.id with_start)) t (λ js. started_here c.args.id t t js (eq-self t)) (λ at js other. started_elsewhere c.args.id t at js other) ls)
+    ∙ ap (λ n. record c.args.turns.now { lines = map (started_line c.args.id n) (enumerate_from 0 ls) }) c.from-at.ensures
 
 pub returns-in_default : goal.returns-in_default
 returns-in_default c =
-    let here : (c.args.transport == c.args.at) ≡ true = search rules in
-    ap (λ (js : List Job). record { jobs = js; room = c.args.line.now.room })
-    (sym (started_here c.args.id c.args.transport c.args.at c.args.line.now.jobs here
-    ∙ none_changed c.args.id with_start c.args.line.now.jobs (sym c.job.ensures ∙ ap option_copied c.in_default.is)))
+    let t = c.from-at.result in
+    let ls = c.args.turns.now.lines in
+    ap (λ xs. record c.args.turns.now { lines = xs })
+    (sym (with_same t (map (changed_job c.args.id with_start)) ls (none_changed c.args.id with_start (line_at t ls) (sym c.job.ensures ∙ ap option_copied c.in_default.is)))
+    ∙ one_line (started_line c.args.id t) (map (changed_job c.args.id with_start)) t (λ js. started_here c.args.id t t js (eq-self t)) (λ at js other. started_elsewhere c.args.id t at js other) ls)
+    ∙ ap (λ n. record c.args.turns.now { lines = map (started_line c.args.id n) (enumerate_from 0 ls) }) c.from-at.ensures

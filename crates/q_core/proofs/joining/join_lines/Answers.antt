@@ -1,19 +1,26 @@
-use Rattle.std.proofs.Common.{ap, ◌∙◌, sym, slice_set, slice_index_or, arith, add-one, ◌≡◌, ◌+◌}
+use Rattle.std.proofs.Common.{◌≡◌, ◌∙◌, ◌+◌, ◌<◌, add-one, ap, arith, length, subst, sym}
 use Rattle.q_core.specs.Loading.{joined_within}
-use Rattle.q_core.proofs.ListLaws.{numbered_front, numbered_more, numbered_all}
+use Rattle.q_turns.proofs.WithLine.{all_below, changed_below, length_below, one_below}
+use Rattle.q_turns.specs.Turns.{Turning, with_line}
 use Rattle.q_core.proofs.joining.join_lines.Goals as goal
 
 pub loop-at-preserved : goal.loop-at-preserved
 loop-at-preserved c =
     let i = c.loop-at.at in
-    let line = c.index-lines-at.result in
+    let ls = c.args.turns.now.lines in
+    let f = joined_within c.args.id c.args.rows.now c.args.turns.now.line_room in
     let count : i ≡ 0 + i = omega arith in
-    let f = joined_within c.args.id c.args.rows.now in
-    ap (slice_set c.loop-at.lines i) (c.join.ensures ∙ ap (λ z. f (i, z)) (sym c.index-lines-at.is))
-    ∙ ap (λ ls. slice_set ls i (f (i, line))) c.loop-at.invariant
-    ∙ numbered_more f 0 i i c.args.lines.now line count c.loop-at-test.true
-    (c.index-lines-at.is ∙ ap (λ ls. slice_index_or ls i line) c.loop-at.invariant)
-    ∙ ap (λ k. numbered_front f 0 k c.args.lines.now) (sym (add-one i))
+    c.join.ensures
+    ∙ ap (λ (x : Turning). record x { lines = with_line i (λ js. joined_within c.args.id c.args.rows.now x.line_room (i, js)) x.lines }) c.loop-at.invariant
+    ∙ ap (λ xs. record c.args.turns.now { lines = xs }) (one_below f 0 i i ls count ∙ ap (λ k. changed_below f 0 k ls) (sym (add-one i)))
 
 pub returns : goal.returns
-returns c = c.loop-at.invariant ∙ numbered_all (joined_within c.args.id c.args.rows.now) 0 c.loop-at.at c.args.lines.now c.loop-at-test.false
+returns c =
+    let f = joined_within c.args.id c.args.rows.now c.args.turns.now.line_room in
+    c.loop-at.invariant ∙ ap (λ xs. record c.args.turns.now { lines = xs }) (all_below f 0 c.loop-at.at c.args.turns.now.lines (omega (arith, c.transports-at-end.ensures, c.loop-at-test.false)))
+
+pub join-requires : goal.join-requires
+join-requires c =
+    let f = joined_within c.args.id c.args.rows.now c.args.turns.now.line_room in
+    let same = ap (λ (x : Turning). length x.lines) c.loop-at.invariant in
+    omega (arith, same, length_below f 0 c.loop-at.at c.args.turns.now.lines, c.transports-at-end.ensures, c.loop-at-test.true)

@@ -1,21 +1,34 @@
-use Rattle.std.proofs.Common.{ap, ◌∙◌, sym, slice_set, slice_index_or, arith, add-one, ◌≡◌, ◌+◌}
-use Rattle.q_core.specs.Lines.{on_jobs}
-use Rattle.q_core.specs.Tidied.{tidied_line}
-use Rattle.q_core.proofs.ListLaws.{numbered_front, numbered_more, numbered_all}
+use Rattle.std.proofs.Common.{◌≡◌, ◌∙◌, ◌+◌, add-one, ap, arith, length, subst, sym, true}
+use Rattle.q_core.specs.Ties.{ArePeersTied}
+use Rattle.q_core.specs.Tidied.{tidied_jobs, tidied_line}
 use Rattle.q_pool.specs.Kept.{heads}
 use Rattle.q_peers.specs.Numbered.{rows_of}
+use Rattle.q_turns.proofs.WithLine.{all_below, changed_below, length_below, line_below, line_there, one_below}
+use Rattle.q_turns.specs.Turns.{line_at, Turning, with_line}
 use Rattle.q_core.proofs.tidy.tidy_lines.Goals as goal
 
 pub loop-transport-preserved : goal.loop-transport-preserved
 loop-transport-preserved c =
     let i = c.loop-transport.transport in
-    let line = c.index-lines-transport.result in
+    let f = tidied_line (heads c.args.admitted.now.items) (rows_of c.args.waiting.now.items) in
+    let ls = c.args.turns.now.lines in
     let count : i ≡ 0 + i = omega arith in
-    ap (slice_set c.loop-transport.lines i) (c.tidy_line.ensures ∙ ap (λ z. on_jobs (tidied_line (heads c.args.admitted.now.items) (rows_of c.args.waiting.now.items)) (i, z)) (sym c.index-lines-transport.is))
-    ∙ ap (λ ls. slice_set ls i (on_jobs (tidied_line (heads c.args.admitted.now.items) (rows_of c.args.waiting.now.items)) (i, line))) c.loop-transport.invariant
-    ∙ numbered_more (on_jobs (tidied_line (heads c.args.admitted.now.items) (rows_of c.args.waiting.now.items))) 0 i i c.args.lines.now line count c.loop-transport-test.true
-    (c.index-lines-transport.is ∙ ap (λ ls. slice_index_or ls i line) c.loop-transport.invariant)
-    ∙ ap (λ k. numbered_front (on_jobs (tidied_line (heads c.args.admitted.now.items) (rows_of c.args.waiting.now.items))) 0 k c.args.lines.now) (sym (add-one i))
+    c.tidy_line.ensures
+    ∙ ap (λ (x : Turning). record x { lines = with_line i (λ js. f (i, js)) x.lines }) c.loop-transport.invariant
+    ∙ ap (λ xs. record c.args.turns.now { lines = xs }) (one_below f 0 i i ls count ∙ ap (λ k. changed_below f 0 k ls) (sym (add-one i)))
 
 pub returns : goal.returns
-returns c = c.loop-transport.invariant ∙ numbered_all (on_jobs (tidied_line (heads c.args.admitted.now.items) (rows_of c.args.waiting.now.items))) 0 c.loop-transport.transport c.args.lines.now c.loop-transport-test.false
+returns c =
+    let f = tidied_line (heads c.args.admitted.now.items) (rows_of c.args.waiting.now.items) in
+    let many = c.transports-transport-end.ensures in
+    c.loop-transport.invariant ∙ ap (λ xs. record c.args.turns.now { lines = xs }) (all_below f 0 c.loop-transport.transport c.args.turns.now.lines (omega (arith, many, c.loop-transport-test.false)))
+
+pub tidy_line-requires-clause-there : goal.tidy_line-requires-clause-there
+tidy_line-requires-clause-there c =
+    let f = tidied_line (heads c.args.admitted.now.items) (rows_of c.args.waiting.now.items) in
+    let same = ap (λ (x : Turning). length x.lines) c.loop-transport.invariant in
+    omega (arith, same, length_below f 0 c.loop-transport.transport c.args.turns.now.lines, c.transports-transport-end.ensures, c.loop-transport-test.true)
+
+pub tidy_line-requires-clause-tied : goal.tidy_line-requires-clause-tied
+tidy_line-requires-clause-tied c =
+    subst (λ ps. ArePeersTied ps (rows_of c.args.waiting.now.items)) (sym (ap (λ (x : Turning). x.peers) c.loop-transport.invariant)) c.requires

@@ -1,10 +1,10 @@
 use Rattle.std.proofs.Common.{◌≡◌}
-use Rattle.q_core.specs.Lines.{on_jobs}
 use Rattle.q_core.specs.Tidied.{tidied_line}
-use Rattle.q_core.proofs.ListLaws.{numbered_front}
 use Rattle.q_pool.specs.Kept.{heads}
 use Rattle.q_peers.specs.Numbered.{rows_of}
+use Rattle.q_turns.proofs.WithLine.{changed_below}
 use Rattle.q_core.proofs.tidy.tidy_lines.Given as goal
 
 abbrev pub invariant-loop-transport : goal.invariant-loop-transport
-invariant-loop-transport l = l.lines ≡ numbered_front (on_jobs (tidied_line (heads l.admitted.items) (rows_of l.waiting.items))) 0 l.transport l.initial.lines
+invariant-loop-transport l =
+    l.turns ≡ record l.initial.turns { lines = changed_below (tidied_line (heads l.admitted.items) (rows_of l.waiting.items)) 0 l.transport l.initial.turns.lines }

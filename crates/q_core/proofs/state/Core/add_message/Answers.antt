@@ -31,6 +31,7 @@ invariant_of-self c =
       tied_more a.params a.admitted c.push.new.self (rows_of a.waiting.items) a.flights.items a.unsettled.items a.flying a.starts c.args.slot c.push.ensures c.self.invariant.0,
       rw slots (slot_entered _ c.self.invariant.1),
       c.self.invariant.2,
+      c.self.invariant.3,
     )
 
 pub returns : goal.returns

@@ -35,6 +35,7 @@ invariant_of-self-2 c =
       rw added (tied_replied a.params a.admitted c.gain_unsettled.new.pool (rows_of a.waiting.items) a.flights.items a.unsettled.items c.deref.result.now a.flying a.starts f.row.id own.0 c.len-3.result own.1 many few named c.gain_unsettled.ensures t),
       rw slots c.self.invariant.1,
       c.self.invariant.2,
+      c.self.invariant.3,
     )
 
 pub returns-clause-busy : goal.returns-clause-busy

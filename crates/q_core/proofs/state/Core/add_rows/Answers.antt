@@ -1,4 +1,4 @@
-use Rattle.std.proofs.Common.{◌≡◌, ◌<◌, ◌^◌, ◌∙◌, ◌++◌, [], ap, arith, length, map, refl, rules, subst, true}
+use Rattle.std.proofs.Common.{◌≡◌, ◌<◌, ◌^◌, ◌∙◌, ◌++◌, [], ap, arith, length, map, refl, rules, subst, sym, true}
 use Rattle.std.proofs.lemmas.List.{length-append, length-map}
 use Rattle.std.specs.List.{enumerate_from, list_all}
 use Rattle.q_core.proofs.PoolTies.{heads_recounted, present_held}
@@ -6,17 +6,44 @@ use Rattle.q_core.proofs.StillTidyLines.{rows_added}
 use Rattle.q_core.proofs.TiedLaws.{tied_read}
 use Rattle.q_core.specs.Counting.{with_waiting}
 use Rattle.q_core.specs.Held.{is_admitted_in}
-use Rattle.q_core.proofs.LineSteps.{joined_back}
-use Rattle.q_core.specs.Lines.{all_jobs}
+use Rattle.q_core.proofs.LineSteps.{joined_over}
 use Rattle.q_core.specs.Loading.{can_join, joined_line, joined_within, new_sites}
 use Rattle.q_core.specs.State.{State}
 use Rattle.q_core.specs.Known.{known_records}
-use Rattle.q_core.specs.Ties.{AreSitesTied, AreWaitingTied}
+use Rattle.q_core.specs.Ties.{ArePeersTied, AreSitesTied, AreWaitingTied}
 use Rattle.q_core.specs.View.{state_of}
 use Rattle.q_pool.specs.Kept.{heads}
 use Rattle.q_pool.specs.Pooled.{Pooled}
+use Rattle.q_core.proofs.JoinedJobs.{all_may_wait}
+use Rattle.q_core.specs.Loading.{AreRowsOf}
+use Rattle.q_model.specs.declared.rows.Row.{Row}
+use Rattle.q_turns.specs.Turns.{may_wait, Turning}
 use Rattle.q_peers.specs.Numbered.{Numbered, rows_of}
 use Rattle.q_core.proofs.state.Core.add_rows.Goals as goal
+
+pub count_peers-requires-clause-own : goal.count_peers-requires-clause-own
+count_peers-requires-clause-own c = subst (AreRowsOf c.args.id) (sym c.deref-3.ensures.value) c.requires.own
+
+pub count_peers-requires-clause-jobs : goal.count_peers-requires-clause-jobs
+count_peers-requires-clause-jobs c =
+    let core = c.self.inside in
+    let rows = c.args.rows.items in
+    let can : list_all (can_join c.args.id rows core.turns.line_room) (enumerate_from 0 core.turns.lines) ≡ true = search rules in
+    let turns : c.join_lines.new.turns ≡ record core.turns { lines = map (joined_line c.args.id rows) (enumerate_from 0 core.turns.lines) } =
+    c.join_lines.ensures ∙ ap (λ rs. record core.turns { lines = map (joined_within c.args.id rs core.turns.line_room) (enumerate_from 0 core.turns.lines) }) c.deref-2.ensures.value
+    ∙ ap (λ xs. record core.turns { lines = xs }) (joined_over c.args.id rows core.turns.line_room 0 core.turns.lines can) in
+    ap (λ (x : Turning). list_all (λ (r : Row). may_wait x.lines r.site.transport c.args.id) c.deref-3.result.now) turns
+    ∙ ap (list_all (λ (r : Row). may_wait (map (joined_line c.args.id rows) (enumerate_from 0 core.turns.lines)) r.site.transport c.args.id)) c.deref-3.ensures.value
+    ∙ all_may_wait c.args.id rows core.turns.lines
+
+pub count_peers-requires-clause-room : goal.count_peers-requires-clause-room
+count_peers-requires-clause-room c =
+    let core = c.self.inside in
+    let peers = ap (λ (x : Turning). length x.peers) c.join_lines.ensures in
+    let room = ap (λ (x : Turning). x.room) c.join_lines.ensures in
+    let new : length c.deref-3.result.now ≡ length c.args.rows.items = ap length c.deref-3.ensures.value in
+    let many : c.len-3.result ≡ length c.args.rows.items = search rules in
+    omega (arith, peers, room, new, many, c.spare_peers.ensures, c.stand_apart-3.ensures.within, c.if-spare_peers-len.false)
 
 pub invariant_of-self : goal.invariant_of-self
 invariant_of-self c =
@@ -25,9 +52,12 @@ invariant_of-self c =
     let ds = core.sites.items in
     let fs = core.flights.items in
     let waiting : rows_of c.add_all.new.waiting.items ≡ rows_of core.waiting.items ++ rows = c.add_all.ensures in
-    let can : list_all (can_join c.args.id rows) (enumerate_from 0 core.lines.items) ≡ true = search rules in
-    let joined = c.join_lines.ensures ∙ ap (λ rs. map (joined_within c.args.id rs) (enumerate_from 0 c.deref_mut.result.now)) c.deref-3.ensures.value in
-    let lines = joined_back c.args.id rows _ _ _ _ joined c.deref_mut.ensures.value c.deref_mut.ensures.len can in
+    let can : list_all (can_join c.args.id rows core.turns.line_room) (enumerate_from 0 core.turns.lines) ≡ true = search rules in
+    let turns : c.join_lines.new.turns ≡ record core.turns { lines = map (joined_line c.args.id rows) (enumerate_from 0 core.turns.lines) } =
+    c.join_lines.ensures ∙ ap (λ rs. record core.turns { lines = map (joined_within c.args.id rs core.turns.line_room) (enumerate_from 0 core.turns.lines) }) c.deref-2.ensures.value
+    ∙ ap (λ xs. record core.turns { lines = xs }) (joined_over c.args.id rows core.turns.line_room 0 core.turns.lines can) in
+    let lines : c.count_peers.new.turns.lines ≡ map (joined_line c.args.id rows) (enumerate_from 0 core.turns.lines) =
+    ap (λ (x : Turning). x.lines) c.count_peers.ensures.rest ∙ ap (λ (x : Turning). x.lines) turns in
     let own = present_held (state_of core) core.admitted.items refl c.args.id (ap (λ (s : State). is_admitted_in s c.args.id) c.self.view_is ∙ c.requires.there) in
     let count : c.len-count.result ≡ length rows = search rules in
     let total = length-append (rows_of core.waiting.items) rows in
@@ -42,6 +72,7 @@ invariant_of-self c =
       rw waiting (tied_read core.params core.admitted c.gain_waiting.new.pool (rows_of core.waiting.items) rows fs core.unsettled.items core.flying core.starts c.args.id own.0 c.len-count.result own.1 count fits c.requires.own c.gain_waiting.ensures c.self.invariant.0),
       rw (slots, c.touch_message.ensures, waiting, lines) (rows_added c.args.id rows c.self.invariant.1),
       rw waiting tied,
+      rw waiting (subst (λ rs. ArePeersTied c.count_peers.new.turns.peers (rows_of core.waiting.items ++ rs)) c.deref-3.ensures.value c.count_peers.ensures.tied),
     )
 
 pub returns-clause-ok : goal.returns-clause-ok
@@ -49,17 +80,20 @@ returns-clause-ok c =
     let core = c.self.inside in
     let rows = c.args.rows.items in
     let waiting : rows_of c.add_all.new.waiting.items ≡ rows_of core.waiting.items ++ rows = c.add_all.ensures in
-    let can : list_all (can_join c.args.id rows) (enumerate_from 0 core.lines.items) ≡ true = search rules in
-    let joined = c.join_lines.ensures ∙ ap (λ rs. map (joined_within c.args.id rs) (enumerate_from 0 c.deref_mut.result.now)) c.deref-3.ensures.value in
-    let lines = joined_back c.args.id rows _ _ _ _ joined c.deref_mut.ensures.value c.deref_mut.ensures.len can in
+    let can : list_all (can_join c.args.id rows core.turns.line_room) (enumerate_from 0 core.turns.lines) ≡ true = search rules in
+    let turns : c.join_lines.new.turns ≡ record core.turns { lines = map (joined_line c.args.id rows) (enumerate_from 0 core.turns.lines) } =
+    c.join_lines.ensures ∙ ap (λ rs. record core.turns { lines = map (joined_within c.args.id rs core.turns.line_room) (enumerate_from 0 core.turns.lines) }) c.deref-2.ensures.value
+    ∙ ap (λ xs. record core.turns { lines = xs }) (joined_over c.args.id rows core.turns.line_room 0 core.turns.lines can) in
+    let lines : c.count_peers.new.turns.lines ≡ map (joined_line c.args.id rows) (enumerate_from 0 core.turns.lines) =
+    ap (λ (x : Turning). x.lines) c.count_peers.ensures.rest ∙ ap (λ (x : Turning). x.lines) turns in
     let known : known_records c.count_rows.new.sites.items ≡ known_records core.sites.items ++ new_sites core.params (known_records core.sites.items) [] rows =
     c.count_rows.ensures.known ∙ ap (λ rs. known_records core.sites.items ++ new_sites core.params (known_records core.sites.items) [] rs) c.deref-4.ensures.value in
     let slots : heads c.gain_waiting.new.pool.items ≡ heads core.admitted.items = ap (λ (m : Pooled). heads m.items) c.gain_waiting.ensures ∙ heads_recounted (with_waiting c.len-count.result) c.args.id core.admitted.items in
     record {
       rest =
           rw lines (
-          ap (λ ss. record (state_of core) { admitted = ss; waiting = rows_of c.add_all.new.waiting.items; lines = map (joined_line c.args.id rows) (enumerate_from 0 (all_jobs core.lines.items)); sites = known_records c.count_rows.new.sites.items }) slots
-          ∙ ap (λ (s : State). record s { waiting = rows_of c.add_all.new.waiting.items; lines = map (joined_line c.args.id rows) (enumerate_from 0 (all_jobs core.lines.items)); sites = known_records c.count_rows.new.sites.items }) c.self.view_is
+          ap (λ ss. record (state_of core) { admitted = ss; waiting = rows_of c.add_all.new.waiting.items; lines = map (joined_line c.args.id rows) (enumerate_from 0 core.turns.lines); sites = known_records c.count_rows.new.sites.items }) slots
+          ∙ ap (λ (s : State). record s { waiting = rows_of c.add_all.new.waiting.items; lines = map (joined_line c.args.id rows) (enumerate_from 0 core.turns.lines); sites = known_records c.count_rows.new.sites.items }) c.self.view_is
           );
       waiting = waiting ∙ ap (λ (s : State). s.waiting ++ rows) c.self.view_is;
       lines = lines ∙ ap (λ (s : State). map (joined_line c.args.id rows) (enumerate_from 0 s.lines)) c.self.view_is;

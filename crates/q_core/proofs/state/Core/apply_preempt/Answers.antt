@@ -2,7 +2,14 @@ use Rattle.std.proofs.Common.{ap, ◌∙◌, inl, refl, Some}
 use Rattle.q_model.specs.declared.entry.Entry.TheVariants as entries
 use Rattle.q_core.specs.declared.decision.Decision.TheVariants as decisions
 use Rattle.q_core.proofs.LastRuleLaws.{next_is_start}
+use Rattle.q_core.proofs.PreemptKinds.{other_child, parent_there}
 use Rattle.q_core.proofs.state.Core.apply_preempt.Goals as goal
+
+pub preempt-requires-clause-other : goal.preempt-requires-clause-other
+preempt-requires-clause-other c = other_child c.args.self.now c.args.child c.args.parent c.args.transport c.args.need c.stand_apart.ensures c.requires.decided
+
+pub preempt-requires-clause-parent : goal.preempt-requires-clause-parent
+preempt-requires-clause-parent c = parent_there c.args.self.now c.args.child c.args.parent c.args.transport c.args.need c.requires.decided
 
 pub returns : goal.returns
 returns c = λ w l a.

@@ -18,6 +18,7 @@ invariant_of-self c =
       tied_kept a.params a.admitted c.sync.new.self (rows_of a.waiting.items) a.flights.items a.unsettled.items a.flying a.starts c.args.id cleared (λ s. refl) c.sync.ensures c.self.invariant.0,
       rw slots (slots_same (unread_same c.args.id cleared (λ s. refl) (λ s. refl) (heads a.admitted.items)) c.self.invariant.1),
       c.self.invariant.2,
+      c.self.invariant.3,
     )
 
 pub returns : goal.returns

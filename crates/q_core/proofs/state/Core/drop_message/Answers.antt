@@ -20,6 +20,7 @@ invariant_of-self c =
       tied_left a.params a.admitted c.remove.new.self (rows_of a.waiting.items) a.flights.items a.unsettled.items a.flying a.starts c.args.id none.0 none.1 none.2 c.remove.ensures t,
       rw (slots, c.touch_unread.ensures) (slot_gone c.args.id c.self.invariant.1),
       c.self.invariant.2,
+      c.self.invariant.3,
     )
 
 pub returns : goal.returns

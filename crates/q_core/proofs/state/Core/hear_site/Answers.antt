@@ -17,7 +17,7 @@ pub invariant_of-self : goal.invariant_of-self
 invariant_of-self c =
     let core = c.self.inside in
     let sites : c.hear.new.self.items ≡ map (changed_at c.args.site.now (heard core.params core.clock.seconds c.args.state)) core.sites.items = ap (λ (x : Dests). x.items) c.hear.ensures in
-    rw sites (c.self.invariant.0, c.self.invariant.1, sites_heard (rows_of core.waiting.items) core.flights.items core.params c.args.site.now core.clock.seconds c.args.state core.sites.items c.self.invariant.2)
+    rw sites (c.self.invariant.0, c.self.invariant.1, sites_heard (rows_of core.waiting.items) core.flights.items core.params c.args.site.now core.clock.seconds c.args.state core.sites.items c.self.invariant.2, c.self.invariant.3)
 
 pub returns : goal.returns
 returns c =

@@ -6,12 +6,12 @@ use Rattle.q_core.proofs.BeginLaws.{open_windows, usable}
 use Rattle.std.proofs.Common.{◌≡◌, ◌∙◌, ◌+◌, [], ap, subst, false, None, refl}
 use Rattle.q_core.proofs.BeginLaws.{begin_law, begin_living, begin_moment}
 use Rattle.q_core.specs.Known.{known_records}
-use Rattle.q_core.specs.Lines.{all_jobs}
 use Rattle.q_dest.specs.Dests.{Dests}
 use Rattle.q_core.specs.declared.state.Core.{Core}
 use Rattle.q_core.specs.declared.state.Seen.TheVariants.{Unknown}
 use Rattle.q_core.specs.declared.state.Question.TheVariants.{Nothing}
 use Rattle.q_core.proofs.CountedLaws.{counted_none}
+use Rattle.q_core.proofs.PeerTies.{peers_new}
 use Rattle.q_core.proofs.SiteChanges.{sites_new}
 use Rattle.q_core.proofs.StillTidyLines.{new_tidy}
 use Rattle.q_core.proofs.TiedLaws.{tied_new}
@@ -19,6 +19,7 @@ use Rattle.q_model.specs.Settings.{Settings}
 use Rattle.q_peers.specs.Numbered.{Items, rows_of}
 use Rattle.q_pool.specs.Kept.{heads}
 use Rattle.q_pool.specs.Pooled.{Pooled}
+use Rattle.q_turns.specs.Turns.{Turning}
 use Rattle.q_core.proofs.state.Core.new.Goals as goal
 
 pub returns-clause-consistent : goal.returns-clause-consistent
@@ -27,7 +28,7 @@ returns-clause-consistent c = λ w book settings count k s.
       params = c.args.params;
       transports = c.args.transports;
       mode = c.args.mode;
-      clock = record { seconds = c.new-4.result.seconds };
+      clock = record { seconds = c.new-5.result.seconds };
       timed = false;
       next_run = 0;
       scan = None;
@@ -36,34 +37,34 @@ returns-clause-consistent c = λ w book settings count k s.
       deferred_turn = false;
       admitted = heads c.in_ok-admitted.admitted.items;
       waiting = rows_of c.in_ok-waiting.waiting.items;
-      flights = c.new-5.result.items;
+      flights = c.new-6.result.items;
       in_memory = 0;
-      served = c.new-6.result.items;
-      unsettled = c.new-7.result.items;
-      lines = all_jobs c.in_ok-lines.lines.items;
+      served = c.new-7.result.items;
+      unsettled = c.new-8.result.items;
+      lines = c.in_ok-turns.turns.lines;
       sites = known_records c.in_ok-sites.sites.items;
-      synced = c.new-8.result.items;
+      synced = c.new-9.result.items;
       starts = 0;
       active = Unknown;
       incoming = Unknown;
       deferred = Unknown;
       question = Nothing;
-      named = c.new-9.result.items;
+      named = c.new-10.result.items;
       skips = 0;
-      skipped = c.new-10.result;
+      skipped = c.new-11.result;
     } in
     let matches = begin_law w c.args.mode book core c.args.transports settings refl count
     (record {
       mode_is = refl;
-      clock = c.new-4.ensures;
+      clock = c.new-5.ensures;
       admitted = ap (λ (m : Pooled). heads m.items) c.in_ok-admitted.ensures;
       waiting = ap (λ (v : Items). rows_of v.items) c.in_ok-waiting.ensures;
-      flights = c.new-5.ensures.items;
-      served = c.new-6.ensures.items;
-      unsettled = c.new-7.ensures.items;
-      lines = c.in_ok-lines.ensures;
+      flights = c.new-6.ensures.items;
+      served = c.new-7.ensures.items;
+      unsettled = c.new-8.ensures.items;
+      lines = ap (λ (x : Turning). x.lines) c.in_ok-turns.ensures;
       sites = ap (λ (x : Dests). known_records x.items) c.in_ok-sites.ensures;
-      synced = c.new-8.ensures.items;
+      synced = c.new-9.ensures.items;
     }) in
     record { matches = matches; consistent = k; sites = s; living = begin_living w c.args.mode book; moment = begin_moment w c.args.mode book }
 
@@ -76,7 +77,7 @@ pub invariant_of-result : goal.invariant_of-result
 invariant_of-result c =
     let made = c.in_ok-admitted.ensures ∙ ap (λ (p : Settings). record { items = []; room = p.active_limit; sync_limit = p.mark_sync_limit; minimum = p.recipient_minimum }) c.params.view_is in
     let slots : heads c.in_ok-admitted.admitted.items ≡ [] = ap (λ (m : Pooled). heads m.items) c.in_ok-admitted.ensures in (
-      tied_new c.args.params c.in_ok-admitted.admitted (rows_of c.in_ok-waiting.waiting.items) c.new-5.result.items c.new-7.result.items _ made (ap (λ (v : Items). rows_of v.items) c.in_ok-waiting.ensures) c.new-5.ensures.items c.new-7.ensures.items counted_none,
-      rw (slots, ap (λ (v : Items). rows_of v.items) c.in_ok-waiting.ensures, c.new-6.ensures.items, c.in_ok-lines.ensures) (new_tidy c.args.transports),
-      sites_new c.in_ok-sites.sites.items (rows_of c.in_ok-waiting.waiting.items) c.new-5.result.items (ap (λ (x : Dests). x.items) c.in_ok-sites.ensures) (ap (λ (v : Items). rows_of v.items) c.in_ok-waiting.ensures) c.new-5.ensures.items,
+      tied_new c.args.params c.in_ok-admitted.admitted (rows_of c.in_ok-waiting.waiting.items) c.new-6.result.items c.new-8.result.items _ made (ap (λ (v : Items). rows_of v.items) c.in_ok-waiting.ensures) c.new-6.ensures.items c.new-8.ensures.items counted_none,
+      rw (slots, ap (λ (v : Items). rows_of v.items) c.in_ok-waiting.ensures, c.new-7.ensures.items, ap (λ (x : Turning). x.lines) c.in_ok-turns.ensures) (new_tidy c.args.transports),
+      sites_new c.in_ok-sites.sites.items (rows_of c.in_ok-waiting.waiting.items) c.new-6.result.items (ap (λ (x : Dests). x.items) c.in_ok-sites.ensures) (ap (λ (v : Items). rows_of v.items) c.in_ok-waiting.ensures) c.new-6.ensures.items,      peers_new c.in_ok-turns.turns.peers (rows_of c.in_ok-waiting.waiting.items) (ap (λ (x : Turning). x.peers) c.in_ok-turns.ensures) (ap (λ (v : Items). rows_of v.items) c.in_ok-waiting.ensures),
     )

@@ -18,6 +18,7 @@ invariant_of-self c =
       tied_kept a.params a.admitted c.damage.new.self (rows_of a.waiting.items) a.flights.items a.unsettled.items a.flying a.starts c.args.id with_damage (λ s. refl) c.damage.ensures c.self.invariant.0,
       rw (slots, c.touch_message.ensures) (slots_touched c.args.id (unread_other c.args.id with_damage (λ s. refl) (heads a.admitted.items)) c.self.invariant.1),
       c.self.invariant.2,
+      c.self.invariant.3,
     )
 
 pub returns : goal.returns

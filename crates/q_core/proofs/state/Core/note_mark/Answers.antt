@@ -18,6 +18,7 @@ invariant_of-self c =
       tied_kept a.params a.admitted c.mark.new.self (rows_of a.waiting.items) a.flights.items a.unsettled.items a.flying a.starts c.args.id with_slot_mark mark_id c.mark.ensures c.self.invariant.0,
       rw slots (slots_same (unread_same c.args.id with_slot_mark mark_id mark_left (heads a.admitted.items)) c.self.invariant.1),
       c.self.invariant.2,
+      c.self.invariant.3,
     )
 
 pub returns : goal.returns

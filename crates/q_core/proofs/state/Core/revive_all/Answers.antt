@@ -19,7 +19,7 @@ invariant_of-self c =
     let tie = c.self.invariant.2 in
     let p = core.params in
     let sites : c.revive_all.new.self.items ≡ filter is_kept (map (revived_when_dead p) ds) = ap (λ (x : Dests). x.items) c.revive_all.ensures in
-    rw sites (c.self.invariant.0, c.self.invariant.1, sites_kept rows fs (map (revived_when_dead p) ds) (dead_apart rows fs ds apart tie p) (dead_tied rows fs ds apart tie p))
+    rw sites (c.self.invariant.0, c.self.invariant.1, sites_kept rows fs (map (revived_when_dead p) ds) (dead_apart rows fs ds apart tie p) (dead_tied rows fs ds apart tie p), c.self.invariant.3)
 
 pub returns-clause-revived : goal.returns-clause-revived
 returns-clause-revived c = record {

@@ -4,6 +4,7 @@ use Rattle.std.specs.Prelude.{position, slice_get}
 use Rattle.q_core.proofs.ListLaws.{drop_first-Some}
 use Rattle.q_core.proofs.RowWalkLaws.{any_place, none_any, same_place}
 use Rattle.q_core.proofs.CountLaws.{count_within}
+use Rattle.q_core.proofs.PeerTies.{peers_lost}
 use Rattle.q_core.proofs.SiteChanges.{known_stays, sites_begun}
 use Rattle.q_core.proofs.StillTidyLaws.{flight_added, row_gone}
 use Rattle.q_core.specs.Known.{known_records}
@@ -22,6 +23,7 @@ use Rattle.q_core.specs.View.{state_of}
 use Rattle.q_peers.specs.Numbered.{rows_of}
 use Rattle.q_pool.specs.Kept.{heads}
 use Rattle.q_pool.specs.Pooled.{Pooled}
+use Rattle.q_turns.specs.Turns.{Turning}
 use Rattle.q_core.proofs.state.Core.send.Goals as goal
 
 pub invariant_of-self-2 : goal.invariant_of-self-2
@@ -43,8 +45,9 @@ invariant_of-self-2 c =
     let sites : c.begin.new.self.items ≡ map (changed_at row.site begun) a.sites.items = ap (λ (x : Dests). x.items) c.begin.ensures in
     let counted = subst (λ (fs : List Delivery). IsCounted fs c.add_flight.new.flying) added c.add_flight.ensures.counted in (
       rw (left, added) (tied_sent a.params a.admitted c.begin_flight.new.pool rows f.0 row a.flights.items a.unsettled.items a.flying c.add_flight.new.flying a.starts c.args.number there less few counted c.begin_flight.ensures c.self.invariant.0),
-      rw (slots, c.touch_message-2.ensures, c.touch_message.ensures, left, c.in_ok-note_served.ensures.ok) (flight_added c.args.id c.args.site c.args.number (row_gone f.0 row there c.self.invariant.1)),
+      rw (slots, c.touch_message-2.ensures, c.touch_message.ensures, left, c.in_ok-note_served.ensures.ok, ap (λ (x : Turning). x.lines) c.lose.ensures) (flight_added c.args.id c.args.site c.args.number (row_gone f.0 row there c.self.invariant.1)),
       rw (sites, left, added) (sites_begun rows f.0 row c.args.number a.flights.items a.sites.items there c.self.invariant.2),
+      rw (ap (λ (x : Turning). x.peers) c.lose.ensures, left) (peers_lost rows f.0 row a.turns.peers c.stand_apart.ensures.apart there c.self.invariant.3),
     )
 
 pub begin-requires : goal.begin-requires
@@ -74,7 +77,8 @@ returns-clause-ok c = λ entry at.
     let known : known_records c.begin.new.self.items ≡ known_records a.sites.items = ap (λ (x : Dests). known_records x.items) c.begin.ensures ∙ known_stays row.site begun (λ d. refl) a.sites.items in
     record {
       rest =
-          ap (λ rs. record (state_of a) { admitted = heads c.begin_flight.new.pool.items; waiting = rows_of c.take_row.new.waiting.items; flights = c.add_flight.new.flights.items; served = c.note_served.new.served.items; sites = rs; starts = c.args.number }) known
+          ap (λ (x : Turning). record (state_of a) { admitted = heads c.begin_flight.new.pool.items; waiting = rows_of c.take_row.new.waiting.items; flights = c.add_flight.new.flights.items; served = c.note_served.new.served.items; lines = x.lines; sites = known_records c.begin.new.self.items; starts = c.args.number }) c.lose.ensures
+          ∙ ap (λ rs. record (state_of a) { admitted = heads c.begin_flight.new.pool.items; waiting = rows_of c.take_row.new.waiting.items; flights = c.add_flight.new.flights.items; served = c.note_served.new.served.items; sites = rs; starts = c.args.number }) known
           ∙ ap (λ ss. record (state_of a) { admitted = ss; waiting = rows_of c.take_row.new.waiting.items; flights = c.add_flight.new.flights.items; served = c.note_served.new.served.items; starts = c.args.number }) slots
           ∙ ap (λ (s : State). record s { waiting = rows_of c.take_row.new.waiting.items; flights = c.add_flight.new.flights.items; served = c.note_served.new.served.items; starts = c.args.number }) c.self.view_is;
       waiting = left ∙ ap (λ k. remove rows k) e ∙ ap (λ ws. remove ws entry) same;

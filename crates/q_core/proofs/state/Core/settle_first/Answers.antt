@@ -22,6 +22,7 @@ invariant_of-self c =
       rw c.remove-first.ensures.items (tied_settled a.params a.admitted c.lose_unsettled.new.pool (rows_of a.waiting.items) a.flights.items us a.flying a.starts 0 first there c.lose_unsettled.ensures c.self.invariant.0),
       rw slots c.self.invariant.1,
       c.self.invariant.2,
+      c.self.invariant.3,
     )
 
 pub returns-clause-change : goal.returns-clause-change

@@ -3,6 +3,7 @@ use Rattle.std.specs.List.{list_any, remove}
 use Rattle.std.specs.Prelude.{find, position, slice_get}
 use Rattle.q_core.proofs.ListLaws.{drop_first-Some}
 use Rattle.q_core.proofs.RowWalkLaws.{any_place, none_any, same_place}
+use Rattle.q_core.proofs.PeerTies.{peers_lost}
 use Rattle.q_core.proofs.SiteChanges.{sites_left, sites_settled}
 use Rattle.q_core.proofs.SiteViews.{settled_used}
 use Rattle.q_core.proofs.StillTidyLaws.{row_gone}
@@ -24,6 +25,7 @@ use Rattle.q_model.specs.declared.rows.Unsettled.{Unsettled}
 use Rattle.q_peers.specs.Numbered.{rows_of}
 use Rattle.q_pool.specs.Kept.{heads}
 use Rattle.q_pool.specs.Pooled.{Pooled}
+use Rattle.q_turns.specs.Turns.{Turning}
 use Rattle.q_core.proofs.state.Core.unqueue.Goals as goal
 
 pub returns-clause-ok : goal.returns-clause-ok
@@ -45,7 +47,8 @@ returns-clause-ok c = λ entry at.
     record {
       row = ap (λ ws. slice_get ws entry) (sym same) ∙ ap (slice_get rows) (sym e) ∙ there;
       rest =
-          ap (λ ss. record (state_of a) { admitted = ss; waiting = rows_of c.take_row.new.waiting.items; unsettled = c.extend_from_slice.new.self.items; in_memory = c.saturating_sub-self-inside.result; sites = c.args.self.now.sites }) slots
+          ap (λ (x : Turning). record (state_of a) { admitted = heads c.put_off_row.new.pool.items; waiting = rows_of c.take_row.new.waiting.items; unsettled = c.extend_from_slice.new.self.items; in_memory = c.saturating_sub-self-inside.result; lines = x.lines; sites = c.args.self.now.sites }) c.lose.ensures
+          ∙ ap (λ ss. record (state_of a) { admitted = ss; waiting = rows_of c.take_row.new.waiting.items; unsettled = c.extend_from_slice.new.self.items; in_memory = c.saturating_sub-self-inside.result; sites = c.args.self.now.sites }) slots
           ∙ ap (λ (s : State). record s { waiting = rows_of c.take_row.new.waiting.items; unsettled = c.extend_from_slice.new.self.items; in_memory = c.saturating_sub-self-inside.result; sites = c.args.self.now.sites }) c.self.view_is;
       waiting = left ∙ ap (λ k. remove rows k) e ∙ ap (λ ws. remove ws entry) same;
       unsettled = added ∙ ap (λ us. us ++ c.deref.result.now) (ap (λ (s : State). s.unsettled) c.self.view_is) ∙ ap (λ us. c.args.self.now.unsettled ++ us) (c.deref.ensures.value ∙ needs);
@@ -72,8 +75,8 @@ invariant_of-self-2 c =
     let sites : c.leave.new.self.items ≡ filter is_kept (settled row.site left_dest a.sites.items) = ap (λ (x : Dests). x.items) c.leave.ensures in
     let many : c.len.result ≡ length c.deref.result.now = c.len.ensures ∙ sym c.deref.ensures.len in (
       rw (left, added) (tied_put_off a.params a.admitted c.put_off_row.new.pool rows f.0 row a.flights.items a.unsettled.items c.deref.result.now a.flying a.starts c.len.result there many few named c.put_off_row.ensures c.self.invariant.0),
-      rw (slots, c.touch_message.ensures, left) (row_gone f.0 row there c.self.invariant.1),
-      rw (sites, left) (sites_settled (remove rows f.0) a.flights.items row.site left_dest (λ d. refl) a.sites.items c.stand_apart.ensures.apart (sites_left rows f.0 row a.flights.items a.sites.items there c.self.invariant.2)),
+      rw (slots, c.touch_message.ensures, left, ap (λ (x : Turning). x.lines) c.lose.ensures) (row_gone f.0 row there c.self.invariant.1),
+      rw (sites, left) (sites_settled (remove rows f.0) a.flights.items row.site left_dest (λ d. refl) a.sites.items c.stand_apart.ensures.apart (sites_left rows f.0 row a.flights.items a.sites.items there c.self.invariant.2)),      rw (ap (λ (x : Turning). x.peers) c.lose.ensures, left) (peers_lost rows f.0 row a.turns.peers c.stand_apart-2.ensures.apart there c.self.invariant.3),
     )
 
 pub returns-clause-left : goal.returns-clause-left

@@ -19,7 +19,7 @@ invariant_of-self c =
     let tie = c.self.invariant.2 in
     let p = core.params in
     let sites : c.revive_due.new.self.items ≡ filter is_kept (map (revived_when_due p c.args.moment) ds) = ap (λ (x : Dests). x.items) c.revive_due.ensures in
-    rw sites (c.self.invariant.0, c.self.invariant.1, sites_kept rows fs (map (revived_when_due p c.args.moment) ds) (due_apart rows fs ds apart tie p c.args.moment) (due_tied rows fs ds apart tie p c.args.moment))
+    rw sites (c.self.invariant.0, c.self.invariant.1, sites_kept rows fs (map (revived_when_due p c.args.moment) ds) (due_apart rows fs ds apart tie p c.args.moment) (due_tied rows fs ds apart tie p c.args.moment), c.self.invariant.3)
 
 pub returns-clause-woken : goal.returns-clause-woken
 returns-clause-woken c = record {
