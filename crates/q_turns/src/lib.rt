@@ -24,6 +24,8 @@ mod moving;
 mod peer;
 mod peers;
 mod turns;
+#[cfg(test)]
+mod worked;
 
 pub use peer::Peer;
 pub use turns::Turns;
