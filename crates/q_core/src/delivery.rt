@@ -38,8 +38,10 @@ fn with_start(job: Job) -> Job
 
 /// Counts a delivery that the message starts at the transport.
 fn count_start(turns: &mut Turns, id: Id, transport: u8)
-    ensures { turns.new ≡ record turns.old { lines = map (started_line id transport)
-        (enumerate_from 0 turns.old.lines) } }
+    ensures { turns.new ≡ record turns.old {
+      lines = map (started_line id transport)
+          (enumerate_from 0 turns.old.lines);
+    } }
 {
     let at = usize::from(transport);
     turns.stand_apart();

@@ -76,8 +76,10 @@ pub(crate) fn can_join_all(turns: &Turns, id: Id, rows: &[Row]) -> bool
 /// The message joins the line, where it has come to wait there, and has room.
 fn join(turns: &mut Turns, id: Id, rows: &[Row], at: usize)
     requires { at < length turns.old.lines }
-    ensures { turns.new ≡ record turns.old { lines = with_line at
-        (λ jobs. joined_within id rows.now turns.old.line_room (at, jobs)) turns.old.lines } }
+    ensures { turns.new ≡ record turns.old {
+      lines = with_line at
+          (λ jobs. joined_within id rows.now turns.old.line_room (at, jobs)) turns.old.lines;
+    } }
 {
     if joins(turns, id, rows, at) && turns.spare_jobs(at) != 0 {
         turns.join(at, id);
@@ -86,8 +88,10 @@ fn join(turns: &mut Turns, id: Id, rows: &[Row], at: usize)
 
 /// The message joins the lines in which it has come to wait, where they have room.
 pub(crate) fn join_lines(turns: &mut Turns, id: Id, rows: &[Row])
-    ensures { turns.new ≡ record turns.old { lines = map
-        (joined_within id rows.now turns.old.line_room) (enumerate_from 0 turns.old.lines) } }
+    ensures { turns.new ≡ record turns.old {
+      lines = map
+          (joined_within id rows.now turns.old.line_room) (enumerate_from 0 turns.old.lines);
+    } }
 {
     for at in 0..turns.transports() {
         join(turns, id, rows, at);

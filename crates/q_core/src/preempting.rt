@@ -28,8 +28,10 @@ fn with_charge(job: Job, need: u64, left: u64) -> Job
 
 /// Charges the need to the message's job.
 fn charge(turns: &mut Turns, transport: usize, id: Id, need: u64, left: u64)
-    ensures { turns.new ≡ record turns.old { lines = with_line transport
-        (map (changed_job id (with_charge need left))) turns.old.lines } }
+    ensures { turns.new ≡ record turns.old {
+      lines = with_line transport
+          (map (changed_job id (with_charge need left))) turns.old.lines;
+    } }
 {
     turns.stand_apart();
     if let Some(job) = turns.job(transport, id) {
@@ -42,8 +44,10 @@ fn charge(turns: &mut Turns, transport: usize, id: Id, need: u64, left: u64)
 fn preempt(turns: &mut Turns, child: Id, parent: Id, transport: u8, need: u64, left: u64)
     requires other { id_eq child parent ≡ false }
     requires parent { has_job turns.old.lines transport parent ≡ true }
-    ensures { turns.new ≡ record turns.old { lines = map
-        (preempted_line child parent transport need left) (enumerate_from 0 turns.old.lines) } }
+    ensures { turns.new ≡ record turns.old {
+      lines = map
+          (preempted_line child parent transport need left) (enumerate_from 0 turns.old.lines);
+    } }
 {
     let at = usize::from(transport);
     charge(turns, at, parent, need, left);

@@ -68,8 +68,10 @@ pub(crate) fn leave_line(turns: &mut Turns, id: Id, waiting: &Waiting, transport
     requires there { transport < length turns.old.lines }
     requires tied { ArePeersTied turns.old.peers (rows_of waiting.now.items) }
     requires done { waits_for_in (rows_of waiting.now.items) id transport ≡ false }
-    ensures { turns.new ≡ record turns.old { lines = with_line transport
-        (filter (is_job_of_another id)) turns.old.lines } }
+    ensures { turns.new ≡ record turns.old {
+      lines = with_line transport
+          (filter (is_job_of_another id)) turns.old.lines;
+    } }
 {
     turns.stand_apart();
     turns.leave(transport, id);
@@ -79,8 +81,10 @@ pub(crate) fn leave_line(turns: &mut Turns, id: Id, waiting: &Waiting, transport
 fn tidy_line(turns: &mut Turns, admitted: &Pool, waiting: &Waiting, transport: usize)
     requires there { transport < length turns.old.lines }
     requires tied { ArePeersTied turns.old.peers (rows_of waiting.now.items) }
-    ensures { turns.new ≡ record turns.old { lines = with_line transport (tidied_jobs
-        (heads admitted.now.items) (rows_of waiting.now.items) transport) turns.old.lines } }
+    ensures { turns.new ≡ record turns.old {
+      lines = with_line transport (tidied_jobs
+          (heads admitted.now.items) (rows_of waiting.now.items) transport) turns.old.lines;
+    } }
 {
     while let Some(id) = first_to_leave(turns, admitted, waiting, transport) {
         leave_line(turns, id, waiting, transport);
@@ -90,8 +94,10 @@ fn tidy_line(turns: &mut Turns, admitted: &Pool, waiting: &Waiting, transport: u
 /// Takes the jobs that have nothing left out of the lines.
 pub(crate) fn tidy_lines(turns: &mut Turns, admitted: &Pool, waiting: &Waiting)
     requires { ArePeersTied turns.old.peers (rows_of waiting.now.items) }
-    ensures { turns.new ≡ record turns.old { lines = map (tidied_line (heads admitted.now.items)
-        (rows_of waiting.now.items)) (enumerate_from 0 turns.old.lines) } }
+    ensures { turns.new ≡ record turns.old {
+      lines = map (tidied_line (heads admitted.now.items)
+          (rows_of waiting.now.items)) (enumerate_from 0 turns.old.lines);
+    } }
 {
     for transport in 0..turns.transports() {
         tidy_line(turns, admitted, waiting, transport);

@@ -24,8 +24,10 @@ fn tidy_job(turns: &mut Turns, id: Id, admitted: &Pool, waiting: &Waiting, trans
     requires tied { ArePeersTied turns.old.peers (rows_of waiting.now.items) }
     requires others { jobs_stay (One id) (heads admitted.now.items) (rows_of waiting.now.items)
         transport (line_at transport turns.old.lines) ≡ true }
-    ensures { turns.new ≡ record turns.old { lines = with_line transport (tidied_jobs
-        (heads admitted.now.items) (rows_of waiting.now.items) transport) turns.old.lines } }
+    ensures { turns.new ≡ record turns.old {
+      lines = with_line transport (tidied_jobs
+          (heads admitted.now.items) (rows_of waiting.now.items) transport) turns.old.lines;
+    } }
 {
     if !stays(admitted, waiting, id, transport) {
         leave_line(turns, id, waiting, transport);
@@ -37,8 +39,10 @@ fn tidy_message(turns: &mut Turns, id: Id, admitted: &Pool, waiting: &Waiting)
     requires tied { ArePeersTied turns.old.peers (rows_of waiting.now.items) }
     requires others { DoJobsStay (One id) (heads admitted.now.items) (rows_of waiting.now.items)
         turns.old.lines }
-    ensures { turns.new ≡ record turns.old { lines = map (tidied_line (heads admitted.now.items)
-        (rows_of waiting.now.items)) (enumerate_from 0 turns.old.lines) } }
+    ensures { turns.new ≡ record turns.old {
+      lines = map (tidied_line (heads admitted.now.items)
+          (rows_of waiting.now.items)) (enumerate_from 0 turns.old.lines);
+    } }
 {
     for transport in 0..turns.transports() {
         tidy_job(turns, id, admitted, waiting, transport);
@@ -55,8 +59,10 @@ pub(crate) fn tidy_touched_lines(
     requires tied { ArePeersTied turns.old.peers (rows_of waiting.now.items) }
     requires others { DoJobsStay touched.now (heads admitted.now.items)
         (rows_of waiting.now.items) turns.old.lines }
-    ensures { turns.new ≡ record turns.old { lines = map (tidied_line (heads admitted.now.items)
-        (rows_of waiting.now.items)) (enumerate_from 0 turns.old.lines) } }
+    ensures { turns.new ≡ record turns.old {
+      lines = map (tidied_line (heads admitted.now.items)
+          (rows_of waiting.now.items)) (enumerate_from 0 turns.old.lines);
+    } }
 {
     match touched {
         Touched::Nothing => {}

@@ -42,7 +42,8 @@ invariant_of-self c =
       rw c.land-2.ensures (tied_landed a.params a.admitted c.end_flight.new.pool rows a.flights.items a.unsettled.items a.flying c.recount.new.flying a.starts c.args.number f at counted c.end_flight.ensures c.self.invariant.0),
       rw slots c.self.invariant.1,
       rw (sites, c.land-2.ensures) (sites_settled rows fs f.row.site landed (λ d. refl) a.sites.items c.stand_apart.ensures.apart
-          (sites_landed rows a.flights.items a.starts c.args.number f a.sites.items c.self.invariant.0.numbers at c.self.invariant.2)),      c.self.invariant.3,
+          (sites_landed rows a.flights.items a.starts c.args.number f a.sites.items c.self.invariant.0.numbers at c.self.invariant.2)),
+      c.self.invariant.3,
     )
 
 pub returns-clause-landed : goal.returns-clause-landed

@@ -79,5 +79,6 @@ invariant_of-result c =
     let slots : heads c.in_ok-admitted.admitted.items ≡ [] = ap (λ (m : Pooled). heads m.items) c.in_ok-admitted.ensures in (
       tied_new c.args.params c.in_ok-admitted.admitted (rows_of c.in_ok-waiting.waiting.items) c.new-6.result.items c.new-8.result.items _ made (ap (λ (v : Items). rows_of v.items) c.in_ok-waiting.ensures) c.new-6.ensures.items c.new-8.ensures.items counted_none,
       rw (slots, ap (λ (v : Items). rows_of v.items) c.in_ok-waiting.ensures, c.new-7.ensures.items, ap (λ (x : Turning). x.lines) c.in_ok-turns.ensures) (new_tidy c.args.transports),
-      sites_new c.in_ok-sites.sites.items (rows_of c.in_ok-waiting.waiting.items) c.new-6.result.items (ap (λ (x : Dests). x.items) c.in_ok-sites.ensures) (ap (λ (v : Items). rows_of v.items) c.in_ok-waiting.ensures) c.new-6.ensures.items,      peers_new c.in_ok-turns.turns.peers (rows_of c.in_ok-waiting.waiting.items) (ap (λ (x : Turning). x.peers) c.in_ok-turns.ensures) (ap (λ (v : Items). rows_of v.items) c.in_ok-waiting.ensures),
+      sites_new c.in_ok-sites.sites.items (rows_of c.in_ok-waiting.waiting.items) c.new-6.result.items (ap (λ (x : Dests). x.items) c.in_ok-sites.ensures) (ap (λ (v : Items). rows_of v.items) c.in_ok-waiting.ensures) c.new-6.ensures.items,
+      peers_new c.in_ok-turns.turns.peers (rows_of c.in_ok-waiting.waiting.items) (ap (λ (x : Turning). x.peers) c.in_ok-turns.ensures) (ap (λ (v : Items). rows_of v.items) c.in_ok-waiting.ensures),
     )

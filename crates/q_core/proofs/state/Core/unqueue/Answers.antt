@@ -76,7 +76,8 @@ invariant_of-self-2 c =
     let many : c.len.result ≡ length c.deref.result.now = c.len.ensures ∙ sym c.deref.ensures.len in (
       rw (left, added) (tied_put_off a.params a.admitted c.put_off_row.new.pool rows f.0 row a.flights.items a.unsettled.items c.deref.result.now a.flying a.starts c.len.result there many few named c.put_off_row.ensures c.self.invariant.0),
       rw (slots, c.touch_message.ensures, left, ap (λ (x : Turning). x.lines) c.lose.ensures) (row_gone f.0 row there c.self.invariant.1),
-      rw (sites, left) (sites_settled (remove rows f.0) a.flights.items row.site left_dest (λ d. refl) a.sites.items c.stand_apart.ensures.apart (sites_left rows f.0 row a.flights.items a.sites.items there c.self.invariant.2)),      rw (ap (λ (x : Turning). x.peers) c.lose.ensures, left) (peers_lost rows f.0 row a.turns.peers c.stand_apart-2.ensures.apart there c.self.invariant.3),
+      rw (sites, left) (sites_settled (remove rows f.0) a.flights.items row.site left_dest (λ d. refl) a.sites.items c.stand_apart.ensures.apart (sites_left rows f.0 row a.flights.items a.sites.items there c.self.invariant.2)),
+      rw (ap (λ (x : Turning). x.peers) c.lose.ensures, left) (peers_lost rows f.0 row a.turns.peers c.stand_apart-2.ensures.apart there c.self.invariant.3),
     )
 
 pub returns-clause-left : goal.returns-clause-left
