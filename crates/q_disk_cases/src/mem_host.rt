@@ -12,8 +12,8 @@ fn name(text: &str) -> Result<Name, Fail> {
 
 // Puts 300 files into an area in mixed order, and one each into the areas before and behind it.
 fn fill(alloc: Global, host: &mut MemHost) -> Result<(), Fail> {
-    for i in 0..300 {
-        let text = format!(in alloc; "{:03}", i * 7 % 300)?;
+    for i in 0..300u32 {
+        let text = format!(in alloc; "{:03}", i.wrapping_mul(7) % 300)?;
         host.put_file(Area::Deferred, name(text.as_str())?, b"x")?;
     }
     host.put_file(Area::Active, name("500")?, b"abc")?;
@@ -27,7 +27,7 @@ fn are_numbered(alloc: Global, names: &Names, first: usize, count: usize) -> Res
         return Ok(false);
     }
     for i in 0..count {
-        let text = format!(in alloc; "{:03}", first + i)?;
+        let text = format!(in alloc; "{:03}", first.saturating_add(i))?;
         if names.get(i) != name(text.as_str())? {
             return Ok(false);
         }
