@@ -1,5 +1,5 @@
 -- A refusal of the host becomes one of the engine, and has its cause.
-use Rattle.std.proofs.Common.{◌≡◌, ◌∙◌, ◌≤◌, ap, arith, Bool, false, Option, refl, Some, subst, sym, true}
+use Rattle.std.proofs.Common.{◌≡◌, ◌∙◌, ◌≤◌, ap, arith, Bool, false, None, Option, refl, Some, subst, sym, true}
 use Rattle.std.specs.Prelude.{◌||◌, Err, IsErrOf, Ok, Result}
 use Rattle.q_entries.specs.Causes.{HostCause}
 use Rattle.q_host.specs.Faults.{Faults, TellCause}
@@ -56,6 +56,17 @@ host_apart made error inner is of event =
     let same : error ≡ refusal_of inner = cc in
     let bad : true ≡ false = sym event ∙ ap is_of_event same ∙ not_of_event inner in cc
 
+-- a refusal of the host is one of those that may come
+of_host : (inner : HostError) → (is_of_host (refusal_of inner) || is_of_event (refusal_of inner)) ≡ true
+of_host faults.Disk = refl
+of_host faults.Tell = refl
+of_host faults.NoMemory = refl
+
+pub host_kind : {T : Type 0} (made error : EngineError) (inner : HostError) → made ≡ refusal_of inner → IsErrOf {T = T} (Err made) error → (is_of_host error || is_of_event error) ≡ true
+host_kind made error inner is of =
+    let same : error ≡ refusal_of inner = cc in
+    ap (λ e. is_of_host e || is_of_event e) same ∙ of_host inner
+
 or_right : (a b : Bool) → b ≡ true → (a || b) ≡ true
 or_right true b h = refl
 or_right false b h = h
@@ -80,6 +91,12 @@ done_cause before after r made h = record { disk_later = h.disk_later; tell_late
 
 same_error : (o asked : Option EngineError) (made error : EngineError) → o ≡ Some made → o ≡ asked → asked ≡ Some error → made ≡ error
 same_error o asked made error is agrees of = let both : Some made ≡ Some error = sym is ∙ agrees ∙ of in cc
+
+pub none_asked : (o asked : Option EngineError) → o ≡ None → o ≡ asked → asked ≡ None
+none_asked o asked none is = sym is ∙ none
+
+pub none_refused : (o asked : Option EngineError) (error : EngineError) → o ≡ None → o ≡ asked → asked ≡ Some error → ⊥
+none_refused o asked error none is some = cc
 
 pub refused_so : {T : Type 0} (o asked : Option EngineError) (made error : EngineError) → o ≡ Some made → o ≡ asked → asked ≡ Some error → IsErrOf {T = T} (Err made) error
 refused_so {T} o asked made error is agrees of = subst (λ (e : EngineError). IsErrOf {T = T} (Err made) e) (same_error o asked made error is agrees of) refl

@@ -109,7 +109,10 @@ fn site(number: u8) -> Option<Site> {
 fn is_there(turns: &Turns, transport: usize, id: Id) -> bool
     ensures { result ≡ has_job turns.now.lines transport id }
 {
-    turns.job(transport, id).is_some()
+    match turns.job(transport, id) {
+        Some(_) => true,
+        None => false,
+    }
 }
 
 /// The message joins, where it has no job.
@@ -160,6 +163,7 @@ fn leave(turns: &mut Turns, transport: usize, id: Id)
 }
 
 /// A row comes to wait, where its message has a job.
+#[tactic(auto, using(crate::proofs::HavingLines::may_from))]
 fn gain(turns: &mut Turns, sites: &mut Sites, id: Id, site: &Site)
     ensures { turns.new.room ≡ turns.old.room }
 {

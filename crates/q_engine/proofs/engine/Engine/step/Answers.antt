@@ -1,7 +1,6 @@
-use Rattle.std.proofs.Common.{◌≡◌, ◌∙◌, None, Option, refl, Some, sym}
-use Rattle.q_engine.proofs.Causes.{asked_so, done_cause, event_apart, event_cause, event_kind, host_apart, made_cause, refused_so}
+use Rattle.std.proofs.Common.{refl}
+use Rattle.q_engine.proofs.Causes.{asked_so, done_cause, event_apart, event_cause, event_kind, host_apart, host_kind, made_cause, none_asked, none_refused, refused_so}
 use Rattle.q_engine.proofs.Turns.{passed_on}
-use Rattle.q_engine.specs.declared.error.EngineError.{EngineError}
 use Rattle.q_engine.proofs.engine.Engine.step.Goals as goal
 
 pub returns-in-Err-clause-err : goal.returns-in-Err-clause-err
@@ -21,8 +20,7 @@ returns-in-Some-clause-cause g c = event_cause (g.H.Host.faults c.args.host.now)
 
 pub returns-in-Err-clause-refused : goal.returns-in-Err-clause-refused
 returns-in-Err-clause-refused g c w l agrees counts error is =
-    let none : ◌≡◌ {A = Option EngineError} None (Some error) = sym c.in_default.is ∙ c.refusal.ensures.ledger w l agrees counts ∙ is in
-    absurd cc
+    absurd (none_refused c.refusal.result _ error c.in_default.is (c.refusal.ensures.ledger w l agrees counts) is)
 
 pub returns-in-Err-clause-only_refused : goal.returns-in-Err-clause-only_refused
 returns-in-Err-clause-only_refused g c error of event w l agrees counts = absurd (host_apart c.refusal_of.result error c.in-Err.error c.refusal_of.ensures.exact of event)
@@ -37,8 +35,13 @@ returns-in-Some-clause-only_refused g c error of event w l agrees counts =
 
 pub returns-in-Ok-clause-refused : goal.returns-in-Ok-clause-refused
 returns-in-Ok-clause-refused g c w l agrees counts error is =
-    let none : ◌≡◌ {A = Option EngineError} None (Some error) = sym c.in_default.is ∙ c.refusal.ensures.ledger w l agrees counts ∙ is in
-    absurd cc
+    absurd (none_refused c.refusal.result _ error c.in_default.is (c.refusal.ensures.ledger w l agrees counts) is)
 
 pub returns-in-Ok-clause-cause : goal.returns-in-Ok-clause-cause
 returns-in-Ok-clause-cause g c = done_cause (g.H.Host.faults c.args.host.now) (g.H.Host.faults c.take.new.host) c.take.result _ c.take.ensures.cause
+
+pub take-requires-clause-accepted : goal.take-requires-clause-accepted
+take-requires-clause-accepted g c w l agrees counts = none_asked c.refusal.result _ c.in_default.is (c.refusal.ensures.ledger w l agrees counts)
+
+pub returns-in-Err-clause-kinds : goal.returns-in-Err-clause-kinds
+returns-in-Err-clause-kinds g c error of = host_kind c.refusal_of.result error c.in-Err.error c.refusal_of.ensures.exact of
