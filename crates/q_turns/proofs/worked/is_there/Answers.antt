@@ -6,11 +6,11 @@ use Rattle.q_turns.specs.Turns.{line_at}
 use Rattle.q_turns.proofs.worked.is_there.Goals as goal
 
 pub returns-in-Some : goal.returns-in-Some
-returns-in-Some g c =
+returns-in-Some c =
     ap (λ o. is_some (option_copied o)) (sym c.in-Some.is) ∙ ap is_some c.job.ensures
     ∙ find-any (is_job_of c.args.id) (line_at c.args.transport c.args.turns.now.lines)
 
 pub returns-in-None : goal.returns-in-None
-returns-in-None g c =
+returns-in-None c =
     ap (λ o. is_some (option_copied o)) (sym c.in-None.is) ∙ ap is_some c.job.ensures
     ∙ find-any (is_job_of c.args.id) (line_at c.args.transport c.args.turns.now.lines)
