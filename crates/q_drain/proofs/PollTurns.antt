@@ -32,6 +32,7 @@ use Rattle.q_drain.specs.GivenUp.{GivesUp}
 use Rattle.q_drain.specs.Opened.{FailsToOpenAll, GaveUp, IsServing, Looks, MayOpenAll, OpensAll}
 use Rattle.q_drain.specs.Polling.{IsPolling, KeepsSome}
 use Rattle.q_drain.specs.Replied.{HasReplied, Replies, reply_event}
+use Rattle.q_drain.specs.Reported.{GivesUpReport, HearsReport}
 use Rattle.q_drain.specs.Served.{FilledUp, ServedOn}
 use Rattle.q_drain.specs.Standing.{IsUnderWay, Outside, counts_of}
 use Rattle.q_drain.specs.Stories.{Did, Story}
@@ -321,6 +322,23 @@ module _ (w : World) (l : Ledger) (a : Outside) (clock : Option (List ℕ)) (u v
           serving = (g.0).serving;
         }
 
+  -- the reply was given up, or a session couldn't be opened behind it
+  pub report_fails : (mid : Sessions) (made : mid ≡ after_end o agent) (b : HostView) (after_hops : HopsView) (known : ℕ) (error : HostError) → length early ≡ known → GivesUpReport r engine error v b next after_hops mid known
+      → GivesUp w l a (record { clock = clock; hops = after_hops }) u b error s
+  report_fails mid made b after_hops known error is (inl (halts, same)) =
+      subst (λ (x : HopsView). GivesUp w l a (record { clock = clock; hops = x }) u b error s) (sym same) (reply_fails b error halts)
+  report_fails mid made b after_hops known error is (inr f) = opening_fails f.between f.next mid made f.replied b after_hops known error is f.fails
+
+  as_busy : (next : Served) → next.busy ≡ true → record { engine = next.engine; known = next.known; busy = true } ≡ next
+  as_busy n is = ap (λ (b : Bool). record { engine = n.engine; known = n.known; busy = b }) (sym is)
+
+  -- it was told, and all were
+  pub served_by_report : (mid : Sessions) (made : mid ≡ after_end o agent) (b : HostView) (after_hops : HopsView) (sessions : Sessions) (known : ℕ) (served : Served) (busy : Bool) → length early ≡ known → Turns (idle busy) s → served.busy ≡ true
+      → HearsReport r engine served v b next after_hops mid sessions known → ServedOn w l a (record { clock = clock; hops = after_hops }) u b served sessions s
+  served_by_report mid made b after_hops sessions known served busy is turns own heard =
+      subst (λ (n : Served). ServedOn w l a (record { clock = clock; hops = after_hops }) u b n sessions s) (as_busy served own)
+      (served_replied heard.between served.engine mid made heard.replied b after_hops sessions known served.known busy is turns heard.opened)
+
 -- ---- by the answer of the agent
 
 now_is : (w : World) (l : Ledger) (a z : Outside) (v : HostView) (engine : Engine) (agent : Sessions) (early waiting : List Begun) (fs : List Delivery) (s : Story) (now : ℕ) → ForAgreed engine (λ w l. now ≡ l.now) → IsServing w l a z v engine agent early waiting fs s → now ≡ moment_after 0 s.told
@@ -369,3 +387,7 @@ pub reply_fits : (tells : Bool) (u : HostView) (now : ℕ) (hops next : HopsView
 reply_fits tells u now hops next agent new o r first turned =
     let one = turned_over tells u now hops next agent new o r first turned in
     counts_fit r.site o.recipients r.outcomes one.0.counts
+
+-- where the engine's record says that a delivery ended, nothing is asked of sessions
+pub busy_keeps : (was busy : Bool) (old new : Sessions) → busy ≡ true → KeepsSome was busy old new
+busy_keeps was busy old new is idle = let bad : true ≡ false = sym is ∙ idle in cc

@@ -17,6 +17,7 @@ pub mod GivenUp
 pub mod Heard
 pub mod Replied
 pub mod Served
+pub mod Reported
 pub mod Turned
 pub mod Exits
 pub mod Drained

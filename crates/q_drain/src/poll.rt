@@ -2,14 +2,16 @@
 ghost use Rattle.std.specs.Prelude.{◌≡◌, ◌+◌, false, IfOk, IfSome, IsTrue, List, Option, true, ℕ};
 ghost use Rattle.q_agent.specs.Sessions.{is_turn_over};
 ghost use Rattle.q_drain.specs.Polling.{IsPolling, KeepsSome};
+ghost use Rattle.q_drain.specs.Reported.{GivesUpReport, HearsReport, MayOpenBehind};
 ghost use Rattle.q_drain.specs.Served.{GivesUpServing, MayServe, PollsOn};
 ghost use Rattle.q_engine.specs.Stands.{IsReady};
-ghost use Rattle.q_engine.specs.Steps.{EachError};
+ghost use Rattle.q_engine.specs.Steps.{EachError, StandsForSome};
 ghost use Rattle.q_entries.specs.Causes.{HostCause};
+ghost use Rattle.q_model.specs.Replies.{fits_state};
 
 use crate::opening::open_started;
 use crate::reply::tell_reply;
-use q_agent::Agent;
+use q_agent::{Agent, Report};
 use q_engine::Engine;
 use q_host::{Host, HostError};
 use q_link::{Hops, Link};
@@ -29,6 +31,43 @@ pub(crate) struct Served {
     pub(crate) engine: Engine,
     pub(crate) known: u64,
     pub(crate) busy: bool,
+}
+
+/// The reply of a report is carried out and told, and the sessions of the deliveries that begin then
+/// are opened.
+fn hear_report<L: Link, H: Host, N: Hops<Link = L>>(
+    alloc: Global,
+    engine: Engine,
+    agent: &mut Agent<L>,
+    host: &mut H,
+    hops: &mut N,
+    report: Report,
+    known: u64,
+) -> Result<Served, HostError>
+    requires ready { IsReady engine }
+    requires fits { fits_state report.site report.outcomes ≡ true }
+    requires polling { IsPolling agent.old (known + 1) }
+    requires stands { IsTrue H.tells → StandsForSome engine (H.view host.old) }
+    requires opens { IsTrue H.tells → (clock : Option (List ℕ)) × MayOpenBehind clock report engine
+        (H.view host.old) (N.view hops.old) agent.old known }
+    ensures ok { IfOk result (λ next. IsTrue H.tells → HearsReport report engine next
+        (H.view host.old) (H.view host.new) (N.view hops.old) (N.view hops.new) agent.old agent.new
+        known) }
+    ensures ready { IfOk result (λ next. IsReady next.engine) }
+    ensures polling { IfOk result (λ next. IsPolling agent.new (next.known + 1)) }
+    ensures busy { IfOk result (λ next. next.busy ≡ true) }
+    ensures rests { (N.view hops.new).rests ≡ (N.view hops.old).rests }
+    ensures err { EachError result (λ error. IsTrue H.tells → GivesUpReport report engine error
+        (H.view host.old) (H.view host.new) (N.view hops.old) (N.view hops.new) agent.old known) }
+    ensures cause { HostCause (H.faults host.old) (H.faults host.new) result }
+{
+    let engine = tell_reply(alloc, engine, host, report)?;
+    let known = open_started(alloc, &engine, agent, host, hops, known)?;
+    Ok(Served {
+        engine,
+        known,
+        busy: true,
+    })
 }
 
 /// Polls the next session of a turn that isn't over. Where that session is over, its reply is carried
@@ -73,13 +112,8 @@ fn poll_next<L: Link, H: Host, N: Hops<Link = L>>(
     if engine.last_number() >= DELIVERIES {
         return Ok(None);
     }
-    let engine = tell_reply(alloc, engine, host, report)?;
-    let known = open_started(alloc, &engine, agent, host, hops, known)?;
-    Ok(Some(Served {
-        engine,
-        known,
-        busy: true,
-    }))
+    let next = hear_report(alloc, engine, agent, host, hops, report, known)?;
+    Ok(Some(next))
 }
 
 /// Polls each open session that this turn hasn't polled, those too that are opened meanwhile, in order

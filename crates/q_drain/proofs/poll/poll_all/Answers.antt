@@ -102,3 +102,6 @@ returns-in_default-clause-cause g c =
 
 pub returns-clause-cause : goal.returns-clause-cause
 returns-clause-cause g c = memory_host (g.H.Host.faults c.args.host.now) (g.H.Host.faults c.loop.host) c.loop.invariant.disk_later c.loop.invariant.tell_later
+
+pub returns-then-turn_over-clause-cause : goal.returns-then-turn_over-clause-cause
+returns-then-turn_over-clause-cause g c = ok_host (g.H.Host.faults c.args.host.now) (g.H.Host.faults c.loop.host) _ c.loop.invariant.disk_later c.loop.invariant.tell_later

@@ -6,7 +6,7 @@ use Rattle.q_agent.specs.Sessions.{next_polled}
 use Rattle.q_agent.specs.declared.report.Report.{Report}
 use Rattle.q_books.specs.HostStands.{TellsCrashes}
 use Rattle.q_drain.proofs.Causes.{cause_behind, disk_passed, host_passed, ok_host}
-use Rattle.q_drain.proofs.PollTurns.{ends_poll, fills_up, keeps_some, may_open_more, may_poll, opening_fails, poll_fails, polls_less, polls_on, reply_fails, reply_fits, served_on, served_replied, stands_still}
+use Rattle.q_drain.proofs.PollTurns.{busy_keeps, ends_poll, fills_up, keeps_some, may_open_more, may_poll, poll_fails, polls_less, polls_on, reply_fits, report_fails, served_by_report, served_on, stands_still}
 use Rattle.q_drain.proofs.Polls.{some_unpolled, turned_over, turned_rests}
 use Rattle.q_engine.proofs.DecisionLoops.{same_error}
 use Rattle.q_model.specs.Step.{after_all}
@@ -62,88 +62,6 @@ returns-in_default-clause-some g c =
     keeps_some c.args.served.busy g.H.Host.tells u c.now.result hops next agent c.turn.new.self o.0 o.1
     (subst (λ (r : Option Report). Turned g.H.Host.tells u c.now.result hops next (next_polled agent) r agent c.turn.new.self) c.in_default.is c.in_ok-report.ensures.ok)
 
-pub tell_reply-requires-clause-fits : goal.tell_reply-requires-clause-fits
-tell_reply-requires-clause-fits g c =
-    let u = g.H.Host.view c.args.host.now in
-    let hops = g.N.Hops.view c.args.hops.now in
-    let next = g.N.Hops.view c.turn.new.hops in
-    let agent = c.args.agent.now in
-    let o = some_unpolled agent c.requires.over in
-    reply_fits g.H.Host.tells u c.now.result hops next agent c.turn.new.self o.0 c.in-Some.report o.1
-    (subst (λ (r : Option Report). Turned g.H.Host.tells u c.now.result hops next (next_polled agent) r agent c.turn.new.self) c.in-Some.is c.in_ok-report.ensures.ok)
-
-pub tell_reply-requires-clause-stands : goal.tell_reply-requires-clause-stands
-tell_reply-requires-clause-stands g c t =
-    let (clock, m) = c.requires.serves t in
-    let u = g.H.Host.view c.args.host.now in
-    let v = g.H.Host.view c.turn.new.host in
-    let hops = g.N.Hops.view c.args.hops.now in
-    let next = g.N.Hops.view c.turn.new.hops in
-    let agent = c.args.agent.now in
-    let engine = c.args.served.engine in
-    let o = some_unpolled agent c.requires.over in
-    let lawful : TellsCrashes u = record { only = g.met.H.Host.only_now c.args.host.now; told = g.met.H.Host.told_stays c.args.host.now } in
-    let turned = subst (λ (r : Option Report). Turned g.H.Host.tells u c.now.result hops next (next_polled agent) r agent c.turn.new.self) c.in-Some.is c.in_ok-report.ensures.ok in
-    let e = ends_poll m.world m.ledger m.first clock u v hops next engine agent c.turn.new.self m.early m.flights m.story g.H.Host.tells c.now.result o.0 c.in-Some.report lawful (c.turn.ensures.stays t) o.1 t c.now.ensures.ledger turned m.serving in
-    (m.world, after_all m.world m.ledger (m.story).told, stands_still m.world m.ledger m.first clock u v hops next engine agent m.early m.flights m.story o.0 c.in-Some.report e)
-
-pub returns-in_err-engine-clause-err : goal.returns-in_err-engine-clause-err
-returns-in_err-engine-clause-err g c error is t w l a clock early fs s known turns h =
-    let u = g.H.Host.view c.args.host.now in
-    let v = g.H.Host.view c.turn.new.host in
-    let hops = g.N.Hops.view c.args.hops.now in
-    let next = g.N.Hops.view c.turn.new.hops in
-    let agent = c.args.agent.now in
-    let engine = c.args.served.engine in
-    let o = some_unpolled agent c.requires.over in
-    let lawful : TellsCrashes u = record { only = g.met.H.Host.only_now c.args.host.now; told = g.met.H.Host.told_stays c.args.host.now } in
-    let turned = subst (λ (r : Option Report). Turned g.H.Host.tells u c.now.result hops next (next_polled agent) r agent c.turn.new.self) c.in-Some.is c.in_ok-report.ensures.ok in
-    let e = ends_poll w l a clock u v hops next engine agent c.turn.new.self early fs s g.H.Host.tells c.now.result o.0 c.in-Some.report lawful (c.turn.ensures.stays t) o.1 t c.now.ensures.ledger turned h in
-    reply_fails w l a clock u v hops next engine agent early fs s o.0 c.in-Some.report e (g.H.Host.view c.tell_reply.new.host) error
-    (c.in_err-engine.ensures.err error (same_error c.from_residual-in_err-engine.result c.in_err-engine.field-0.0 error c.from_residual-in_err-engine.ensures.1 is) t)
-
-pub open_started-requires-clause-polling : goal.open_started-requires-clause-polling
-open_started-requires-clause-polling g c =
-    let u = g.H.Host.view c.args.host.now in
-    let hops = g.N.Hops.view c.args.hops.now in
-    let next = g.N.Hops.view c.turn.new.hops in
-    let agent = c.args.agent.now in
-    let o = some_unpolled agent c.requires.over in
-    polls_less _ g.H.Host.tells u c.now.result hops next agent c.turn.new.self o.0 c.in-Some.report o.1
-    (subst (λ (r : Option Report). Turned g.H.Host.tells u c.now.result hops next (next_polled agent) r agent c.turn.new.self) c.in-Some.is c.in_ok-report.ensures.ok) c.requires.polling
-
-pub open_started-requires-clause-stands : goal.open_started-requires-clause-stands
-open_started-requires-clause-stands g c t =
-    let (clock, m) = c.requires.serves t in
-    let u = g.H.Host.view c.args.host.now in
-    let v = g.H.Host.view c.turn.new.host in
-    let hops = g.N.Hops.view c.args.hops.now in
-    let next = g.N.Hops.view c.turn.new.hops in
-    let agent = c.args.agent.now in
-    let engine = c.args.served.engine in
-    let o = some_unpolled agent c.requires.over in
-    let lawful : TellsCrashes u = record { only = g.met.H.Host.only_now c.args.host.now; told = g.met.H.Host.told_stays c.args.host.now } in
-    let turned = subst (λ (r : Option Report). Turned g.H.Host.tells u c.now.result hops next (next_polled agent) r agent c.turn.new.self) c.in-Some.is c.in_ok-report.ensures.ok in
-    let made = (turned_over g.H.Host.tells u c.now.result hops next agent c.turn.new.self o.0 c.in-Some.report o.1 turned).1 in
-    let e = ends_poll m.world m.ledger m.first clock u v hops next engine agent c.turn.new.self m.early m.flights m.story g.H.Host.tells c.now.result o.0 c.in-Some.report lawful (c.turn.ensures.stays t) o.1 t c.now.ensures.ledger turned m.serving in
-    (clock, may_open_more m.world m.ledger m.first clock u v hops next engine agent m.early m.flights m.story o.0 c.in-Some.report e (g.H.Host.view c.tell_reply.new.host) c.in_ok-engine.engine c.turn.new.self made (c.in_ok-engine.ensures.ok t) c.args.served.known m.known_is)
-
-pub returns-in_err-known-clause-err : goal.returns-in_err-known-clause-err
-returns-in_err-known-clause-err g c error is t w l a clock early fs s known turns h =
-    let u = g.H.Host.view c.args.host.now in
-    let v = g.H.Host.view c.turn.new.host in
-    let hops = g.N.Hops.view c.args.hops.now in
-    let next = g.N.Hops.view c.turn.new.hops in
-    let agent = c.args.agent.now in
-    let engine = c.args.served.engine in
-    let o = some_unpolled agent c.requires.over in
-    let lawful : TellsCrashes u = record { only = g.met.H.Host.only_now c.args.host.now; told = g.met.H.Host.told_stays c.args.host.now } in
-    let turned = subst (λ (r : Option Report). Turned g.H.Host.tells u c.now.result hops next (next_polled agent) r agent c.turn.new.self) c.in-Some.is c.in_ok-report.ensures.ok in
-    let made = (turned_over g.H.Host.tells u c.now.result hops next agent c.turn.new.self o.0 c.in-Some.report o.1 turned).1 in
-    let e = ends_poll w l a clock u v hops next engine agent c.turn.new.self early fs s g.H.Host.tells c.now.result o.0 c.in-Some.report lawful (c.turn.ensures.stays t) o.1 t c.now.ensures.ledger turned h in
-    opening_fails w l a clock u v hops next engine agent early fs s o.0 c.in-Some.report e (g.H.Host.view c.tell_reply.new.host) c.in_ok-engine.engine c.turn.new.self made (c.in_ok-engine.ensures.ok t)
-    (g.H.Host.view c.open_started.new.host) (g.N.Hops.view c.open_started.new.hops) c.args.served.known error known (c.in_err-known.ensures.err t)
-
 pub returns-clause-ok : goal.returns-clause-ok
 returns-clause-ok g c t w l a clock early fs s known turns h =
     let u = g.H.Host.view c.args.host.now in
@@ -157,14 +75,14 @@ returns-clause-ok g c t w l a clock early fs s known turns h =
     let turned = subst (λ (r : Option Report). Turned g.H.Host.tells u c.now.result hops next (next_polled agent) r agent c.turn.new.self) c.in-Some.is c.in_ok-report.ensures.ok in
     let made = (turned_over g.H.Host.tells u c.now.result hops next agent c.turn.new.self o.0 c.in-Some.report o.1 turned).1 in
     let e = ends_poll w l a clock u v hops next engine agent c.turn.new.self early fs s g.H.Host.tells c.now.result o.0 c.in-Some.report lawful (c.turn.ensures.stays t) o.1 t c.now.ensures.ledger turned h in
-    served_replied w l a clock u v hops next engine agent early fs s o.0 c.in-Some.report e (g.H.Host.view c.tell_reply.new.host) c.in_ok-engine.engine c.turn.new.self made (c.in_ok-engine.ensures.ok t)
-    (g.H.Host.view c.open_started.new.host) (g.N.Hops.view c.open_started.new.hops) c.open_started.new.agent c.args.served.known c.in_ok-known.known c.args.served.busy known turns (c.in_ok-known.ensures.ok t)
+    served_by_report w l a clock u v hops next engine agent early fs s o.0 c.in-Some.report e c.turn.new.self made (g.H.Host.view c.hear_report.new.host) (g.N.Hops.view c.hear_report.new.hops) c.hear_report.new.agent c.args.served.known c.in_ok-next.next c.args.served.busy known turns
+    c.in_ok-next.ensures.busy (c.in_ok-next.ensures.ok t)
 
 pub returns-clause-polling : goal.returns-clause-polling
-returns-clause-polling g c = c.in_ok-known.ensures.last.1
+returns-clause-polling g c = c.in_ok-next.ensures.polling
 
 pub returns-clause-some : goal.returns-clause-some
-returns-clause-some g c idle = cc
+returns-clause-some g c = busy_keeps c.args.served.busy _ _ _ c.in_ok-next.ensures.busy
 
 pub returns-then-last_number-ge-DELIVERIES-clause-ok : goal.returns-then-last_number-ge-DELIVERIES-clause-ok
 returns-then-last_number-ge-DELIVERIES-clause-ok g c t w l a clock early fs s known turns h =
@@ -188,35 +106,16 @@ pub returns-then-last_number-ge-DELIVERIES-clause-rests : goal.returns-then-last
 returns-then-last_number-ge-DELIVERIES-clause-rests g c =
     turned_rests g.H.Host.tells (g.H.Host.view c.args.host.now) c.now.result (g.N.Hops.view c.args.hops.now) (g.N.Hops.view c.turn.new.hops) (next_polled c.args.agent.now) c.in_ok-report.field-0 c.args.agent.now c.turn.new.self c.in_ok-report.ensures.ok
 
-pub returns-in_err-known-clause-rests : goal.returns-in_err-known-clause-rests
-returns-in_err-known-clause-rests g c = c.open_started.ensures.rests
-    ∙ turned_rests g.H.Host.tells (g.H.Host.view c.args.host.now) c.now.result (g.N.Hops.view c.args.hops.now) (g.N.Hops.view c.turn.new.hops) (next_polled c.args.agent.now) c.in_ok-report.field-0 c.args.agent.now c.turn.new.self c.in_ok-report.ensures.ok
-
-pub returns-in_err-known-clause-cause : goal.returns-in_err-known-clause-cause
-returns-in_err-known-clause-cause g c =
-    let a = g.H.Host.faults c.args.host.now in
-    let b = g.H.Host.faults c.tell_reply.new.host in
-    let turned = c.in_ok-report.ensures.cause in
-    let replied = c.in_ok-engine.ensures.cause in
-    cause_behind a b (g.H.Host.faults c.open_started.new.host) c.from_residual-in_err-known.result
-    (omega (arith, turned.disk_later, replied.disk_later)) (omega (arith, turned.tell_later, replied.tell_later))
-    (disk_passed b (g.H.Host.faults c.open_started.new.host) c.in_err-known.field-0.0 c.from_residual-in_err-known.result c.from_residual-in_err-known.ensures.1 c.in_err-known.ensures.cause)
-
 pub returns-clause-rests : goal.returns-clause-rests
-returns-clause-rests g c = c.open_started.ensures.rests
+returns-clause-rests g c = c.hear_report.ensures.rests
     ∙ turned_rests g.H.Host.tells (g.H.Host.view c.args.host.now) c.now.result (g.N.Hops.view c.args.hops.now) (g.N.Hops.view c.turn.new.hops) (next_polled c.args.agent.now) c.in_ok-report.field-0 c.args.agent.now c.turn.new.self c.in_ok-report.ensures.ok
 
 pub returns-clause-cause : goal.returns-clause-cause
 returns-clause-cause g c =
     let turned = c.in_ok-report.ensures.cause in
-    let replied = c.in_ok-engine.ensures.cause in
-    let opened = c.in_ok-known.ensures.cause in
-    record {
-      disk_later = omega (arith, turned.disk_later, replied.disk_later, opened.disk_later);
-      tell_later = omega (arith, turned.tell_later, replied.tell_later, opened.tell_later);
-      disk = λ is. absurd cc;
-      tell = λ is. absurd cc;
-    }
+    let heard = c.in_ok-next.ensures.cause in
+    ok_host (g.H.Host.faults c.args.host.now) (g.H.Host.faults c.hear_report.new.host) _
+    (omega (arith, turned.disk_later, heard.disk_later)) (omega (arith, turned.tell_later, heard.tell_later))
 
 pub returns-in_default-clause-rests : goal.returns-in_default-clause-rests
 returns-in_default-clause-rests g c =
@@ -232,13 +131,80 @@ returns-then-last_number-ge-DELIVERIES-clause-cause g c =
     let turned = c.in_ok-report.ensures.cause in
     ok_host (g.H.Host.faults c.args.host.now) (g.H.Host.faults c.turn.new.host) _ turned.disk_later turned.tell_later
 
-pub returns-in_err-engine-clause-rests : goal.returns-in_err-engine-clause-rests
-returns-in_err-engine-clause-rests g c =
-    turned_rests g.H.Host.tells (g.H.Host.view c.args.host.now) c.now.result (g.N.Hops.view c.args.hops.now) (g.N.Hops.view c.turn.new.hops) (next_polled c.args.agent.now) c.in_ok-report.field-0 c.args.agent.now c.turn.new.self c.in_ok-report.ensures.ok
+pub hear_report-requires-clause-fits : goal.hear_report-requires-clause-fits
+hear_report-requires-clause-fits g c =
+    let u = g.H.Host.view c.args.host.now in
+    let hops = g.N.Hops.view c.args.hops.now in
+    let next = g.N.Hops.view c.turn.new.hops in
+    let agent = c.args.agent.now in
+    let o = some_unpolled agent c.requires.over in
+    reply_fits g.H.Host.tells u c.now.result hops next agent c.turn.new.self o.0 c.in-Some.report o.1
+    (subst (λ (r : Option Report). Turned g.H.Host.tells u c.now.result hops next (next_polled agent) r agent c.turn.new.self) c.in-Some.is c.in_ok-report.ensures.ok)
 
-pub returns-in_err-engine-clause-cause : goal.returns-in_err-engine-clause-cause
-returns-in_err-engine-clause-cause g c =
+pub hear_report-requires-clause-stands : goal.hear_report-requires-clause-stands
+hear_report-requires-clause-stands g c t =
+    let (clock, m) = c.requires.serves t in
+    let u = g.H.Host.view c.args.host.now in
+    let v = g.H.Host.view c.turn.new.host in
+    let hops = g.N.Hops.view c.args.hops.now in
+    let next = g.N.Hops.view c.turn.new.hops in
+    let agent = c.args.agent.now in
+    let engine = c.args.served.engine in
+    let o = some_unpolled agent c.requires.over in
+    let lawful : TellsCrashes u = record { only = g.met.H.Host.only_now c.args.host.now; told = g.met.H.Host.told_stays c.args.host.now } in
+    let turned = subst (λ (r : Option Report). Turned g.H.Host.tells u c.now.result hops next (next_polled agent) r agent c.turn.new.self) c.in-Some.is c.in_ok-report.ensures.ok in
+    let e = ends_poll m.world m.ledger m.first clock u v hops next engine agent c.turn.new.self m.early m.flights m.story g.H.Host.tells c.now.result o.0 c.in-Some.report lawful (c.turn.ensures.stays t) o.1 t c.now.ensures.ledger turned m.serving in
+    (m.world, after_all m.world m.ledger (m.story).told, stands_still m.world m.ledger m.first clock u v hops next engine agent m.early m.flights m.story o.0 c.in-Some.report e)
+
+pub hear_report-requires-clause-polling : goal.hear_report-requires-clause-polling
+hear_report-requires-clause-polling g c =
+    let u = g.H.Host.view c.args.host.now in
+    let hops = g.N.Hops.view c.args.hops.now in
+    let next = g.N.Hops.view c.turn.new.hops in
+    let agent = c.args.agent.now in
+    let o = some_unpolled agent c.requires.over in
+    polls_less _ g.H.Host.tells u c.now.result hops next agent c.turn.new.self o.0 c.in-Some.report o.1
+    (subst (λ (r : Option Report). Turned g.H.Host.tells u c.now.result hops next (next_polled agent) r agent c.turn.new.self) c.in-Some.is c.in_ok-report.ensures.ok) c.requires.polling
+
+pub hear_report-requires-clause-opens : goal.hear_report-requires-clause-opens
+hear_report-requires-clause-opens g c t =
+    let (clock, m) = c.requires.serves t in
+    let u = g.H.Host.view c.args.host.now in
+    let v = g.H.Host.view c.turn.new.host in
+    let hops = g.N.Hops.view c.args.hops.now in
+    let next = g.N.Hops.view c.turn.new.hops in
+    let agent = c.args.agent.now in
+    let engine = c.args.served.engine in
+    let o = some_unpolled agent c.requires.over in
+    let lawful : TellsCrashes u = record { only = g.met.H.Host.only_now c.args.host.now; told = g.met.H.Host.told_stays c.args.host.now } in
+    let turned = subst (λ (r : Option Report). Turned g.H.Host.tells u c.now.result hops next (next_polled agent) r agent c.turn.new.self) c.in-Some.is c.in_ok-report.ensures.ok in
+    let made = (turned_over g.H.Host.tells u c.now.result hops next agent c.turn.new.self o.0 c.in-Some.report o.1 turned).1 in
+    let e = ends_poll m.world m.ledger m.first clock u v hops next engine agent c.turn.new.self m.early m.flights m.story g.H.Host.tells c.now.result o.0 c.in-Some.report lawful (c.turn.ensures.stays t) o.1 t c.now.ensures.ledger turned m.serving in
+    (clock, λ new x replies. may_open_more m.world m.ledger m.first clock u v hops next engine agent m.early m.flights m.story o.0 c.in-Some.report e x new c.turn.new.self made replies c.args.served.known m.known_is)
+
+pub returns-in_err-next-clause-err : goal.returns-in_err-next-clause-err
+returns-in_err-next-clause-err g c error is t w l a clock early fs s known turns h =
+    let u = g.H.Host.view c.args.host.now in
+    let v = g.H.Host.view c.turn.new.host in
+    let hops = g.N.Hops.view c.args.hops.now in
+    let next = g.N.Hops.view c.turn.new.hops in
+    let agent = c.args.agent.now in
+    let engine = c.args.served.engine in
+    let o = some_unpolled agent c.requires.over in
+    let lawful : TellsCrashes u = record { only = g.met.H.Host.only_now c.args.host.now; told = g.met.H.Host.told_stays c.args.host.now } in
+    let turned = subst (λ (r : Option Report). Turned g.H.Host.tells u c.now.result hops next (next_polled agent) r agent c.turn.new.self) c.in-Some.is c.in_ok-report.ensures.ok in
+    let made = (turned_over g.H.Host.tells u c.now.result hops next agent c.turn.new.self o.0 c.in-Some.report o.1 turned).1 in
+    let e = ends_poll w l a clock u v hops next engine agent c.turn.new.self early fs s g.H.Host.tells c.now.result o.0 c.in-Some.report lawful (c.turn.ensures.stays t) o.1 t c.now.ensures.ledger turned h in
+    report_fails w l a clock u v hops next engine agent early fs s o.0 c.in-Some.report e c.turn.new.self made (g.H.Host.view c.hear_report.new.host) (g.N.Hops.view c.hear_report.new.hops) c.args.served.known error known
+    (c.in_err-next.ensures.err error (same_error c.from_residual-in_err-next.result c.in_err-next.field-0.0 error c.from_residual-in_err-next.ensures.1 is) t)
+
+pub returns-in_err-next-clause-rests : goal.returns-in_err-next-clause-rests
+returns-in_err-next-clause-rests g c = c.hear_report.ensures.rests
+    ∙ turned_rests g.H.Host.tells (g.H.Host.view c.args.host.now) c.now.result (g.N.Hops.view c.args.hops.now) (g.N.Hops.view c.turn.new.hops) (next_polled c.args.agent.now) c.in_ok-report.field-0 c.args.agent.now c.turn.new.self c.in_ok-report.ensures.ok
+
+pub returns-in_err-next-clause-cause : goal.returns-in_err-next-clause-cause
+returns-in_err-next-clause-cause g c =
     let b = g.H.Host.faults c.turn.new.host in
     let turned = c.in_ok-report.ensures.cause in
-    cause_behind (g.H.Host.faults c.args.host.now) b (g.H.Host.faults c.tell_reply.new.host) c.from_residual-in_err-engine.result turned.disk_later turned.tell_later
-    (host_passed b (g.H.Host.faults c.tell_reply.new.host) c.in_err-engine.field-0.0 c.from_residual-in_err-engine.result c.from_residual-in_err-engine.ensures.1 c.in_err-engine.ensures.cause)
+    cause_behind (g.H.Host.faults c.args.host.now) b (g.H.Host.faults c.hear_report.new.host) c.from_residual-in_err-next.result turned.disk_later turned.tell_later
+    (host_passed b (g.H.Host.faults c.hear_report.new.host) c.in_err-next.field-0.0 c.from_residual-in_err-next.result c.from_residual-in_err-next.ensures.1 c.in_err-next.ensures.cause)
