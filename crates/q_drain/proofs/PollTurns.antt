@@ -323,21 +323,22 @@ module _ (w : World) (l : Ledger) (a : Outside) (clock : Option (List ℕ)) (u v
         }
 
   -- the reply was given up, or a session couldn't be opened behind it
-  pub report_fails : (mid : Sessions) (made : mid ≡ after_end o agent) (b : HostView) (after_hops : HopsView) (known : ℕ) (error : HostError) → length early ≡ known → GivesUpReport r engine error v b next after_hops mid known
-      → GivesUp w l a (record { clock = clock; hops = after_hops }) u b error s
-  report_fails mid made b after_hops known error is (inl (halts, same)) =
-      subst (λ (x : HopsView). GivesUp w l a (record { clock = clock; hops = x }) u b error s) (sym same) (reply_fails b error halts)
-  report_fails mid made b after_hops known error is (inr f) = opening_fails f.between f.next mid made f.replied b after_hops known error is f.fails
+  pub report_fails : {H : Type 0} (view : H → HostView) (before b : H) → view before ≡ v → (mid : Sessions) (made : mid ≡ after_end o agent) (after_hops : HopsView) (known : ℕ) (error : HostError) → length early ≡ known
+      → GivesUpReport view r engine error before b next after_hops mid known → GivesUp w l a (record { clock = clock; hops = after_hops }) u (view b) error s
+  report_fails view before b at mid made after_hops known error is (inl (halts, same)) =
+      subst (λ (x : HopsView). GivesUp w l a (record { clock = clock; hops = x }) u (view b) error s) (sym same) (reply_fails (view b) error (subst (λ (x : HostView). HaltsTurn (reply_event r) engine error x (view b)) at halts))
+  report_fails view before b at mid made after_hops known error is (inr f) =
+      opening_fails (view f.between) f.next mid made (subst (λ (x : HostView). Replies r engine f.next x (view f.between)) at f.replied) (view b) after_hops known error is f.fails
 
   as_busy : (next : Served) → next.busy ≡ true → record { engine = next.engine; known = next.known; busy = true } ≡ next
   as_busy n is = ap (λ (b : Bool). record { engine = n.engine; known = n.known; busy = b }) (sym is)
 
   -- it was told, and all were
-  pub served_by_report : (mid : Sessions) (made : mid ≡ after_end o agent) (b : HostView) (after_hops : HopsView) (sessions : Sessions) (known : ℕ) (served : Served) (busy : Bool) → length early ≡ known → Turns (idle busy) s → served.busy ≡ true
-      → HearsReport r engine served v b next after_hops mid sessions known → ServedOn w l a (record { clock = clock; hops = after_hops }) u b served sessions s
-  served_by_report mid made b after_hops sessions known served busy is turns own heard =
-      subst (λ (n : Served). ServedOn w l a (record { clock = clock; hops = after_hops }) u b n sessions s) (as_busy served own)
-      (served_replied heard.between served.engine mid made heard.replied b after_hops sessions known served.known busy is turns heard.opened)
+  pub served_by_report : {H : Type 0} (view : H → HostView) (before b : H) → view before ≡ v → (mid : Sessions) (made : mid ≡ after_end o agent) (after_hops : HopsView) (sessions : Sessions) (known : ℕ) (served : Served) (busy : Bool) → length early ≡ known
+      → Turns (idle busy) s → served.busy ≡ true → HearsReport view r engine served before b next after_hops mid sessions known → ServedOn w l a (record { clock = clock; hops = after_hops }) u (view b) served sessions s
+  served_by_report view before b at mid made after_hops sessions known served busy is turns own heard =
+      subst (λ (n : Served). ServedOn w l a (record { clock = clock; hops = after_hops }) u (view b) n sessions s) (as_busy served own)
+      (served_replied (view heard.between) served.engine mid made (subst (λ (x : HostView). Replies r engine served.engine x (view heard.between)) at heard.replied) (view b) after_hops sessions known served.known busy is turns heard.opened)
 
 -- ---- by the answer of the agent
 

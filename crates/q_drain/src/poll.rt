@@ -48,17 +48,16 @@ fn hear_report<L: Link, H: Host, N: Hops<Link = L>>(
     requires fits { fits_state report.site report.outcomes ≡ true }
     requires polling { IsPolling agent.old (known + 1) }
     requires stands { IsTrue H.tells → StandsForSome engine (H.view host.old) }
-    requires opens { IsTrue H.tells → (clock : Option (List ℕ)) × MayOpenBehind clock report engine
-        (H.view host.old) (N.view hops.old) agent.old known }
-    ensures ok { IfOk result (λ next. IsTrue H.tells → HearsReport report engine next
-        (H.view host.old) (H.view host.new) (N.view hops.old) (N.view hops.new) agent.old agent.new
-        known) }
+    requires opens { IsTrue H.tells → (clock : Option (List ℕ)) × MayOpenBehind H.view clock report
+        engine host.old (N.view hops.old) agent.old known }
+    ensures ok { IfOk result (λ next. IsTrue H.tells → HearsReport H.view report engine
+        next host.old host.new (N.view hops.old) (N.view hops.new) agent.old agent.new known) }
     ensures ready { IfOk result (λ next. IsReady next.engine) }
     ensures polling { IfOk result (λ next. IsPolling agent.new (next.known + 1)) }
     ensures busy { IfOk result (λ next. next.busy ≡ true) }
     ensures rests { (N.view hops.new).rests ≡ (N.view hops.old).rests }
-    ensures err { EachError result (λ error. IsTrue H.tells → GivesUpReport report engine error
-        (H.view host.old) (H.view host.new) (N.view hops.old) (N.view hops.new) agent.old known) }
+    ensures err { EachError result (λ error. IsTrue H.tells → GivesUpReport H.view report engine
+        error host.old host.new (N.view hops.old) (N.view hops.new) agent.old known) }
     ensures cause { HostCause (H.faults host.old) (H.faults host.new) result }
 {
     let engine = tell_reply(alloc, engine, host, report)?;

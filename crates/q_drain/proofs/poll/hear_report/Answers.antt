@@ -6,7 +6,7 @@ use Rattle.q_drain.proofs.poll.hear_report.Goals as goal
 pub open_started-requires-clause-stands : goal.open_started-requires-clause-stands
 open_started-requires-clause-stands g c t =
     let (clock, opens) = c.requires.opens t in
-    (clock, opens c.in_ok-engine.engine (g.H.Host.view c.tell_reply.new.host) (c.in_ok-engine.ensures.ok t))
+    (clock, opens c.in_ok-engine.engine c.tell_reply.new.host (c.in_ok-engine.ensures.ok t))
 
 pub returns-in_err-engine-clause-err : goal.returns-in_err-engine-clause-err
 returns-in_err-engine-clause-err g c error is t =
@@ -20,7 +20,7 @@ pub returns-in_err-known-clause-err : goal.returns-in_err-known-clause-err
 returns-in_err-known-clause-err g c error is t =
     inr (record {
       next = c.in_ok-engine.engine;
-      between = g.H.Host.view c.tell_reply.new.host;
+      between = c.tell_reply.new.host;
       replied = c.in_ok-engine.ensures.ok t;
       fails = c.in_err-known.ensures.err t;
     })
@@ -34,7 +34,7 @@ returns-in_err-known-clause-cause g c =
 
 pub returns-clause-ok : goal.returns-clause-ok
 returns-clause-ok g c t = record {
-  between = g.H.Host.view c.tell_reply.new.host;
+  between = c.tell_reply.new.host;
   replied = c.in_ok-engine.ensures.ok t;
   opened = c.in_ok-known.ensures.ok t;
 }

@@ -1,4 +1,4 @@
-use Rattle.std.proofs.Common.{◌≡◌, ◌≤◌, ◌∙◌, [], Option, arith, ap, rules, subst, sym}
+use Rattle.std.proofs.Common.{◌≡◌, ◌≤◌, ◌∙◌, [], Option, arith, ap, refl, rules, subst, sym}
 use Rattle.std.specs.List.{AllByRecursion}
 use Rattle.std.specs.Prelude.{◌^◌}
 use Rattle.q_agent.specs.Answers.{IsStanding, Turned}
@@ -75,7 +75,7 @@ returns-clause-ok g c t w l a clock early fs s known turns h =
     let turned = subst (λ (r : Option Report). Turned g.H.Host.tells u c.now.result hops next (next_polled agent) r agent c.turn.new.self) c.in-Some.is c.in_ok-report.ensures.ok in
     let made = (turned_over g.H.Host.tells u c.now.result hops next agent c.turn.new.self o.0 c.in-Some.report o.1 turned).1 in
     let e = ends_poll w l a clock u v hops next engine agent c.turn.new.self early fs s g.H.Host.tells c.now.result o.0 c.in-Some.report lawful (c.turn.ensures.stays t) o.1 t c.now.ensures.ledger turned h in
-    served_by_report w l a clock u v hops next engine agent early fs s o.0 c.in-Some.report e c.turn.new.self made (g.H.Host.view c.hear_report.new.host) (g.N.Hops.view c.hear_report.new.hops) c.hear_report.new.agent c.args.served.known c.in_ok-next.next c.args.served.busy known turns
+    served_by_report w l a clock u v hops next engine agent early fs s o.0 c.in-Some.report e g.H.Host.view c.turn.new.host c.hear_report.new.host refl c.turn.new.self made (g.N.Hops.view c.hear_report.new.hops) c.hear_report.new.agent c.args.served.known c.in_ok-next.next c.args.served.busy known turns
     c.in_ok-next.ensures.busy (c.in_ok-next.ensures.ok t)
 
 pub returns-clause-polling : goal.returns-clause-polling
@@ -180,7 +180,7 @@ hear_report-requires-clause-opens g c t =
     let turned = subst (λ (r : Option Report). Turned g.H.Host.tells u c.now.result hops next (next_polled agent) r agent c.turn.new.self) c.in-Some.is c.in_ok-report.ensures.ok in
     let made = (turned_over g.H.Host.tells u c.now.result hops next agent c.turn.new.self o.0 c.in-Some.report o.1 turned).1 in
     let e = ends_poll m.world m.ledger m.first clock u v hops next engine agent c.turn.new.self m.early m.flights m.story g.H.Host.tells c.now.result o.0 c.in-Some.report lawful (c.turn.ensures.stays t) o.1 t c.now.ensures.ledger turned m.serving in
-    (clock, λ new x replies. may_open_more m.world m.ledger m.first clock u v hops next engine agent m.early m.flights m.story o.0 c.in-Some.report e x new c.turn.new.self made replies c.args.served.known m.known_is)
+    (clock, λ new x replies. may_open_more m.world m.ledger m.first clock u v hops next engine agent m.early m.flights m.story o.0 c.in-Some.report e (g.H.Host.view x) new c.turn.new.self made replies c.args.served.known m.known_is)
 
 pub returns-in_err-next-clause-err : goal.returns-in_err-next-clause-err
 returns-in_err-next-clause-err g c error is t w l a clock early fs s known turns h =
@@ -195,7 +195,7 @@ returns-in_err-next-clause-err g c error is t w l a clock early fs s known turns
     let turned = subst (λ (r : Option Report). Turned g.H.Host.tells u c.now.result hops next (next_polled agent) r agent c.turn.new.self) c.in-Some.is c.in_ok-report.ensures.ok in
     let made = (turned_over g.H.Host.tells u c.now.result hops next agent c.turn.new.self o.0 c.in-Some.report o.1 turned).1 in
     let e = ends_poll w l a clock u v hops next engine agent c.turn.new.self early fs s g.H.Host.tells c.now.result o.0 c.in-Some.report lawful (c.turn.ensures.stays t) o.1 t c.now.ensures.ledger turned h in
-    report_fails w l a clock u v hops next engine agent early fs s o.0 c.in-Some.report e c.turn.new.self made (g.H.Host.view c.hear_report.new.host) (g.N.Hops.view c.hear_report.new.hops) c.args.served.known error known
+    report_fails w l a clock u v hops next engine agent early fs s o.0 c.in-Some.report e g.H.Host.view c.turn.new.host c.hear_report.new.host refl c.turn.new.self made (g.N.Hops.view c.hear_report.new.hops) c.args.served.known error known
     (c.in_err-next.ensures.err error (same_error c.from_residual-in_err-next.result c.in_err-next.field-0.0 error c.from_residual-in_err-next.ensures.1 is) t)
 
 pub returns-in_err-next-clause-rests : goal.returns-in_err-next-clause-rests
