@@ -17,7 +17,8 @@ const ENOUGH: u32 = 1_000;
 /// The core, and how many messages came and were admitted. Those between stand in incoming.
 #[derive(Debug, Drop)]
 pub(crate) struct Life {
-    core: Core,
+    /// In a box, so that no function but those of the core has to let its parts go.
+    core: Box<Core>,
     scenario: Scenario,
     mail: Mail,
     batch: Batch,
@@ -26,13 +27,18 @@ pub(crate) struct Life {
     decisions: u64,
 }
 
+/// A core with no message.
+fn empty_core(alloc: Global) -> Option<Box<Core>> {
+    let params = read_params(LIMITS).ok()?;
+    let core = Core::new(alloc, params, 1, Mode::Deliver).ok()?;
+    Box::new(alloc, core).ok()
+}
+
 impl Life {
     /// A life at the moment 1000, with nothing on disk.
     pub(crate) fn begin(alloc: Global, scenario: Scenario, mail: Mail) -> Option<Life> {
-        let params = read_params(LIMITS).ok()?;
-        let core = Core::new(alloc, params, 1, Mode::Deliver).ok()?;
         let mut life = Life {
-            core,
+            core: empty_core(alloc)?,
             scenario,
             mail,
             batch: Batch::new(alloc, mail.first).ok()?,

@@ -37,7 +37,8 @@ impl From<AllocError> for Stop {
 
 #[derive(Debug, Drop)]
 pub(crate) struct Driver {
-    pub(crate) core: Core,
+    /// In a box, so that no function but those of the core has to let its parts go.
+    pub(crate) core: Box<Core>,
     /// The text of the parameter file.
     settings: &'static str,
     pub(crate) mail: MailList,
@@ -56,11 +57,12 @@ const ALL: u32 = 100_000;
 pub(crate) const SENDER_DOMAIN: u32 = 0;
 
 /// The core of a life on an empty spool.
-fn first_core(alloc: Global, settings: &str) -> Result<Core, Stop> {
+fn first_core(alloc: Global, settings: &str) -> Result<Box<Core>, Stop> {
     let Ok(params) = read_params(settings.as_bytes()) else {
         return Err(Stop::Wrong);
     };
-    Ok(Core::new(alloc, params, 1, Mode::Deliver)?)
+    let core = Core::new(alloc, params, 1, Mode::Deliver)?;
+    Box::new(alloc, core).map_err(|_| Stop::NoMemory)
 }
 
 impl Driver {

@@ -58,11 +58,17 @@ fn message(serial: u32) -> Found {
     Found::Whole { id, due: 0, file }
 }
 
+/// A core at the beginning of a life, in a box: a test lets it go at each assertion.
+fn fresh_core(alloc: Global, transports: u8, mode: Mode) -> Option<Box<Core>> {
+    let core = Core::new(alloc, Params::defaults(), transports, mode).ok()?;
+    Box::new(alloc, core).ok()
+}
+
 #[test]
 fn a_fresh_core_only_looks(rt: HostRuntime) {
     let rows = [(1, Mode::Deliver, true), (20, Mode::Intake, false)];
     for (transports, mode, delivers) in rows {
-        let Ok(core) = Core::new(rt.alloc(), Params::defaults(), transports, mode) else {
+        let Some(core) = fresh_core(rt.alloc(), transports, mode) else {
             assert!(rt; false);
             return;
         };
@@ -116,7 +122,7 @@ fn finds(core: &mut Core, alloc: Global, found: Found) -> bool {
 #[test]
 fn looks_lead_to_an_admission(rt: HostRuntime) {
     let alloc = rt.alloc();
-    let Ok(mut core) = Core::new(alloc, Params::defaults(), 1, Mode::Deliver) else {
+    let Some(mut core) = fresh_core(alloc, 1, Mode::Deliver) else {
         assert!(rt; false);
         return;
     };
@@ -161,7 +167,7 @@ fn reads_no_record(core: &mut Core, serial: u32) -> bool {
 #[test]
 fn a_message_that_cannot_be_read_goes_to_corrupt(rt: HostRuntime) {
     let alloc = rt.alloc();
-    let Ok(mut core) = Core::new(alloc, Params::defaults(), 1, Mode::Deliver) else {
+    let Some(mut core) = fresh_core(alloc, 1, Mode::Deliver) else {
         assert!(rt; false);
         return;
     };
