@@ -82,7 +82,7 @@ pub returns-clause-polling : goal.returns-clause-polling
 returns-clause-polling g c = c.in_ok-next.ensures.polling
 
 pub returns-clause-some : goal.returns-clause-some
-returns-clause-some g c = busy_keeps c.args.served.busy _ _ _ c.in_ok-next.ensures.busy
+returns-clause-some g c = busy_keeps c.args.served.busy c.in_ok-next.next.busy c.args.agent.now c.hear_report.new.agent c.in_ok-next.ensures.busy
 
 pub returns-then-last_number-ge-DELIVERIES-clause-ok : goal.returns-then-last_number-ge-DELIVERIES-clause-ok
 returns-then-last_number-ge-DELIVERIES-clause-ok g c t w l a clock early fs s known turns h =
