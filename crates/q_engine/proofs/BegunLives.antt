@@ -86,7 +86,7 @@ module _ (params : Settings) (table : Contents) (mode : Mode) (b : Book) (genera
   told_first : DoesEntry (table_of table) (entries.Life generation mode) (begun b) (begun b) u x → DoesEntry (table_of table) (entries.Life (b.generation + 1) mode) (begun b) (begun b) u x
   told_first does = subst (λ (g : ℕ). DoesEntry (table_of table) (entries.Life g mode) (begun b) (begun b) u x) opens.is_next does
 
-  pub began : (engine : Engine) → IsNewEngine table generation engine → ForFirst params (length (table_of table).transports) mode (λ w book l. AgreesIfOrderly w engine.core book l)
+  pub began : (engine : Engine) → IsNewEngine table generation engine → ForFirst params (length (table_of table).transports) mode (λ w book l. AgreesIfOrderly w engine.core.value book l)
       → DoesEntry (table_of table) (entries.Life generation mode) (begun b) (begun b) u x → x.files ≡ u.files → BeganLife params table mode b engine v x
   began engine new core does same =
       let done = changed_does (table_of table) (entries.Life (b.generation + 1) mode) b (begun b) v u x opens.takes (told_first does) in

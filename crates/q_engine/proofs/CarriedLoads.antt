@@ -24,7 +24,7 @@ use Rattle.q_core.specs.declared.state.Core.{Core}
 use Rattle.q_places.specs.declared.places.Places.{Places}
 use Rattle.q_engine.specs.KeptPlaces.{ArePlaced}
 use Rattle.q_engine.specs.Loads.{sites_of}
-use Rattle.q_engine.specs.Stands.{HasAsked}
+use Rattle.q_engine.specs.Stands.{HasAsked, with_core}
 use Rattle.q_engine.specs.Steps.{WasCarriedOut, WasGivenUp}
 use Rattle.q_engine.specs.declared.engine.Engine.{Engine}
 use Rattle.q_engine.proofs.Counting.{counts_stay}
@@ -68,21 +68,21 @@ named_agrees w c l xs a = let m = a.matches in let h = m.parts in record {
 
 -- so many sites of the recipients that were read are named
 abbrev pub named_so_far : Engine → List Taken → ℕ → Engine
-named_so_far old taken i = record old { core = record old.core { named = old.core.named ++ sites_of old (take i taken) } }
+named_so_far old taken i = with_core (record old.core.value { named = old.core.value.named ++ sites_of old (take i taken) }) old
 
 pub named_next : (old so_far : Engine) (core : Core) (taken : List Taken) (i : ℕ) (t : Taken) (site : Site) → so_far ≡ named_so_far old taken i → slice_get taken i ≡ Some t → site ≡ (table_of so_far.table).route t.address
-    → core ≡ record so_far.core { named = so_far.core.named ++ site ∷ [] } → record so_far { core = core } ≡ named_so_far old taken (i + 1)
+    → core ≡ record so_far.core.value { named = so_far.core.value.named ++ site ∷ [] } → with_core core so_far ≡ named_so_far old taken (i + 1)
 named_next old so_far core taken i t site is here routed named =
     let route = (table_of old.table).route in
     let by_old : site ≡ route t.address = routed ∙ ap (λ (e : Engine). (table_of e.table).route t.address) is in
     let before = sites_of old (take i taken) in
-    let sites : (old.core.named ++ before) ++ site ∷ [] ≡ old.core.named ++ sites_of old (take (i + 1) taken) =
-    append_assoc old.core.named before (site ∷ [])
-    ∙ ap (λ (s : Site). old.core.named ++ (before ++ s ∷ [])) by_old
-    ∙ ap (λ (ss : List Site). old.core.named ++ ss) (sym (ap (map (λ (x : Taken). route x.address)) (next_taken taken i t here) ∙ map-append (λ (x : Taken). route x.address) (take i taken) (t ∷ []))) in
-    ap (λ (c : Core). record so_far { core = c }) named
-    ∙ ap (λ (e : Engine). record e { core = record e.core { named = e.core.named ++ site ∷ [] } }) is
-    ∙ ap (λ (ss : List Site). record old { core = record old.core { named = ss } }) sites
+    let sites : (old.core.value.named ++ before) ++ site ∷ [] ≡ old.core.value.named ++ sites_of old (take (i + 1) taken) =
+    append_assoc old.core.value.named before (site ∷ [])
+    ∙ ap (λ (s : Site). old.core.value.named ++ (before ++ s ∷ [])) by_old
+    ∙ ap (λ (ss : List Site). old.core.value.named ++ ss) (sym (ap (map (λ (x : Taken). route x.address)) (next_taken taken i t here) ∙ map-append (λ (x : Taken). route x.address) (take i taken) (t ∷ []))) in
+    ap (λ (c : Core). with_core c so_far) named
+    ∙ ap (λ (e : Engine). with_core (record e.core.value { named = e.core.value.named ++ site ∷ [] }) e) is
+    ∙ ap (λ (ss : List Site). with_core (record old.core.value { named = ss }) old) sites
 
 same_message : (b : Book) (id : Id) (m k : Message) → message_of b id ≡ Some m → message_of b id ≡ Some k → m ≡ k
 same_message b id m k e f = by (sym e ∙ f)
@@ -105,7 +105,7 @@ module _ (w : World) (l : Ledger) (id : Id) (from max : ℕ) (engine : Engine) (
 
   -- it was read, taken in and told
   pub loaded_told : (to : ℕ) (core : Core) (places : Places) (m x : View) → ArePlaced places l.book → next w l ≡ Some (entries.Load id from to) → Agrees w core (after w l (entries.Load id from to)) → Takes l.book l.book v m → DoesEntry lines (entries.Load id from to) l.book l.book m x
-      → KeepsNotes v x → WasCarriedOut w l (record engine { core = core; places = places }) v x
+      → KeepsNotes v x → WasCarriedOut w l (record (with_core core engine) { places = places }) v x
   loaded_told to core places m x placed following agrees takes does keeps =
       let e = entries.Load id from to in
       let all = changed_does lines e l.book l.book v m x takes does in
@@ -117,7 +117,7 @@ module _ (w : World) (l : Ledger) (id : Id) (from max : ℕ) (engine : Engine) (
         stands = record {
           table = h.stands.table;
           core = agrees;
-          counts = counts_stay w l e (record engine { core = core; places = places }) refl refl refl (record { begun = h.stands.counts.begun; generation = h.stands.counts.generation; arrivals = h.stands.counts.arrivals; preempts = h.stands.counts.preempts });
+          counts = counts_stay w l e (record (with_core core engine) { places = places }) refl refl refl (record { begun = h.stands.counts.begun; generation = h.stands.counts.generation; arrivals = h.stands.counts.arrivals; preempts = h.stands.counts.preempts });
           host = done.stands;
           logs = done.logs h.stands.logs;
           places = subst (ArePlaced places) (same_book to) placed;

@@ -34,7 +34,7 @@ use Rattle.q_model.specs.declared.rows.Request.{Request}
 use Rattle.q_model.specs.declared.rows.Request.TheVariants as requests
 use Rattle.q_model.specs.declared.rows.Scan.{Scan}
 use Rattle.q_core.specs.declared.state.Core.{Core}
-use Rattle.q_engine.specs.Stands.{HasCounts, is_preempt, preempts}
+use Rattle.q_engine.specs.Stands.{HasCounts, is_preempt, preempts, with_core}
 use Rattle.q_engine.specs.declared.engine.Engine.{Engine}
 
 -- the entries so far, and the generation
@@ -128,11 +128,11 @@ counts_preempt w l e engine more life arrive preempt is h = record {
 }
 
 -- the core isn't counted
-pub counts_core : (engine : Engine) (c : Core) (l : Ledger) → HasCounts engine l → HasCounts (record engine { core = c }) l
+pub counts_core : (engine : Engine) (c : Core) (l : Ledger) → HasCounts engine l → HasCounts (with_core c engine) l
 counts_core engine c l h = record { begun = h.begun; generation = h.generation; arrivals = h.arrivals; preempts = h.preempts }
 
 -- an arrival is counted
-pub counts_arrival : (w : World) (l : Ledger) (e : Entry) (engine : Engine) (c : Core) (more : ℕ) → is_life e ≡ false → is_arrive e ≡ true → is_preempt e ≡ false → more ≡ engine.arrivals + 1 → HasCounts engine l → HasCounts (record engine { core = c; arrivals = more }) (after w l e)
+pub counts_arrival : (w : World) (l : Ledger) (e : Entry) (engine : Engine) (c : Core) (more : ℕ) → is_life e ≡ false → is_arrive e ≡ true → is_preempt e ≡ false → more ≡ engine.arrivals + 1 → HasCounts engine l → HasCounts (record (with_core c engine) { arrivals = more }) (after w l e)
 counts_arrival w l e engine c more life arrive preempt is h = record {
   begun = h.begun;
   generation = h.generation ∙ sym (after_generation w l e life);

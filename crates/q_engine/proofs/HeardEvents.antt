@@ -35,7 +35,7 @@ module _ (w : World) (l : Ledger) (e : Entry) (engine : Engine) (v : View) (h : 
   lines = table_of engine.table
 
   -- it was done and told; the engine that is left has the core that heard it
-  pub done : (left : Engine) (k : Book) (x : View) → left.table ≡ engine.table → left.places ≡ engine.places → ((id : Id) → is_remove_of id e ≡ false) → Agrees w left.core (after w l e) → HasCounts left (after w l e) → k ≡ (change w l e).book → DoesEntry lines e l.book k v x → StoresNotes w l e v.files x.files → WasDone w l e left v x
+  pub done : (left : Engine) (k : Book) (x : View) → left.table ≡ engine.table → left.places ≡ engine.places → ((id : Id) → is_remove_of id e ≡ false) → Agrees w left.core.value (after w l e) → HasCounts left (after w l e) → k ≡ (change w l e).book → DoesEntry lines e l.book k v x → StoresNotes w l e v.files x.files → WasDone w l e left v x
   done left k x table places stays core counts is does stores =
       let there : k ≡ (after w l e).book = is ∙ sym (after_is w l e).book in
       let told = subst (λ (t : Table). DoesEntry t e l.book (after w l e).book v x) (sym h.table) (subst (λ (b : Book). DoesEntry lines e l.book b v x) there does) in

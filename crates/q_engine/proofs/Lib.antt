@@ -1,6 +1,7 @@
 pub mod Accepted
 pub mod Admissions
 pub mod BegunLives
+mod Boxed
 pub mod Bounced
 pub mod CarriedLoads
 pub mod CarriedOut

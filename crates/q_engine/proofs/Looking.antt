@@ -18,7 +18,7 @@ use Rattle.q_core.specs.Answers.{IsAnswer, IsFound}
 use Rattle.q_core.specs.declared.decision.Found.{Found}
 use Rattle.q_core.specs.declared.state.Question.{Question}
 use Rattle.q_engine.specs.Looks.{IsLookOf, IsShown}
-use Rattle.q_engine.specs.Stands.{EngineStands, HasAsked, HasDecided, IsNextEntry}
+use Rattle.q_engine.specs.Stands.{EngineStands, HasAsked, HasDecided, IsNextEntry, with_core}
 use Rattle.q_engine.specs.declared.engine.Engine.{Engine}
 
 some_same : (d x : Decision) → Some d ≡ Some x → d ≡ x
@@ -26,17 +26,28 @@ some_same d x h = cc
 
 module _ (w : World) (l : Ledger) (v : View) where
   -- there is no entry
-  pub next_none : (engine : Engine) (c : Core) → EngineStands w engine v l → IsDecided w l engine.core None c → IsNextEntry w l None (record engine { core = c }) v
+  pub next_none : (engine : Engine) (c : Core) → EngineStands w engine v l → IsDecided w l engine.core.value None c → IsNextEntry w l None (with_core c engine) v
   next_none engine c h decided = (decided.0, record { table = h.table; core = decided.1; counts = record { begun = h.counts.begun; generation = h.counts.generation; arrivals = h.counts.arrivals; preempts = h.counts.preempts }; host = h.host; logs = h.logs; places = h.places })
 
   -- all that is known of a decision that the core has taken over
   pub record Answers (engine : Engine) (o : Option Decision) (c : Core) : Type 0 where
     pub stands : EngineStands w engine v l
-    pub decided : IsDecided w l engine.core o c
+    pub decided : IsDecided w l engine.core.value o c
     pub placed : IsPlaced l o
     pub started : IsStartOf w l o c
-    pub skipped : NotesSkip engine.core o c
-    pub asked : AsksOnly engine.core o c
+    pub skipped : NotesSkip engine.core.value o c
+    pub asked : AsksOnly engine.core.value o c
+
+  -- the same of a core that is lent
+  pub answers_lent : (engine : Engine) (lent : Core) (o : Option Decision) (c : Core) → lent ≡ engine.core.value → EngineStands w engine v l → IsDecided w l lent o c → IsPlaced l o → IsStartOf w l o c → NotesSkip lent o c → AsksOnly lent o c → Answers engine o c
+  answers_lent engine lent o c same h decided placed started skipped asked = record {
+    stands = h;
+    decided = subst (λ (k : Core). IsDecided w l k o c) same decided;
+    placed = placed;
+    started = started;
+    skipped = subst (λ (k : Core). NotesSkip k o c) same skipped;
+    asked = subst (λ (k : Core). AsksOnly k o c) same asked;
+  }
 
   wants_none : (d : Decision) (rule : Option Entry) → is_asking d ≡ false → WantsRead w l d rule → ⊥
   wants_none (decisions.Read id from max) rule h r = absurd cc
@@ -51,21 +62,21 @@ module _ (w : World) (l : Ledger) (v : View) where
   looks_none c d h (inr (inr (scan, same, there, seen))) = asks_none c d (decisions.LookDeferred scan.place scan.until) same refl h
 
   -- it has an entry
-  plain : (engine : Engine) (d : Decision) (c : Core) → is_asking d ≡ false → Answers engine (Some d) c → (e : Entry) × HasDecided w l d e (record engine { core = c }) v
+  plain : (engine : Engine) (d : Decision) (c : Core) → is_asking d ≡ false → Answers engine (Some d) c → (e : Entry) × HasDecided w l d e (with_core c engine) v
   plain engine d c h a = elim a.decided [
-    | inl (e, of, is, agrees) ↦ (e, record { before = engine.core; table = a.stands.table; of = of; following = is; was = a.stands.core; core = agrees; placed = a.placed; started = a.started; skipped = a.skipped; counts = record { begun = a.stands.counts.begun; generation = a.stands.counts.generation; arrivals = a.stands.counts.arrivals; preempts = a.stands.counts.preempts }; host = a.stands.host; logs = a.stands.logs; places = a.stands.places })
-    | inr (asked, agrees) ↦ absurd (⊎_elim (λ r. wants_none d (next w l) h r) (λ k. looks_none engine.core d h k) asked)
+    | inl (e, of, is, agrees) ↦ (e, record { before = engine.core.value; table = a.stands.table; of = of; following = is; was = a.stands.core; core = agrees; placed = a.placed; started = a.started; skipped = a.skipped; counts = record { begun = a.stands.counts.begun; generation = a.stands.counts.generation; arrivals = a.stands.counts.arrivals; preempts = a.stands.counts.preempts }; host = a.stands.host; logs = a.stands.logs; places = a.stands.places })
+    | inr (asked, agrees) ↦ absurd (⊎_elim (λ r. wants_none d (next w l) h r) (λ k. looks_none engine.core.value d h k) asked)
   ]
 
   -- what becomes of engine and host while the core asks
-  asking : (engine : Engine) (c : Core) → EngineStands w engine v l → Agrees w c l → EngineStands w (record engine { core = c }) v l
+  asking : (engine : Engine) (c : Core) → EngineStands w engine v l → Agrees w c l → EngineStands w (with_core c engine) v l
   asking engine c h agrees = record { table = h.table; core = agrees; counts = record { begun = h.counts.begun; generation = h.counts.generation; arrivals = h.counts.arrivals; preempts = h.counts.preempts }; host = h.host; logs = h.logs; places = h.places }
 
-  reads : (engine : Engine) (id : Id) (from max : ℕ) (c : Core) → Answers engine (Some (decisions.Read id from max)) c → HasAsked w l id from max (record engine { core = c }) v
+  reads : (engine : Engine) (id : Id) (from max : ℕ) (c : Core) → Answers engine (Some (decisions.Read id from max)) c → HasAsked w l id from max (with_core c engine) v
   reads engine id from max c a = elim a.decided [
     | inl (e, of, is, agrees) ↦ absurd of
     | inr (inl (m, there, room, is), agrees) ↦ record { message = m; there = there; room = room; following = is; stands = asking engine c a.stands agrees }
-    | inr (inr k, agrees) ↦ absurd (no_look id from max engine.core k)
+    | inr (inr k, agrees) ↦ absurd (no_look id from max engine.core.value k)
   ]
     where
       no_look : (id : Id) (from max : ℕ) (c : Core) → IsLooking c (Some (decisions.Read id from max)) → ⊥
@@ -73,7 +84,7 @@ module _ (w : World) (l : Ledger) (v : View) where
       no_look id from max c (inr (inl (same, seen))) = absurd cc
       no_look id from max c (inr (inr (scan, same, there, seen))) = absurd cc
 
-  pub next_found : (engine : Engine) (d : Decision) (c : Core) → Answers engine (Some d) c → is_look (question_of d) ≡ false → IsNextEntry w l (Some d) (record engine { core = c }) v
+  pub next_found : (engine : Engine) (d : Decision) (c : Core) → Answers engine (Some d) c → is_look (question_of d) ≡ false → IsNextEntry w l (Some d) (with_core c engine) v
   next_found engine (decisions.Read id from max) c a h = reads engine id from max c a
   next_found engine decisions.LookActive c a h = absurd cc
   next_found engine decisions.LookIncoming c a h = absurd cc
@@ -97,11 +108,11 @@ module _ (w : World) (l : Ledger) (v : View) where
   look_of old new d (inr (inr (scan, same, there, seen))) keeps = subst (IsLookOf new) (sym (some_same d (decisions.LookDeferred scan.place scan.until) same)) (keeps ∙ there)
 
   -- it asked for a look
-  pub look_found : (engine : Engine) (d : Decision) (c : Core) → Answers engine (Some d) c → is_look (question_of d) ≡ true → IsLookOf c d × EngineStands w (record engine { core = c }) v l
+  pub look_found : (engine : Engine) (d : Decision) (c : Core) → Answers engine (Some d) c → is_look (question_of d) ≡ true → IsLookOf c d × EngineStands w (with_core c engine) v l
   look_found engine d c a h = elim a.decided [
-    | inl (e, of, is, agrees) ↦ absurd (looks_not engine.core d e h of)
+    | inl (e, of, is, agrees) ↦ absurd (looks_not engine.core.value d e h of)
     | inr (inl r, agrees) ↦ absurd (wants_not d (next w l) h r)
-    | inr (inr k, agrees) ↦ (look_of engine.core c d k (ap (λ (x : Core). x.scan) (a.asked (look_asks d h))), asking engine c a.stands agrees)
+    | inr (inr k, agrees) ↦ (look_of engine.core.value c d k (ap (λ (x : Core). x.scan) (a.asked (look_asks d h))), asking engine c a.stands agrees)
   ]
     where
       looks_not : (c : Core) (d : Decision) (e : Entry) → is_look (question_of d) ≡ true → IsOf c d e → ⊥

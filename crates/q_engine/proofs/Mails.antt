@@ -61,7 +61,7 @@ module _ (w : World) (l : Ledger) (engine : Engine) (v : View) (h : EngineStands
   mail_next = ap (λ (g : ℕ). record { generation = g; serial = engine.arrivals + 1; bounce = false }) h.counts.generation ∙ ap (λ (n : ℕ). record { generation = l.book.generation; serial = n + 1; bounce = false }) h.counts.arrivals
 
   module _ (sender : Option (List ℕ)) (to : List (List ℕ)) (content : List ℕ) where
-    pub mail_allowed : engine.core.timed ≡ true → allowed w l (entries.Arrive mail_id sender to content) ≡ true
+    pub mail_allowed : engine.core.value.timed ≡ true → allowed w l (entries.Arrive mail_id sender to content) ≡ true
     mail_allowed timed = allowed_by w l (entries.Arrive mail_id sender to content) h.core.living
         (and_from l.timed (id_eq mail_id (next_id l)) (sym h.core.matches.parts.timed ∙ timed) (subst (λ (i : Id). id_eq mail_id i ≡ true) mail_next (id_eq-refl mail_id)))
 

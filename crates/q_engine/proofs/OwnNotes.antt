@@ -61,7 +61,7 @@ module _ (w : World) (l : Ledger) (id : Id) (site : Site) (ps : List ℕ) (d : D
       let row = any_in (is_row id site ps) l.waiting (and_parts (list_any (is_row id site ps) l.waiting) (is_dead_site l site) may).0 in
       subst (λ (i : Id). is_admitted l i ≡ true) (this_row id site ps row.0 row.2).name (all_at (λ (r : Row). is_admitted l r.id) row.0 l.waiting h.was.consistent.memory.waiting row.1)
 
-  pub skip_stored : AddsDelays engine.core id ps (row_outcomes ps) v.files m.files → KeepsOtherNotes (id_text id) v m → x.files ≡ m.files → StoresNotes w l (entries.Skip id site ps) v.files x.files
+  pub skip_stored : AddsDelays engine.core.value id ps (row_outcomes ps) v.files m.files → KeepsOtherNotes (id_text id) v m → x.files ≡ m.files → StoresNotes w l (entries.Skip id site ps) v.files x.files
   skip_stored adds others same =
       let e = entries.Skip id site ps in
       let k = after w l e in

@@ -21,7 +21,7 @@ some_same x y h = cc
 
 -- the positions that the core tells of a delivery
 abbrev pub TellsPositions : Engine → ℕ → List ℕ → Type 0
-TellsPositions engine number positions = (w : World) → (l : Ledger) → Agrees w engine.core l
+TellsPositions engine number positions = (w : World) → (l : Ledger) → Agrees w engine.core.value l
     → Some positions ≡ option_map (λ (f : Delivery). f.row.positions) (flight_of l number)
 
 pub start_decided : (w : World) (l : Ledger) (number : ℕ) (id : Id) (site : Site) (engine : Engine) (v : View) (positions : List ℕ) → TellsPositions engine number positions → IsNextEntry w l (Some (decisions.Start number id site)) engine v

@@ -22,6 +22,6 @@ sites_of engine taken = map (λ t. (table_of engine.table).route t.address) take
 -- it.
 abbrev pub AnswersRead : World → Ledger → Engine → List Taken → ℕ → Core → Type 0
 AnswersRead w l engine taken to core = (id : Id) → (from max : ℕ)
-    → engine.core.question ≡ Recipients id from max → next w l ≡ Some (entries.Load id from to)
+    → engine.core.value.question ≡ Recipients id from max → next w l ≡ Some (entries.Load id from to)
     → ReadsAre w l (sites_of engine taken) id from to taken
     → Agrees w core (after w l (entries.Load id from to))

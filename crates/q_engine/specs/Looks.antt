@@ -27,7 +27,7 @@ IsLookOf c _ = ⊥
 
 -- the look was answered
 abbrev pub AnswersLook : Decision → Engine → Engine → View → View → Type 0
-AnswersLook d old new v x = ForStands old v (λ w l. IsLookOf old.core d
+AnswersLook d old new v x = ForStands old v (λ w l. IsLookOf old.core.value d
     → EngineStands w new x l × Takes l.book l.book v x)
 
 -- it was given up

@@ -66,7 +66,7 @@ refused_event l event = if is_early l.timed event then Some errors.Untimed
 
 -- for each ledger with which the engine agrees
 abbrev pub ForAgreed : Engine → (World → Ledger → Type 0) → Type 0
-ForAgreed engine says = (w : World) → (l : Ledger) → Agrees w engine.core l → HasCounts engine l → says w l
+ForAgreed engine says = (w : World) → (l : Ledger) → Agrees w engine.core.value l → HasCounts engine l → says w l
 
 -- a message has a serial left
 abbrev pub HasSerial : Engine → Event → Type 0
@@ -79,9 +79,9 @@ HasSerial engine (events.Trigger kind) = Unit {0}
 abbrev pub IsAdmissible : Engine → Event → Type 0
 IsAdmissible engine (events.At t) = Unit {0}
 IsAdmissible engine (events.Mail sender to content) =
-    (engine.core.timed ≡ true) × (engine.arrivals < 2 ^ 32 - 1)
-IsAdmissible engine (events.Reply number state os) = engine.core.timed ≡ true
-IsAdmissible engine (events.Trigger kind) = engine.core.timed ≡ true
+    (engine.core.value.timed ≡ true) × (engine.arrivals < 2 ^ 32 - 1)
+IsAdmissible engine (events.Reply number state os) = engine.core.value.timed ≡ true
+IsAdmissible engine (events.Trigger kind) = engine.core.value.timed ≡ true
 
 -- the refusal is one of an event, and not of the host
 abbrev pub is_of_event : EngineError → Bool

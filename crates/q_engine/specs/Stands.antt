@@ -25,6 +25,10 @@ use Rattle.q_core.specs.declared.state.Core.{Core}
 use Rattle.q_engine.specs.KeptPlaces.{ArePlaced}
 use Rattle.q_engine.specs.declared.engine.Engine.{Engine}
 
+-- with another core
+abbrev pub with_core : Core → Engine → Engine
+with_core c e = record e { core = record e.core { value = c } }
+
 -- a job goes before another
 abbrev pub is_preempt : Entry → Bool
 is_preempt (entries.Preempt child parent transport need) = true
@@ -44,7 +48,7 @@ pub record HasCounts (engine : Engine) (l : Ledger) : Type 0 where
 -- The core agrees with the ledger, and the host stands for its book.
 pub record EngineStands (w : World) (engine : Engine) (v : View) (l : Ledger) : Type 0 where
   pub table : w.table ≡ table_of engine.table
-  pub core : Agrees w engine.core l
+  pub core : Agrees w engine.core.value l
   pub counts : HasCounts engine l
   pub host : HostStands v l.book
   pub logs : OwnLogs v.files l.book
@@ -58,10 +62,10 @@ pub record HasDecided (w : World) (l : Ledger) (d : Decision) (e : Entry) (engin
   pub of : IsOf before d e
   pub following : next w l ≡ Some e
   pub was : Agrees w before l
-  pub core : Agrees w engine.core (after w l e)
+  pub core : Agrees w engine.core.value (after w l e)
   pub placed : IsPlaced l (Some d)
-  pub started : IsStartOf w l (Some d) engine.core
-  pub skipped : NotesSkip before (Some d) engine.core
+  pub started : IsStartOf w l (Some d) engine.core.value
+  pub skipped : NotesSkip before (Some d) engine.core.value
   pub counts : HasCounts engine l
   pub host : HostStands v l.book
   pub logs : OwnLogs v.files l.book
@@ -84,5 +88,5 @@ IsNextEntry w l (Some d) engine v = (e : Entry) × HasDecided w l d e engine v
 
 -- no look and no read waits for its answer, and no scan for its next name
 pub record IsReady (engine : Engine) : Type 0 where
-  pub answered : is_answered engine.core.question ≡ true
-  pub looked : is_looked_at engine.core ≡ true
+  pub answered : is_answered engine.core.value.question ≡ true
+  pub looked : is_looked_at engine.core.value ≡ true

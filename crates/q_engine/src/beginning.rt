@@ -1,7 +1,9 @@
 //! The beginning of a life on a spool.
-ghost use Rattle.std.specs.Prelude.{◌≡◌, ◌<◌, ◌-◌, ◌^◌, ◌||◌, IfOk, IsErrOf, false, IsTrue, length, List, None, ℕ, true};
+ghost use Rattle.std.specs.Prelude.{◌≡◌, ◌<◌, ◌-◌, ◌^◌, ◌||◌, IfOk, IfSome, IsErrOf, false, IsTrue, length, List, None, ℕ, true};
 ghost use Rattle.q_books.specs.HostStands.{HostStands};
 ghost use Rattle.q_core.specs.Agrees.{AgreesIfOrderly, ForFirst};
+ghost use Rattle.q_core.specs.Changes.{is_looked_at};
+ghost use Rattle.q_core.specs.Deciding.{is_answered};
 ghost use Rattle.q_engine.specs.Beginnings.{BeginsLife, is_of_spool, opening_refusal, StopsBeginning};
 ghost use Rattle.q_engine.specs.Refusals.{EngineCause, is_of_host, refusal_of};
 ghost use Rattle.q_engine.specs.Stands.{IsReady};
@@ -50,6 +52,23 @@ fn opening_refusal(error: OpenError) -> EngineError
     }
 }
 
+/// The core of a life that begins, in a box. Nothing comes where memory is wanting.
+fn first_core(alloc: Global, params: Params, transports: u8, mode: Mode) -> Option<Box<Core>>
+    requires { IsInRange params }
+    ensures orderly { IfSome result (λ core. ForFirst params transports mode
+        (λ w book l. AgreesIfOrderly w core.value book l)) }
+    ensures answered { IfSome result (λ core. is_answered core.value.question ≡ true) }
+    ensures looked { IfSome result (λ core. is_looked_at core.value ≡ true) }
+{
+    let Ok(core) = Core::new(alloc, params, transports, mode) else {
+        return None;
+    };
+    match Box::new(alloc, core) {
+        Ok(core) => Some(core),
+        Err(_) => None,
+    }
+}
+
 /// Tells the first line of a life on a spool that was opened.
 fn tell_life<H: Host>(
     alloc: Global,
@@ -64,7 +83,7 @@ fn tell_life<H: Host>(
         → DoesEntry (table_of table) (entries.Life generation mode) b b
         (H.view host.old) (H.view host.new)) }
     ensures core { IfOk result (λ engine. ForFirst params (length (table_of table).transports) mode
-        (λ w book l. AgreesIfOrderly w engine.core book l)) }
+        (λ w book l. AgreesIfOrderly w engine.core.value book l)) }
     ensures made { IfOk result (λ engine. engine ≡ record {
       core = engine.core;
       table = table;
@@ -84,7 +103,7 @@ fn tell_life<H: Host>(
     ensures files { IsTrue H.tells → (H.view host.new).files ≡ (H.view host.old).files }
     ensures cause { EngineCause (H.faults host.old) (H.faults host.new) result }
 {
-    let Ok(core) = Core::new(alloc, params, table.transports(), mode) else {
+    let Some(core) = first_core(alloc, params, table.transports(), mode) else {
         return Err(EngineError::NoMemory);
     };
     let engine = Engine {

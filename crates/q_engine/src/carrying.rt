@@ -48,14 +48,14 @@ impl Engine {
         decision: &Decision,
     ) -> Result<(), HostError>
         requires decided { IsTrue H.tells → HasNext decision.now self.old (H.view host.old) }
-        requires question { self.old.core.question ≡ question_of decision.now }
+        requires question { self.old.core.value.question ≡ question_of decision.now }
         requires no_look { is_look (question_of decision.now) ≡ false }
         requires reads { is_reading (question_of decision.now) ≡ true
-            → (is_looked_at self.old.core ≡ true) × (self.old.core.named ≡ []) }
+            → (is_looked_at self.old.core.value ≡ true) × (self.old.core.value.named ≡ []) }
         requires forgotten { IsForgotten decision.now self.old }
         ensures ok { OnOk result (Told H.tells H.view host.old host.new
             (CarriesOut decision.now self.old self.new)) }
-        ensures answered { OnOk result (is_answered self.new.core.question ≡ true) }
+        ensures answered { OnOk result (is_answered self.new.core.value.question ≡ true) }
         ensures err { EachError result (λ error. Told H.tells H.view host.old host.new
             (GivesDecisionUp decision.now self.old error)) }
         ensures cause { HostCause (H.faults host.old) (H.faults host.new) result }
@@ -94,13 +94,13 @@ impl Engine {
         decision: &Decision,
     ) -> Result<(), HostError>
         requires decided { IsTrue H.tells → HasNext decision.now self.old (H.view host.old) }
-        requires question { self.old.core.question ≡ question_of decision.now }
+        requires question { self.old.core.value.question ≡ question_of decision.now }
         requires no_look { is_look (question_of decision.now) ≡ false }
         requires reads { is_reading (question_of decision.now) ≡ true
-            → (is_looked_at self.old.core ≡ true) × (self.old.core.named ≡ []) }
+            → (is_looked_at self.old.core.value ≡ true) × (self.old.core.value.named ≡ []) }
         ensures ok { OnOk result (Told H.tells H.view host.old host.new
             (CarriesOut decision.now self.old self.new)) }
-        ensures answered { OnOk result (is_answered self.new.core.question ≡ true) }
+        ensures answered { OnOk result (is_answered self.new.core.value.question ≡ true) }
         ensures err { EachError result (λ error. Told H.tells H.view host.old host.new
             (GivesDecisionUp decision.now self.old error)) }
         ensures cause { HostCause (H.faults host.old) (H.faults host.new) result }

@@ -22,7 +22,7 @@ impl Engine {
         alloc: Global,
         host: &mut H,
     ) -> Result<(), HostError>
-        requires answered { is_answered self.old.core.question ≡ true }
+        requires answered { is_answered self.old.core.value.question ≡ true }
         requires stands { IsTrue H.tells → StandsForSome self.old (H.view host.old) }
         ensures ok { OnOk result (Told H.tells H.view host.old host.new
             (DecidesAll self.old self.new)) }
@@ -43,7 +43,7 @@ impl Engine {
     /// Where a moment came in this life, no scan waits for its next name once nothing is to be
     /// decided.
     fn come_to_rest(&self) -> Result<(), HostError>
-        ensures timed { OnOk result (self.now.core.timed ≡ true) }
+        ensures timed { OnOk result (self.now.core.value.timed ≡ true) }
         ensures only_memory { (error : Refusal) → IsErrOf result error → error ≡ HostError.NoMemory }
     {
         if self.core.is_timed() {

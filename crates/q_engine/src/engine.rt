@@ -7,7 +7,9 @@ use q_transport::Table;
 /// and no content.
 #[derive(Drop)]
 pub struct Engine {
-    pub(crate) core: Core,
+    /// In a box, so that who holds an engine neither moves the core's parts nor lets them go one by
+    /// one.
+    pub(crate) core: Box<Core>,
     pub(crate) table: Table,
     /// The generation of this life.
     pub(crate) generation: u32,

@@ -33,7 +33,7 @@ impl Engine {
         requires form { moment ≤ 999990000000 }
         ensures ok { OnOk result (Told H.tells H.view host.old host.new
             (HearsEvent (events.At moment) self.old self.new)) }
-        ensures answered { OnOk result (is_answered self.new.core.question ≡ true) }
+        ensures answered { OnOk result (is_answered self.new.core.value.question ≡ true) }
         ensures err { EachError result (λ error. Told H.tells H.view host.old host.new
             (StopsHearing (events.At moment) self.old error)) }
         ensures cause { HostCause (H.faults host.old) (H.faults host.new) result }
@@ -51,10 +51,10 @@ impl Engine {
         kind: Trigger,
     ) -> Result<(), HostError>
         requires ready { IsReady self.old }
-        requires timed { self.old.core.timed ≡ true }
+        requires timed { self.old.core.value.timed ≡ true }
         ensures ok { OnOk result (Told H.tells H.view host.old host.new
             (HearsEvent (events.Trigger kind) self.old self.new)) }
-        ensures answered { OnOk result (is_answered self.new.core.question ≡ true) }
+        ensures answered { OnOk result (is_answered self.new.core.value.question ≡ true) }
         ensures err { EachError result (λ error. Told H.tells H.view host.old host.new
             (StopsHearing (events.Trigger kind) self.old error)) }
         ensures cause { HostCause (H.faults host.old) (H.faults host.new) result }

@@ -88,7 +88,7 @@ impl Engine {
 
     /// Whether the event is none of the first of a life, and no moment came.
     fn is_early(&self, event: &Event) -> bool
-        ensures { result ≡ is_early self.now.core.timed event.now }
+        ensures { result ≡ is_early self.now.core.value.timed event.now }
     {
         if is_moment(event) {
             return false;

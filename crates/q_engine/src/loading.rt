@@ -4,6 +4,7 @@ ghost use Rattle.q_core.specs.Agrees.{ForLedgers};
 ghost use Rattle.q_core.specs.Changes.{is_looked_at};
 ghost use Rattle.q_core.specs.Deciding.{is_answered, is_reading, question_of};
 ghost use Rattle.q_core.specs.declared.decision.Decision.TheVariants as decisions;
+ghost use Rattle.q_engine.specs.Stands.{with_core};
 ghost use Rattle.q_engine.specs.Loads.{AnswersRead, sites_of};
 ghost use Rattle.q_engine.specs.Steps.{CarriesOut, EachError, GivesDecisionUp, HasNext};
 ghost use Rattle.q_entries.specs.Causes.{HostCause};
@@ -23,7 +24,9 @@ impl Engine {
     fn name_sites(&mut self, taken: &Batch) -> Result<(), NoMemory>
         ensures ok { OnOk result (self.new ≡ record self.old {
           core = record self.old.core {
-            named = self.old.core.named ++ sites_of self.old taken.now.items;
+            value = record self.old.core.value {
+              named = self.old.core.value.named ++ sites_of self.old taken.now.items;
+            };
           };
         }) }
     {
@@ -41,13 +44,13 @@ impl Engine {
 
     /// Takes in recipients whose sites were named, and answers the read.
     fn take_in(&mut self, alloc: Global, taken: &Batch, next: Cursor) -> Result<(), NoMemory>
-        requires reading { is_reading self.old.core.question ≡ true }
-        requires looked { is_looked_at self.old.core ≡ true }
-        requires named { self.old.core.named ≡ [] }
-        ensures ok { OnOk result (ForLedgers self.old.core (λ w l.
-            AnswersRead w l self.old taken.now.items next.position self.new.core)) }
-        ensures rest { OnOk result (self.new ≡ record self.old { core = self.new.core }) }
-        ensures answered { OnOk result (is_answered self.new.core.question ≡ true) }
+        requires reading { is_reading self.old.core.value.question ≡ true }
+        requires looked { is_looked_at self.old.core.value ≡ true }
+        requires named { self.old.core.value.named ≡ [] }
+        ensures ok { OnOk result (ForLedgers self.old.core.value (λ w l.
+            AnswersRead w l self.old taken.now.items next.position self.new.core.value)) }
+        ensures rest { OnOk result (self.new ≡ with_core self.new.core.value self.old) }
+        ensures answered { OnOk result (is_answered self.new.core.value.question ≡ true) }
     {
         self.name_sites(taken)?;
         // Each has its site, so that this never comes.
@@ -69,11 +72,11 @@ impl Engine {
     ) -> Result<(), HostError>
         requires decided { IsTrue H.tells
             → HasNext (decisions.Read id from max) self.old (H.view host.old) }
-        requires question { self.old.core.question ≡ question_of (decisions.Read id from max) }
-        requires reads { (is_looked_at self.old.core ≡ true) × (self.old.core.named ≡ []) }
+        requires question { self.old.core.value.question ≡ question_of (decisions.Read id from max) }
+        requires reads { (is_looked_at self.old.core.value ≡ true) × (self.old.core.value.named ≡ []) }
         ensures ok { OnOk result (Told H.tells H.view host.old host.new
             (CarriesOut (decisions.Read id from max) self.old self.new)) }
-        ensures answered { OnOk result (is_answered self.new.core.question ≡ true) }
+        ensures answered { OnOk result (is_answered self.new.core.value.question ≡ true) }
         ensures err { EachError result (λ error. Told H.tells H.view host.old host.new
             (GivesDecisionUp (decisions.Read id from max) self.old error)) }
         ensures cause { HostCause (H.faults host.old) (H.faults host.new) result }

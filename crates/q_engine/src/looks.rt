@@ -50,11 +50,11 @@ impl Engine {
         host: &mut H,
         decision: &Decision,
     ) -> Result<(), HostError>
-        requires look { is_look self.old.core.question ≡ true }
-        requires asked { self.old.core.question ≡ question_of decision.now }
+        requires look { is_look self.old.core.value.question ≡ true }
+        requires asked { self.old.core.value.question ≡ question_of decision.now }
         ensures ok { OnOk result (Told H.tells H.view host.old host.new
             (AnswersLook decision.now self.old self.new)) }
-        ensures answered { OnOk result (is_answered self.new.core.question ≡ true) }
+        ensures answered { OnOk result (is_answered self.new.core.value.question ≡ true) }
         ensures err { OnErr result (Told H.tells H.view host.old host.new (StaysAtBook self.old)) }
         ensures notes { IsTrue H.tells → KeepsNotes (H.view host.old) (H.view host.new) }
         ensures rest { self.new ≡ record self.old { core = self.new.core } }
@@ -71,16 +71,16 @@ impl Engine {
         alloc: Global,
         host: &mut H,
     ) -> Result<Option<Decision>, HostError>
-        requires { is_answered self.old.core.question ≡ true }
+        requires { is_answered self.old.core.value.question ≡ true }
         ensures ok { IfOk result (λ d. Told H.tells H.view host.old host.new
             (FindsNext d self.old self.new)) }
         ensures err { OnErr result (Told H.tells H.view host.old host.new (StaysAtBook self.old)) }
-        ensures question { IfOk result (λ d. self.new.core.question ≡ question_for d) }
+        ensures question { IfOk result (λ d. self.new.core.value.question ≡ question_for d) }
         ensures no_look { IfOk result (λ d. is_look (question_for d) ≡ false) }
         ensures reads { IfOk result (λ d. is_reading (question_for d) ≡ true
-            → (is_looked_at self.new.core ≡ true) × (self.new.core.named ≡ [])) }
-        ensures quiet { IfOk result (λ d. d ≡ None → self.new.core.timed ≡ true
-            → is_looked_at self.new.core ≡ true) }
+            → (is_looked_at self.new.core.value ≡ true) × (self.new.core.value.named ≡ [])) }
+        ensures quiet { IfOk result (λ d. d ≡ None → self.new.core.value.timed ≡ true
+            → is_looked_at self.new.core.value ≡ true) }
         ensures notes { IsTrue H.tells → KeepsNotes (H.view host.old) (H.view host.new) }
         ensures rest { self.new ≡ record self.old { core = self.new.core } }
         ensures cause { DiskCause (H.faults host.old) (H.faults host.new) result }

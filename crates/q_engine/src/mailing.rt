@@ -65,12 +65,12 @@ impl Engine {
         content: Bytes,
     ) -> Result<(), HostError>
         requires ready { IsReady self.old }
-        requires timed { self.old.core.timed ≡ true }
+        requires timed { self.old.core.value.timed ≡ true }
         requires some { 1 ≤ length to }
         requires serial { self.old.arrivals < 2 ^ 32 - 1 }
         ensures ok { OnOk result (Told H.tells H.view host.old host.new
             (HearsEvent (events.Mail sender to content) self.old self.new)) }
-        ensures answered { OnOk result (is_answered self.new.core.question ≡ true) }
+        ensures answered { OnOk result (is_answered self.new.core.value.question ≡ true) }
         ensures err { EachError result (λ error. Told H.tells H.view host.old host.new
             (StopsHearing (events.Mail sender to content) self.old error)) }
         ensures cause { HostCause (H.faults host.old) (H.faults host.new) result }

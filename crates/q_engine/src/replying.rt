@@ -40,7 +40,7 @@ impl Engine {
         requires codes { list_all has_log_code outcomes.now ≡ true }
         // Where there is an outcome for each position.
         ensures noted { OnOk result (IsTrue H.tells → length positions.now ≡ length outcomes.now
-            → AddsDelays self.now.core id positions.now outcomes.now
+            → AddsDelays self.now.core.value id positions.now outcomes.now
             (H.view host.old).files (H.view host.new).files) }
         ensures others { IsTrue H.tells
             → KeepsOtherNotes (id_text id) (H.view host.old) (H.view host.new) }
@@ -68,12 +68,12 @@ impl Engine {
         outcomes: Outcomes,
     ) -> Result<(), HostError>
         requires ready { IsReady self.old }
-        requires timed { self.old.core.timed ≡ true }
+        requires timed { self.old.core.value.timed ≡ true }
         requires fits { ForAgreed self.old (λ w l. may_reply l number site outcomes ≡ true) }
         requires codes { list_all has_log_code outcomes ≡ true }
         ensures ok { OnOk result (Told H.tells H.view host.old host.new
             (HearsEvent (events.Reply number site outcomes) self.old self.new)) }
-        ensures answered { OnOk result (is_answered self.new.core.question ≡ true) }
+        ensures answered { OnOk result (is_answered self.new.core.value.question ≡ true) }
         ensures err { EachError result (λ error. Told H.tells H.view host.old host.new
             (StopsHearing (events.Reply number site outcomes) self.old error)) }
         ensures cause { HostCause (H.faults host.old) (H.faults host.new) result }

@@ -28,7 +28,7 @@ impl Engine {
     /// Whether the message is too old to be put off: its recipients fail then. False where it isn't
     /// in memory.
     pub(crate) fn is_expired(&self, id: Id) -> bool
-        ensures { ForLedgers self.now.core (λ w l. (m : Message) → message_of l.book id ≡ Some m
+        ensures { ForLedgers self.now.core.value (λ w l. (m : Message) → message_of l.book id ≡ Some m
             → is_admitted l id ≡ true → result ≡ is_expired w l.now m) }
     {
         if self.core.is_admitted(id) {
@@ -45,7 +45,7 @@ impl Engine {
         id: Id,
         positions: &[u32],
     ) -> Result<(), HostError>
-        ensures noted { OnOk result (IsTrue H.tells → AddsDelays self.now.core id positions.now
+        ensures noted { OnOk result (IsTrue H.tells → AddsDelays self.now.core.value id positions.now
             (row_outcomes positions.now) (H.view host.old).files (H.view host.new).files) }
         ensures others { IsTrue H.tells
             → KeepsOtherNotes (id_text id) (H.view host.old) (H.view host.new) }

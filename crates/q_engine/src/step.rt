@@ -27,7 +27,7 @@ impl Engine {
         requires stands { IsTrue H.tells → StandsForSome self.old (H.view host.old) }
         ensures ok { OnOk result (Told H.tells H.view host.old host.new
             (HearsEvent event self.old self.new)) }
-        ensures answered { OnOk result (is_answered self.new.core.question ≡ true) }
+        ensures answered { OnOk result (is_answered self.new.core.value.question ≡ true) }
         ensures err { EachError result (λ error. Told H.tells H.view host.old host.new
             (StopsHearing event self.old error)) }
         ensures cause { HostCause (H.faults host.old) (H.faults host.new) result }

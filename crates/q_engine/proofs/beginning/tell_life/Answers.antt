@@ -21,5 +21,5 @@ returns-in-Err-clause-spool g c error of = made_spool c.in-Err.error c.refusal_o
 pub returns-in-Err-clause-cause : goal.returns-in-Err-clause-cause
 returns-in-Err-clause-cause g c = told_cause (g.H.Host.faults c.args.host.now) (g.H.Host.faults c.tell.new.host) c.in-Err.error c.refusal_of.result c.tell.result c.in-Err.is c.refusal_of.ensures.exact c.tell.ensures.cause
 
-pub returns-in-Ok-tell-clause-core : goal.returns-in-Ok-tell-clause-core
-returns-in-Ok-tell-clause-core g c w book settings count distinct orderly = c.in-Ok.ensures.orderly w book settings (c.transports.ensures.exact ∙ count) distinct orderly
+pub returns-in-Ok-clause-core : goal.returns-in-Ok-clause-core
+returns-in-Ok-clause-core g c w book settings count distinct orderly = c.in-Some.ensures.orderly w book settings (c.transports.ensures.exact ∙ count) distinct orderly

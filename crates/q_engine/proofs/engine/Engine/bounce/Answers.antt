@@ -9,6 +9,7 @@ use Rattle.q_engine.specs.Stands.{HasDecided}
 use Rattle.q_engine.proofs.Bounced.{bounce_changes, bounce_there}
 use Rattle.q_engine.proofs.CarriedOut.{carried_behind, given_up_behind, refused}
 use Rattle.q_engine.proofs.StoredNotes.{plain_told}
+use Rattle.q_engine.proofs.Boxed.{lent_agrees}
 use Rattle.q_engine.proofs.engine.Engine.bounce.Goals as goal
 
 pub store_bounce-requires-clause-there : goal.store_bounce-requires-clause-there
@@ -26,7 +27,7 @@ returns-in_err-store_bounce-clause-err g c error is t w l n =
     let v = g.H.Host.view c.args.host.now in
     let h = subst (λ (x : Entry). HasDecided w l d x engine v) n.1.of n.1 in
     let k = (change w l e).book in
-    let at = c.now.ensures.ledger w (after w l e) h.core ∙ inner_now w l e refl in
+    let at = c.now.ensures.ledger w (after w l e) (lent_agrees w (after w l e) _ _ c.deref.ensures h.core) ∙ inner_now w l e refl in
     let adds = bounce_changes w l c.args.id engine v h c.file_spot-spot.result c.file_spot-spot.ensures c.now.result at in
     refused w l d e engine v h k error (g.H.Host.view c.store_bounce.new.host) refl (c.store_bounce.ensures.tries t l.book k h.host adds)
 
@@ -38,7 +39,7 @@ returns-clause-ok g c = on_ok c.tell.result (λ told t w l n.
     let v = g.H.Host.view c.args.host.now in
     let h = subst (λ (x : Entry). HasDecided w l d x engine v) n.1.of n.1 in
     let k = (change w l e).book in
-    let at = c.now.ensures.ledger w (after w l e) h.core ∙ inner_now w l e refl in
+    let at = c.now.ensures.ledger w (after w l e) (lent_agrees w (after w l e) _ _ c.deref.ensures h.core) ∙ inner_now w l e refl in
     let adds = bounce_changes w l c.args.id engine v h c.file_spot-spot.result c.file_spot-spot.ensures c.now.result at in
     let takes = c.in_ok-store_bounce.ensures.ok t l.book k h.host adds in
     carried_behind w l d e engine v h k (g.H.Host.view c.store_bounce.new.host) (g.H.Host.view c.tell.new.host) (record { life = refl; arrive = refl; preempt = refl; stays = λ id. refl }) refl takes (told t k takes.stands) (plain_told w l e v (g.H.Host.view c.store_bounce.new.host) (g.H.Host.view c.tell.new.host) refl (c.in_ok-store_bounce.ensures.notes t) (c.tell.ensures.files t))) c.tell.ensures.ok
@@ -51,7 +52,7 @@ returns-clause-err g c error is t w l n =
     let v = g.H.Host.view c.args.host.now in
     let h = subst (λ (x : Entry). HasDecided w l d x engine v) n.1.of n.1 in
     let k = (change w l e).book in
-    let at = c.now.ensures.ledger w (after w l e) h.core ∙ inner_now w l e refl in
+    let at = c.now.ensures.ledger w (after w l e) (lent_agrees w (after w l e) _ _ c.deref.ensures h.core) ∙ inner_now w l e refl in
     let adds = bounce_changes w l c.args.id engine v h c.file_spot-spot.result c.file_spot-spot.ensures c.now.result at in
     let takes = c.in_ok-store_bounce.ensures.ok t l.book k h.host adds in
     given_up_behind w l d e engine v h k error (g.H.Host.view c.store_bounce.new.host) (g.H.Host.view c.tell.new.host) refl takes (c.tell.ensures.err error is t k takes.stands)

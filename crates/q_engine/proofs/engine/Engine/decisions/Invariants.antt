@@ -11,7 +11,7 @@ invariant-loop g l =
     let view = g.H.Host.view in
     let faults = g.H.Host.faults in
     record {
-      answered : is_answered l.self.core.question ≡ true;
+      answered : is_answered l.self.core.value.question ≡ true;
       went : IsTrue g.H.Host.tells → (w : World) (k : Ledger) → EngineStands w l.fn.self (view l.fn.host) k → Went w k l.counter l.self (view l.fn.host) (view l.host);
       disk_later : (faults l.fn.host).disk ≤ (faults l.host).disk;
       tell_later : (faults l.fn.host).tell ≤ (faults l.host).tell;

@@ -9,6 +9,8 @@ use Rattle.q_engine.proofs.Counting.{counts_core, counts_stay}
 use Rattle.q_engine.proofs.HeardEvents.{allowed_by, done, not_done, stopped}
 use Rattle.q_engine.proofs.QuietEvents.{moment_book}
 use Rattle.q_engine.proofs.StoredNotes.{files_keep, plain_notes}
+use Rattle.q_engine.specs.Stands.{with_core}
+use Rattle.q_engine.proofs.Boxed.{lent_agrees}
 use Rattle.q_engine.proofs.engine.Engine.hear_moment.Goals as goal
 
 pub returns-in_err-event-clause-err : goal.returns-in_err-event-clause-err
@@ -22,18 +24,18 @@ returns-clause-ok g c = on_ok c.tell.result (λ told t w l h.
     let n = max l.now c.args.moment in
     let e = entries.At n in
     let engine = c.args.self.now in
-    let latest : c.later-latest.result ≡ n = c.later-latest.ensures ∙ ap (λ (m : ℕ). max m c.args.moment) (c.now.ensures.ledger w l h.core) in
+    let latest : c.later-latest.result ≡ n = c.later-latest.ensures ∙ ap (λ (m : ℕ). max m c.args.moment) (c.now.ensures.ledger w l (lent_agrees w l _ _ c.deref.ensures h.core)) in
     let later : nat_le l.now n ≡ true = le-leb l.now n (omega arith) in
     let does = subst (λ (m : ℕ). DoesEntry (table_of engine.table) (entries.At m) l.book l.book v x) latest (told t l.book h.host) in
-    let core = c.in_ok-event.ensures.ok w l h.core e (ap (λ (m : ℕ). entries.At m) (sym latest)) (allowed_by w l e h.core.living later) in
-    done w l e engine v h (record engine { core = c.event.new.self }) l.book x refl refl (λ id. refl) core
-    (counts_stay w l e (record engine { core = c.event.new.self }) refl refl refl (counts_core engine c.event.new.self l h.counts)) (moment_book w l n) does (plain_notes w l e v x refl (files_keep v x (c.tell.ensures.files t)))) c.tell.ensures.ok
+    let core = c.in_ok-event.ensures.ok w l (lent_agrees w l _ _ c.deref_mut.ensures.value h.core) e (ap (λ (m : ℕ). entries.At m) (sym latest)) (allowed_by w l e h.core.living later) in
+    done w l e engine v h (with_core c.event.new.self engine) l.book x refl refl (λ id. refl) core
+    (counts_stay w l e (with_core c.event.new.self engine) refl refl refl (counts_core engine c.event.new.self l h.counts)) (moment_book w l n) does (plain_notes w l e v x refl (files_keep v x (c.tell.ensures.files t)))) c.tell.ensures.ok
 
 pub returns-clause-err : goal.returns-clause-err
 returns-clause-err g c error is t w l h =
     let v = g.H.Host.view c.args.host.now in
     let x = g.H.Host.view c.tell.new.host in
     let n = max l.now c.args.moment in
-    let latest : c.later-latest.result ≡ n = c.later-latest.ensures ∙ ap (λ (m : ℕ). max m c.args.moment) (c.now.ensures.ledger w l h.core) in
+    let latest : c.later-latest.result ≡ n = c.later-latest.ensures ∙ ap (λ (m : ℕ). max m c.args.moment) (c.now.ensures.ledger w l (lent_agrees w l _ _ c.deref.ensures h.core)) in
     stopped w l (entries.At n) c.args.self.now v h l.book error x (moment_book w l n)
     (subst (λ (m : ℕ). StopsEntry (table_of c.args.self.now.table) (entries.At m) l.book l.book error v x) latest (c.tell.ensures.err error is t l.book h.host))

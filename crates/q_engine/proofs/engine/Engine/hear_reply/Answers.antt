@@ -13,6 +13,8 @@ use Rattle.q_engine.proofs.Counting.{counts_core, counts_stay}
 use Rattle.q_engine.proofs.HeardEvents.{allowed_by, done, not_done, stopped}
 use Rattle.q_engine.proofs.OwnNotes.{reply_lengths, reply_stored}
 use Rattle.q_engine.proofs.QuietEvents.{reply_book}
+use Rattle.q_engine.specs.Stands.{with_core}
+use Rattle.q_engine.proofs.Boxed.{lent_agrees}
 use Rattle.q_engine.proofs.engine.Engine.hear_reply.Goals as goal
 
 pub returns-in_err-event-clause-err : goal.returns-in_err-event-clause-err
@@ -32,16 +34,16 @@ returns-clause-ok g c = on_ok c.tell.result (λ told t w l h.
     let flight = c.in-Some.flight in
     let ps = c.in_ok-positions.positions in
     let takes = c.in_ok-note_reply.ensures.book t l.book h.host in
-    let core = c.in_ok-event.ensures.ok w l h.core e refl (allowed_by w l e h.core.living (c.requires.fits w l h.core h.counts)) in
-    let shown = c.in-Some.ensures w l h.core in
-    let listed = ap (λ (p : List ℕ). Some p) c.in_ok-positions.ensures ∙ c.in-Some-entry_positions.ensures w l h.core in
+    let core = c.in_ok-event.ensures.ok w l (lent_agrees w l _ _ c.deref_mut.ensures.value h.core) e refl (allowed_by w l e h.core.living (c.requires.fits w l h.core h.counts)) in
+    let shown = c.in-Some.ensures w l (lent_agrees w l _ _ c.deref.ensures h.core) in
+    let listed = ap (λ (p : List ℕ). Some p) c.in_ok-positions.ensures ∙ c.in-Some-entry_positions.ensures w l (lent_agrees w l _ _ c.deref-2.ensures h.core) in
     let fits = reply_lengths w l number state os engine v m x h flight ps shown listed (c.requires.fits w l h.core h.counts) in
     let named = ap (λ (f : Flight). f.id) c.flight-2.view_is in
     let noted = subst (λ (xs : List ℕ). length xs ≡ length os → AddsDelays c.event.new.self c.flight-2.inside.id xs os v.files m.files) c.as_slice.ensures (c.in_ok-note_reply.ensures.noted t) fits in
     let adds = subst (λ (i : Id). AddsDelays c.event.new.self i ps os v.files m.files) named noted in
     let others = subst (λ (i : Id). KeepsOtherNotes (id_text i) v m) named (c.in_ok-note_reply.ensures.others t) in
-    done w l e engine v h (record engine { core = c.event.new.self }) l.book x refl refl (λ id. refl) core
-    (counts_stay w l e (record engine { core = c.event.new.self }) refl refl refl (counts_core engine c.event.new.self l h.counts)) (reply_book w l number state os)
+    done w l e engine v h (with_core c.event.new.self engine) l.book x refl refl (λ id. refl) core
+    (counts_stay w l e (with_core c.event.new.self engine) refl refl refl (counts_core engine c.event.new.self l h.counts)) (reply_book w l number state os)
     (changed_does (table_of engine.table) e l.book l.book v m x takes (told t l.book takes.stands))
     (reply_stored w l number state os engine v m x h flight ps shown listed c.event.new.self core adds others (c.tell.ensures.files t))) c.tell.ensures.ok
 

@@ -21,6 +21,7 @@ use Rattle.q_engine.proofs.LoadedEntries.{ends, file_reads, file_whole, load_spe
 use Rattle.q_engine.proofs.KeptPlaces.{each_copied, of_message, placed_more, progress_of, read_to}
 use Rattle.q_engine.proofs.Speaking.{file_there, in_active}
 use Rattle.q_engine.proofs.StoredNotes.{files_keep, keeps_then}
+use Rattle.q_engine.specs.Stands.{with_core}
 use Rattle.q_engine.proofs.engine.Engine.load.Goals as goal
 
 pub read_pending-requires : goal.read_pending-requires
@@ -53,7 +54,7 @@ returns-in_default-clause-ok g c t w l n =
     let a = load_speaks w l c.args.id c.args.from (load_end n.message c.args.from c.args.max) n.stands.core.consistent n.following in
     let file = file_reads v l.book c.args.id a.0 spot n.stands.host (in_active l c.args.id a.0 a.1.message spot c.file_spot-spot.ensures) in
     let none = subst (λ (o : Option Reading). IfNone o (TellsOf g.H.Host.tells v spot (λ bytes. queue_file bytes ≡ None))) c.in_default.is c.in_ok-reading.ensures.none in
-    absurd {A = WasCarriedOut w l (record c.args.self.now { core = c.found.new.self }) v (g.H.Host.view c.read_pending.new.host)} (file_whole (bytes_at v spot) file.0 (file_message a.0) file.1 file.2 (none t))
+    absurd {A = WasCarriedOut w l (with_core c.found.new.self c.args.self.now) v (g.H.Host.view c.read_pending.new.host)} (file_whole (bytes_at v spot) file.0 (file_message a.0) file.1 file.2 (none t))
 
 pub returns-in_err-take_in-clause-err : goal.returns-in_err-take_in-clause-err
 returns-in_err-take_in-clause-err g c error is t w l n =
@@ -89,7 +90,7 @@ returns-clause-ok g c = on_ok c.tell.result (λ told t w l n.
     let placed = placed_more c.take_in.new.self.places c.keep.new.self l.book id a.0 c.in-Some.reading.progress items a.1.message.there upto (marks_are w l id a.0 engine from max to items a.1 read) c.keep.ensures before in
     let takes = reads_keep l.book l.book v m lawful (c.in_ok-reading.ensures.stays t) n.stands.host in
     let does = subst (λ (e : Engine). DoesEntry (table_of e.table) (entries.Load id from to) l.book l.book m x) same (told t l.book takes.stands) in
-    subst (λ (e : Engine). WasCarriedOut w l (record e { places = c.keep.new.self }) v x) (sym same) (loaded_told w l id from max engine v n to c.take_in.new.self.core c.keep.new.self m x placed following agrees takes does
+    subst (λ (e : Engine). WasCarriedOut w l (record e { places = c.keep.new.self }) v x) (sym same) (loaded_told w l id from max engine v n to c.take_in.new.self.core.value c.keep.new.self m x placed following agrees takes does
     (keeps_then v m x (files_keep v m (c.in_ok-reading.ensures.stays t).files) (files_keep m x (c.tell.ensures.files t))))) c.tell.ensures.ok
 
 pub returns-clause-err : goal.returns-clause-err

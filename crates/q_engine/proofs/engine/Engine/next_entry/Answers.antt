@@ -4,14 +4,16 @@ use Rattle.q_core.specs.Deciding.{AsksOnly, is_look, question_for}
 use Rattle.q_core.specs.declared.decision.Decision.{Decision}
 use Rattle.q_core.specs.declared.state.Core.{Core}
 use Rattle.q_engine.specs.declared.engine.Engine.{Engine}
-use Rattle.q_engine.proofs.Looking.{always_err, answers_some, look_found, next_found}
+use Rattle.q_engine.proofs.Looking.{always_err, answers_lent, answers_some, look_found, next_found}
 use Rattle.q_engine.proofs.StoredNotes.{keeps_then}
+use Rattle.q_engine.proofs.Boxed.{lent_agrees}
 use Rattle.q_engine.proofs.engine.Engine.next_entry.Goals as goal
 
 pub returns-in_default-clause-quiet : goal.returns-in_default-clause-quiet
 returns-in_default-clause-quiet g c same timed =
-    let unchanged = subst (λ (o : Option Decision). AsksOnly c.loop.self.core o c.next_decision.new.self) c.in_default.is c.in_ok-decision.ensures.asked in
-    c.in_ok-decision.ensures.quiet c.in_default.is (ap (λ (x : Core). x.timed) (sym unchanged) ∙ timed)
+    let asked = subst (λ (k : Core). AsksOnly k c.in_ok-decision.field-0 c.next_decision.new.self) c.deref_mut.ensures.value c.in_ok-decision.ensures.asked in
+    let unchanged = subst (λ (o : Option Decision). AsksOnly c.loop.self.core.value o c.next_decision.new.self) c.in_default.is asked in
+    c.in_ok-decision.ensures.quiet c.in_default.is (ap (λ (x : Core). x.timed) c.deref_mut.ensures.value ∙ ap (λ (x : Core). x.timed) (sym unchanged) ∙ timed)
 
 pub returns-then-not-is_looking-clause-ok : goal.returns-then-not-is_looking-clause-ok
 returns-then-not-is_looking-clause-ok g c t w l h =
@@ -19,9 +21,10 @@ returns-then-not-is_looking-clause-ok g c t w l h =
     let v = g.H.Host.view c.loop.host in
     let e = c.in_ok-decision.ensures in
     let d = c.in-Some.decision in
+    let agrees = lent_agrees w l _ _ c.deref_mut.ensures.value (so_far.0).core in
     let a = answers_some w l v c.loop.self c.in_ok-decision.field-0 d c.next_decision.new.self c.in-Some.is
-    (record { stands = so_far.0; decided = e.ok w l so_far.0.core; placed = e.placed w l so_far.0.core; started = e.started w l so_far.0.core; skipped = e.skipped; asked = e.asked }) in
-    (next_found w l v c.loop.self d c.next_decision.new.self a (ap is_look (ap question_for (sym c.in-Some.is) ∙ sym e.question) ∙ sym c.is_looking.ensures ∙ c.if-not-is_looking.true), so_far.1)
+    (answers_lent w l v c.loop.self c.deref_mut.result.now c.in_ok-decision.field-0 c.next_decision.new.self c.deref_mut.ensures.value so_far.0 (e.ok w l agrees) (e.placed w l agrees) (e.started w l agrees) e.skipped e.asked) in
+    (next_found w l v c.loop.self d c.next_decision.new.self a (ap is_look (ap question_for (sym c.in-Some.is) ∙ sym e.question) ∙ sym (ap (λ (k : Core). is_look k.question) c.deref.ensures) ∙ sym c.is_looking.ensures ∙ c.if-not-is_looking.true), so_far.1)
 
 pub returns-in_err-answer-clause-err : goal.returns-in_err-answer-clause-err
 returns-in_err-answer-clause-err g c = always_err c.from_residual-in_err-answer.result (λ t w l h.
@@ -29,9 +32,10 @@ returns-in_err-answer-clause-err g c = always_err c.from_residual-in_err-answer.
     let v = g.H.Host.view c.loop.host in
     let e = c.in_ok-decision.ensures in
     let d = c.in-Some.decision in
+    let agrees = lent_agrees w l _ _ c.deref_mut.ensures.value (so_far.0).core in
     let a = answers_some w l v c.loop.self c.in_ok-decision.field-0 d c.next_decision.new.self c.in-Some.is
-    (record { stands = so_far.0; decided = e.ok w l so_far.0.core; placed = e.placed w l so_far.0.core; started = e.started w l so_far.0.core; skipped = e.skipped; asked = e.asked }) in
-    let look = look_found w l v c.loop.self d c.next_decision.new.self a (ap is_look (ap question_for (sym c.in-Some.is) ∙ sym e.question) ∙ sym c.is_looking.ensures ∙ c.if-not-is_looking.false) in
+    (answers_lent w l v c.loop.self c.deref_mut.result.now c.in_ok-decision.field-0 c.next_decision.new.self c.deref_mut.ensures.value so_far.0 (e.ok w l agrees) (e.placed w l agrees) (e.started w l agrees) e.skipped e.asked) in
+    let look = look_found w l v c.loop.self d c.next_decision.new.self a (ap is_look (ap question_for (sym c.in-Some.is) ∙ sym e.question) ∙ sym (ap (λ (k : Core). is_look k.question) c.deref.ensures) ∙ sym c.is_looking.ensures ∙ c.if-not-is_looking.false) in
     reads_then l.book _ _ _ so_far.1 (c.in_err-answer.ensures.err t w l look.1))
 
 pub loop-preserved : goal.loop-preserved
@@ -43,9 +47,10 @@ loop-preserved g c = record {
       let v = g.H.Host.view c.loop.host in
       let e = c.in_ok-decision.ensures in
       let d = c.in-Some.decision in
+      let agrees = lent_agrees w l _ _ c.deref_mut.ensures.value (so_far.0).core in
       let a = answers_some w l v c.loop.self c.in_ok-decision.field-0 d c.next_decision.new.self c.in-Some.is
-      (record { stands = so_far.0; decided = e.ok w l so_far.0.core; placed = e.placed w l so_far.0.core; started = e.started w l so_far.0.core; skipped = e.skipped; asked = e.asked }) in
-      let look = look_found w l v c.loop.self d c.next_decision.new.self a (ap is_look (ap question_for (sym c.in-Some.is) ∙ sym e.question) ∙ sym c.is_looking.ensures ∙ c.if-not-is_looking.false) in
+      (answers_lent w l v c.loop.self c.deref_mut.result.now c.in_ok-decision.field-0 c.next_decision.new.self c.deref_mut.ensures.value so_far.0 (e.ok w l agrees) (e.placed w l agrees) (e.started w l agrees) e.skipped e.asked) in
+      let look = look_found w l v c.loop.self d c.next_decision.new.self a (ap is_look (ap question_for (sym c.in-Some.is) ∙ sym e.question) ∙ sym (ap (λ (k : Core). is_look k.question) c.deref.ensures) ∙ sym c.is_looking.ensures ∙ c.if-not-is_looking.false) in
       let one = c.in_ok-answer.ensures.ok t w l look.1 look.0 in
       (one.0, reads_then l.book _ _ _ so_far.1 one.1);
   notes = λ t. keeps_then (g.H.Host.view c.args.host.now) (g.H.Host.view c.loop.host) (g.H.Host.view c.answer.new.host) (c.loop.invariant.notes t) (c.in_ok-answer.ensures.notes t);

@@ -7,7 +7,7 @@ use Rattle.q_engine.proofs.engine.Engine.note_reply.Goals as goal
 pub returns-then-is_expired-clause-noted : goal.returns-then-is_expired-clause-noted
 returns-then-is_expired-clause-noted g c t same =
     let f = (g.H.Host.view c.args.host.now).files in
-    adds_none c.args.self.now.core c.args.id c.args.positions.now c.args.outcomes.now f f c.is_expired.result c.is_expired.ensures c.if-is_expired.true refl
+    adds_none c.args.self.now.core.value c.args.id c.args.positions.now c.args.outcomes.now f f c.is_expired.result c.is_expired.ensures c.if-is_expired.true refl
 
 pub returns-clause-noted : goal.returns-clause-noted
 returns-clause-noted g c = on_ok c.note_all.result (λ noted t same.
@@ -17,4 +17,4 @@ returns-clause-noted g c = on_ok c.note_all.result (λ noted t same.
     let os = c.args.outcomes.now in
     let made = c.as_slice.result.now in
     let is = c.as_slice.ensures ∙ c.in_ok-notes.ensures ∙ ap (notes_for ps) c.as_slice-outcomes.ensures in
-    adds_notes c.args.self.now.core c.args.id ps os f h c.is_expired.result c.is_expired.ensures made c.if-is_expired.false is (noted t (reply_codes ps os made is c.requires.codes))) c.note_all.ensures.noted
+    adds_notes c.args.self.now.core.value c.args.id ps os f h c.is_expired.result c.is_expired.ensures made c.if-is_expired.false is (noted t (reply_codes ps os made is c.requires.codes))) c.note_all.ensures.noted

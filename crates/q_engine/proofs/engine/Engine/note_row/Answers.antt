@@ -8,7 +8,7 @@ pub returns-then-is_expired-clause-noted : goal.returns-then-is_expired-clause-n
 returns-then-is_expired-clause-noted g c t =
     let f = (g.H.Host.view c.args.host.now).files in
     let ps = c.args.positions.now in
-    adds_none c.args.self.now.core c.args.id ps (row_outcomes ps) f f c.is_expired.result c.is_expired.ensures c.if-is_expired.true refl
+    adds_none c.args.self.now.core.value c.args.id ps (row_outcomes ps) f f c.is_expired.result c.is_expired.ensures c.if-is_expired.true refl
 
 pub returns-clause-noted : goal.returns-clause-noted
 returns-clause-noted g c = on_ok c.note_all.result (λ noted t.
@@ -17,4 +17,4 @@ returns-clause-noted g c = on_ok c.note_all.result (λ noted t.
     let ps = c.args.positions.now in
     let made = c.as_slice.result.now in
     let is = c.as_slice.ensures ∙ c.in_ok-notes.ensures in
-    adds_notes c.args.self.now.core c.args.id ps (row_outcomes ps) f h c.is_expired.result c.is_expired.ensures made c.if-is_expired.false (made_rows ps made is) (noted t (row_codes ps made is))) c.note_all.ensures.noted
+    adds_notes c.args.self.now.core.value c.args.id ps (row_outcomes ps) f h c.is_expired.result c.is_expired.ensures made c.if-is_expired.false (made_rows ps made is) (noted t (row_codes ps made is))) c.note_all.ensures.noted
