@@ -1,5 +1,5 @@
 //! Worked calls over two transports, four sites and room for four jobs a line.
-ghost use Rattle.std.specs.Prelude.{◌≡◌};
+ghost use Rattle.std.specs.Prelude.{◌≡◌, IfOk};
 ghost use Rattle.q_turns.specs.Turns.{has_job};
 
 use crate::Turns;
@@ -7,6 +7,7 @@ use q_dest::Sites;
 use q_jobs::Job;
 use q_model::{Hop, Id, Site};
 use q_params::Params;
+use std::alloc::{AllocError, Global};
 use std::test::Fail;
 
 /// A call. Messages and sites are numbered; sites with even numbers are of transport 0, those with
@@ -29,65 +30,81 @@ enum Call {
     Land(u8),
 }
 
-/// The messages of a line in order.
-type Order = &'static [u32];
+/// The messages of both lines in order.
+type Lines = (&'static [u32], &'static [u32]);
 
 /// The messages whose turn it is at the transports.
 type Turn = (Option<u32>, Option<u32>);
 
-const TRANSPORTS: usize = 2;
+type Row = (Call, Lines, Turn);
+
+const TRANSPORTS: u8 = 2;
 
 /// How many peers have room.
 const ROOM: u32 = 6;
 
 /// Calls, and after each the lines of both transports and whose turn it is.
-const ROWS: [(Call, [Order; TRANSPORTS], Turn); 36] = [
+const ROWS: [Row; 36] = [
     // no job, so no row may come
-    (Call::Gain(1, 0), [&[], &[]], (None, None)),
-    (Call::Join(0, 1), [&[1], &[]], (None, None)),
-    (Call::Gain(1, 0), [&[1], &[]], (Some(1), None)),
-    (Call::Gain(1, 1), [&[1], &[]], (Some(1), None)),
-    (Call::Join(0, 2), [&[1, 2], &[]], (Some(1), None)),
-    (Call::Gain(2, 2), [&[1, 2], &[]], (Some(1), None)),
-    (Call::Gain(2, 0), [&[1, 2], &[]], (Some(1), None)),
+    (Call::Gain(1, 0), (&[], &[]), (None, None)),
+    (Call::Join(0, 1), (&[1], &[]), (None, None)),
+    (Call::Gain(1, 0), (&[1], &[]), (Some(1), None)),
+    (Call::Gain(1, 1), (&[1], &[]), (Some(1), None)),
+    (Call::Join(0, 2), (&[1, 2], &[]), (Some(1), None)),
+    (Call::Gain(2, 2), (&[1, 2], &[]), (Some(1), None)),
+    (Call::Gain(2, 0), (&[1, 2], &[]), (Some(1), None)),
     // its only site is full
-    (Call::Fill(0), [&[1, 2], &[]], (Some(2), None)),
-    (Call::Gain(1, 0), [&[1, 2], &[]], (Some(2), None)),
-    (Call::Fill(2), [&[1, 2], &[]], (None, None)),
-    (Call::Land(0), [&[1, 2], &[]], (Some(1), None)),
+    (Call::Fill(0), (&[1, 2], &[]), (Some(2), None)),
+    (Call::Gain(1, 0), (&[1, 2], &[]), (Some(2), None)),
+    (Call::Fill(2), (&[1, 2], &[]), (None, None)),
+    (Call::Land(0), (&[1, 2], &[]), (Some(1), None)),
     // one of two rows
-    (Call::Lose(1, 0), [&[1, 2], &[]], (Some(1), None)),
-    (Call::Lose(1, 0), [&[1, 2], &[]], (Some(2), None)),
-    (Call::Lose(1, 0), [&[1, 2], &[]], (Some(2), None)),
-    (Call::Gain(1, 0), [&[1, 2], &[]], (Some(1), None)),
-    (Call::Before(0, 2, 1), [&[2, 1], &[]], (Some(2), None)),
-    (Call::Join(0, 3), [&[2, 1, 3], &[]], (Some(2), None)),
-    (Call::Gain(3, 2), [&[2, 1, 3], &[]], (Some(2), None)),
-    (Call::Before(0, 3, 1), [&[2, 3, 1], &[]], (Some(2), None)),
-    (Call::Lose(2, 0), [&[2, 3, 1], &[]], (Some(1), None)),
-    (Call::Land(2), [&[2, 3, 1], &[]], (Some(2), None)),
-    (Call::Put(0, 3, 7), [&[2, 3, 1], &[]], (Some(2), None)),
-    (Call::Lose(2, 2), [&[2, 3, 1], &[]], (Some(3), None)),
+    (Call::Lose(1, 0), (&[1, 2], &[]), (Some(1), None)),
+    (Call::Lose(1, 0), (&[1, 2], &[]), (Some(2), None)),
+    (Call::Lose(1, 0), (&[1, 2], &[]), (Some(2), None)),
+    (Call::Gain(1, 0), (&[1, 2], &[]), (Some(1), None)),
+    (Call::Before(0, 2, 1), (&[2, 1], &[]), (Some(2), None)),
+    (Call::Join(0, 3), (&[2, 1, 3], &[]), (Some(2), None)),
+    (Call::Gain(3, 2), (&[2, 1, 3], &[]), (Some(2), None)),
+    (Call::Before(0, 3, 1), (&[2, 3, 1], &[]), (Some(2), None)),
+    (Call::Lose(2, 0), (&[2, 3, 1], &[]), (Some(1), None)),
+    (Call::Land(2), (&[2, 3, 1], &[]), (Some(2), None)),
+    (Call::Put(0, 3, 7), (&[2, 3, 1], &[]), (Some(2), None)),
+    (Call::Lose(2, 2), (&[2, 3, 1], &[]), (Some(3), None)),
     // lines of their own
-    (Call::Join(1, 3), [&[2, 3, 1], &[3]], (Some(3), None)),
-    (Call::Gain(3, 3), [&[2, 3, 1], &[3]], (Some(3), Some(3))),
-    (Call::Join(1, 1), [&[2, 3, 1], &[3, 1]], (Some(3), Some(3))),
-    (Call::Gain(1, 3), [&[2, 3, 1], &[3, 1]], (Some(3), Some(3))),
+    (Call::Join(1, 3), (&[2, 3, 1], &[3]), (Some(3), None)),
+    (Call::Gain(3, 3), (&[2, 3, 1], &[3]), (Some(3), Some(3))),
+    (Call::Join(1, 1), (&[2, 3, 1], &[3, 1]), (Some(3), Some(3))),
+    (Call::Gain(1, 3), (&[2, 3, 1], &[3, 1]), (Some(3), Some(3))),
     (
         Call::Before(1, 1, 3),
-        [&[2, 3, 1], &[1, 3]],
+        (&[2, 3, 1], &[1, 3]),
         (Some(3), Some(1)),
     ),
-    (Call::Lose(3, 2), [&[2, 3, 1], &[1, 3]], (Some(1), Some(1))),
-    (Call::Lose(1, 0), [&[2, 3, 1], &[1, 3]], (None, Some(1))),
-    (Call::Lose(1, 3), [&[2, 3, 1], &[1, 3]], (None, Some(3))),
+    (Call::Lose(3, 2), (&[2, 3, 1], &[1, 3]), (Some(1), Some(1))),
+    (Call::Lose(1, 0), (&[2, 3, 1], &[1, 3]), (None, Some(1))),
+    (Call::Lose(1, 3), (&[2, 3, 1], &[1, 3]), (None, Some(3))),
     // rows wait elsewhere
-    (Call::Leave(0, 3), [&[2, 3, 1], &[1, 3]], (None, Some(3))),
-    (Call::Lose(3, 3), [&[2, 3, 1], &[1, 3]], (None, None)),
-    (Call::Leave(0, 3), [&[2, 1], &[1, 3]], (None, None)),
-    (Call::Leave(0, 3), [&[2, 1], &[1, 3]], (None, None)),
-    (Call::Leave(1, 1), [&[2, 1], &[3]], (None, None)),
+    (Call::Leave(0, 3), (&[2, 3, 1], &[1, 3]), (None, Some(3))),
+    (Call::Lose(3, 3), (&[2, 3, 1], &[1, 3]), (None, None)),
+    (Call::Leave(0, 3), (&[2, 1], &[1, 3]), (None, None)),
+    (Call::Leave(0, 3), (&[2, 1], &[1, 3]), (None, None)),
+    (Call::Leave(1, 1), (&[2, 1], &[3]), (None, None)),
 ];
+
+/// Turns with nothing in them, in a box: a test lets them go at each of its ends.
+fn fresh(alloc: Global) -> Result<Box<Turns>, AllocError>
+    ensures { IfOk result (λ turns. turns.value.room ≡ ROOM) }
+{
+    let turns = Turns::new(alloc, TRANSPORTS, 4, ROOM)?;
+    Ok(Box::new(alloc, turns)?)
+}
+
+/// Sites that nothing goes to.
+fn unused(alloc: Global) -> Result<Box<Sites>, AllocError> {
+    let sites = Sites::new(alloc, 4)?;
+    Ok(Box::new(alloc, sites)?)
+}
 
 fn id(serial: u32) -> Id {
     Id {
@@ -232,20 +249,33 @@ fn turn(turns: &Turns, sites: &Sites, transport: usize) -> Option<u32> {
     serial(turns.current(transport, sites))
 }
 
+/// Whether the lines and turns are these.
+fn are(turns: &Turns, sites: &Sites, lines: Lines, wanted: Turn) -> bool {
+    stands(turns, 0, lines.0)
+        && stands(turns, 1, lines.1)
+        && turn(turns, sites, 0) == wanted.0
+        && turn(turns, sites, 1) == wanted.1
+}
+
+/// Makes the calls of the rows, and gives the first row behind which something else stands.
+fn first_wrong(turns: &mut Turns, sites: &mut Sites, rows: &[Row]) -> Option<usize>
+    requires { turns.old.room ≡ ROOM }
+{
+    for i in 0..rows.len() {
+        let (call, lines, wanted) = rows[i];
+        let made = make(turns, sites, call);
+        if made.is_none() || !are(turns, sites, lines, wanted) {
+            return Some(i);
+        }
+    }
+    None
+}
+
 #[test]
 fn turns_after_each_call(rt: HostRuntime) -> Result<(), Fail> {
-    let mut turns = Turns::new(rt.alloc(), TRANSPORTS as u8, 4, ROOM)?;
-    let mut sites = Sites::new(rt.alloc(), 4)?;
-    for i in 0..ROWS.len() {
-        let (call, lines, wanted) = ROWS[i];
-        assert!(rt; make(&mut turns, &mut sites, call).is_some());
-        assert!(rt; stands(&turns, 0, lines[0]), "row {i}");
-        assert!(rt; stands(&turns, 1, lines[1]), "row {i}");
-        let found = (turn(&turns, &sites, 0), turn(&turns, &sites, 1));
-        assert_eq!(rt; found, wanted, "row {i}");
-    }
-    let account = turns.job(0, id(2));
-    assert!(rt; account.is_some_and(|job| job.starts == 0));
+    let mut turns = fresh(rt.alloc())?;
+    let mut sites = unused(rt.alloc())?;
+    assert_eq!(rt; first_wrong(&mut turns, &mut sites, &ROWS), None);
     // there is no such transport
     assert!(rt; stands(&turns, 2, &[]) && turn(&turns, &sites, 2).is_none());
     Ok(())
@@ -254,8 +284,8 @@ fn turns_after_each_call(rt: HostRuntime) -> Result<(), Fail> {
 /// Two jobs go before one another, and the ranks between them are used up at each fifth call.
 #[test]
 fn turns_where_jobs_are_ranked_anew(rt: HostRuntime) -> Result<(), Fail> {
-    let mut turns = Turns::new(rt.alloc(), TRANSPORTS as u8, 4, ROOM)?;
-    let mut sites = Sites::new(rt.alloc(), 4)?;
+    let mut turns = fresh(rt.alloc())?;
+    let mut sites = unused(rt.alloc())?;
     let first = [
         Call::Join(0, 1),
         Call::Join(0, 2),
@@ -282,9 +312,9 @@ fn turns_where_jobs_are_ranked_anew(rt: HostRuntime) -> Result<(), Fail> {
 
 #[test]
 fn rows_that_wait(rt: HostRuntime) -> Result<(), Fail> {
-    let mut turns = Turns::new(rt.alloc(), TRANSPORTS as u8, 4, ROOM)?;
-    let mut sites = Sites::new(rt.alloc(), 4)?;
-    assert_eq!(rt; (turns.spare_jobs(1), turns.spare_peers()), (4, ROOM));
+    let mut turns = fresh(rt.alloc())?;
+    let mut sites = unused(rt.alloc())?;
+    assert_eq!(rt; (turns.transports(), turns.spare_peers()), (2, ROOM));
     // the call, how many rows of message 1 wait for site 2, and how many peers more have room
     let rows = [
         (Call::Join(0, 1), 0, ROOM),

@@ -3,4 +3,4 @@ use Rattle.q_turns.specs.declared.worked.TheConstants.{ROOM}
 use Rattle.q_turns.proofs.worked.rows_that_wait.Given as goal
 
 abbrev pub invariant-loop-call : goal.invariant-loop-call
-invariant-loop-call g l = l.turns.room ≡ ROOM
+invariant-loop-call g l = l.turns.value.room ≡ ROOM

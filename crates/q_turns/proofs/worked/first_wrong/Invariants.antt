@@ -1,6 +1,6 @@
 use Rattle.std.proofs.Common.{◌≡◌}
 use Rattle.q_turns.specs.declared.worked.TheConstants.{ROOM}
-use Rattle.q_turns.proofs.worked.turns_after_each_call.Given as goal
+use Rattle.q_turns.proofs.worked.first_wrong.Given as goal
 
 abbrev pub invariant-loop-i : goal.invariant-loop-i
-invariant-loop-i g l = l.turns.room ≡ ROOM
+invariant-loop-i l = l.turns.room ≡ ROOM
