@@ -1,8 +1,10 @@
 //! Worked sequences: calls and the sites after each, and replies and the window after each.
+ghost use Rattle.std.specs.Prelude.{◌≤◌, ◌<◌, ◌^◌};
 
 use crate::{Sites, WideSiteRecord};
 use q_model::{Health, Hop, Moment, Site, SiteState};
 use q_params::Params;
+use std::alloc::{AllocError, Global};
 use std::test::Fail;
 
 /// A site by its transport, until when it is dead (0: it is alive), how many rows wait for it, and
@@ -179,9 +181,18 @@ fn stands(sites: &Sites, want: &[Noted]) -> bool {
     at.is_none()
 }
 
+/// No site, and room for so many, in a box: a test lets them go at each of its ends.
+fn empty(alloc: Global, room: u32) -> Result<Box<Sites>, AllocError>
+    requires some { 1 ≤ room }
+    requires few { room < 2 ^ 30 }
+{
+    let sites = Sites::new(alloc, room)?;
+    Ok(Box::new(alloc, sites)?)
+}
+
 #[test]
 fn sites_after_each_call(rt: HostRuntime) -> Result<(), Fail> {
-    let mut sites = Sites::new(rt.alloc(), 4)?;
+    let mut sites = empty(rt.alloc(), 4)?;
     assert!(rt; stands(&sites, &[]));
     for i in 0..ROWS.len() {
         let (call, want, counted) = ROWS[i];
@@ -199,7 +210,7 @@ fn sites_after_each_call(rt: HostRuntime) -> Result<(), Fail> {
 
 #[test]
 fn a_site_is_its_transport_and_its_hop(rt: HostRuntime) -> Result<(), Fail> {
-    let mut sites = Sites::new(rt.alloc(), 3)?;
+    let mut sites = empty(rt.alloc(), 3)?;
     let (Some(one), Some(two)) = (site(1), site(2)) else {
         return Ok(());
     };
@@ -222,7 +233,7 @@ fn space_after_each_call(rt: HostRuntime) -> Result<(), Fail> {
     let Some(site) = site(1) else {
         return Ok(());
     };
-    let mut sites = Sites::new(rt.alloc(), 1)?;
+    let mut sites = empty(rt.alloc(), 1)?;
     gain(&mut sites, &site);
     // five deliveries fill the window of a fresh site
     for space in [true, true, true, true, false] {

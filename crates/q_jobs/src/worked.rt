@@ -3,6 +3,7 @@ ghost use Rattle.std.specs.Prelude.{◌<◌, length};
 
 use crate::{Job, Line};
 use q_model::Id;
+use std::alloc::{AllocError, Global};
 use std::test::Fail;
 
 /// The number of a message, and its account: deliveries started, and needs charged.
@@ -109,9 +110,15 @@ fn stands(line: &Line, want: &[Account]) -> bool {
     at.is_none()
 }
 
+/// No job, and room for four, in a box: a test lets the line go at each of its ends.
+fn empty(alloc: Global) -> Result<Box<Line>, AllocError> {
+    let line = Line::new(alloc, 4)?;
+    Ok(Box::new(alloc, line)?)
+}
+
 #[test]
 fn jobs_after_each_call(rt: HostRuntime) -> Result<(), Fail> {
-    let mut line = Line::new(rt.alloc(), 4)?;
+    let mut line = empty(rt.alloc())?;
     assert!(rt; stands(&line, &[]));
     for i in 0..ROWS.len() {
         let (call, want) = ROWS[i];
@@ -126,7 +133,7 @@ fn jobs_after_each_call(rt: HostRuntime) -> Result<(), Fail> {
 
 #[test]
 fn ranked_anew_at_each_fifth(rt: HostRuntime) -> Result<(), Fail> {
-    let mut line = Line::new(rt.alloc(), 4)?;
+    let mut line = empty(rt.alloc())?;
     carry_out(&mut line, Call::Join(1));
     carry_out(&mut line, Call::Join(2));
     for count in 1..16u32 {

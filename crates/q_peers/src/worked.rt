@@ -1,9 +1,10 @@
 //! Worked sequences, with room for four rows. Messages 1, 5 and 9 are of one bucket, and so are the
 //! sites of the transports 1, 5 and 9.
+ghost use Rattle.std.specs.Prelude.{◌≤◌, ◌<◌, ◌^◌};
 
 use crate::Waiting;
 use q_model::{Hop, Id, Row, Sequence, Site};
-use std::alloc::Global;
+use std::alloc::{AllocError, Global};
 use std::test::Fail;
 
 /// The number of a message, and that of a transport.
@@ -160,9 +161,18 @@ fn waits_at(waiting: &Waiting, transport: u8) -> Option<bool> {
     Some(waiting.waits_at(&site(transport)?))
 }
 
+/// No row, and room for so many, in a box: a test lets them go at each of its ends.
+fn empty(alloc: Global, room: u32) -> Result<Box<Waiting>, AllocError>
+    requires some { 1 ≤ room }
+    requires few { room < 2 ^ 30 }
+{
+    let waiting = Waiting::new(alloc, room)?;
+    Ok(Box::new(alloc, waiting)?)
+}
+
 #[test]
 fn rows_after_each_call(rt: HostRuntime) -> Result<(), Fail> {
-    let mut waiting = Waiting::new(rt.alloc(), 4)?;
+    let mut waiting = empty(rt.alloc(), 4)?;
     assert!(rt; reads(&waiting, Rows::All, &[]));
     for i in 0..ROWS.len() {
         let (call, want) = ROWS[i];
@@ -190,7 +200,7 @@ fn rows_after_each_call(rt: HostRuntime) -> Result<(), Fail> {
 
 #[test]
 fn numbers_stay(rt: HostRuntime) -> Result<(), Fail> {
-    let mut waiting = Waiting::new(rt.alloc(), 2)?;
+    let mut waiting = empty(rt.alloc(), 2)?;
     let first = added(rt.alloc(), &mut waiting, 1, 1).unwrap_or(u32::MAX);
     let second = added(rt.alloc(), &mut waiting, 2, 1).unwrap_or(u32::MAX);
     assert_eq!(rt; pair_at(&waiting, first), Some((1, 1)));

@@ -1,7 +1,9 @@
 //! Worked sequences: messages come, change and go, and what is first for each thing to do.
+ghost use Rattle.std.specs.Prelude.{◌≤◌, ◌<◌, ◌^◌};
 
 use crate::{Kept, Pool, Slot};
 use q_model::Id;
+use std::alloc::{AllocError, Global};
 use std::test::Fail;
 
 /// The id of the message with this number.
@@ -28,6 +30,16 @@ fn fresh(serial: u32, recipients: u32) -> Slot {
         bounced: false,
         damaged: false,
     }
+}
+
+/// No message, and room for so many, in a box: a test lets it go at each of its ends. Three marks are
+/// synced, and ten recipients read at least.
+fn empty(alloc: Global, room: u32) -> Result<Box<Pool>, AllocError>
+    requires some { 1 ≤ room }
+    requires few { room < 2 ^ 31 }
+{
+    let pool = Pool::new(alloc, room, 3, 10)?;
+    Ok(Box::new(alloc, pool)?)
 }
 
 /// Adds a message, where there is room and none of its id.
@@ -78,7 +90,7 @@ fn first_standing(pool: &Pool) -> Option<u32> {
 
 #[test]
 fn messages_come_and_go(rt: HostRuntime) -> Result<(), Fail> {
-    let mut pool = Pool::new(rt.alloc(), 2, 3, 10)?;
+    let mut pool = empty(rt.alloc(), 2)?;
     assert_eq!(rt; pool.len(), 0);
     assert_eq!(rt; first_standing(&pool), None);
     assert_eq!(rt; firsts(&pool, 1_000), (None, None, None));
@@ -110,7 +122,7 @@ fn messages_come_and_go(rt: HostRuntime) -> Result<(), Fail> {
 
 #[test]
 fn one_that_may_read(rt: HostRuntime) -> Result<(), Fail> {
-    let mut pool = Pool::new(rt.alloc(), 3, 3, 10)?;
+    let mut pool = empty(rt.alloc(), 3)?;
     assert!(rt; added(&mut pool, fresh(1, 100)));
     assert!(rt; added(&mut pool, fresh(2, 4)));
     // the first wants room for the minimum, the other for all that it has
@@ -145,7 +157,7 @@ fn one_that_may_read(rt: HostRuntime) -> Result<(), Fail> {
 
 #[test]
 fn idle_by_its_rows(rt: HostRuntime) -> Result<(), Fail> {
-    let mut pool = Pool::new(rt.alloc(), 2, 3, 10)?;
+    let mut pool = empty(rt.alloc(), 2)?;
     assert!(rt; added(&mut pool, fresh(1, 4)));
     pool.read(id(1), 3);
     assert_eq!(rt; firsts(&pool, 0), (None, None, None));
@@ -172,7 +184,7 @@ fn idle_by_its_rows(rt: HostRuntime) -> Result<(), Fail> {
 
 #[test]
 fn marks_of_one_that_is_not_idle(rt: HostRuntime) -> Result<(), Fail> {
-    let mut pool = Pool::new(rt.alloc(), 2, 3, 10)?;
+    let mut pool = empty(rt.alloc(), 2)?;
     assert!(rt; added(&mut pool, fresh(1, 8)));
     assert!(rt; added(&mut pool, fresh(2, 1)));
     pool.count(id(1), 0, 1, 0);
@@ -202,7 +214,7 @@ fn marks_of_one_that_is_not_idle(rt: HostRuntime) -> Result<(), Fail> {
 
 #[test]
 fn what_befalls_a_message(rt: HostRuntime) -> Result<(), Fail> {
-    let mut pool = Pool::new(rt.alloc(), 2, 3, 10)?;
+    let mut pool = empty(rt.alloc(), 2)?;
     assert!(rt; added(&mut pool, fresh(1, 3)));
     pool.log(id(1));
     assert_eq!(rt; counts_of(&pool, 1), Some((3, 0, 2)));
