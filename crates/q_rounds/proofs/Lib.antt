@@ -1,0 +1,17 @@
+pub mod Lookups
+pub mod Entered
+pub mod Fewer
+pub mod Splits
+pub mod Totals
+pub mod RoundSets
+pub mod RoundRows
+pub mod FewRounds
+pub mod ListLaws
+pub mod TurnLaws
+pub mod ItemSets
+pub mod Steps
+pub mod Leasts
+pub mod NextPeer
+pub mod TurnWalk
+pub mod Changed
+pub mod Bounds
