@@ -15,3 +15,4 @@ pub mod NextPeer
 pub mod TurnWalk
 pub mod Changed
 pub mod Bounds
+pub mod NumberedWalk

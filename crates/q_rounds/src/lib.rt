@@ -24,6 +24,8 @@ mod peer;
 mod round;
 mod rounds;
 mod walking;
+#[cfg(test)]
+mod worked;
 
 pub use peer::{Peer, PeerKey};
 pub use rounds::Rounds;
