@@ -1,7 +1,7 @@
 use Rattle.std.proofs.Common.{◌≡◌, ◌∙◌, ap, arith, cond, false, length, Option, Some, sym}
 use Rattle.std.specs.Option.{option_map_or}
 use Rattle.std.specs.Prelude.{find}
-use Rattle.q_keyed.specs.Numbered.{item_at, values_of}
+use Rattle.q_keyed.specs.Numbered.{values_of}
 use Rattle.q_rounds.specs.declared.peer.Peer.{Peer}
 use Rattle.q_rounds.specs.Rounds.{has_last}
 use Rattle.q_rounds.proofs.NumberedWalk.{first_stands, from_first, from_on, item_stands, next_stands, one_on}
