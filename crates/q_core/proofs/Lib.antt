@@ -93,3 +93,6 @@ pub mod AbleLaws
 pub mod JoinedJobs
 pub mod LineSteps
 pub mod PreemptKinds
+mod Firsts
+mod KeptSums
+mod Picks
