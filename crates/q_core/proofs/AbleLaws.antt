@@ -1,10 +1,10 @@
 -- Which messages can start, by the peers and the sites that are known.
-use Rattle.std.proofs.Common.{◌≡◌, ◌∙◌, ap, Bool, cond, false, find, List, [], ◌∷◌, Option, refl, Some, sym, true, ℕ}
+use Rattle.std.proofs.Common.{◌≡◌, ◌∙◌, ap, Bool, cond, false, find, List, [], ◌∷◌, refl, Some, true, ℕ}
 use Rattle.std.proofs.lemmas.Grind.{common_steps}
 use Rattle.std.proofs.Common.{arith}
 use Rattle.std.specs.List.{list_any}
 use Rattle.std.specs.Prelude.{◌&&◌, ◌==◌, ◌||◌, nat_lt}
-use Rattle.q_core.proofs.PeerTies.{any_peer, name_of}
+use Rattle.q_core.proofs.PeerTies.{any_peer}
 use Rattle.q_core.proofs.SiteViews.{room_known}
 use Rattle.q_core.specs.Choosing.{current_in}
 use Rattle.q_core.specs.declared.state.Core.TheInside.{Inside}
@@ -16,8 +16,9 @@ use Rattle.q_model.specs.declared.id.Id.{Id}
 use Rattle.q_model.specs.declared.rows.Row.{Row}
 use Rattle.q_model.specs.Ids.{id_eq}
 use Rattle.q_peers.specs.Numbered.{rows_of}
-use Rattle.q_turns.specs.declared.peer.PeerKey.{PeerKey}
-use Rattle.q_turns.specs.Turns.{AreApart, has_space_at, HaveJobs, is_able, line_at}
+use Rattle.q_rounds.specs.declared.peer.PeerKey.{PeerKey}
+use Rattle.q_rounds.specs.Rounds.{has_space_at}
+use Rattle.q_turns.specs.Turns.{AreApart, HaveJobs, is_able, line_at}
 
 any_same : {X : Type 0} (p q : X → Bool) → ((x : X) → p x ≡ q x) → (xs : List X) → list_any p xs ≡ list_any q xs
 any_same p q same [] = refl
@@ -39,13 +40,15 @@ module _ (a : Inside) (sites : AreSitesTied a.sites.items (rows_of a.waiting.ite
   has_process : (r : Row) → (r.site.transport == t) ≡ true → nat_lt (flights_at (state_of a) r.site.transport) (state_of a).params.process_limit ≡ true
   has_process r at = let same : r.site.transport ≡ t = grind (arith, common_steps, at) in ap (λ u. nat_lt (flights_at (state_of a) u) (state_of a).params.process_limit) same ∙ process
 
-  able_known : (id : Id) → is_able a.sites.items a.turns.peers t id ≡ can_start_in (state_of a) t id
+  pub row_known : (id : Id) (r : Row) → ((id_eq r.id id && (r.site.transport == t)) && has_space_at a.sites.items r.site) ≡ rows_for (state_of a) id t r
+  row_known id r =
+      row_same (id_eq r.id id) (r.site.transport == t) (nat_lt (flights_at (state_of a) r.site.transport) (state_of a).params.process_limit) (has_space_at a.sites.items r.site) (has_room_in (state_of a) r.site) (has_process r)
+      (room_known a.flights.items r.site a.sites.items sites.busy)
+
+  pub able_known : (id : Id) → is_able a.sites.items a.turns.peers t id ≡ can_start_in (state_of a) t id
   able_known id =
       any_peer a.turns.lines a.turns.peers (rows_of a.waiting.items) apart jobs peers (λ (k : PeerKey). (id_eq k.id id && (k.site.transport == t)) && has_space_at a.sites.items k.site)
-      ∙ any_same (λ (r : Row). (id_eq r.id id && (r.site.transport == t)) && has_space_at a.sites.items r.site) (rows_for (state_of a) id t)
-      (λ r. row_same (id_eq r.id id) (r.site.transport == t) (nat_lt (flights_at (state_of a) r.site.transport) (state_of a).params.process_limit) (has_space_at a.sites.items r.site) (has_room_in (state_of a) r.site) (has_process r)
-      (room_known a.flights.items r.site a.sites.items sites.busy))
-      (rows_of a.waiting.items)
+      ∙ any_same (λ (r : Row). (id_eq r.id id && (r.site.transport == t)) && has_space_at a.sites.items r.site) (rows_for (state_of a) id t) (row_known id) (rows_of a.waiting.items)
 
   pub current_known : find (λ (j : Job). is_able a.sites.items a.turns.peers t j.id) (line_at t a.turns.lines) ≡ current_in (state_of a) t
   current_known = find_same (λ (j : Job). is_able a.sites.items a.turns.peers t j.id) (λ (j : Job). can_start_in (state_of a) t j.id) (λ j. able_known j.id) (line_at t a.turns.lines)

@@ -5,10 +5,11 @@ use Rattle.std.proofs.lemmas.Grind.{common_steps}
 use Rattle.std.specs.List.{list_any}
 use Rattle.std.specs.Option.{option_map_or}
 use Rattle.std.specs.Prelude.{◌&&◌, ◌==◌, ◌||◌, find, nat_lt}
+use Rattle.q_core.proofs.Firsts.{least_none}
 use Rattle.q_core.proofs.ListLaws.{find-any, find-passes}
 use Rattle.q_core.specs.Choosing.{current_in, jobs_at}
 use Rattle.q_core.specs.Held.{record_in, is_dead_in}
-use Rattle.q_core.specs.Starting.{can_start_in, flights_at, has_room_in, rows_for}
+use Rattle.q_core.specs.Starting.{can_start_in, flights_at, has_room_in, last_start_in, next_row_in, rows_for}
 use Rattle.q_jobs.specs.declared.job.Job.{Job}
 use Rattle.q_core.specs.declared.state.Core.{Core}
 use Rattle.q_core.specs.UsedSites.{is_dead_with, waits_at_in}
@@ -38,6 +39,12 @@ no_row true true true q h = let bad = h refl in cc
 no_process_row : (c : Core) (transport : ℕ) (id : Id) → nat_lt (flights_at c transport) c.params.process_limit ≡ false → (r : Row) → rows_for c id transport r ≡ false
 no_process_row c transport id h r = no_row (id_eq r.id id) (r.site.transport == transport) (nat_lt (flights_at c r.site.transport) c.params.process_limit) (has_room_in c r.site)
     (λ at. let same : r.site.transport ≡ transport = grind (arith, common_steps, at) in ap (λ t. nat_lt (flights_at c t) c.params.process_limit) same ∙ h)
+
+pub no_start : (c : Core) (transport : ℕ) (id : Id) → nat_lt (flights_at c transport) c.params.process_limit ≡ false → can_start_in c transport id ≡ false
+no_start c transport id h = any_of_none (rows_for c id transport) (no_process_row c transport id h) c.waiting
+
+pub no_next_row : (c : Core) (transport : ℕ) (id : Id) → nat_lt (flights_at c transport) c.params.process_limit ≡ false → next_row_in c transport id ≡ None
+no_next_row c transport id h = least_none (last_start_in c) (rows_for c id transport) c.waiting (find_of_none (rows_for c id transport) (no_process_row c transport id h) c.waiting)
 
 -- and there is no current job
 pub no_process : (c : Core) (transport : ℕ) → nat_lt (flights_at c transport) c.params.process_limit ≡ false → current_in c transport ≡ None

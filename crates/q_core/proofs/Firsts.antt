@@ -1,10 +1,9 @@
 -- What is found first in a list.
 use Rattle.std.proofs.Common.{◌≡◌, ◌∙◌, ◌++◌, ◌≤◌, ap, arith, Bool, cond, false, List, [], ◌∷◌, None, Option, refl, Some, subst, sym, true, ℕ}
 use Rattle.std.proofs.lemmas.Grind.{common_steps}
-use Rattle.std.specs.List.{AllByRecursion, list_any}
+use Rattle.std.specs.List.{AllByRecursion}
 use Rattle.std.specs.Option.{option_map_or}
 use Rattle.std.specs.Prelude.{◌||◌, filter, find, nat_le, nat_lt}
-use Rattle.q_core.proofs.ListLaws.{find-passes}
 use Rattle.q_model.specs.Lists.{drop_first, least}
 
 module _ {X : Type 0} where

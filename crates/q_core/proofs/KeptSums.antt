@@ -1,5 +1,5 @@
 -- What is kept under the keys that pass a test is, all together, what of a list is under such a key.
-use Rattle.std.proofs.Common.{◌≡◌, ◌∙◌, ◌+◌, ap, arith, Bool, cond, false, List, [], ◌∷◌, None, refl, Some, subst, sym, true, ℕ}
+use Rattle.std.proofs.Common.{◌≡◌, ◌∙◌, ◌+◌, ap, arith, Bool, cond, false, List, [], ◌∷◌, None, refl, Some, sym, true, ℕ}
 use Rattle.std.specs.Option.{option_map_or}
 use Rattle.std.specs.Prelude.{count_by, filter, find, not}
 use Rattle.q_core.proofs.CountLaws.{counted_step}

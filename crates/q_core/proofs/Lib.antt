@@ -96,3 +96,8 @@ pub mod PreemptKinds
 mod Firsts
 mod KeptSums
 mod Picks
+pub mod ServedLaws
+pub mod TurnTies
+pub mod RowTurns
+pub mod ServedChanges
+pub mod NextRows

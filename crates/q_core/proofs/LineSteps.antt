@@ -1,5 +1,5 @@
 -- What entries do to lines, in the words of a line's own calls.
-use Rattle.std.proofs.Common.{◌≡◌, ◌∙◌, ◌∷◌, ◌++◌, ◌+◌, ◌^◌, ◌<◌, [], ap, arith, Bool, cond, false, get_or, length, List, map, None, not, Option, option_map, refl, Some, suc, sym, take, drop, true, zero, ℕ}
+use Rattle.std.proofs.Common.{◌≡◌, ◌∙◌, ◌∷◌, ◌++◌, ◌+◌, ◌^◌, ◌<◌, [], ap, arith, Bool, cond, false, length, List, map, None, not, Option, option_map, refl, Some, suc, sym, take, true, zero, ℕ}
 use Rattle.std.specs.List.{enumerate_from, list_all, list_any}
 use Rattle.std.specs.Option.{is_some, option_map_or}
 use Rattle.std.specs.Prelude.{◌&&◌, ◌==◌, ◌||◌, filter, find, nat_lt, slice_get}

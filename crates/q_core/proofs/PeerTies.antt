@@ -1,12 +1,11 @@
 -- The peers count the rows that wait, as these come and go, and say what rows say.
-use Rattle.std.proofs.Common.{◌≡◌, ◌∙◌, ◌+◌, ◌≤◌, ◌++◌, ap, arith, Bool, cond, false, length, List, [], ◌∷◌, map, None, Option, refl, Some, subst, sym, true, ℕ}
+use Rattle.std.proofs.Common.{◌≡◌, ◌∙◌, ◌+◌, ◌≤◌, ◌++◌, ap, arith, Bool, cond, false, length, List, [], ◌∷◌, map, None, Option, refl, Some, sym, true, ℕ}
 use Rattle.std.proofs.lemmas.Grind.{common_steps}
 use Rattle.std.proofs.lemmas.List.{length-append, length-map}
 use Rattle.std.specs.List.{list_any, remove}
-use Rattle.std.specs.Option.{option_map_or}
-use Rattle.std.specs.Prelude.{◌&&◌, ◌||◌, ◌-◌, ◌==◌, count_by, filter, find, nat_lt, not, slice_get}
+use Rattle.std.specs.Prelude.{◌||◌, ◌-◌, ◌==◌, count_by, find, nat_lt, not, slice_get}
 use Rattle.q_core.proofs.CountLaws.{count_without}
-use Rattle.q_core.proofs.ListLaws.{find-any, find-none, find-passes}
+use Rattle.q_core.proofs.ListLaws.{find-any, find-passes}
 use Rattle.q_core.proofs.SiteTies.{any_counted}
 use Rattle.q_core.proofs.Tallies.{keyed_mapped, tally_comes, tally_fewer, tally_filtered, tally_first, tally_here, tally_there}
 use Rattle.q_core.specs.Ties.{ArePeersTied}
@@ -14,10 +13,11 @@ use Rattle.q_jobs.specs.declared.job.Job.{Job}
 use Rattle.q_model.specs.declared.id.Id.{Id}
 use Rattle.q_model.specs.declared.rows.Row.{Row}
 use Rattle.q_model.specs.Values.{Site}
-use Rattle.q_turns.specs.KeyLaws.{key_eq-refl, key_eq-true}
-use Rattle.q_turns.specs.declared.peer.Peer.{Peer}
-use Rattle.q_turns.specs.declared.peer.PeerKey.{PeerKey}
-use Rattle.q_turns.specs.Turns.{AreApart, changed_at, gained, HaveJobs, is_peer, key_eq, key_of, lost, lost_at, new_peer, waits}
+use Rattle.q_rounds.specs.KeyLaws.{key_eq-refl, key_eq-true}
+use Rattle.q_rounds.specs.declared.peer.Peer.{Peer}
+use Rattle.q_rounds.specs.declared.peer.PeerKey.{PeerKey}
+use Rattle.q_rounds.specs.Rounds.{gained, is_peer, key_eq, key_of, lost, new_peer, waits}
+use Rattle.q_turns.specs.Turns.{AreApart, changed_at, HaveJobs, lost_at}
 
 -- what a row is counted under
 abbrev pub name_of : Row → PeerKey
@@ -30,21 +30,25 @@ stays : (id : Id) (site : Site) (p : Peer) (b : Bool) → key_of (cond b (lost p
 stays id site p true = refl
 stays id site p false = refl
 
--- a row waits no more
-pub peers_lost : (rows : List Row) (i : ℕ) (row : Row) (ps : List Peer) → AreApart ps → slice_get rows i ≡ Some row → ArePeersTied ps rows → ArePeersTied (lost_at row.id row.site ps) (remove rows i)
-peers_lost rows i row ps apart at tie =
+-- one row less is counted
+pub peers_fewer : (rows : List Row) (i : ℕ) (row : Row) (ps : List Peer) → slice_get rows i ≡ Some row → ArePeersTied ps rows → ArePeersTied (map (changed_at row.id row.site lost) ps) (remove rows i)
+peers_fewer rows i row ps at tie =
     let k = name_of row in
     let there = tally_there key_eq key_of key_eq-true key_eq-refl (λ p. p.waiting) name_of ps rows k (count_by (λ (r : Row). key_eq (name_of r) k) (remove rows i)) tie
     (count_without (λ (r : Row). key_eq (name_of r) k) rows i row at ∙ ap (λ b. count_by (λ (r : Row). key_eq (name_of r) k) (remove rows i) + cond b 1 0) (key_eq-refl k)) in
-    let fewer = tally_fewer key_eq key_of key_eq-true key_eq-refl (λ p. p.waiting) name_of lost (λ p. refl) ps rows k row there.0 tie refl there.1 (remove rows i) (λ p. count_without p rows i row at) refl in
+    tally_fewer key_eq key_of key_eq-true key_eq-refl (λ p. p.waiting) name_of lost (λ p. refl) ps rows k row there.0 tie refl there.1 (remove rows i) (λ p. count_without p rows i row at) refl
+
+-- a row waits no more
+pub peers_lost : (rows : List Row) (i : ℕ) (row : Row) (ps : List Peer) → AreApart ps → slice_get rows i ≡ Some row → ArePeersTied ps rows → ArePeersTied (lost_at row.id row.site ps) (remove rows i)
+peers_lost rows i row ps apart at tie =
     tally_filtered key_eq key_of key_eq-true key_eq-refl (λ p. p.waiting) waits name_of (map (changed_at row.id row.site lost) ps) (remove rows i) none_waits
-    (keyed_mapped key_eq key_of key_eq-true key_eq-refl (changed_at row.id row.site lost) (λ p. stays row.id row.site p (is_peer row.id row.site p)) ps apart) fewer
+    (keyed_mapped key_eq key_of key_eq-true key_eq-refl (changed_at row.id row.site lost) (λ p. stays row.id row.site p (is_peer row.id row.site p)) ps apart) (peers_fewer rows i row ps at tie)
 
 found_step : {X : Type 0} (p : X → Bool) (x : X) (xs : List X) → (list_any p xs ≡ true → (y : X) × (find p xs ≡ Some y)) → (b : Bool) → (b || list_any p xs) ≡ true → (y : X) × (cond b (Some x) (find p xs) ≡ Some y)
 found_step p x xs rest true h = (x, refl)
 found_step p x xs rest false h = rest h
 
-any_found : {X : Type 0} (p : X → Bool) (xs : List X) → list_any p xs ≡ true → (y : X) × (find p xs ≡ Some y)
+pub any_found : {X : Type 0} (p : X → Bool) (xs : List X) → list_any p xs ≡ true → (y : X) × (find p xs ≡ Some y)
 any_found p [] h = cc
 any_found p (x ∷ xs) h = found_step p x xs (any_found p xs) (p x) h
 
@@ -52,26 +56,22 @@ absent_step : {X : Type 0} (p : X → Bool) (x : X) (xs : List X) → (list_any 
 absent_step p x xs rest true h = cc
 absent_step p x xs rest false h = rest h
 
-none_found : {X : Type 0} (p : X → Bool) (xs : List X) → list_any p xs ≡ false → find p xs ≡ None
+pub none_found : {X : Type 0} (p : X → Bool) (xs : List X) → list_any p xs ≡ false → find p xs ≡ None
 none_found p [] h = refl
 none_found p (x ∷ xs) h = absent_step p x xs (none_found p xs) (p x) h
 
 -- one row more waits
 pub peers_gained : (r : Row) (ps : List Peer) (rows : List Row) → ArePeersTied ps rows → (b : Bool) → list_any (is_peer r.id r.site) ps ≡ b →
-    ArePeersTied (cond b (map (changed_at r.id r.site gained) ps) (ps ++ new_peer r.id r.site ∷ [])) (rows ++ r ∷ [])
+    ArePeersTied (cond b (map (changed_at r.id r.site gained) ps) (ps ++ new_peer r.id r.site 0 ∷ [])) (rows ++ r ∷ [])
 peers_gained r ps rows tie true t =
     let there = any_found (is_peer r.id r.site) ps t in
     tally_comes key_eq key_of key_eq-true key_eq-refl (λ p. p.waiting) name_of gained (λ p. refl) ps rows (name_of r) r there.0 tie refl there.1 refl
 peers_gained r ps rows tie false t =
-    tally_first key_eq key_of key_eq-true key_eq-refl (λ p. p.waiting) name_of ps rows (new_peer r.id r.site) r tie (none_found (is_peer r.id r.site) ps t) refl refl
+    tally_first key_eq key_of key_eq-true key_eq-refl (λ p. p.waiting) name_of ps rows (new_peer r.id r.site 0) r tie (none_found (is_peer r.id r.site) ps t) refl refl
 
-pub one_peer_more : (id : Id) (site : Site) (ps : List Peer) (b : Bool) → length (cond b (map (changed_at id site gained) ps) (ps ++ new_peer id site ∷ [])) ≤ length ps + 1
+pub one_peer_more : (id : Id) (site : Site) (ps : List Peer) (b : Bool) → length (cond b (map (changed_at id site gained) ps) (ps ++ new_peer id site 0 ∷ [])) ≤ length ps + 1
 one_peer_more id site ps true = let same = length-map ps (changed_at id site gained) in omega (arith, same)
-one_peer_more id site ps false = let all = length-append ps (new_peer id site ∷ []) in omega (arith, all)
-
--- at the beginning there is nothing
-pub peers_new : (ps : List Peer) (rows : List Row) → ps ≡ [] → rows ≡ [] → ArePeersTied ps rows
-peers_new ps rows p r = subst (λ x. ArePeersTied x rows) (sym p) (subst (λ x. ArePeersTied [] x) (sym r) (λ k. refl))
+one_peer_more id site ps false = let all = length-append ps (new_peer id site 0 ∷ []) in omega (arith, all)
 
 -- a test of messages and sites passes for a peer exactly where it passes for a row
 own_step : (p q : Peer) (ps : List Peer) (b : Bool) → is_peer q.id q.site p ≡ b → find (is_peer p.id p.site) ps ≡ None → find (is_peer q.id q.site) ps ≡ Some q → cond b (Some p) (find (is_peer q.id q.site) ps) ≡ Some q
@@ -100,7 +100,7 @@ waits_found : (lines : List (List Job)) (ps : List Peer) (q : Peer) (test : Peer
 waits_found lines [] q test h e = cc
 waits_found lines (p ∷ ps) q test h e = waits_step p q (find test ps) (test p) h.0 (waits_found lines ps q test h.2) e
 
-some_counted : (n : ℕ) → nat_lt 0 n ≡ true → (k : ℕ) × (n ≡ k + 1)
+pub some_counted : (n : ℕ) → nat_lt 0 n ≡ true → (k : ℕ) × (n ≡ k + 1)
 some_counted n h = let more : 1 ≤ n = grind (arith, common_steps, h) in (n - 1, omega (arith, more))
 
 counted_any : {X : Type 0} (p : X → Bool) (xs : List X) → nat_lt 0 (count_by p xs) ≡ true → list_any p xs ≡ true
@@ -109,7 +109,7 @@ counted_any p xs h = any_counted p xs ∙ more (count_by p xs) h
     more : (n : ℕ) → nat_lt 0 n ≡ true → not (n == 0) ≡ true
     more n k = grind (arith, common_steps, k)
 
-any_counts : {X : Type 0} (p : X → Bool) (xs : List X) → list_any p xs ≡ true → nat_lt 0 (count_by p xs) ≡ true
+pub any_counts : {X : Type 0} (p : X → Bool) (xs : List X) → list_any p xs ≡ true → nat_lt 0 (count_by p xs) ≡ true
 any_counts p xs h = more (count_by p xs) (sym (any_counted p xs) ∙ h)
   where
     more : (n : ℕ) → not (n == 0) ≡ true → nat_lt 0 n ≡ true

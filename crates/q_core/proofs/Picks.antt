@@ -3,10 +3,10 @@ use Rattle.std.proofs.Common.{◌≡◌, ◌∙◌, ◌+◌, ◌≤◌, ◌⊎�
 use Rattle.std.proofs.lemmas.Grind.{common_steps}
 use Rattle.std.specs.Prelude.{◌||◌, count_by, filter, find, nat_le, nat_lt}
 use Rattle.q_core.proofs.ListLaws.{find-passes}
-use Rattle.q_core.proofs.Tallies.{tally_here, tally_there}
+use Rattle.q_core.proofs.Tallies.{tally_there}
 use Rattle.q_core.specs.Ties.{AreTallied}
 use Rattle.q_model.specs.Lists.{least}
-use Rattle.q_core.proofs.Firsts.{find-narrower, is_least, IsLeastOf, least_is, lowest_found, none_least}
+use Rattle.q_core.proofs.Firsts.{find-narrower, IsLeastOf, least_is, lowest_found, none_least}
 
 module _ {K D X : Type 0} (eq : K → K → Bool) (key : D → K) (same : (a b : K) → eq a b ≡ true → a ≡ b) (own : (a : K) → eq a a ≡ true) (g : D → ℕ) (name : X → K) (T : K → Bool) (last : D → ℕ) (L : K → ℕ) (ds : List D) (xs : List X) where
   abbrev under : K → D → Bool

@@ -1,12 +1,11 @@
 -- A job that goes before another is of another message, and the other one is there.
 use Rattle.std.proofs.Common.{◌≡◌, ◌∙◌, ◌+◌, ap, Bool, cond, false, List, [], ◌∷◌, None, not, Option, option_map, refl, Some, suc, subst, sym, true, zero, ℕ}
-use Rattle.std.specs.List.{list_any}
 use Rattle.std.specs.Option.{option_or}
 use Rattle.std.specs.Prelude.{◌&&◌, ◌==◌, ◌^◌, filter, find, nat_lt, option_and_then}
 use Rattle.q_core.proofs.KindLaws.{start_first}
 use Rattle.q_core.proofs.LineSteps.{none_fresh}
 use Rattle.q_core.proofs.ListLaws.{find-any}
-use Rattle.q_core.specs.Choosing.{best_in, candidate_slot, choice_in, choices_from, current_in, is_better_in, is_fresh_among, jobs_at, next_start_in, pays_in, preempt_or, rest_in}
+use Rattle.q_core.specs.Choosing.{best_in, candidate_slot, choice_in, choices_from, current_in, is_better_in, is_fresh_among, jobs_at, pays_in, preempt_or, rest_in}
 use Rattle.q_core.specs.Deciding.{decide_in}
 use Rattle.q_core.specs.declared.decision.Decision.{Decision}
 use Rattle.q_core.specs.declared.decision.Decision.TheVariants as decisions

@@ -4,7 +4,7 @@ use Rattle.std.proofs.lemmas.Bool.{ltb-false, ltb-true}
 use Rattle.std.proofs.lemmas.Grind.{common_steps}
 use Rattle.std.specs.List.{list_any, position_or_len}
 use Rattle.std.specs.Option.{is_some}
-use Rattle.std.specs.Prelude.{◌&&◌, ◌||◌, ◌==◌, count_by, filter, find, nat_lt, not, position, slice_get}
+use Rattle.std.specs.Prelude.{◌&&◌, ◌||◌, ◌==◌, filter, find, nat_lt, not, position, slice_get}
 use Rattle.q_model.proofs.IdLaws.{id_eq-true}
 use Rattle.q_model.specs.declared.id.Id.{Id}
 use Rattle.q_model.specs.declared.rows.Row.{Row}
@@ -12,9 +12,7 @@ use Rattle.q_model.specs.Lists.{drop_first, least}
 use Rattle.q_peers.proofs.Rests.{absent_rest, first_rest, IsOne, next_one, next_rest, rest}
 use Rattle.q_peers.specs.Numbered.{any_row, AreApart, first_such, is_of, next_such, Numbered, row_at, rows_of}
 use Rattle.q_core.proofs.ListLaws.{IsFoundAt, position-find}
-use Rattle.q_core.proofs.CountLaws.{counted_step}
 use Rattle.q_core.specs.Lists.{better_of, sooner_of}
-use Rattle.q_core.specs.RowWalks.{count_here, is_row_for}
 use Rattle.q_core.specs.Starting.{is_startable_in, last_start_in, next_row_of, rows_for, sent_before, sooner_row}
 use Rattle.q_core.specs.declared.state.Core.{Core}
 
@@ -35,32 +33,9 @@ module _ (id : Id) (ks : List Numbered) (at : Option ℕ) (n : ℕ) (r : Row) (a
   pub fewer_left : length (rest (is_of id) (next_such (λ x. is_of x.id) n ks) ks) < length (rest (is_of id) at ks)
   fewer_left = let e = ap length step_on in omega (arith, e)
 
-  counted_one : (t : ℕ) (rows : List Row) → count_by (is_row_for id t) (r ∷ rows) ≡ count_here t r + count_by (is_row_for id t) rows
-  counted_one t rows = counted_step (is_row_for id t) r rows ∙ ap {B = ℕ} (λ b. cond (b && (r.site.transport == t)) 1 0 + count_by (is_row_for id t) rows) own
-
-  pub counted_on : (t count total : ℕ) → count + count_by (is_row_for id t) (rest (is_of id) at ks) ≡ total →
-      (count + count_here t r) + count_by (is_row_for id t) (rest (is_of id) (next_such (λ x. is_of x.id) n ks) ks) ≡ total
-  counted_on t count total h =
-      let e = ap (count_by (is_row_for id t)) step_on ∙ counted_one t (rest (is_of id) (next_such (λ x. is_of x.id) n ks) ks) in
-      omega (arith, e, h)
-
 -- no row is left from a number on that none has
 pub left_none : (p : Row → Bool) (ks : List Numbered) (at : Option ℕ) (n : ℕ) → at ≡ Some n → row_at n ks ≡ None → rest p at ks ≡ []
 left_none p ks at n here there = ap (λ o. rest p o ks) here ∙ absent_rest p n ks there
-
-count_kept : {X : Type 0} (p q : X → Bool) (x : X) (xs : List X) (b : Bool) → p x ≡ b → (q x ≡ true → p x ≡ true) → count_by q (filter p xs) ≡ count_by q xs →
-    count_by q (cond b (x ∷ filter p xs) (filter p xs)) ≡ count_by q (x ∷ xs)
-count_kept p q x xs true e of rest = counted_step q x (filter p xs) ∙ ap (λ n. cond (q x) 1 0 + n) rest ∙ sym (counted_step q x xs)
-count_kept p q x xs false e of rest = rest ∙ fails (q x) refl
-  where
-    fails : (b : Bool) → q x ≡ b → count_by q xs ≡ count_by q (x ∷ xs)
-    fails true e' = let bad : true ≡ false = sym (of e') ∙ e in cc
-    fails false e' = let s = counted_step q x xs in let z : cond (q x) 1 0 ≡ 0 = ap {B = ℕ} (λ b. cond b 1 0) e' in omega (arith, s, z)
-
--- what counts is among those that pass
-pub count_filtered : {X : Type 0} (p q : X → Bool) → ((x : X) → q x ≡ true → p x ≡ true) → (xs : List X) → count_by q (filter p xs) ≡ count_by q xs
-count_filtered p q of [] = refl
-count_filtered p q of (x ∷ xs) = count_kept p q x xs (p x) refl (of x) (count_filtered p q of xs)
 
 filter_kept : {X : Type 0} (p q : X → Bool) (x : X) (xs : List X) (b : Bool) → p x ≡ b → (q x ≡ true → p x ≡ true) → filter q (filter p xs) ≡ filter q xs →
     filter q (cond b (x ∷ filter p xs) (filter p xs)) ≡ filter q (x ∷ xs)
@@ -78,12 +53,6 @@ filter_filtered p q of (x ∷ xs) = filter_kept p q x xs (p x) refl (of x) (filt
 both_left : (a b : Bool) → (a && b) ≡ true → a ≡ true
 both_left true b h = refl
 both_left false b h = h
-
--- the count of a message's rows is that among all
-pub count_of_all : (id : Id) (t : ℕ) (ks : List Numbered) → AreApart ks → count_by (is_row_for id t) (rest (is_of id) (first_such (is_of id) ks) ks) ≡ count_by (is_row_for id t) (rows_of ks)
-count_of_all id t ks apart =
-    ap (count_by (is_row_for id t)) (first_rest (is_of id) ks apart)
-    ∙ count_filtered (is_of id) (is_row_for id t) (λ r h. both_left (is_of id r) (r.site.transport == t) h) (rows_of ks)
 
 -- of what was found before, and the best of the rest
 abbrev pub merged : {A : Type 0} → (A → A → Bool) → Option A → Option A → Option A

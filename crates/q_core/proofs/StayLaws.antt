@@ -1,4 +1,4 @@
--- Which jobs and served rows stay as messages in memory and rows that wait change.
+-- Which jobs stay as messages in memory and rows that wait change.
 use Rattle.std.proofs.Common.{◌≡◌, ℕ, Bool, true, false, cond, List, [], ◌∷◌, ◌++◌, map, not, Option, Some, None, inl, inr, refl, sym, ap, ◌∙◌, suc, zero, if◌then◌else◌}
 use Rattle.std.proofs.lemmas.Bool.{or_cases, or_left, or_right}
 use Rattle.std.proofs.lemmas.List.Folds.{find-append, list_any-append}
@@ -7,13 +7,11 @@ use Rattle.std.specs.Option.{option_map_or, option_or}
 use Rattle.std.specs.Prelude.{◌&&◌, ◌||◌, ◌-◌, ◌==◌, slice_get}
 use Rattle.q_core.specs.Changes.{slots_without}
 use Rattle.q_pool.specs.Slots.{changed_at, with_slot_mark}
-use Rattle.q_core.specs.Tidied.{slot_among, stays_among, unread_among, waits_at_site, waits_for}
+use Rattle.q_core.specs.Tidied.{slot_among, stays_among, unread_among, waits_for}
 use Rattle.q_pool.specs.declared.slot.Slot.{Slot}
 use Rattle.q_laws.proofs.Members.{find_none_from, in_filtered}
 use Rattle.q_model.proofs.IdLaws.{id_eq-refl, id_eq-true}
 use Rattle.q_model.specs.Ids.{id_eq}
-use Rattle.q_model.specs.Sites.{site_eq}
-use Rattle.q_model.specs.Values.{Site}
 use Rattle.q_model.specs.declared.id.Id.{Id}
 use Rattle.q_model.specs.declared.rows.Row.{Row}
 
@@ -129,7 +127,3 @@ row_gone false b c e h = h
 pub waits_left : (w : List Row) (i : ℕ) (row : Row) (n : ℕ) (id : Id) → slice_get w i ≡ Some row → id_eq id row.id ≡ false → waits_for w id n ≡ true → waits_for (remove w i) id n ≡ true
 waits_left w i row n id at other h = row_gone (id_eq row.id id) (row.site.transport == n) (waits_for (remove w i) id n) (id_other id row.id other (id_eq row.id id) refl)
     (any_removed (λ (r : Row). id_eq r.id id && (r.site.transport == n)) w i row at h)
-
-pub served_left : (w : List Row) (i : ℕ) (row : Row) (site : Site) (id : Id) → slice_get w i ≡ Some row → id_eq id row.id ≡ false → waits_at_site w id site ≡ true → waits_at_site (remove w i) id site ≡ true
-served_left w i row site id at other h = row_gone (id_eq row.id id) (site_eq row.site site) (waits_at_site (remove w i) id site) (id_other id row.id other (id_eq row.id id) refl)
-    (any_removed (λ (r : Row). id_eq r.id id && site_eq r.site site) w i row at h)

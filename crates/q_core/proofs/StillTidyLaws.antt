@@ -1,24 +1,21 @@
 -- After each change of the core's lists nothing has to go but what was touched.
-use Rattle.std.proofs.Common.{◌≡◌, ℕ, Bool, true, false, List, [], ◌∷◌, ◌++◌, map, filter, not, Option, Some, None, option_map, length, append-nil, take, drop, inl, inr, refl, sym, ap, ◌∙◌, subst, arith, if◌then◌else◌}
-use Rattle.std.proofs.lemmas.Bool.{and_from, cases_Bool, or_left}
+use Rattle.std.proofs.Common.{◌≡◌, ℕ, Bool, true, false, List, [], ◌∷◌, ◌++◌, map, not, Option, Some, None, option_map, length, append-nil, take, drop, inl, inr, refl, sym, ap, ◌∙◌, subst, arith, if◌then◌else◌}
+use Rattle.std.proofs.lemmas.Bool.{cases_Bool}
 use Rattle.std.specs.List.{enumerate_from, remove}
-use Rattle.std.specs.Prelude.{◌&&◌, ◌||◌, ◌==◌, slice_get}
+use Rattle.std.specs.Prelude.{◌||◌, ◌==◌, slice_get}
 use Rattle.q_core.proofs.ListLaws.{length-numbered, slice_get-numbered}
 use Rattle.std.proofs.lemmas.List.{drop_all, take_all}
-use Rattle.q_core.proofs.StayLaws.{served_left, stays_by, unread_entered, unread_left, waits_left}
-use Rattle.q_core.proofs.TouchedLaws.{all_kept, all_touched, touched_here}
+use Rattle.q_core.proofs.StayLaws.{stays_by, unread_entered, unread_left, waits_left}
+use Rattle.q_core.proofs.TouchedLaws.{all_kept, all_touched}
 use Rattle.q_core.specs.Changes.{slots_without}
-use Rattle.q_core.specs.Sending.{served_now}
-use Rattle.q_core.specs.Tidied.{stays_among, unread_among, waits_at_site}
-use Rattle.q_core.specs.Touched.{DoJobsStay, IsTidyBut, is_touched, jobs_stay, served_stay, touched_with}
+use Rattle.q_core.specs.Tidied.{stays_among, unread_among}
+use Rattle.q_core.specs.Touched.{DoJobsStay, IsTidyBut, is_touched, jobs_stay, touched_with}
 use Rattle.q_jobs.specs.declared.job.Job.{Job}
 use Rattle.q_pool.specs.declared.slot.Slot.{Slot}
 use Rattle.q_core.specs.declared.touched.Touched.{Touched}
-use Rattle.q_laws.proofs.Members.{all_at, all_filtered, all_from, in_unmap}
-use Rattle.q_model.proofs.IdLaws.{id_eq-refl, id_eq-true}
+use Rattle.q_laws.proofs.Members.{all_at, all_from, in_unmap}
+use Rattle.q_model.proofs.IdLaws.{id_eq-true}
 use Rattle.q_model.specs.Ids.{id_eq}
-use Rattle.q_model.specs.Sites.{site_eq}
-use Rattle.q_model.specs.Values.{Served, Site}
 use Rattle.q_model.specs.declared.id.Id.{Id}
 use Rattle.q_model.specs.declared.rows.Row.{Row}
 
@@ -37,15 +34,6 @@ pub lines_touched : (m : Touched Id) (k : Id) (a b : List Slot) (w v : List Row)
 lines_touched m k a b w v ls h old = λ n js e. all_touched id_eq id_eq-true (λ (j : Job). j.id) m k (λ (j : Job). stays_among a w n j.id) (λ (j : Job). stays_among b v n j.id) js
     (λ j inside stays. or_unless (id_eq j.id k) (stays_among b v n j.id) (λ other. h n j.id other stays)) (old n js e)
 
-pub served_kept : (m : Touched Id) (w v : List Row) (sv : List Served) → ((id : Id) (site : Site) → waits_at_site w id site ≡ true → waits_at_site v id site ≡ true) →
-    served_stay m w sv ≡ true → served_stay m v sv ≡ true
-served_kept m w v sv h old = all_kept id_eq (λ (s : Served). s.id) m (λ (s : Served). waits_at_site w s.id s.site) (λ (s : Served). waits_at_site v s.id s.site) sv (λ s inside. h s.id s.site) old
-
-pub served_touched : (m : Touched Id) (k : Id) (w v : List Row) (sv : List Served) → ((id : Id) (site : Site) → id_eq id k ≡ false → waits_at_site w id site ≡ true → waits_at_site v id site ≡ true) →
-    served_stay m w sv ≡ true → served_stay (touched_with id_eq k m) v sv ≡ true
-served_touched m k w v sv h old = all_touched id_eq id_eq-true (λ (s : Served). s.id) m k (λ (s : Served). waits_at_site w s.id s.site) (λ (s : Served). waits_at_site v s.id s.site) sv
-    (λ s inside waits. or_unless (id_eq s.id k) (waits_at_site v s.id s.site) (λ other. h s.id s.site other waits)) old
-
 at_line : (m : Touched Id) (a : List Slot) (w : List Row) (f : (ℕ × List Job) → List Job) (n : ℕ) (o : Option (List Job)) →
     ((js : List Job) → o ≡ Some js → jobs_stay m a w n (f (n, js)) ≡ true) → (ks : List Job) → option_map (λ js. f (n, js)) o ≡ Some ks → jobs_stay m a w n ks ≡ true
 at_line m a w f n None h ks e = absurd cc
@@ -59,33 +47,31 @@ lines_mapped m a w f ls h = λ n ks e. at_line m a w f n (slice_get ls n) (h n) 
 -- ---- messages in memory
 
 -- what was unread still is
-pub slots_kept : {m : Touched Id} {a b : List Slot} {w : List Row} {ls : List (List Job)} {sv : List Served} →
-    ((id : Id) → not (unread_among a id == 0) ≡ true → not (unread_among b id == 0) ≡ true) → IsTidyBut m a w ls sv → IsTidyBut m b w ls sv
+pub slots_kept : {m : Touched Id} {a b : List Slot} {w : List Row} {ls : List (List Job)} →
+    ((id : Id) → not (unread_among a id == 0) ≡ true → not (unread_among b id == 0) ≡ true) → IsTidyBut m a w ls → IsTidyBut m b w ls
 slots_kept {m = m} {a = a} {b = b} {w = w} {ls = ls} h t =
-    record { jobs = lines_kept m a b w w ls (λ k id. stays_by a b w w k id (h id) (λ e. e)) t.jobs; rows = t.rows }
+    record { jobs = lines_kept m a b w w ls (λ k id. stays_by a b w w k id (h id) (λ e. e)) t.jobs }
 
 -- the same is unread
-pub slots_same : {m : Touched Id} {a b : List Slot} {w : List Row} {ls : List (List Job)} {sv : List Served} →
-    ((id : Id) → unread_among b id ≡ unread_among a id) → IsTidyBut m a w ls sv → IsTidyBut m b w ls sv
+pub slots_same : {m : Touched Id} {a b : List Slot} {w : List Row} {ls : List (List Job)} →
+    ((id : Id) → unread_among b id ≡ unread_among a id) → IsTidyBut m a w ls → IsTidyBut m b w ls
 slots_same h t = slots_kept (λ id e. ap (λ k. not (k == 0)) (h id) ∙ e) t
 
 -- the same of the others
-pub slots_touched : {m : Touched Id} {a b : List Slot} {w : List Row} {ls : List (List Job)} {sv : List Served} →
-    (k : Id) → ((id : Id) → id_eq id k ≡ false → unread_among b id ≡ unread_among a id) → IsTidyBut m a w ls sv → IsTidyBut (touched_with id_eq k m) b w ls sv
-slots_touched {m = m} {a = a} {b = b} {w = w} {ls = ls} {sv = sv} k h t = record {
-  jobs = lines_touched m k a b w w ls (λ i id other. stays_by a b w w i id (λ e. ap (λ j. not (j == 0)) (h id other) ∙ e) (λ e. e)) t.jobs;
-  rows = served_touched m k w w sv (λ id site other e. e) t.rows;
-}
+pub slots_touched : {m : Touched Id} {a b : List Slot} {w : List Row} {ls : List (List Job)} →
+    (k : Id) → ((id : Id) → id_eq id k ≡ false → unread_among b id ≡ unread_among a id) → IsTidyBut m a w ls → IsTidyBut (touched_with id_eq k m) b w ls
+slots_touched {m = m} {a = a} {b = b} {w = w} {ls = ls} k h t =
+    record { jobs = lines_touched m k a b w w ls (λ i id other. stays_by a b w w i id (λ e. ap (λ j. not (j == 0)) (h id other) ∙ e) (λ e. e)) t.jobs }
 
-pub slot_entered : {m : Touched Id} {a : List Slot} {w : List Row} {ls : List (List Job)} {sv : List Served} →
-    (x : Slot) → IsTidyBut m a w ls sv → IsTidyBut m (a ++ x ∷ []) w ls sv
+pub slot_entered : {m : Touched Id} {a : List Slot} {w : List Row} {ls : List (List Job)} →
+    (x : Slot) → IsTidyBut m a w ls → IsTidyBut m (a ++ x ∷ []) w ls
 slot_entered {a = a} x t = slots_kept (λ id. unread_entered a x id) t
 
 none_unread : (n : ℕ) → (n == 0) ≡ true → not (n == 0) ≡ true → ⊥
 none_unread n e h = let bad : false ≡ true = ap not (sym e) ∙ h in absurd cc
 
-gone_by : {m : Touched Id} {a : List Slot} {w : List Row} {ls : List (List Job)} {sv : List Served} →
-    (k : Id) (b : Bool) → (unread_among a k == 0) ≡ b → IsTidyBut m a w ls sv → IsTidyBut (if b then m else touched_with id_eq k m) (slots_without k a) w ls sv
+gone_by : {m : Touched Id} {a : List Slot} {w : List Row} {ls : List (List Job)} →
+    (k : Id) (b : Bool) → (unread_among a k == 0) ≡ b → IsTidyBut m a w ls → IsTidyBut (if b then m else touched_with id_eq k m) (slots_without k a) w ls
 gone_by {a = a} k false e t = slots_touched k (λ id other. unread_left k a id other) t
 gone_by {a = a} k true e t = slots_kept {a = a} (λ id h. elim (cases_Bool (id_eq id k)) [
   | inl same ↦ absurd (none_unread (unread_among a id) (ap (λ i. unread_among a i == 0) (id_eq-true id k same) ∙ e) h)
@@ -93,32 +79,18 @@ gone_by {a = a} k true e t = slots_kept {a = a} (λ id h. elim (cases_Bool (id_e
 ]) t
 
 -- one goes, which is touched where something of it is unread
-pub slot_gone : {m : Touched Id} {a : List Slot} {w : List Row} {ls : List (List Job)} {sv : List Served} →
-    (k : Id) → IsTidyBut m a w ls sv → IsTidyBut (if unread_among a k == 0 then m else touched_with id_eq k m) (slots_without k a) w ls sv
+pub slot_gone : {m : Touched Id} {a : List Slot} {w : List Row} {ls : List (List Job)} →
+    (k : Id) → IsTidyBut m a w ls → IsTidyBut (if unread_among a k == 0 then m else touched_with id_eq k m) (slots_without k a) w ls
 slot_gone {a = a} k t = gone_by k (unread_among a k == 0) refl t
 
--- ---- rows and deliveries
+-- ---- rows
 
 -- a row goes
-pub row_gone : {m : Touched Id} {a : List Slot} {w : List Row} {ls : List (List Job)} {sv : List Served} →
-    (i : ℕ) (row : Row) → slice_get w i ≡ Some row → IsTidyBut m a w ls sv →
-    IsTidyBut (touched_with id_eq row.id m) a (remove w i) ls sv
-row_gone {m = m} {a = a} {w = w} {ls = ls} {sv = sv} i row at t = record {
-  jobs = lines_touched m row.id a a w (remove w i) ls (λ k id other. stays_by a a w (remove w i) k id (λ e. e) (waits_left w i row k id at other)) t.jobs;
-  rows = served_touched m row.id w (remove w i) sv (λ id site other. served_left w i row site id at other) t.rows;
-}
-
--- a delivery begins, of a message that is touched
-pub flight_added : {m : Touched Id} {a : List Slot} {w : List Row} {ls : List (List Job)} {sv : List Served} →
-    (id : Id) (site : Site) (number : ℕ) → IsTidyBut m a w ls sv →
-    IsTidyBut (touched_with id_eq id m) a w ls (served_now id site number sv)
-flight_added {m = m} {a = a} {w = w} {ls = ls} {sv = sv} id site number t = record {
-  jobs = lines_touched m id a a w w ls (λ k i other e. e) t.jobs;
-  rows = and_from (is_touched id_eq (touched_with id_eq id m) id || waits_at_site w id site) (served_stay (touched_with id_eq id m) w (filter (λ x. not (id_eq x.id id && site_eq x.site site)) sv))
-      (or_left (is_touched id_eq (touched_with id_eq id m) id) (waits_at_site w id site) (touched_here id_eq id_eq-true id id m (id_eq-refl id)))
-      (all_filtered (λ (x : Served). is_touched id_eq (touched_with id_eq id m) x.id || waits_at_site w x.id x.site) (λ (x : Served). not (id_eq x.id id && site_eq x.site site)) sv
-      (served_touched m id w w sv (λ i k other e. e) t.rows));
-}
+pub row_gone : {m : Touched Id} {a : List Slot} {w : List Row} {ls : List (List Job)} →
+    (i : ℕ) (row : Row) → slice_get w i ≡ Some row → IsTidyBut m a w ls →
+    IsTidyBut (touched_with id_eq row.id m) a (remove w i) ls
+row_gone {m = m} {a = a} {w = w} {ls = ls} i row at t =
+    record { jobs = lines_touched m row.id a a w (remove w i) ls (λ k id other. stays_by a a w (remove w i) k id (λ e. e) (waits_left w i row k id at other)) t.jobs }
 
 -- ---- jobs
 

@@ -6,11 +6,11 @@ use Rattle.std.specs.List.{enumerate_from}
 use Rattle.std.specs.Option.{option_map_or}
 use Rattle.std.specs.Prelude.{◌&&◌, ◌||◌, ◌==◌, slice_get}
 use Rattle.q_core.proofs.StayLaws.{any_appended, stays_by}
-use Rattle.q_core.proofs.StillTidyLaws.{jobs_mapped, lines_mapped, lines_touched, served_touched}
+use Rattle.q_core.proofs.StillTidyLaws.{jobs_mapped, lines_mapped, lines_touched}
 use Rattle.q_core.proofs.TouchedLaws.{touched_here}
 use Rattle.q_core.specs.Loading.{joined_line, joins_in}
 use Rattle.q_core.specs.Sending.{charged_job, preempted_line, started_job, started_line, with_charge, with_start}
-use Rattle.q_core.specs.Tidied.{stays_among, tidied_jobs, tidied_line, tidied_served, waits_at_site}
+use Rattle.q_core.specs.Tidied.{stays_among, tidied_jobs, tidied_line}
 use Rattle.q_core.specs.Touched.{DoJobsStay, IsTidyBut, is_touched, jobs_stay, touched_with}
 use Rattle.q_jobs.specs.declared.job.Job.{Job}
 use Rattle.q_pool.specs.declared.slot.Slot.{Slot}
@@ -20,8 +20,6 @@ use Rattle.q_laws.proofs.Members.{IsIn, all_append, all_at, all_from, find_in, i
 use Rattle.q_model.proofs.IdLaws.{id_eq-refl, id_eq-true}
 use Rattle.q_model.specs.Ids.{id_eq}
 use Rattle.q_model.specs.Lists.{drop_first}
-use Rattle.q_model.specs.Sites.{site_eq}
-use Rattle.q_model.specs.Values.{Served}
 use Rattle.q_model.specs.declared.id.Id.{Id}
 use Rattle.q_model.specs.declared.rows.Row.{Row}
 
@@ -34,12 +32,10 @@ job_either false x y v h k = k
 started_id : (id : Id) (t at : ℕ) (j : Job) → (started_job id t at j).id ≡ j.id
 started_id id t at j = job_either (id_eq id j.id && (t == at)) (with_start j) j j.id (job_either _ _ j j.id refl refl) refl
 
-pub start_counted : {m : Touched Id} {a : List Slot} {w : List Row} {ls : List (List Job)} {sv : List Served} →
-    (id : Id) (transport : ℕ) → IsTidyBut m a w ls sv → IsTidyBut m a w (map (started_line id transport) (enumerate_from 0 ls)) sv
-start_counted {m = m} {a = a} {w = w} {ls = ls} id transport t = record {
-  jobs = lines_mapped m a w (started_line id transport) ls (λ k js e. jobs_mapped m a w k (started_job id transport k) (started_id id transport k) js (t.jobs k js e));
-  rows = t.rows;
-}
+pub start_counted : {m : Touched Id} {a : List Slot} {w : List Row} {ls : List (List Job)} →
+    (id : Id) (transport : ℕ) → IsTidyBut m a w ls → IsTidyBut m a w (map (started_line id transport) (enumerate_from 0 ls))
+start_counted {m = m} {a = a} {w = w} {ls = ls} id transport t =
+    record { jobs = lines_mapped m a w (started_line id transport) ls (λ k js e. jobs_mapped m a w k (started_job id transport k) (started_id id transport k) js (t.jobs k js e)) }
 
 -- ---- a job goes before another
 
@@ -70,13 +66,12 @@ moved_or m a w n child parent js true h =
 charged_id : (id : Id) (t need left at : ℕ) (j : Job) → (charged_job id t need left at j).id ≡ j.id
 charged_id id t need left at j = job_either (id_eq id j.id && (t == at)) (with_charge need left j) j j.id refl refl
 
-pub job_moved : {m : Touched Id} {a : List Slot} {w : List Row} {ls : List (List Job)} {sv : List Served} →
-    (child parent : Id) (transport need left : ℕ) → IsTidyBut m a w ls sv → IsTidyBut m a w (map (preempted_line child parent transport need left) (enumerate_from 0 ls)) sv
+pub job_moved : {m : Touched Id} {a : List Slot} {w : List Row} {ls : List (List Job)} →
+    (child parent : Id) (transport need left : ℕ) → IsTidyBut m a w ls → IsTidyBut m a w (map (preempted_line child parent transport need left) (enumerate_from 0 ls))
 job_moved {m = m} {a = a} {w = w} {ls = ls} child parent transport need left t = record {
   jobs = lines_mapped m a w (preempted_line child parent transport need left) ls (λ k js e.
       moved_or m a w k child parent (map (charged_job parent transport need left k) js) (k == transport)
       (jobs_mapped m a w k (charged_job parent transport need left k) (charged_id parent transport need left k) js (t.jobs k js e)));
-  rows = t.rows;
 }
 
 -- ---- rows are added
@@ -92,24 +87,20 @@ joined_or m a w n id js true h =
     all_append stay js (new_job id ∷ []) h
     (and_from (stay (new_job id)) true (or_left (is_touched id_eq (touched_with id_eq id m) id) (stays_among a w n id) (touched_here id_eq id_eq-true id id m (id_eq-refl id))) refl)
 
-pub rows_added : {m : Touched Id} {a : List Slot} {w : List Row} {ls : List (List Job)} {sv : List Served} →
-    (id : Id) (rows : List Row) → IsTidyBut m a w ls sv → IsTidyBut (touched_with id_eq id m) a (w ++ rows) (map (joined_line id rows) (enumerate_from 0 ls)) sv
-rows_added {m = m} {a = a} {w = w} {ls = ls} {sv = sv} id rows t =
+pub rows_added : {m : Touched Id} {a : List Slot} {w : List Row} {ls : List (List Job)} →
+    (id : Id) (rows : List Row) → IsTidyBut m a w ls → IsTidyBut (touched_with id_eq id m) a (w ++ rows) (map (joined_line id rows) (enumerate_from 0 ls))
+rows_added {m = m} {a = a} {w = w} {ls = ls} id rows t =
     let v = w ++ rows in
     let before : DoJobsStay (touched_with id_eq id m) a v ls = lines_touched m id a a w v ls
     (λ k i other. stays_by a a w v k i (λ e. e) (any_appended (λ (r : Row). id_eq r.id i && (r.site.transport == k)) w rows)) t.jobs in
-    record {
-      jobs = lines_mapped (touched_with id_eq id m) a v (joined_line id rows) ls (λ k js e. joined_or m a v k id js (joins_in id rows k js) (before k js e));
-      rows = served_touched m id w v sv (λ i site other. any_appended (λ (r : Row). id_eq r.id i && site_eq r.site site) w rows) t.rows;
-    }
+    record { jobs = lines_mapped (touched_with id_eq id m) a v (joined_line id rows) ls (λ k js e. joined_or m a v k id js (joins_in id rows k js) (before k js e)) }
 
 -- ---- the core was tidied
 
-pub now_tidy : (a : List Slot) (w : List Row) (ls : List (List Job)) (sv : List Served) → IsTidyBut Nothing a w (map (tidied_line a w) (enumerate_from 0 ls)) (tidied_served w sv)
-now_tidy a w ls sv = record {
+pub now_tidy : (a : List Slot) (w : List Row) (ls : List (List Job)) → IsTidyBut Nothing a w (map (tidied_line a w) (enumerate_from 0 ls))
+now_tidy a w ls = record {
   jobs = lines_mapped Nothing a w (tidied_line a w) ls (λ k js e. all_from (λ (j : Job). stays_among a w k j.id) (tidied_jobs a w k js)
       (λ j inside. (in_filtered (λ (x : Job). stays_among a w k x.id) j js inside).1));
-  rows = all_from (λ (x : Served). waits_at_site w x.id x.site) (tidied_served w sv) (λ x inside. (in_filtered (λ (y : Served). waits_at_site w y.id y.site) x sv inside).1);
 }
 
 -- ---- a core begins
@@ -119,8 +110,5 @@ empty_line zero n js e = absurd cc
 empty_line (suc count) zero js e = cc
 empty_line (suc count) (suc n) js e = empty_line count n js e
 
-pub new_tidy : (count : ℕ) → IsTidyBut Nothing [] [] (replicate count []) []
-new_tidy count = record {
-  jobs = λ k js e. ap (jobs_stay Nothing [] [] k) (empty_line count k js e);
-  rows = refl;
-}
+pub new_tidy : (count : ℕ) → IsTidyBut Nothing [] [] (replicate count [])
+new_tidy count = record { jobs = λ k js e. ap (jobs_stay Nothing [] [] k) (empty_line count k js e) }

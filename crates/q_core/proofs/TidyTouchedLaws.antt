@@ -3,16 +3,15 @@ use Rattle.std.proofs.Common.{◌≡◌, ◌<◌, ℕ, ◌+◌, Bool, true, fals
 use Rattle.std.proofs.lemmas.Bool.{cases_Bool}
 use Rattle.std.specs.Prelude.{◌||◌, slice_get}
 use Rattle.q_core.proofs.ListLaws.{numbered_front}
-use Rattle.q_core.specs.Tidied.{stays_among, tidied_jobs, tidied_line, tidied_served, waits_at_site}
+use Rattle.q_core.specs.Tidied.{stays_among, tidied_jobs, tidied_line}
 use Rattle.std.specs.List.{enumerate_from}
-use Rattle.q_core.specs.Touched.{DoJobsStay, jobs_stay, served_stay}
+use Rattle.q_core.specs.Touched.{DoJobsStay, jobs_stay}
 use Rattle.q_jobs.specs.declared.job.Job.{Job}
 use Rattle.q_pool.specs.declared.slot.Slot.{Slot}
 use Rattle.q_core.specs.declared.touched.Touched.TheVariants.{Nothing, One}
 use Rattle.q_laws.proofs.Members.{IsIn, all_at}
 use Rattle.q_model.proofs.IdLaws.{id_eq-true}
 use Rattle.q_model.specs.Ids.{id_eq}
-use Rattle.q_model.specs.Values.{Served}
 use Rattle.q_model.specs.declared.id.Id.{Id}
 use Rattle.q_model.specs.declared.rows.Row.{Row}
 
@@ -64,18 +63,3 @@ pub front_at : {X : Type 0} (f : (ℕ × X) → X) (n i : ℕ) (xs : List X) (x 
 front_at f n i [] x h e = absurd (omega (arith, h))
 front_at f n zero (y ∷ ys) x h e = ap Some (sym e)
 front_at f n (suc i) (y ∷ ys) x h e = front_at f (n + 1) i ys x (omega (arith, h)) e
-
--- ---- served rows
-
-pub served_whole : (w : List Row) (sv : List Served) → served_stay Nothing w sv ≡ true → tidied_served w sv ≡ sv
-served_whole w sv h = filter_pass (λ (s : Served). waits_at_site w s.id s.site) sv (λ s inside. all_at (λ (x : Served). waits_at_site w x.id x.site) s sv h inside)
-
-either_same : (t p : Bool) → (t ≡ false → p ≡ true) → (not t || p) ≡ p
-either_same true p h = refl
-either_same false p h = sym (h refl)
-
-pub served_looked : (w : List Row) (id : Id) (sv : List Served) → served_stay (One id) w sv ≡ true →
-    filter (λ (s : Served). not (id_eq s.id id) || waits_at_site w s.id s.site) sv ≡ tidied_served w sv
-served_looked w id sv h = filter_members (λ (s : Served). not (id_eq s.id id) || waits_at_site w s.id s.site) (λ (s : Served). waits_at_site w s.id s.site) sv
-    (λ s inside. either_same (id_eq s.id id) (waits_at_site w s.id s.site) (λ other. tied (id_eq s.id id) (waits_at_site w s.id s.site) other
-    (all_at (λ (x : Served). id_eq x.id id || waits_at_site w x.id x.site) s sv h inside)))

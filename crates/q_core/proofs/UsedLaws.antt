@@ -15,7 +15,7 @@ twice_step : {X : Type 0} (p : X → Bool) (x : X) (xs : List X) → filter p (f
 twice_step p x xs h true t = ap (λ b. cond b (x ∷ filter p (filter p xs)) (filter p (filter p xs))) t ∙ ap (λ ys. x ∷ ys) h
 twice_step p x xs h false t = h
 
-filter_twice : {X : Type 0} (p : X → Bool) (xs : List X) → filter p (filter p xs) ≡ filter p xs
+pub filter_twice : {X : Type 0} (p : X → Bool) (xs : List X) → filter p (filter p xs) ≡ filter p xs
 filter_twice p [] = refl
 filter_twice p (x ∷ xs) = twice_step p x xs (filter_twice p xs) (p x) refl
 

@@ -7,7 +7,7 @@ use Rattle.q_model.specs.declared.rows.Request.{Request}
 use Rattle.q_model.specs.declared.rows.Unsettled.{Unsettled}
 use Rattle.q_model.specs.Ids.{id_eq}
 use Rattle.q_model.specs.Scans.{joined_request, new_scan}
-use Rattle.q_model.specs.Values.{Site, SiteRecord}
+use Rattle.q_model.specs.Values.{Served, Site, SiteRecord}
 use Rattle.q_model.specs.declared.rows.Request.TheVariants as requests
 use Rattle.q_core.specs.UsedSites.{forget_in, is_left_in, revive_dead_in, revive_due_in, used_in}
 use Rattle.q_core.specs.Facts.{is_nothing}
@@ -78,6 +78,10 @@ pub record IsTidied (old new : Core) : Type 0 where
 pub record HasLeftSite (old new : Core) (site : Site) : Type 0 where
   pub rest : new ≡ record old { sites = new.sites }
   pub sites : new.sites ≡ moved_back (is_left_in old.waiting old.flights site) old.sites
+
+-- the same but for the served rows
+abbrev pub with_served : List Served → Core → Core
+with_served served c = record c { served = served }
 
 -- the same but for the records of sites
 abbrev pub with_sites : List SiteRecord → Core → Core

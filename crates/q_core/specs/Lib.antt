@@ -1,4 +1,5 @@
 pub mod State
+pub mod ServedRows
 pub mod View
 pub mod Counted
 pub mod Counting

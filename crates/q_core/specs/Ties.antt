@@ -1,6 +1,7 @@
 -- What always holds of the parts of a core.
+use Rattle.std.specs.List.{AllByRecursion}
 use Rattle.std.specs.Option.{option_map_or}
-use Rattle.std.specs.Prelude.{◌≡◌, ◌≤◌, ◌==◌, [], Bool, count_by, find, List, None, ℕ, ◌∷◌}
+use Rattle.std.specs.Prelude.{◌≡◌, ◌≤◌, ◌==◌, ◌&&◌, ◌||◌, [], Bool, count_by, find, List, None, not, true, ℕ, ◌∷◌}
 use Rattle.q_core.specs.Counted.{IsCounted}
 use Rattle.q_core.specs.Known.{site_of}
 use Rattle.q_dest.specs.declared.dest.Dest.{Dest}
@@ -13,8 +14,8 @@ use Rattle.q_model.specs.Ids.{id_eq}
 use Rattle.q_model.specs.Settings.{Settings}
 use Rattle.q_pool.specs.Pooled.{Pooled}
 use Rattle.q_pool.specs.declared.kept.Kept.{Kept}
-use Rattle.q_turns.specs.declared.peer.Peer.{Peer}
-use Rattle.q_turns.specs.Turns.{key_eq, key_of}
+use Rattle.q_rounds.specs.declared.peer.Peer.{Peer}
+use Rattle.q_rounds.specs.Rounds.{is_started, key_eq, key_of}
 
 module _ {K D : Type 0} (eq : K → K → Bool) (key : D → K) where
   -- what is kept under the key, 0 where nothing is
@@ -78,6 +79,30 @@ AreBusyTied ds fs = AreTallied site_eq site_of (λ d. d.busy) (λ (f : Delivery)
 abbrev pub ArePeersTied : List Peer → List Row → Type 0
 ArePeersTied ps rows =
     AreTallied key_eq key_of (λ p. p.waiting) (λ (r : Row). record { id = r.id; site = r.site }) ps rows
+
+-- the row is of the peer
+abbrev pub is_row_of : Peer → Row → Bool
+is_row_of p r = key_eq (record { id = r.id; site = r.site }) (key_of p)
+
+-- the message wasn't sent to the site, and no row of it there was put off
+abbrev pub is_fresh : Peer → Bool
+is_fresh p = not (is_started p) && not p.passed
+
+-- where both are fresh, the first row of the one came before each of the other
+abbrev pub ComesBefore : List Row → Peer → Peer → Type 0
+ComesBefore rows p d = is_fresh p ≡ true → is_fresh d ≡ true
+    → find (λ r. is_row_of p r || is_row_of d r) rows ≡ find (is_row_of p) rows
+
+-- fresh peers stand in the order in which their first rows came
+abbrev pub AreInOrder : List Row → List Peer → Type 0
+AreInOrder rows [] = Unit {0}
+AreInOrder rows (p ∷ ps) = AllByRecursion (ComesBefore rows p) ps × AreInOrder rows ps
+
+-- peers count the rows, stand in their order, and were last sent to in starts that were
+pub record AreTurnsTied (ps : List Peer) (rows : List Row) (starts : ℕ) : Type 0 where
+  pub counts : ArePeersTied ps rows
+  pub order : AreInOrder rows ps
+  pub known : AllByRecursion (λ p. p.last ≤ starts) ps
 
 pub record AreSitesTied (ds : List Dest) (rows : List Row) (fs : List Delivery) : Type 0 where
   pub waiting : AreWaitingTied ds rows

@@ -4,8 +4,7 @@ use Rattle.std.specs.Prelude.{◌≡◌, Bool, false, if◌then◌else◌, List,
 use Rattle.q_model.specs.declared.id.Id.{Id}
 use Rattle.q_model.specs.declared.rows.Row.{Row}
 use Rattle.q_model.specs.Ids.{id_eq}
-use Rattle.q_model.specs.Values.{Served}
-use Rattle.q_core.specs.Tidied.{stays_among, waits_at_site}
+use Rattle.q_core.specs.Tidied.{stays_among}
 use Rattle.q_jobs.specs.declared.job.Job.{Job}
 use Rattle.q_pool.specs.declared.slot.Slot.{Slot}
 use Rattle.q_core.specs.declared.touched.Touched.{Touched}
@@ -38,13 +37,7 @@ abbrev pub DoJobsStay : Touched Id → List Slot → List Row → List (List Job
 DoJobsStay touched admitted waiting lines = (transport : ℕ) → (jobs : List Job)
     → slice_get lines transport ≡ Some jobs → jobs_stay touched admitted waiting transport jobs ≡ true
 
--- each served row waits, but perhaps those of a message that was touched
-abbrev pub served_stay : Touched Id → List Row → List Served → Bool
-served_stay touched waiting served = list_all (λ s. is_touched id_eq touched s.id
-    || waits_at_site waiting s.id s.site) served
-
 -- Nothing has to go but perhaps what was touched.
 pub record IsTidyBut (touched : Touched Id) (admitted : List Slot) (waiting : List Row)
-    (lines : List (List Job)) (served : List Served) : Type 0 where
+    (lines : List (List Job)) : Type 0 where
   pub jobs : DoJobsStay touched admitted waiting lines
-  pub rows : served_stay touched waiting served ≡ true

@@ -1,5 +1,6 @@
 -- The state that a contract sees, by the core's fields.
 use Rattle.q_core.specs.Known.{known_records}
+use Rattle.q_core.specs.ServedRows.{served_rows}
 use Rattle.q_core.specs.State.{State}
 use Rattle.q_core.specs.declared.state.Core.TheInside.{Inside}
 use Rattle.q_peers.specs.Numbered.{rows_of}
@@ -21,7 +22,7 @@ state_of a = record {
   waiting = rows_of a.waiting.items;
   flights = a.flights.items;
   in_memory = a.in_memory;
-  served = a.served.items;
+  served = served_rows a.turns.peers;
   unsettled = a.unsettled.items;
   lines = a.turns.lines;
   sites = known_records a.sites.items;

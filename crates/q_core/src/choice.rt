@@ -1,10 +1,10 @@
 //! What a transport does next: a delivery of the current job begins, or another job preempts it
 //! (SCHEDULER_README, "Preemptive scheduling").
 ghost use Rattle.q_jobs.specs.Jobs.{AreOfOthers, behind_jobs, first_job};
-ghost use Rattle.std.specs.Prelude.{◌&&◌, find, Some, ◌≡◌, ◌≤◌, ◌<◌, ◌+◌, ◌^◌, nat_lt};
+ghost use Rattle.std.specs.Prelude.{◌&&◌, find, Some, ◌≡◌, ◌≤◌, ◌<◌, ◌+◌, ◌^◌};
 ghost use Rattle.std.specs.Option.{option_copied};
 ghost use Rattle.q_core.specs.Choosing.{best_in, choice_in, choices_from, choose_in, current_in, is_better_in, is_candidate_in, is_fresh_among, is_fresh_in, jobs_at, need_in, next_start_in, pays_in, rest_in, better_slot};
-ghost use Rattle.q_core.specs.Starting.{can_start_in, flights_at};
+ghost use Rattle.q_core.specs.Starting.{can_start_in};
 
 use crate::decision::Decision;
 use crate::names::same_id;
@@ -40,8 +40,8 @@ impl Core {
         ensures value { result ≡ rest_in self.now transport id }
         ensures few { result ≤ 2 ^ 63 + 2 ^ 32 }
     {
-        let waiting = waiting_for(&self.waiting, id, usize::from(transport));
-        waiting as u64 + u64::from(self.unread(id))
+        let at = usize::from(transport);
+        waiting_for(&self.turns, &self.waiting, id, at) + u64::from(self.unread(id))
     }
 
     /// The need of a message that preempts: what it has left at the transport. That is no more
@@ -65,13 +65,6 @@ impl Core {
         ensures { option_copied result ≡ first_job (behind_jobs id (jobs_at self.now transport)) }
     {
         self.turns.behind(usize::from(transport), id)
-    }
-
-    /// Whether the transport may begin a delivery more.
-    fn has_process(&self, transport: u8) -> bool
-        ensures { result ≡ nat_lt (flights_at self.now transport) self.now.params.process_limit }
-    {
-        self.flights_of(transport) < self.params.default_process_limit as usize
     }
 
     /// The first job in the line that may start something.

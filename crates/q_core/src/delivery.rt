@@ -1,22 +1,20 @@
 //! A delivery starts.
-ghost use Rattle.std.specs.Prelude.{◌≡◌, ◌≤◌, ◌<◌, ◌&&◌, filter, IsTrue, length, List, map, not, OnErr, OnOk, true, ℕ, vec_capacity, vec_len};
+ghost use Rattle.std.specs.Prelude.{◌≡◌, ◌<◌, IsTrue, List, map, OnErr, OnOk, true, ℕ};
 ghost use Rattle.std.specs.List.{enumerate_from, list_any};
 ghost use Rattle.q_core.specs.Agrees.{FollowsRule};
 ghost use Rattle.q_core.specs.Lists.{AtFirst};
 ghost use Rattle.q_core.specs.Sending.{started_line, with_start, is_for, IsStarted, IsSent, served_now};
-ghost use Rattle.q_core.specs.Changes.{IsUnchanged, is_looked_at};
-ghost use Rattle.q_model.specs.Sites.{site_eq};
-ghost use Rattle.q_model.specs.Ids.{id_eq};
+ghost use Rattle.q_core.specs.Changes.{IsUnchanged, is_looked_at, with_served};
+ghost use Rattle.q_core.specs.Tidied.{tidied_served};
 ghost use Rattle.q_model.specs.Next.{start_rule};
 
 use crate::counting::begin_flight;
 use crate::flying::add_flight;
-use crate::names::{same_id, same_site};
 use crate::rows::take_row;
 use crate::state::Core;
 use crate::touched::touch_message;
 use q_jobs::Job;
-use q_model::{Delivery, Entry, Id, NoMemory, Served, Site};
+use q_model::{Delivery, Entry, Id, NoMemory, Site};
 use q_turns::Turns;
 
 /// How many deliveries can be counted at a site. No process limit comes near it.
@@ -51,40 +49,6 @@ fn count_start(turns: &mut Turns, id: Id, transport: u8)
     }
 }
 
-fn is_of_others(served: &Served, id: Id, site: &Site) -> bool
-    ensures { result ≡ not (id_eq served.now.id id && site_eq served.now.site site.now) }
-{
-    !(same_id(served.id, id) && same_site(&served.site, site))
-}
-
-/// Forgets when the message was last sent to the site.
-fn forget_served(served: &mut Vec<Served>, id: Id, site: &Site)
-    ensures items { served.new.items ≡ filter (λ s. not
-        (id_eq s.id id && site_eq s.site site.now)) served.old.items }
-    ensures len { vec_len served.new ≤ vec_len served.old }
-    ensures capacity { vec_capacity served.new ≡ vec_capacity served.old }
-{
-    served.retain(|last| is_of_others(last, id, site));
-}
-
-/// Notes the number of the message's last delivery to the site.
-fn note_served(served: &mut Vec<Served>, id: Id, site: Site, number: u64) -> Result<(), NoMemory>
-    ensures ok { OnOk result (served.new.items ≡ served_now id site number served.old.items) }
-    ensures err { OnErr result (served.new.items ≡ served.old.items) }
-{
-    served.reserve(1)?;
-    forget_served(served, id, &site);
-    let _ = served.insert(
-        0,
-        Served {
-            id,
-            site,
-            last: number,
-        },
-    );
-    Ok(())
-}
-
 impl Core {
     /// Whether the message has a row for the site.
     pub(crate) fn has_row_for(&self, id: Id, site: &Site) -> bool
@@ -98,20 +62,23 @@ impl Core {
         requires there { list_any (is_for id site) self.old.waiting ≡ true }
         requires next { self.old.starts < number }
         ensures ok { OnOk result (AtFirst (is_for id site) self.old.waiting
-            (IsSent self.old self.new number id site)) }
+            (IsSent self.old (with_served (served_now id site number self.old.served) self.new)
+            number id site)) }
+        ensures served { OnOk result (self.new.served ≡ tidied_served self.new.waiting
+            (served_now id site number self.old.served)) }
         ensures err { OnErr result (IsUnchanged self.old self.new) }
     {
         if self.flights.len() >= MOST_FLIGHTS {
             return Err(NoMemory);
         }
         self.flights.reserve(1)?;
-        note_served(&mut self.served, id, site, number)?;
         let Some(row) = take_row(&mut self.waiting, id, &site) else {
             return Ok(());
         };
         touch_message(&mut self.touched_message, row.id);
-        touch_message(&mut self.touched_message, id);
         self.sites.begin(&row.site);
+        self.turns.stand_apart();
+        self.turns.start(row.id, &row.site, number);
         self.turns.stand_apart();
         self.turns.lose(row.id, &row.site);
         begin_flight(&mut self.admitted, row.id);

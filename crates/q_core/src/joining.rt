@@ -1,9 +1,10 @@
 //! A message that has come to wait joins lines, and its rows are counted at their sites.
-ghost use Rattle.std.specs.Prelude.{◌≡◌, ◌<◌, ◌≤◌, ◌+◌, ◌++◌, ◌^◌, ◌==◌, [], length, List, map, slice_get, Some, true};
+ghost use Rattle.std.specs.Prelude.{◌≡◌, ◌<◌, ◌≤◌, ◌+◌, ◌++◌, ◌^◌, ◌==◌, [], length, List, map, slice_get, Some, true, ℕ};
 ghost use Rattle.std.specs.List.{enumerate_from, list_all, list_any};
 ghost use Rattle.q_core.specs.Loading.{AreRowsOf, can_join, joined_within, joins_in, new_sites};
 ghost use Rattle.q_core.specs.Known.{known_records};
-ghost use Rattle.q_core.specs.Ties.{AreBusyTied, ArePeersTied, AreWaitingTied};
+ghost use Rattle.q_core.specs.ServedRows.{served_rows};
+ghost use Rattle.q_core.specs.Ties.{AreBusyTied, ArePeersTied, AreTurnsTied, AreWaitingTied};
 ghost use Rattle.q_model.specs.declared.rows.Delivery.{Delivery};
 ghost use Rattle.q_peers.specs.Numbered.{rows_of};
 ghost use Rattle.q_model.specs.declared.rows.Row.{Row};
@@ -107,9 +108,12 @@ pub(crate) fn count_peers(turns: &mut Turns, id: Id, rows: &[Row], waiting: &Wai
     requires room { length turns.old.peers + length rows.now ≤ turns.old.room }
     requires few { length (rows_of waiting.now.items) + length rows.now < 2 ^ 32 }
     ensures rest { turns.new ≡ record turns.old { peers = turns.new.peers } }
-    ensures tied { ArePeersTied turns.new.peers (rows_of waiting.now.items ++ rows.now) }
+    ensures served { served_rows turns.new.peers ≡ served_rows turns.old.peers }
+    ensures tied { (starts : ℕ) → AreTurnsTied turns.old.peers (rows_of waiting.now.items) starts
+        → AreTurnsTied turns.new.peers (rows_of waiting.now.items ++ rows.now) starts }
 {
     for i in 0..rows.len() {
+        turns.stand_apart();
         turns.gain(id, site_at(rows, i));
     }
 }

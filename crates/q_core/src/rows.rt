@@ -1,52 +1,34 @@
 //! What is asked of the rows that wait, and how they come and go.
 ghost use Rattle.std.specs.Prelude.{◌≡◌, ◌≤◌, ◌<◌, ◌+◌, ◌++◌, ◌^◌, count_by, find, length};
 ghost use Rattle.std.specs.Option.{option_copied};
-ghost use Rattle.q_core.specs.RowWalks.{count_here, is_row_for};
+ghost use Rattle.q_core.specs.RowWalks.{is_row_for};
 ghost use Rattle.q_core.specs.Sending.{is_for};
-ghost use Rattle.q_core.specs.Tidied.{waits_at_site, waits_for as waits_for_in};
+ghost use Rattle.q_core.specs.Tidied.{waits_for as waits_for_in};
+ghost use Rattle.q_core.specs.Ties.{ArePeersTied};
 ghost use Rattle.q_model.specs.Lists.{drop_first};
 ghost use Rattle.q_peers.specs.Numbered.{rows_of};
 
 use q_model::{Id, Row, Site};
 use q_peers::Waiting;
-
-/// 1 where the row waits for the transport, else 0.
-fn count_here(row: &Row, transport: usize) -> usize
-    ensures { result ≡ count_here transport row.now }
-{
-    usize::from(usize::from(row.site.transport) == transport)
-}
+use q_turns::Turns;
 
 /// How many rows of the message wait for the transport.
-pub(crate) fn waiting_for(waiting: &Waiting, id: Id, transport: usize) -> usize
+pub(crate) fn waiting_for(turns: &Turns, waiting: &Waiting, id: Id, transport: usize) -> u64
+    requires { ArePeersTied turns.now.peers (rows_of waiting.now.items) }
     ensures count { result ≡ count_by (is_row_for id transport) (rows_of waiting.now.items) }
     ensures few { result ≤ 2 ^ 30 }
 {
+    turns.stand_apart();
     waiting.stand_apart();
-    let mut count = 0;
-    let mut at = waiting.first_of(id);
-    while let Some(number) = at {
-        let Some(row) = waiting.get(number) else {
-            return count;
-        };
-        count += count_here(row, transport);
-        at = waiting.next_of(number);
-    }
-    count
+    turns.rest(id, transport)
 }
 
 /// Whether a row of the message waits for the transport.
-pub(crate) fn waits_for(waiting: &Waiting, id: Id, transport: usize) -> bool
+pub(crate) fn waits_for(turns: &Turns, waiting: &Waiting, id: Id, transport: usize) -> bool
+    requires { ArePeersTied turns.now.peers (rows_of waiting.now.items) }
     ensures { result ≡ waits_for_in (rows_of waiting.now.items) id transport }
 {
-    waiting_for(waiting, id, transport) != 0
-}
-
-/// Whether a row of the message waits at the site.
-pub(crate) fn waits_for_site(waiting: &Waiting, id: Id, site: &Site) -> bool
-    ensures { result ≡ waits_at_site (rows_of waiting.now.items) id site.now }
-{
-    waiting.first_for(id, site).is_some()
+    waiting_for(turns, waiting, id, transport) != 0
 }
 
 /// The message's first row for the site.

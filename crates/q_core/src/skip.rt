@@ -3,7 +3,8 @@ ghost use Rattle.std.specs.Prelude.{◌≡◌, IfOk, IfSome, IsTrue, OnErr, OnOk
 ghost use Rattle.std.specs.List.{list_any};
 ghost use Rattle.std.specs.Option.{is_some, option_copied};
 ghost use Rattle.q_core.specs.Lists.{AtFirst, AtPlace};
-ghost use Rattle.q_core.specs.Changes.{IsUnchanged, is_looked_at, left_sites, with_sites};
+ghost use Rattle.q_core.specs.Changes.{IsUnchanged, is_looked_at, left_sites, with_served, with_sites};
+ghost use Rattle.q_core.specs.Tidied.{tidied_served};
 ghost use Rattle.q_core.specs.Leaving.{IsFirstDead, IsLastSkip, IsUnqueued, put_off_in, SkipsRowAt};
 ghost use Rattle.q_core.specs.Sending.{is_for, row_for};
 ghost use Rattle.q_model.specs.declared.rows.Row.{Row as RowOf};
@@ -46,9 +47,12 @@ impl Core {
     fn unqueue(&mut self, alloc: Global, id: Id, site: &Site) -> Result<Option<Row>, NoMemory>
         requires there { list_any (is_for id site.now) self.old.waiting ≡ true }
         ensures ok { IfOk result (λ o. IfSome o (λ r. AtFirst (is_for id site.now) self.old.waiting
-            (λ entry. IsUnqueued self.old (with_sites self.old.sites self.new) entry r))) }
+            (λ entry. IsUnqueued self.old (with_served self.old.served
+            (with_sites self.old.sites self.new)) entry r))) }
         ensures left { IfOk result (λ o. IfSome o (λ r. self.new.sites
             ≡ left_sites self.new self.old.sites r.site)) }
+        ensures served { IfOk result (λ o. IfSome o (λ r. self.new.served
+            ≡ tidied_served self.new.waiting self.old.served)) }
         ensures some { IfOk result (λ o. is_some o ≡ true) }
         ensures err { OnErr result (IsUnchanged self.old self.new) }
     {

@@ -1,13 +1,14 @@
 //! Which waiting row of a message is sent next at a transport.
-ghost use Rattle.std.specs.Prelude.{◌≡◌, ◌<◌, ◌^◌};
+ghost use Rattle.std.specs.Prelude.{◌≡◌, ◌<◌, ◌^◌, nat_lt};
 ghost use Rattle.std.specs.Option.{option_copied};
-ghost use Rattle.q_core.specs.Starting.{can_start_in, flights_at, has_room_in, is_startable_in, last_start_in, next_row_in, next_row_of, rows_for, served_for, start_in, sooner_row};
+ghost use Rattle.q_core.specs.Starting.{can_start_in, flights_at, has_room_in, is_startable_in, last_start_in, next_row_in, next_row_of, rows_for, start_in, sooner_row};
 ghost use Rattle.q_peers.specs.Numbered.{rows_of};
 
 use crate::decision::Decision;
-use crate::names::{same_id, same_site};
+use crate::names::same_id;
+use crate::rows::first_row;
 use crate::state::Core;
-use q_model::{Id, Row, Served, Site};
+use q_model::{Id, Row, Site};
 use q_peers::Waiting;
 
 impl Core {
@@ -15,6 +16,13 @@ impl Core {
         ensures { result ≡ flights_at self.now transport }
     {
         self.flying[usize::from(transport)] as usize
+    }
+
+    /// Whether the transport may begin a delivery more.
+    pub(crate) fn has_process(&self, transport: u8) -> bool
+        ensures { result ≡ nat_lt (flights_at self.now transport) self.now.params.process_limit }
+    {
+        self.flights_of(transport) < self.params.default_process_limit as usize
     }
 
     /// Whether the site is alive, with fewer deliveries in flight than its window.
@@ -27,8 +35,7 @@ impl Core {
     fn is_startable(&self, row: &Row) -> bool
         ensures { result ≡ is_startable_in self.now row.now }
     {
-        self.flights_of(row.site.transport) < self.params.default_process_limit as usize
-            && self.has_room(&row.site)
+        self.has_process(row.site.transport) && self.has_room(&row.site)
     }
 
     fn is_startable_for(&self, id: Id, transport: u8, row: &Row) -> bool
@@ -37,21 +44,12 @@ impl Core {
         same_id(row.id, id) && row.site.transport == transport && self.is_startable(row)
     }
 
-    fn served_at(&self, row: &Row) -> Option<&Served>
-        ensures { option_copied result ≡ served_for self.now row.now }
-    {
-        self.served.iter().find(|served| same_id(served.id, row.id)
-            && same_site(&served.site, &row.site))
-    }
-
     /// The number of the message's last delivery to the row's site, 0 for none.
     fn last_start(&self, row: &Row) -> u64
         ensures { result ≡ last_start_in self.now row.now }
     {
-        match self.served_at(row) {
-            Some(served) => served.last,
-            None => 0,
-        }
+        self.turns.stand_apart();
+        self.turns.last(row.id, &row.site)
     }
 
     /// The row that was found before, or this one, where it may be sent now and starts sooner.
@@ -75,18 +73,34 @@ impl Core {
     }
 
     /// The row of the message that starts next at the transport. It is of the site that the
-    /// message was sent to longest ago or never; among equals it is the first read.
+    /// message was sent to longest ago or never; among equals it is the first read. While rows may
+    /// be left in another order than that in which they were read, a walk over all rows of the
+    /// message finds it.
     fn next_row(&self, id: Id, transport: u8) -> Option<&Row>
         ensures { option_copied result ≡ next_row_in self.now transport id }
     {
-        next_row_among(self, &self.waiting, id, transport)
+        if !self.has_process(transport) {
+            return None;
+        }
+        self.turns.stand_apart();
+        if self.turns.has_passed() {
+            return next_row_among(self, &self.waiting, id, transport);
+        }
+        let Some(peer) = self.turns.next(usize::from(transport), id, &self.sites) else {
+            return None;
+        };
+        first_row(&self.waiting, peer.id, &peer.site)
     }
 
     /// Whether the message has a row at the transport that may be sent now.
     pub(crate) fn can_start(&self, id: Id, transport: u8) -> bool
         ensures { result ≡ can_start_in self.now transport id }
     {
-        match self.next_row(id, transport) {
+        if !self.has_process(transport) {
+            return false;
+        }
+        self.turns.stand_apart();
+        match self.turns.next(usize::from(transport), id, &self.sites) {
             Some(_) => true,
             None => false,
         }

@@ -13,7 +13,7 @@ use crate::flying::Flying;
 use crate::touched::Touched;
 use q_dest::Sites;
 use q_model::{
-    Delivery, Entry, Id, Mode, Moment, NoMemory, Positions, Request, Scan, Served, Site, Unsettled,
+    Delivery, Entry, Id, Mode, Moment, NoMemory, Positions, Request, Scan, Site, Unsettled,
 };
 use q_params::Params;
 use q_peers::Waiting;
@@ -60,7 +60,6 @@ pub struct Core {
     pub(crate) flying: Flying,
     /// Recipients that are waiting, in flight or unsettled.
     pub(crate) in_memory: u64,
-    pub(crate) served: Vec<Served>,
     pub(crate) unsettled: Vec<Unsettled>,
     pub(crate) turns: Turns,
     pub(crate) sites: Sites,
@@ -88,7 +87,7 @@ impl Model for Core {
 
     ghost view = { state_of };
 
-    ghost use Rattle.q_core.specs.Ties.{ArePeersTied, AreSitesTied, AreTied};
+    ghost use Rattle.q_core.specs.Ties.{AreSitesTied, AreTied, AreTurnsTied};
     ghost use Rattle.q_core.specs.Touched.{IsTidyBut};
     ghost use Rattle.q_peers.specs.Numbered.{rows_of};
     ghost use Rattle.q_pool.specs.Kept.{heads};
@@ -96,9 +95,9 @@ impl Model for Core {
     ghost invariant = { λ a. AreTied a.params a.admitted (rows_of a.waiting.items)
         a.flights.items a.unsettled.items a.flying a.starts
         × IsTidyBut a.touched_message (heads a.admitted.items) (rows_of a.waiting.items)
-        a.turns.lines a.served.items
+        a.turns.lines
         × AreSitesTied a.sites.items (rows_of a.waiting.items) a.flights.items
-        × ArePeersTied a.turns.peers (rows_of a.waiting.items) };
+        × AreTurnsTied a.turns.peers (rows_of a.waiting.items) a.starts };
 }
 
 impl Core {
@@ -143,7 +142,6 @@ impl Core {
             flights: Vec::new(alloc),
             flying: [0; 256],
             in_memory: 0,
-            served: Vec::new(alloc),
             unsettled: Vec::new(alloc),
             turns,
             sites,

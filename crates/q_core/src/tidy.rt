@@ -1,4 +1,4 @@
-//! What holds after each entry: lines, served rows and sites of what is left.
+//! What holds after each entry: lines and sites of what is left.
 ghost use Rattle.std.specs.Prelude.{◌≡◌, ◌<◌, false, filter, find, length, map, option_map};
 ghost use Rattle.std.specs.List.{enumerate_from};
 ghost use Rattle.std.specs.Option.{option_copied};
@@ -7,16 +7,16 @@ ghost use Rattle.q_core.specs.Ties.{ArePeersTied};
 ghost use Rattle.q_core.specs.Known.{forgotten};
 ghost use Rattle.q_jobs.specs.Jobs.{is_job_of_another};
 ghost use Rattle.q_pool.specs.Kept.{heads};
-ghost use Rattle.q_core.specs.Tidied.{leaves_among, tidied_jobs, tidied_line, tidied_served, slot_among, stays_among, unread_among, waits_at_site, waits_for as waits_for_in};
+ghost use Rattle.q_core.specs.Tidied.{leaves_among, tidied_jobs, tidied_line, slot_among, stays_among, unread_among, waits_for as waits_for_in};
 ghost use Rattle.q_peers.specs.Numbered.{rows_of};
 ghost use Rattle.q_turns.specs.Turns.{line_at, with_line};
 
-use crate::rows::{waits_for, waits_for_site};
+use crate::rows::waits_for;
 use crate::state::Core;
-use crate::tidy_touched::{tidy_touched_lines, tidy_touched_served};
+use crate::tidy_touched::tidy_touched_lines;
 use crate::touched::{Touched, record_limit};
 use q_dest::Sites;
-use q_model::{Id, Served};
+use q_model::Id;
 use q_peers::Waiting;
 use q_pool::{Pool, Slot};
 use q_turns::Turns;
@@ -41,21 +41,29 @@ pub(crate) fn unread(admitted: &Pool, id: Id) -> u32
 }
 
 /// Whether the message has something left at the transport.
-pub(crate) fn stays(admitted: &Pool, waiting: &Waiting, id: Id, transport: usize) -> bool
+pub(crate) fn stays(
+    turns: &Turns,
+    admitted: &Pool,
+    waiting: &Waiting,
+    id: Id,
+    transport: usize,
+) -> bool
+    requires { ArePeersTied turns.now.peers (rows_of waiting.now.items) }
     ensures { result ≡ stays_among (heads admitted.now.items) (rows_of waiting.now.items) transport id }
 {
-    waits_for(waiting, id, transport) || unread(admitted, id) != 0
+    waits_for(turns, waiting, id, transport) || unread(admitted, id) != 0
 }
 
 /// The message of the first job that has nothing left.
 fn first_to_leave(turns: &Turns, admitted: &Pool, waiting: &Waiting, transport: usize) -> Option<Id>
+    requires { ArePeersTied turns.now.peers (rows_of waiting.now.items) }
     ensures { result ≡ option_map (λ j. j.id) (find (leaves_among (heads admitted.now.items)
         (rows_of waiting.now.items) transport) (line_at transport turns.now.lines)) }
 {
     turns.stand_apart();
     let mut at = turns.first(transport);
     while let Some(job) = at {
-        if !stays(admitted, waiting, job.id, transport) {
+        if !stays(turns, admitted, waiting, job.id, transport) {
             return Some(job.id);
         }
         at = turns.behind(transport, job.id);
@@ -104,19 +112,6 @@ pub(crate) fn tidy_lines(turns: &mut Turns, admitted: &Pool, waiting: &Waiting)
     }
 }
 
-pub(crate) fn has_row(served: &Served, waiting: &Waiting) -> bool
-    ensures { result ≡ waits_at_site (rows_of waiting.now.items) served.now.id served.now.site }
-{
-    waits_for_site(waiting, served.id, &served.site)
-}
-
-/// Forgets when a message was served at a site where it has no row any more.
-pub(crate) fn tidy_served(served: &mut Vec<Served>, waiting: &Waiting)
-    ensures { served.new.items ≡ tidied_served (rows_of waiting.now.items) served.old.items }
-{
-    served.retain(|last| has_row(last, waiting));
-}
-
 /// Forgets the dead site that nothing goes to for the longest time, where more than `limit` are.
 fn forget_oldest(sites: &mut Sites, limit: usize)
     ensures { sites.new ≡ record sites.old { items = forgotten limit sites.old.items } }
@@ -134,8 +129,8 @@ impl Core {
         let limit = record_limit(&self.params);
         let message = &self.touched_message;
         self.sites.stand_apart();
+        self.turns.stand_apart();
         tidy_touched_lines(&mut self.turns, message, &self.admitted, &self.waiting);
-        tidy_touched_served(&mut self.served, message, &self.waiting);
         forget_oldest(&mut self.sites, limit);
         self.touched_message = Touched::Nothing;
     }

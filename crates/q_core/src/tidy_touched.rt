@@ -1,19 +1,17 @@
 //! What holds after each entry, where it is known what was touched.
-ghost use Rattle.std.specs.Prelude.{◌≡◌, ◌<◌, ◌||◌, filter, length, map, not, true};
+ghost use Rattle.std.specs.Prelude.{◌≡◌, ◌<◌, length, map, true};
 ghost use Rattle.std.specs.List.{enumerate_from};
 ghost use Rattle.q_core.specs.Ties.{ArePeersTied};
-ghost use Rattle.q_core.specs.Tidied.{tidied_jobs, tidied_line, tidied_served, waits_at_site};
+ghost use Rattle.q_core.specs.Tidied.{tidied_jobs, tidied_line};
 ghost use Rattle.q_pool.specs.Kept.{heads};
-ghost use Rattle.q_core.specs.Touched.{DoJobsStay, jobs_stay, served_stay};
+ghost use Rattle.q_core.specs.Touched.{DoJobsStay, jobs_stay};
 ghost use Rattle.q_core.specs.declared.touched.Touched.TheVariants.{One};
-ghost use Rattle.q_model.specs.Ids.{id_eq};
 ghost use Rattle.q_peers.specs.Numbered.{rows_of};
 ghost use Rattle.q_turns.specs.Turns.{line_at, with_line};
 
-use crate::names::same_id;
-use crate::tidy::{has_row, leave_line, stays, tidy_lines, tidy_served};
+use crate::tidy::{leave_line, stays, tidy_lines};
 use crate::touched::Touched;
-use q_model::{Id, Served};
+use q_model::Id;
 use q_peers::Waiting;
 use q_pool::Pool;
 use q_turns::Turns;
@@ -29,7 +27,7 @@ fn tidy_job(turns: &mut Turns, id: Id, admitted: &Pool, waiting: &Waiting, trans
           (heads admitted.now.items) (rows_of waiting.now.items) transport) turns.old.lines;
     } }
 {
-    if !stays(admitted, waiting, id, transport) {
+    if !stays(turns, admitted, waiting, id, transport) {
         leave_line(turns, id, waiting, transport);
     }
 }
@@ -68,37 +66,5 @@ pub(crate) fn tidy_touched_lines(
         Touched::Nothing => {}
         Touched::One(id) => tidy_message(turns, *id, admitted, waiting),
         Touched::Everything => tidy_lines(turns, admitted, waiting),
-    }
-}
-
-/// Whether the served row is of another message, or still waits.
-fn is_left(served: &Served, id: Id, waiting: &Waiting) -> bool
-    ensures { result ≡ (not (id_eq served.now.id id)
-        || waits_at_site (rows_of waiting.now.items) served.now.id served.now.site) }
-{
-    !same_id(served.id, id) || has_row(served, waiting)
-}
-
-/// Forgets when the message was served at sites where it has no row any more.
-fn tidy_served_of(served: &mut Vec<Served>, id: Id, waiting: &Waiting)
-    requires { served_stay (One id) (rows_of waiting.now.items) served.old.items ≡ true }
-    ensures { served.new.items ≡ tidied_served (rows_of waiting.now.items) served.old.items }
-{
-    served.retain(|last| is_left(last, id, waiting));
-}
-
-/// Forgets when messages were served at sites where they have no row any more.
-pub(crate) fn tidy_touched_served(
-    served: &mut Vec<Served>,
-    touched: &Touched<Id>,
-    waiting: &Waiting,
-)
-    requires { served_stay touched.now (rows_of waiting.now.items) served.old.items ≡ true }
-    ensures { served.new.items ≡ tidied_served (rows_of waiting.now.items) served.old.items }
-{
-    match touched {
-        Touched::Nothing => {}
-        Touched::One(id) => tidy_served_of(served, *id, waiting),
-        Touched::Everything => tidy_served(served, waiting),
     }
 }

@@ -25,15 +25,16 @@ use Rattle.q_model.specs.Values.{Site}
 use Rattle.q_sorted.specs.declared.entry.Entry.{Entry}
 use Rattle.q_sorted.specs.Entries.{is_of, Rises}
 use Rattle.q_turns.specs.declared.lane.Lane.{Lane}
-use Rattle.q_turns.specs.declared.peer.Peer.{Peer}
+use Rattle.q_rounds.specs.declared.peer.Peer.{Peer}
 use Rattle.q_turns.specs.Heading.{head_at, head_with, is_lane_of, lane_of, rank_at, rank_by, sent_in}
 use Rattle.q_turns.specs.Sound.{ArePlaced}
-use Rattle.q_turns.specs.Turns.{has_space_at, is_able, is_peer_for}
-use Rattle.q_turns.proofs.Counting.{fewer_pass}
-use Rattle.q_turns.proofs.Entered.{entered, entry_own}
+use Rattle.q_rounds.specs.Rounds.{has_space_at, is_peer_for}
+use Rattle.q_turns.specs.Turns.{is_able}
+use Rattle.q_rounds.proofs.Fewer.{fewer_pass}
+use Rattle.q_rounds.proofs.Entered.{entered, entry_own}
 use Rattle.q_turns.proofs.HeadLaws.{at_is, at_tells, head_made, HeadAt, lane_class}
 use Rattle.q_turns.proofs.LaneLaws.{some_from}
-use Rattle.q_turns.proofs.Lookups.{here_at, later_at}
+use Rattle.q_rounds.proofs.Lookups.{here_at, later_at}
 
 -- A peer that passes a test, under its number.
 pub record HasPeer (q : Peer → Bool) (ks : List (Numbered Peer)) : Type 0 where

@@ -4,8 +4,9 @@ use Rattle.std.specs.Prelude.{◌==◌, filter, find}
 use Rattle.q_jobs.specs.declared.job.Job.{Job}
 use Rattle.q_keyed.proofs.Values.{changed_where}
 use Rattle.q_keyed.specs.Numbered.{has_number, item_at, Numbered, values_of}
-use Rattle.q_turns.specs.declared.peer.Peer.{Peer}
-use Rattle.q_turns.specs.Turns.{HaveJobs, may_wait, waits}
+use Rattle.q_rounds.specs.declared.peer.Peer.{Peer}
+use Rattle.q_rounds.specs.Rounds.{waits}
+use Rattle.q_turns.specs.Turns.{HaveJobs, may_wait}
 
 -- a row waits for each
 abbrev pub AllWait : List Peer → Type 0

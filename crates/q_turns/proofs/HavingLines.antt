@@ -12,8 +12,9 @@ use Rattle.q_model.proofs.IdLaws.{id_eq-true}
 use Rattle.q_model.specs.declared.id.Id.{Id}
 use Rattle.q_model.specs.Ids.{id_eq}
 use Rattle.q_model.specs.Lists.{drop_first}
-use Rattle.q_turns.specs.declared.peer.Peer.{Peer}
-use Rattle.q_turns.specs.Turns.{has_job, HaveJobs, is_peer_for, line_at, may_wait, with_line}
+use Rattle.q_rounds.specs.declared.peer.Peer.{Peer}
+use Rattle.q_rounds.specs.Rounds.{is_peer_for}
+use Rattle.q_turns.specs.Turns.{has_job, HaveJobs, line_at, may_wait, with_line}
 use Rattle.q_turns.proofs.WithLine.{length_with}
 
 -- A row may wait where there is a job, or no line.

@@ -12,7 +12,7 @@ use Rattle.q_model.specs.Values.{Site}
 use Rattle.q_sorted.specs.declared.entry.Entry.{Entry}
 use Rattle.q_sorted.specs.Entries.{is_of}
 use Rattle.q_turns.specs.declared.lane.Lane.{Lane}
-use Rattle.q_turns.specs.declared.peer.Peer.{Peer}
+use Rattle.q_rounds.specs.declared.peer.Peer.{Peer}
 use Rattle.q_turns.specs.Heading.{head_at, head_in, head_with, is_lane_of, lane_of, rank_by}
 use Rattle.q_turns.specs.Sound.{AreLanes}
 

@@ -14,12 +14,13 @@ use Rattle.q_model.specs.Ids.{id_eq}
 use Rattle.q_sorted.specs.declared.entry.Entry.{Entry}
 use Rattle.q_sorted.specs.Entries.{goes_before, Rises}
 use Rattle.q_turns.specs.declared.lane.Lane.{Lane}
-use Rattle.q_turns.specs.declared.peer.Peer.{Peer}
-use Rattle.q_turns.specs.Heading.{AreEntries, head_at, head_in, head_with, lane_of, message_at, message_entry, rank_at, rank_by, ranked_before}
+use Rattle.q_rounds.specs.declared.peer.Peer.{Peer}
+use Rattle.q_rounds.specs.Listing.{AreEntries}
+use Rattle.q_turns.specs.Heading.{head_at, head_in, head_with, lane_of, message_at, message_entry, rank_at, rank_by, ranked_before}
 use Rattle.q_turns.specs.Moving.{job_head, moved_head, with_key}
-use Rattle.q_turns.specs.Turns.{is_peer_for}
-use Rattle.q_turns.proofs.Counting.{fewer_pass}
-use Rattle.q_turns.proofs.Entered.{alike, cond_same, entered, entry_own, none_does, StayBut}
+use Rattle.q_rounds.specs.Rounds.{is_peer_for}
+use Rattle.q_rounds.proofs.Fewer.{fewer_pass}
+use Rattle.q_rounds.proofs.Entered.{alike, cond_same, entered, entry_own, none_does, StayBut}
 use Rattle.q_turns.proofs.HeadLaws.{at_is, head_made, head_same, head_tells, no_lane}
 use Rattle.q_turns.proofs.LaneLaws.{some_from, unless_none}
 use Rattle.q_turns.proofs.MovingLaws.{move}

@@ -9,11 +9,11 @@ use Rattle.q_model.proofs.IdLaws.{site_eq-refl, site_eq-true}
 use Rattle.q_model.specs.Sites.{site_eq}
 use Rattle.q_model.specs.Values.{Site}
 use Rattle.q_turns.specs.declared.lane.Lane.{Lane}
-use Rattle.q_turns.specs.declared.peer.Peer.{Peer}
+use Rattle.q_rounds.specs.declared.peer.Peer.{Peer}
 use Rattle.q_turns.specs.Heading.{is_lane_of}
 use Rattle.q_turns.specs.Sound.{IsUsed}
 use Rattle.q_turns.proofs.Choosing.{any_peer}
-use Rattle.q_turns.proofs.Lookups.{here_at, later_at}
+use Rattle.q_rounds.proofs.Lookups.{here_at, later_at}
 
 abbrev is_there : Site → Peer → Bool
 is_there site p = site_eq p.site site

@@ -14,13 +14,14 @@ use Rattle.q_model.specs.Values.{Site}
 use Rattle.q_sorted.specs.declared.entry.Entry.{Entry}
 use Rattle.q_sorted.specs.Entries.{is_of}
 use Rattle.q_turns.specs.declared.lane.Lane.{Lane}
-use Rattle.q_turns.specs.declared.peer.Peer.{Peer}
-use Rattle.q_turns.specs.Heading.{AreEntries, head_at, head_in, head_with, is_lane_of, lane_of}
+use Rattle.q_rounds.specs.declared.peer.Peer.{Peer}
+use Rattle.q_rounds.specs.Listing.{AreEntries}
+use Rattle.q_turns.specs.Heading.{head_at, head_in, head_with, is_lane_of, lane_of}
 use Rattle.q_turns.specs.Laning.{empty_lane, HasMade, IsOldOrMade}
 use Rattle.q_turns.specs.Sound.{AreLanes, ArePlaced, HaveLanes, IsLane, IsUsed}
-use Rattle.q_turns.proofs.Entered.{alike, entered, entry_own}
+use Rattle.q_rounds.proofs.Entered.{alike, entered, entry_own}
 use Rattle.q_turns.proofs.HeadLaws.{at_is, at_same, at_tells, head_made, head_same, lane_named, no_rank, not_empty}
-use Rattle.q_turns.proofs.Lookups.{other_left, other_more, own_left, own_more, such_left, such_more, such_stays}
+use Rattle.q_rounds.proofs.Lookups.{other_left, other_more, own_left, own_more, such_left, such_more, such_stays}
 use Rattle.q_turns.proofs.Placing.{free_at, with_peer}
 
 pub none_from : {A : Type 0} (o : Option A) → is_some o ≡ false → o ≡ None

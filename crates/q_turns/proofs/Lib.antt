@@ -3,14 +3,10 @@ mod LineSets
 mod Having
 mod HavingLines
 mod PeerLaws
-mod NumberedWalk
-mod Lookups
-mod Entered
 mod HeadLaws
 mod Placing
 mod LaneLaws
 mod LaneCounts
-mod Counting
 mod Choosing
 mod RankSets
 mod MovingLaws

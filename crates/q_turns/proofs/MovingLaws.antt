@@ -11,13 +11,14 @@ use Rattle.q_keyed.specs.Numbered.{AreApart, first_number, has_number, item_at, 
 use Rattle.q_sorted.specs.declared.entry.Entry.{Entry}
 use Rattle.q_sorted.specs.Entries.{inserted, is_another, Rises}
 use Rattle.q_turns.specs.declared.lane.Lane.{Lane}
-use Rattle.q_turns.specs.declared.peer.Peer.{Peer}
-use Rattle.q_turns.specs.Heading.{AreEntries, head_at, head_in, rank_by, ranked_elsewhere}
+use Rattle.q_rounds.specs.declared.peer.Peer.{Peer}
+use Rattle.q_rounds.specs.Listing.{AreEntries}
+use Rattle.q_turns.specs.Heading.{head_at, head_in, rank_by, ranked_elsewhere}
 use Rattle.q_turns.specs.Moving.{missing_head}
 use Rattle.q_turns.specs.Sound.{AreLanes}
-use Rattle.q_turns.proofs.Entered.{alike, come, fewer_entries, go, none_does, StayBut}
+use Rattle.q_rounds.proofs.Entered.{alike, come, fewer_entries, go, none_does, StayBut}
 use Rattle.q_turns.proofs.HeadLaws.{at_is, head_below, at_tells, head_same, head_tells, no_rank}
-use Rattle.q_turns.proofs.NumberedWalk.{from_first, from_on, lacks_own, one_on}
+use Rattle.q_rounds.proofs.NumberedWalk.{from_first, from_on, lacks_own, one_on}
 
 -- An entry in the place of another.
 module _ (f h : ℕ → Option Entry) (xs : List Entry) (are : AreEntries f xs) (n : ℕ) (stay : StayBut n f h) where

@@ -7,10 +7,11 @@ use Rattle.q_jobs.specs.Jobs.{Jobs}
 use Rattle.q_keyed.specs.Numbered.{AreApart, item_at, Numbered}
 use Rattle.q_sorted.specs.declared.entry.Entry.{Entry}
 use Rattle.q_turns.specs.declared.lane.Lane.{Lane}
-use Rattle.q_turns.specs.declared.peer.Peer.{Peer}
-use Rattle.q_turns.specs.Heading.{AreEntries, head_at, head_in, rank_by, ranked_elsewhere}
+use Rattle.q_rounds.specs.declared.peer.Peer.{Peer}
+use Rattle.q_rounds.specs.Listing.{AreEntries}
+use Rattle.q_turns.specs.Heading.{head_at, head_in, rank_by, ranked_elsewhere}
 use Rattle.q_turns.specs.Sound.{AreLanes}
-use Rattle.q_turns.proofs.Entered.{the_is}
+use Rattle.q_rounds.proofs.Entered.{the_is}
 use Rattle.q_turns.proofs.HeadLaws.{at_tells, head_same, head_tells, lane_class, no_rank}
 
 -- the entries of other transports stand

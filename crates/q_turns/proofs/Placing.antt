@@ -11,12 +11,13 @@ use Rattle.q_sorted.specs.declared.entry.Entry.{Entry}
 use Rattle.q_sorted.specs.Entries.{inserted, is_another}
 use Rattle.q_model.specs.declared.id.Id.{Id}
 use Rattle.q_turns.specs.declared.lane.Lane.{Lane}
-use Rattle.q_turns.specs.declared.peer.Peer.{Peer}
-use Rattle.q_turns.specs.Heading.{AreEntries, head_at, head_in, message_at, message_entry, lane_of}
+use Rattle.q_rounds.specs.declared.peer.Peer.{Peer}
+use Rattle.q_rounds.specs.Listing.{AreEntries}
+use Rattle.q_turns.specs.Heading.{head_at, head_in, message_at, message_entry, lane_of}
 use Rattle.q_turns.specs.Sound.{AreLanes, HaveLanes, IsUsed}
-use Rattle.q_turns.proofs.Entered.{alike, come, go, none_does, StayBut}
+use Rattle.q_rounds.proofs.Entered.{alike, come, go, none_does, StayBut}
 use Rattle.q_turns.proofs.HeadLaws.{at_is, head_same, head_tells}
-use Rattle.q_turns.proofs.Lookups.{other_left, other_more, other_put, own_left, own_more, own_put}
+use Rattle.q_rounds.proofs.Lookups.{other_left, other_more, other_put, own_left, own_more, own_put}
 
 -- A peer comes under a number that none has.
 abbrev pub with_peer : ℕ → Peer → List (Numbered Peer) → List (Numbered Peer)

@@ -12,10 +12,11 @@ use Rattle.q_model.proofs.EachLaws.{find-any}
 use Rattle.q_model.proofs.IdLaws.{id_eq-true}
 use Rattle.q_model.specs.declared.id.Id.{Id}
 use Rattle.q_model.specs.Ids.{id_eq}
-use Rattle.q_turns.specs.declared.peer.Peer.{Peer}
+use Rattle.q_rounds.specs.declared.peer.Peer.{Peer}
 use Rattle.q_turns.specs.Heading.{rank_at, rank_by, ranked_before, ranked_elsewhere}
 use Rattle.q_turns.specs.Sound.{AreRanked, AreSound, jobs_of}
-use Rattle.q_turns.specs.Turns.{has_job, is_peer_for, may_wait}
+use Rattle.q_rounds.specs.Rounds.{is_peer_for}
+use Rattle.q_turns.specs.Turns.{has_job, may_wait}
 use Rattle.q_turns.proofs.Having.{have_at}
 use Rattle.q_turns.proofs.HavingLines.{any_moved, may_to, other_id}
 use Rattle.q_turns.proofs.Choosing.{any_peer}

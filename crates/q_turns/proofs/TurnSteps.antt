@@ -14,18 +14,20 @@ use Rattle.q_model.specs.Values.{Site}
 use Rattle.q_sorted.specs.declared.entry.Entry.{Entry}
 use Rattle.q_sorted.specs.Entries.{Entries, inserted, is_another, is_of, Rises}
 use Rattle.q_turns.specs.declared.lane.Lane.{Lane}
-use Rattle.q_turns.specs.declared.peer.Peer.{Peer}
-use Rattle.q_turns.specs.Heading.{AreEntries, head_at, head_in, lane_of, message_at, message_entry, rank_by}
+use Rattle.q_rounds.specs.declared.peer.Peer.{Peer}
+use Rattle.q_rounds.specs.Listing.{AreEntries}
+use Rattle.q_turns.specs.Heading.{head_at, head_in, lane_of, message_at, message_entry, rank_by}
 use Rattle.q_turns.specs.Laning.{empty_lane, HasMade, lanes_without}
 use Rattle.q_turns.specs.Sound.{ArePlaced, AreRanked, AreSound, IsSound, jobs_of}
-use Rattle.q_turns.specs.Turns.{AreLinesApart, HaveJobs, may_wait, waits, with_line}
+use Rattle.q_rounds.specs.Rounds.{waits}
+use Rattle.q_turns.specs.Turns.{AreLinesApart, HaveJobs, may_wait, with_line}
 use Rattle.q_turns.proofs.Having.{have_more}
 use Rattle.q_turns.proofs.HeadLaws.{at_same, at_tells, head_same, lanes_alike, no_line}
 use Rattle.q_turns.proofs.LaneLaws.{lanes_more, laned_more, placed_made, places_kept, places_left}
 use Rattle.q_turns.proofs.LineSets.{apart_empty, apart_set, count_set, empty_line, jobs_at, jobs_empty, jobs_set, room_at, room_empty, room_set}
 use Rattle.q_turns.proofs.Placing.{laned_put, lanes_put, listed_less, listed_more, listed_put, placed_less, placed_more, placed_put, with_peer}
 use Rattle.q_turns.proofs.RankSets.{peer_ranked, ranked_set}
-use Rattle.q_turns.proofs.Entered.{alike, most_entries}
+use Rattle.q_rounds.proofs.Entered.{alike, most_entries}
 use Rattle.q_turns.proofs.LaneCounts.{few_lanes}
 
 pub values_more : (n : ℕ) (p : Peer) (ks : List (Numbered Peer)) → values_of (with_peer n p ks) ≡ values_of ks ++ p ∷ []

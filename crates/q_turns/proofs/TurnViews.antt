@@ -5,9 +5,10 @@ use Rattle.std.specs.Prelude.{slice_get}
 use Rattle.q_jobs.specs.declared.job.Job.{Job}
 use Rattle.q_jobs.specs.Jobs.{Jobs}
 use Rattle.q_keyed.specs.Numbered.{Items, Numbered, values_of}
-use Rattle.q_turns.specs.declared.peer.Peer.{Peer}
+use Rattle.q_rounds.specs.declared.peer.Peer.{Peer}
 use Rattle.q_turns.specs.Sound.{jobs_of}
-use Rattle.q_turns.specs.Turns.{HaveJobs, may_wait, Turning, waits, with_line}
+use Rattle.q_rounds.specs.Rounds.{waits}
+use Rattle.q_turns.specs.Turns.{HaveJobs, may_wait, Turning, with_line}
 use Rattle.q_turns.proofs.Having.{have_more}
 use Rattle.q_turns.proofs.LineSets.{jobs_at, jobs_set}
 

@@ -1,7 +1,6 @@
 -- The entries of peers: in the lane of a site with the rank of a job, and among those of a message.
-use Rattle.std.specs.Prelude.{◌≡◌, ◌==◌, Bool, if◌then◌else◌, List, None, Option, option_and_then, option_map, slice_get, Some, ℕ}
+use Rattle.std.specs.Prelude.{◌==◌, Bool, if◌then◌else◌, List, None, Option, option_and_then, option_map, slice_get, Some, ℕ}
 use Rattle.q_dest.specs.declared.dest.Dest.{Dest}
-use Rattle.q_heads.specs.Lanes.{is_the, stands}
 use Rattle.q_jobs.specs.Jobs.{Jobs, rank_of}
 use Rattle.q_keyed.specs.Numbered.{first_such, item_at, Numbered}
 use Rattle.q_model.specs.declared.id.Id.{Id}
@@ -9,12 +8,8 @@ use Rattle.q_model.specs.Sites.{site_eq}
 use Rattle.q_model.specs.Values.{Site}
 use Rattle.q_sorted.specs.declared.entry.Entry.{Entry}
 use Rattle.q_turns.specs.declared.lane.Lane.{Lane}
-use Rattle.q_turns.specs.declared.peer.Peer.{Peer}
-use Rattle.q_turns.specs.Turns.{has_space_at, is_peer_for}
-
--- an entry stands among these where it is that of the number that it names
-abbrev pub AreEntries : (ℕ → Option Entry) → List Entry → Type 0
-AreEntries entry_at items = (x : Entry) → stands x items ≡ is_the x (entry_at x.item)
+use Rattle.q_rounds.specs.declared.peer.Peer.{Peer}
+use Rattle.q_rounds.specs.Rounds.{has_space_at, is_peer_for}
 
 -- the rank of the message's job at the transport
 abbrev pub rank_at : List Jobs → ℕ → Id → Option ℕ

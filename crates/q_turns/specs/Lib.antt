@@ -3,4 +3,3 @@ pub mod Heading
 pub mod Laning
 pub mod Moving
 pub mod Sound
-pub mod KeyLaws

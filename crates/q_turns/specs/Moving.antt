@@ -6,9 +6,9 @@ use Rattle.q_model.specs.declared.id.Id.{Id}
 use Rattle.q_sorted.specs.declared.entry.Entry.{Entry}
 use Rattle.q_sorted.specs.Entries.{inserted, is_another}
 use Rattle.q_turns.specs.declared.lane.Lane.{Lane}
-use Rattle.q_turns.specs.declared.peer.Peer.{Peer}
+use Rattle.q_rounds.specs.declared.peer.Peer.{Peer}
 use Rattle.q_turns.specs.Heading.{head_in, rank_by}
-use Rattle.q_turns.specs.Turns.{is_peer_for}
+use Rattle.q_rounds.specs.Rounds.{is_peer_for}
 
 -- the entry of the peer under a number, where it is at the transport
 abbrev pub missing_head : ℕ → List Jobs → List (Numbered Lane) → List (Numbered Peer) → ℕ → Option Entry

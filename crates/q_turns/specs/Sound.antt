@@ -9,8 +9,9 @@ use Rattle.q_keyed.specs.Numbered.{item_at, Items, Numbered, values_of}
 use Rattle.q_model.specs.Values.{Site}
 use Rattle.q_sorted.specs.Entries.{Entries}
 use Rattle.q_turns.specs.declared.lane.Lane.{Lane}
-use Rattle.q_turns.specs.declared.peer.Peer.{Peer}
-use Rattle.q_turns.specs.Heading.{AreEntries, head_at, message_at, lane_of, rank_by}
+use Rattle.q_rounds.specs.declared.peer.Peer.{Peer}
+use Rattle.q_rounds.specs.Listing.{AreEntries}
+use Rattle.q_turns.specs.Heading.{head_at, message_at, lane_of, rank_by}
 use Rattle.q_turns.specs.Turns.{AreLinesApart, HaveJobs}
 
 -- the jobs of lines

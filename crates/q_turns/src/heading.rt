@@ -1,14 +1,14 @@
 //! The entries of peers.
 ghost use Rattle.std.specs.Prelude.{◌≡◌};
 ghost use Rattle.q_turns.specs.Heading.{head_in, message_entry, rank_at, rank_by, sent_in};
-ghost use Rattle.q_turns.specs.Turns.{is_peer_for};
+ghost use Rattle.q_rounds.specs.Rounds.{is_peer_for};
 
 use crate::lane::Lane;
-use crate::peer::Peer;
 use q_dest::Sites;
 use q_jobs::Line;
 use q_keyed::Keyed;
 use q_model::Id;
+use q_rounds::{Peer, Rounds};
 use q_sorted::Entry;
 
 /// The rank of the message's job at the transport.
@@ -56,7 +56,7 @@ pub(crate) fn is_peer_for(peer: &Peer, id: Id, transport: usize) -> bool
 }
 
 /// The message of the peer, where its site has space.
-pub(crate) fn sent_in(peers: &Keyed<Peer>, number: u32, sites: &Sites) -> Option<Id>
+pub(crate) fn sent_in(peers: &Rounds, number: u32, sites: &Sites) -> Option<Id>
     ensures { result ≡ sent_in sites.now.items number peers.now.items }
 {
     let peer = peers.get(number)?;

@@ -1,6 +1,7 @@
 //! Whose turn it is: the jobs of all transports in their lines, and their peers. A job is a message
 //! at a transport, and a peer is a message at a site, of which rows wait there (SCHEDULER_README,
-//! "Preemptive scheduling"). It knows of each transport the first job that can be sent something.
+//! "Preemptive scheduling"). It knows of each transport the first job that can be sent something,
+//! and of each job the peer that is next.
 //!
 //! To find that job, no call walks along a line or over all peers. A site for which rows wait has a
 //! lane, and in it its peers stand by the ranks of their jobs. The first ones of the transport's
@@ -11,8 +12,9 @@
 //! A job joins its line before a row of its message waits at the transport, and leaves behind the
 //! last one. Room is made once, by `new`; no other call takes memory or can fail. It is an error to
 //! let a job join where it stands already or has no room, or leave while rows of it wait; to let a
-//! row come without a job or without room for its peer; and to put a job before itself, or before
-//! one that isn't there. It is none to ask for, change or lose what isn't there.
+//! row come without a job or without room for its peer; to let two peers be sent to in one
+//! delivery; and to put a job before itself, or before one that isn't there. It is none to ask for,
+//! change or lose what isn't there.
 #![tactic(auto)]
 
 mod current;
@@ -21,11 +23,10 @@ mod lane;
 mod laning;
 mod lines;
 mod moving;
-mod peer;
+mod next;
 mod peers;
 mod turns;
 #[cfg(test)]
 mod worked;
 
-pub use peer::Peer;
 pub use turns::Turns;

@@ -3,7 +3,8 @@ ghost use Rattle.std.specs.Prelude.{◌≡◌, ◌<◌, ◌++◌, ◌∷◌, [],
 ghost use Rattle.std.specs.List.{list_any};
 ghost use Rattle.q_jobs.specs.Jobs.{account_in, fresh_job, is_job_of, is_job_of_another, moved_job};
 ghost use Rattle.q_model.specs.Ids.{id_eq};
-ghost use Rattle.q_turns.specs.Turns.{has_job, is_peer_for, line_at, with_line};
+ghost use Rattle.q_rounds.specs.Rounds.{is_peer_for};
+ghost use Rattle.q_turns.specs.Turns.{has_job, line_at, with_line};
 
 use crate::heading::rank_at;
 use crate::moving::{move_job, place_anew};

@@ -4,18 +4,19 @@ ghost use Rattle.std.specs.Option.{is_some};
 ghost use Rattle.q_heads.specs.Lanes.{class_of, is_the, stands};
 ghost use Rattle.q_heads.specs.Marks.{with_mark};
 ghost use Rattle.q_sorted.specs.declared.entry.Entry.{Entry};
-ghost use Rattle.q_turns.specs.Heading.{AreEntries, head_at, message_at, rank_at, rank_by, ranked_before, ranked_elsewhere};
+ghost use Rattle.q_rounds.specs.Listing.{AreEntries};
+ghost use Rattle.q_turns.specs.Heading.{head_at, message_at, rank_at, rank_by, ranked_before, ranked_elsewhere};
 ghost use Rattle.q_turns.specs.Moving.{job_head, missing_head, moved_head, with_key};
 ghost use Rattle.q_turns.specs.Sound.{AreLanes};
 
 use crate::heading::{head_of, is_peer_for};
 use crate::lane::Lane;
 use crate::laning::put_in;
-use crate::peer::Peer;
 use q_heads::Heads;
 use q_jobs::Line;
 use q_keyed::Keyed;
 use q_model::Id;
+use q_rounds::Rounds;
 use q_sorted::{Entry, Sorted};
 
 /// Takes all entries of the transport out.
@@ -35,7 +36,7 @@ fn put_one_in(
     heads: &mut Heads,
     lines: &Vec<Line>,
     lanes: &Keyed<Lane>,
-    peers: &Keyed<Peer>,
+    peers: &Rounds,
     transport: usize,
     number: u32,
 )
@@ -61,7 +62,7 @@ pub(crate) fn put_all_in(
     heads: &mut Heads,
     lines: &Vec<Line>,
     lanes: &Keyed<Lane>,
-    peers: &Keyed<Peer>,
+    peers: &Rounds,
     transport: usize,
 )
     requires room { heads.old.room ≡ peers.now.room }
@@ -88,7 +89,7 @@ pub(crate) fn place_anew(
     heads: &mut Heads,
     lines: &Vec<Line>,
     lanes: &Keyed<Lane>,
-    peers: &Keyed<Peer>,
+    peers: &Rounds,
     transport: usize,
 )
     requires few { transport < 2 ^ 32 }
@@ -112,7 +113,7 @@ fn move_one(
     heads: &mut Heads,
     lines: &Vec<Line>,
     lanes: &Keyed<Lane>,
-    peers: &Keyed<Peer>,
+    peers: &Rounds,
     number: u32,
     id: Id,
     transport: usize,
@@ -156,7 +157,7 @@ pub(crate) fn move_job(
     heads: &mut Heads,
     lines: &Vec<Line>,
     lanes: &Keyed<Lane>,
-    peers: &Keyed<Peer>,
+    peers: &Rounds,
     messages: &Sorted,
     id: Id,
     transport: usize,

@@ -1,29 +1,37 @@
-//! Rows come to wait and leave.
+//! Rows come to wait, are sent and leave.
 ghost use Rattle.std.specs.Prelude.{◌≡◌, ◌+◌, ◌++◌, ◌<◌, ◌^◌, [], ◌∷◌, find, length, None, true};
-ghost use Rattle.q_turns.specs.Turns.{gained_at, is_peer, lost_at, may_wait, waiting_for, waits};
+ghost use Rattle.q_rounds.specs.Rounds.{has_last, is_peer, new_peer};
+ghost use Rattle.q_turns.specs.Turns.{gained_at, lost_at, may_wait, started_at, waiting_for};
 
 use crate::heading::{head_of, message_entry};
 use crate::laning::{drop_lane, make_lane, put_in, take_out};
-use crate::peer::{Peer, PeerKey};
 use crate::turns::Turns;
 use q_model::{Id, Site};
+use q_rounds::{Peer, PeerKey};
 
 impl Turns {
     /// A peer comes behind all others, with a lane and its entries.
-    fn come(&mut self, peer: Peer)
-        requires absent { find (is_peer peer.id peer.site) self.old.peers ≡ None }
-        requires waits { waits peer ≡ true }
-        requires job { may_wait self.old.lines peer.site.transport peer.id ≡ true }
+    fn come(&mut self, id: Id, site: &Site)
+        requires absent { find (is_peer id site.now) self.old.peers ≡ None }
+        requires job { may_wait self.old.lines site.now.transport id ≡ true }
         requires room { length self.old.peers < self.old.room }
-        ensures { self.new ≡ record self.old { peers = self.old.peers ++ peer ∷ [] } }
+        ensures { self.new ≡ record self.old
+            { peers = self.old.peers ++ new_peer id site.now 0 ∷ [] } }
     {
         self.peers.stand_apart();
         self.lanes.stand_apart();
         self.heads.stand_sorted();
         self.messages.stand_sorted();
-        make_lane(&mut self.lanes, &mut self.heads, &peer.site);
+        make_lane(&mut self.lanes, &mut self.heads, site);
         self.lanes.stand_apart();
-        let number = self.peers.push(peer);
+        let number = self.peers.add(id, site, 0);
+        let peer = Peer {
+            id,
+            site: *site,
+            waiting: 1,
+            last: 0,
+            passed: false,
+        };
         self.messages.insert(message_entry(&peer, number));
         let head = head_of(&self.lines, &self.lanes, number, &peer);
         put_in(&mut self.heads, head);
@@ -55,12 +63,25 @@ impl Turns {
         self.peers.stand_apart();
         let key = PeerKey { id, site: *site };
         let Some(number) = self.peers.find(&key) else {
-            self.come(Peer::new(id, *site));
+            self.come(id, site);
             return;
         };
-        if let Some(peer) = self.peers.get(number).copied() {
-            self.peers.put(number, peer.gained());
-        }
+        self.peers.gain(number);
+    }
+
+    /// The message was last sent to the site in the delivery of this number.
+    pub fn start(&mut self, id: Id, site: &Site, last: u64)
+        requires some { 0 < last }
+        requires own { find (has_last last) self.old.peers ≡ None }
+        ensures { self.new ≡ record self.old
+            { peers = started_at id site.now last self.old.peers } }
+    {
+        self.peers.stand_apart();
+        let key = PeerKey { id, site: *site };
+        let Some(number) = self.peers.find(&key) else {
+            return;
+        };
+        self.peers.start(number, last);
     }
 
     /// One row less of the message waits for the site.
@@ -77,13 +98,13 @@ impl Turns {
             return;
         };
         if peer.waiting > 1 {
-            self.peers.put(number, peer.lost());
+            self.peers.lose(number);
             return;
         }
         self.messages.remove(&message_entry(&peer, number));
         let head = head_of(&self.lines, &self.lanes, number, &peer);
         take_out(&mut self.heads, head);
         drop_lane(&mut self.lanes, &self.heads, &peer.site);
-        let _peer = self.peers.remove(number);
+        self.peers.remove(number);
     }
 }

@@ -2,15 +2,16 @@
 ghost use Rattle.std.specs.Prelude.{◌≡◌, ◌<◌, ◌≤◌, ◌-◌, ◌^◌, [], find, IfOk, length, replicate};
 ghost use Rattle.std.specs.Option.{option_copied};
 ghost use Rattle.q_jobs.specs.Jobs.{behind_jobs, first_job, is_job_of};
+ghost use Rattle.q_rounds.specs.Rounds.{AreStartsApart};
 ghost use Rattle.q_turns.specs.Sound.{jobs_of};
 ghost use Rattle.q_turns.specs.Turns.{AreApart, AreLinesApart, HaveJobs, line_at};
 
 use crate::lane::Lane;
-use crate::peer::Peer;
 use q_heads::Heads;
 use q_jobs::{Job, Line};
 use q_keyed::Keyed;
 use q_model::Id;
+use q_rounds::Rounds;
 use q_sorted::Sorted;
 use std::alloc::{AllocError, Global};
 use std::marker::Model;
@@ -19,7 +20,7 @@ use std::marker::Model;
 #[derive(Debug, Drop)]
 pub struct Turns {
     pub(crate) lines: Vec<Line>,
-    pub(crate) peers: Keyed<Peer>,
+    pub(crate) peers: Rounds,
     /// The sites of peers, each with a number.
     pub(crate) lanes: Keyed<Lane>,
     /// The numbers of peers, in the lanes of their sites by the ranks of their jobs.
@@ -79,7 +80,7 @@ impl Turns {
             { lines = replicate transports []; peers = []; line_room = line_room; room = room }) }
     {
         let lines = empty_lines(alloc, transports, line_room)?;
-        let peers = Keyed::new(alloc, room)?;
+        let peers = Rounds::new(alloc, room)?;
         let lanes = Keyed::new(alloc, room)?;
         let heads = Heads::new(alloc, room, room)?;
         let messages = Sorted::new(alloc, room)?;
@@ -93,12 +94,13 @@ impl Turns {
         })
     }
 
-    /// No two peers are of one message and site, each has a job and rows that wait, and there are
-    /// no more than have room, whatever was called: this does nothing, and is there for callers
-    /// whose proofs want to know it.
+    /// No two peers are of one message and site or were last sent to in one delivery, each has a
+    /// job and rows that wait, and there are no more than have room, whatever was called: this does
+    /// nothing, and is there for callers whose proofs want to know it.
     pub fn stand_apart(&self)
         ensures lines { AreLinesApart self.now.lines }
         ensures apart { AreApart self.now.peers }
+        ensures starts { AreStartsApart self.now.peers }
         ensures jobs { HaveJobs self.now.lines self.now.peers }
         ensures within { length self.now.peers ≤ self.now.room }
         ensures few { self.now.room < 2 ^ 30 }

@@ -1,4 +1,4 @@
-use Rattle.std.proofs.Common.{◌≡◌, ◌∙◌, ◌+◌, ap, arith, map, sym}
+use Rattle.std.proofs.Common.{◌∙◌, ap, map, sym}
 use Rattle.std.specs.List.{enumerate_from}
 use Rattle.std.specs.Option.{option_copied}
 use Rattle.q_core.proofs.LineSteps.{own_started, started_elsewhere, started_here}
@@ -6,7 +6,7 @@ use Rattle.q_core.specs.Sending.{started_line, with_start}
 use Rattle.q_jobs.proofs.LineWalks.{none_changed, put_changes}
 use Rattle.q_jobs.specs.Jobs.{account_in, changed_job}
 use Rattle.q_turns.proofs.WithLine.{apart_at, eq-self, found_there, one_line, with_both, with_same}
-use Rattle.q_turns.specs.Turns.{line_at, Turning, with_line}
+use Rattle.q_turns.specs.Turns.{line_at}
 use Rattle.q_core.proofs.delivery.count_start.Goals as goal
 
 pub put-requires : goal.put-requires

@@ -1,5 +1,5 @@
-use Rattle.std.proofs.Common.{◌≡◌, ◌<◌, ◌∙◌, ◌+◌, ◌++◌, [], ◌∷◌, ap, arith, inl, inr, length, List, refl, Some, subst, sym, take, true, ℕ}
-use Rattle.std.proofs.lemmas.List.{append_assoc, length-append, length-take}
+use Rattle.std.proofs.Common.{◌≡◌, ◌<◌, ◌∙◌, ◌+◌, ◌++◌, [], ◌∷◌, ap, arith, inl, inr, length, List, refl, Some, subst, sym, take, ℕ}
+use Rattle.std.proofs.lemmas.List.{append_assoc, length-append, length-take, take_all}
 use Rattle.std.proofs.lemmas.Option.{slice_get_cases}
 use Rattle.std.specs.List.{list_any}
 use Rattle.std.specs.Prelude.{slice_get}
@@ -7,12 +7,14 @@ use Rattle.q_core.proofs.CountLaws.{count_within}
 use Rattle.q_core.proofs.CountedLaws.{one_more}
 use Rattle.q_core.proofs.NamedLaws.{named_at, passes_at}
 use Rattle.q_core.proofs.PeerTies.{name_of, one_peer_more, peers_gained}
-use Rattle.q_core.specs.Ties.{ArePeersTied}
+use Rattle.q_core.proofs.TurnTies.{served_gained, turns_gained}
+use Rattle.q_core.specs.ServedRows.{served_rows}
+use Rattle.q_core.specs.Ties.{ArePeersTied, AreTurnsTied}
 use Rattle.q_model.specs.declared.rows.Row.{Row}
 use Rattle.q_peers.specs.Numbered.{rows_of}
-use Rattle.q_turns.specs.declared.peer.Peer.{Peer}
-use Rattle.q_turns.specs.declared.peer.PeerKey.{PeerKey}
-use Rattle.q_turns.specs.Turns.{gained_at, is_peer, key_eq, may_wait, Turning}
+use Rattle.q_rounds.specs.declared.peer.PeerKey.{PeerKey}
+use Rattle.q_rounds.specs.Rounds.{is_peer, key_eq}
+use Rattle.q_turns.specs.Turns.{gained_at, may_wait, Turning}
 use Rattle.q_core.proofs.joining.count_peers.Goals as goal
 
 there_at : (rows : List Row) (i : ℕ) → i < length rows → (r : Row) × (slice_get rows i ≡ Some r)
@@ -39,6 +41,9 @@ loop-i-preserved c =
           ∙ ap (λ xs. record c.args.turns.now { peers = xs }) (sym (ap (λ (x : Turning). x.peers) c.gain.ensures)),
       subst (λ xs. ArePeersTied c.gain.new.self.peers xs) all (subst (λ xs. ArePeersTied xs ((ws ++ take i rows) ++ r ∷ [])) (sym is) (peers_gained r ps (ws ++ take i rows) c.loop-i.invariant.1 (list_any (is_peer r.id r.site) ps) refl)),
       rw is (omega (arith, one_peer_more r.id r.site ps (list_any (is_peer r.id r.site) ps), c.loop-i.invariant.2)),
+      ap served_rows is ∙ served_gained r.id r.site ps (list_any (is_peer r.id r.site) ps) ∙ c.loop-i.invariant.3,
+      (λ starts tie. subst (λ xs. AreTurnsTied c.gain.new.self.peers xs starts) all (subst (λ xs. AreTurnsTied xs ((ws ++ take i rows) ++ r ∷ []) starts) (sym is)
+          (turns_gained c.loop-i.turns.lines ps (ws ++ take i rows) starts c.stand_apart.ensures.apart c.stand_apart.ensures.jobs (c.loop-i.invariant.4 starts tie) r))),
     )
 
 pub gain-requires-clause-job : goal.gain-requires-clause-job
@@ -67,3 +72,8 @@ pub gain-requires-clause-room : goal.gain-requires-clause-room
 gain-requires-clause-room c =
     let room = ap (λ (x : Turning). x.room) c.loop-i.invariant.0 in
     omega (arith, c.loop-i.invariant.2, room, c.loop-i-test.true, c.requires.room)
+
+pub returns-clause-tied : goal.returns-clause-tied
+returns-clause-tied c = λ starts tie.
+    let rows = c.args.rows.now in
+    subst (λ xs. AreTurnsTied c.loop-i.turns.peers (rows_of c.args.waiting.now.items ++ xs) starts) (take_all c.loop-i.i rows (omega (arith, c.loop-i-test.false))) (c.loop-i.invariant.4 starts tie)

@@ -1,4 +1,4 @@
-use Rattle.std.proofs.Common.{◌≡◌, ◌∙◌, ◌+◌, ◌<◌, add-one, ap, arith, length, subst, sym}
+use Rattle.std.proofs.Common.{◌≡◌, ◌∙◌, ◌+◌, add-one, ap, arith, length, sym}
 use Rattle.q_core.specs.Loading.{joined_within}
 use Rattle.q_turns.proofs.WithLine.{all_below, changed_below, length_below, one_below}
 use Rattle.q_turns.specs.Turns.{Turning, with_line}

@@ -1,4 +1,4 @@
-use Rattle.std.proofs.Common.{◌≡◌, ◌∙◌, ap, map, refl, sym, true}
+use Rattle.std.proofs.Common.{◌∙◌, ap, map, refl}
 use Rattle.std.specs.List.{enumerate_from}
 use Rattle.q_core.proofs.LineSteps.{preempted_elsewhere, preempted_here}
 use Rattle.q_core.specs.Sending.{preempted_line, with_charge}

@@ -3,7 +3,7 @@ use Rattle.std.specs.Prelude.{◌&&◌}
 use Rattle.q_core.proofs.PeerTies.{any_peer}
 use Rattle.q_model.specs.Ids.{id_eq}
 use Rattle.q_peers.specs.Numbered.{rows_of}
-use Rattle.q_turns.specs.declared.peer.PeerKey.{PeerKey}
+use Rattle.q_rounds.specs.declared.peer.PeerKey.{PeerKey}
 use Rattle.q_core.proofs.tidy.leave_line.Goals as goal
 
 pub leave-requires-clause-done : goal.leave-requires-clause-done

@@ -1,4 +1,4 @@
-use Rattle.std.proofs.Common.{◌≡◌, ◌∙◌, ◌<◌, ap, arith, filter, length, List, subst, sym}
+use Rattle.std.proofs.Common.{◌∙◌, ◌<◌, ap, arith, filter, length, List, subst, sym}
 use Rattle.q_core.proofs.LineSteps.{gone_fewer, none_leave, stays_not, tidied_out}
 use Rattle.q_core.specs.Ties.{ArePeersTied}
 use Rattle.q_core.specs.Tidied.{leaves_among, tidied_jobs}
@@ -16,6 +16,10 @@ leave_line-requires-clause-there c =
     let g = tidied_jobs (heads c.args.admitted.now.items) (rows_of c.args.waiting.now.items) t in
     let same = ap (λ (x : Turning). length x.lines) c.loop-id.invariant in
     omega (arith, same, length_with t g c.loop-id.turns.lines, length_with t g c.args.turns.now.lines, c.requires.there)
+
+pub first_to_leave-requires : goal.first_to_leave-requires
+first_to_leave-requires c =
+    subst (λ ps. ArePeersTied ps (rows_of c.args.waiting.now.items)) (sym (ap (λ (x : Turning). x.peers) c.loop-id.invariant)) c.requires.tied
 
 pub leave_line-requires-clause-tied : goal.leave_line-requires-clause-tied
 leave_line-requires-clause-tied c =

@@ -1,10 +1,10 @@
-use Rattle.std.proofs.Common.{◌≡◌, ◌∙◌, ◌+◌, add-one, ap, arith, length, subst, sym, true}
+use Rattle.std.proofs.Common.{◌≡◌, ◌∙◌, ◌+◌, add-one, ap, arith, length, subst, sym}
 use Rattle.q_core.specs.Ties.{ArePeersTied}
-use Rattle.q_core.specs.Tidied.{tidied_jobs, tidied_line}
+use Rattle.q_core.specs.Tidied.{tidied_line}
 use Rattle.q_pool.specs.Kept.{heads}
 use Rattle.q_peers.specs.Numbered.{rows_of}
-use Rattle.q_turns.proofs.WithLine.{all_below, changed_below, length_below, line_below, line_there, one_below}
-use Rattle.q_turns.specs.Turns.{line_at, Turning, with_line}
+use Rattle.q_turns.proofs.WithLine.{all_below, changed_below, length_below, one_below}
+use Rattle.q_turns.specs.Turns.{Turning, with_line}
 use Rattle.q_core.proofs.tidy.tidy_lines.Goals as goal
 
 pub loop-transport-preserved : goal.loop-transport-preserved

@@ -5,7 +5,7 @@ use Rattle.q_sorted.specs.declared.entry.Entry.{Entry}
 use Rattle.q_sorted.specs.Entries.{goes_before}
 use Rattle.q_turns.proofs.JobMoves.{moved_to, moves_begin, moves_go, moves_smaller, moves_stand, peer_there, stands_found, stood_at}
 use Rattle.q_turns.proofs.TakenOut.{rest_goes}
-use Rattle.q_turns.specs.Heading.{AreEntries}
+use Rattle.q_rounds.specs.Listing.{AreEntries}
 use Rattle.q_turns.proofs.moving.move_job.Goals as goal
 
 pub loop-at-init : goal.loop-at-init

@@ -1,5 +1,5 @@
 use Rattle.std.proofs.Common.{◌≡◌}
-use Rattle.q_turns.specs.Heading.{AreEntries}
+use Rattle.q_rounds.specs.Listing.{AreEntries}
 use Rattle.q_turns.proofs.JobMoves.{entries_left, moved_to, StandsAt}
 use Rattle.q_turns.proofs.TakenOut.{with_items}
 use Rattle.q_turns.proofs.moving.move_job.Given as goal

@@ -2,9 +2,9 @@ use Rattle.std.proofs.Common.{◌∙◌, ap, arith, refl, subst, sym}
 use Rattle.q_heads.specs.Lanes.{Lanes}
 use Rattle.q_turns.proofs.HeadLaws.{lanes_alike}
 use Rattle.q_turns.proofs.MovingLaws.{put_begins, put_goes, put_known, put_room, put_smaller, put_so_far}
-use Rattle.q_turns.proofs.NumberedWalk.{first_stands, item_stands, next_stands}
+use Rattle.q_rounds.proofs.NumberedWalk.{first_stands, item_stands, next_stands}
 use Rattle.q_turns.proofs.TakenOut.{rest_goes}
-use Rattle.q_turns.specs.Heading.{AreEntries}
+use Rattle.q_rounds.specs.Listing.{AreEntries}
 use Rattle.q_turns.proofs.moving.put_all_in.Goals as goal
 
 pub loop-at-init : goal.loop-at-init

@@ -1,7 +1,7 @@
 use Rattle.std.proofs.Common.{◌≡◌, length}
-use Rattle.q_turns.specs.Heading.{AreEntries}
+use Rattle.q_rounds.specs.Listing.{AreEntries}
 use Rattle.q_turns.proofs.MovingLaws.{put_so_far}
-use Rattle.q_turns.proofs.NumberedWalk.{from_on, StandsIn}
+use Rattle.q_rounds.proofs.NumberedWalk.{from_on, StandsIn}
 use Rattle.q_turns.proofs.TakenOut.{with_items}
 use Rattle.q_turns.proofs.moving.put_all_in.Given as goal
 

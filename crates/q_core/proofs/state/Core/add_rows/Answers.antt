@@ -10,7 +10,8 @@ use Rattle.q_core.proofs.LineSteps.{joined_over}
 use Rattle.q_core.specs.Loading.{can_join, joined_line, joined_within, new_sites}
 use Rattle.q_core.specs.State.{State}
 use Rattle.q_core.specs.Known.{known_records}
-use Rattle.q_core.specs.Ties.{ArePeersTied, AreSitesTied, AreWaitingTied}
+use Rattle.q_core.specs.ServedRows.{served_rows}
+use Rattle.q_core.specs.Ties.{ArePeersTied, AreSitesTied, AreTurnsTied, AreWaitingTied}
 use Rattle.q_core.specs.View.{state_of}
 use Rattle.q_pool.specs.Kept.{heads}
 use Rattle.q_pool.specs.Pooled.{Pooled}
@@ -35,6 +36,10 @@ count_peers-requires-clause-jobs c =
     ap (λ (x : Turning). list_all (λ (r : Row). may_wait x.lines r.site.transport c.args.id) c.deref-3.result.now) turns
     ∙ ap (list_all (λ (r : Row). may_wait (map (joined_line c.args.id rows) (enumerate_from 0 core.turns.lines)) r.site.transport c.args.id)) c.deref-3.ensures.value
     ∙ all_may_wait c.args.id rows core.turns.lines
+
+pub count_peers-requires-clause-tied : goal.count_peers-requires-clause-tied
+count_peers-requires-clause-tied c =
+    subst (λ ps. ArePeersTied ps (rows_of c.self.inside.waiting.items)) (sym (ap (λ (x : Turning). x.peers) c.join_lines.ensures)) c.self.invariant.3.counts
 
 pub count_peers-requires-clause-room : goal.count_peers-requires-clause-room
 count_peers-requires-clause-room c =
@@ -72,7 +77,8 @@ invariant_of-self c =
       rw waiting (tied_read core.params core.admitted c.gain_waiting.new.pool (rows_of core.waiting.items) rows fs core.unsettled.items core.flying core.starts c.args.id own.0 c.len-count.result own.1 count fits c.requires.own c.gain_waiting.ensures c.self.invariant.0),
       rw (slots, c.touch_message.ensures, waiting, lines) (rows_added c.args.id rows c.self.invariant.1),
       rw waiting tied,
-      rw waiting (subst (λ rs. ArePeersTied c.count_peers.new.turns.peers (rows_of core.waiting.items ++ rs)) c.deref-3.ensures.value c.count_peers.ensures.tied),
+      rw waiting (subst (λ rs. AreTurnsTied c.count_peers.new.turns.peers (rows_of core.waiting.items ++ rs) core.starts) c.deref-3.ensures.value
+          (c.count_peers.ensures.tied core.starts (subst (λ ps. AreTurnsTied ps (rows_of core.waiting.items) core.starts) (sym (ap (λ (x : Turning). x.peers) c.join_lines.ensures)) c.self.invariant.3))),
     )
 
 pub returns-clause-ok : goal.returns-clause-ok
@@ -88,10 +94,11 @@ returns-clause-ok c =
     ap (λ (x : Turning). x.lines) c.count_peers.ensures.rest ∙ ap (λ (x : Turning). x.lines) turns in
     let known : known_records c.count_rows.new.sites.items ≡ known_records core.sites.items ++ new_sites core.params (known_records core.sites.items) [] rows =
     c.count_rows.ensures.known ∙ ap (λ rs. known_records core.sites.items ++ new_sites core.params (known_records core.sites.items) [] rs) c.deref-4.ensures.value in
+    let served : served_rows c.count_peers.new.turns.peers ≡ served_rows core.turns.peers = c.count_peers.ensures.served ∙ ap (λ (x : Turning). served_rows x.peers) c.join_lines.ensures in
     let slots : heads c.gain_waiting.new.pool.items ≡ heads core.admitted.items = ap (λ (m : Pooled). heads m.items) c.gain_waiting.ensures ∙ heads_recounted (with_waiting c.len-count.result) c.args.id core.admitted.items in
     record {
       rest =
-          rw lines (
+          rw (lines, served) (
           ap (λ ss. record (state_of core) { admitted = ss; waiting = rows_of c.add_all.new.waiting.items; lines = map (joined_line c.args.id rows) (enumerate_from 0 core.turns.lines); sites = known_records c.count_rows.new.sites.items }) slots
           ∙ ap (λ (s : State). record s { waiting = rows_of c.add_all.new.waiting.items; lines = map (joined_line c.args.id rows) (enumerate_from 0 core.turns.lines); sites = known_records c.count_rows.new.sites.items }) c.self.view_is
           );

@@ -17,8 +17,9 @@ pub returns : goal.returns
 returns c =
     let f = started_line c.args.id c.site.inside.transport in
     let lines = ap (λ (x : Turning). x.lines) c.count_start.ensures in
+    let peers = ap (λ (x : Turning). x.peers) c.count_start.ensures in
     record {
-      rest = rw lines (ap (λ (s : State). record s { lines = map f (enumerate_from 0 c.self.inside.turns.lines) }) c.self.view_is);
+      rest = rw (lines, peers) (ap (λ (s : State). record s { lines = map f (enumerate_from 0 c.self.inside.turns.lines) }) c.self.view_is);
       lines = lines ∙ ap (λ (s : State). map f (enumerate_from 0 s.lines)) c.self.view_is
           ∙ ap (λ (x : Site). map (started_line c.args.id x.transport) (enumerate_from 0 c.args.self.now.lines)) c.site.view_is;
     }

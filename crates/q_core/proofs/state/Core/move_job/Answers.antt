@@ -19,7 +19,8 @@ pub returns : goal.returns
 returns c =
     let f = preempted_line c.args.child c.args.parent c.args.transport c.args.need c.args.left in
     let lines = ap (λ (x : Turning). x.lines) c.preempt.ensures in
+    let peers = ap (λ (x : Turning). x.peers) c.preempt.ensures in
     record {
-      rest = rw lines (ap (λ (s : State). record s { lines = map f (enumerate_from 0 c.self.inside.turns.lines) }) c.self.view_is);
+      rest = rw (lines, peers) (ap (λ (s : State). record s { lines = map f (enumerate_from 0 c.self.inside.turns.lines) }) c.self.view_is);
       lines = lines ∙ ap (λ (s : State). map f (enumerate_from 0 s.lines)) c.self.view_is;
     }

@@ -11,10 +11,11 @@ use Rattle.q_core.specs.declared.state.Core.{Core}
 use Rattle.q_core.specs.declared.state.Seen.TheVariants.{Unknown}
 use Rattle.q_core.specs.declared.state.Question.TheVariants.{Nothing}
 use Rattle.q_core.proofs.CountedLaws.{counted_none}
-use Rattle.q_core.proofs.PeerTies.{peers_new}
 use Rattle.q_core.proofs.SiteChanges.{sites_new}
 use Rattle.q_core.proofs.StillTidyLines.{new_tidy}
 use Rattle.q_core.proofs.TiedLaws.{tied_new}
+use Rattle.q_core.proofs.TurnTies.{turns_new}
+use Rattle.q_core.specs.ServedRows.{served_rows}
 use Rattle.q_model.specs.Settings.{Settings}
 use Rattle.q_peers.specs.Numbered.{Items, rows_of}
 use Rattle.q_pool.specs.Kept.{heads}
@@ -39,19 +40,19 @@ returns-clause-consistent c = λ w book settings count k s.
       waiting = rows_of c.in_ok-waiting.waiting.items;
       flights = c.new-6.result.items;
       in_memory = 0;
-      served = c.new-7.result.items;
-      unsettled = c.new-8.result.items;
+      served = served_rows c.in_ok-turns.turns.peers;
+      unsettled = c.new-7.result.items;
       lines = c.in_ok-turns.turns.lines;
       sites = known_records c.in_ok-sites.sites.items;
-      synced = c.new-9.result.items;
+      synced = c.new-8.result.items;
       starts = 0;
       active = Unknown;
       incoming = Unknown;
       deferred = Unknown;
       question = Nothing;
-      named = c.new-10.result.items;
+      named = c.new-9.result.items;
       skips = 0;
-      skipped = c.new-11.result;
+      skipped = c.new-10.result;
     } in
     let matches = begin_law w c.args.mode book core c.args.transports settings refl count
     (record {
@@ -60,11 +61,11 @@ returns-clause-consistent c = λ w book settings count k s.
       admitted = ap (λ (m : Pooled). heads m.items) c.in_ok-admitted.ensures;
       waiting = ap (λ (v : Items). rows_of v.items) c.in_ok-waiting.ensures;
       flights = c.new-6.ensures.items;
-      served = c.new-7.ensures.items;
-      unsettled = c.new-8.ensures.items;
+      served = ap (λ (x : Turning). served_rows x.peers) c.in_ok-turns.ensures;
+      unsettled = c.new-7.ensures.items;
       lines = ap (λ (x : Turning). x.lines) c.in_ok-turns.ensures;
       sites = ap (λ (x : Dests). known_records x.items) c.in_ok-sites.ensures;
-      synced = c.new-9.ensures.items;
+      synced = c.new-8.ensures.items;
     }) in
     record { matches = matches; consistent = k; sites = s; living = begin_living w c.args.mode book; moment = begin_moment w c.args.mode book }
 
@@ -77,8 +78,8 @@ pub invariant_of-result : goal.invariant_of-result
 invariant_of-result c =
     let made = c.in_ok-admitted.ensures ∙ ap (λ (p : Settings). record { items = []; room = p.active_limit; sync_limit = p.mark_sync_limit; minimum = p.recipient_minimum }) c.params.view_is in
     let slots : heads c.in_ok-admitted.admitted.items ≡ [] = ap (λ (m : Pooled). heads m.items) c.in_ok-admitted.ensures in (
-      tied_new c.args.params c.in_ok-admitted.admitted (rows_of c.in_ok-waiting.waiting.items) c.new-6.result.items c.new-8.result.items _ made (ap (λ (v : Items). rows_of v.items) c.in_ok-waiting.ensures) c.new-6.ensures.items c.new-8.ensures.items counted_none,
-      rw (slots, ap (λ (v : Items). rows_of v.items) c.in_ok-waiting.ensures, c.new-7.ensures.items, ap (λ (x : Turning). x.lines) c.in_ok-turns.ensures) (new_tidy c.args.transports),
+      tied_new c.args.params c.in_ok-admitted.admitted (rows_of c.in_ok-waiting.waiting.items) c.new-6.result.items c.new-7.result.items _ made (ap (λ (v : Items). rows_of v.items) c.in_ok-waiting.ensures) c.new-6.ensures.items c.new-7.ensures.items counted_none,
+      rw (slots, ap (λ (v : Items). rows_of v.items) c.in_ok-waiting.ensures, ap (λ (x : Turning). x.lines) c.in_ok-turns.ensures) (new_tidy c.args.transports),
       sites_new c.in_ok-sites.sites.items (rows_of c.in_ok-waiting.waiting.items) c.new-6.result.items (ap (λ (x : Dests). x.items) c.in_ok-sites.ensures) (ap (λ (v : Items). rows_of v.items) c.in_ok-waiting.ensures) c.new-6.ensures.items,
-      peers_new c.in_ok-turns.turns.peers (rows_of c.in_ok-waiting.waiting.items) (ap (λ (x : Turning). x.peers) c.in_ok-turns.ensures) (ap (λ (v : Items). rows_of v.items) c.in_ok-waiting.ensures),
+      turns_new c.in_ok-turns.turns.peers (rows_of c.in_ok-waiting.waiting.items) (ap (λ (x : Turning). x.peers) c.in_ok-turns.ensures) (ap (λ (v : Items). rows_of v.items) c.in_ok-waiting.ensures),
     )

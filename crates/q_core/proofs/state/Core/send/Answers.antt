@@ -1,18 +1,18 @@
 use Rattle.std.proofs.Common.{◌≡◌, ◌∙◌, ◌++◌, ◌<◌, ◌^◌, ◌∷◌, [], ap, arith, false, length, List, map, refl, Some, subst, sym, true}
 use Rattle.std.specs.List.{list_any, remove}
-use Rattle.std.specs.Prelude.{position, slice_get}
+use Rattle.std.specs.Prelude.{find, position, slice_get}
 use Rattle.q_core.proofs.ListLaws.{drop_first-Some}
 use Rattle.q_core.proofs.RowWalkLaws.{any_place, none_any, same_place}
 use Rattle.q_core.proofs.CountLaws.{count_within}
-use Rattle.q_core.proofs.PeerTies.{peers_lost}
+use Rattle.q_core.proofs.ServedLaws.{rows_started}
+use Rattle.q_core.proofs.TurnTies.{all_before, first_of, name_found, none_has, peer_of, served_lost, turns_lost, turns_started}
 use Rattle.q_core.proofs.SiteChanges.{known_stays, sites_begun}
-use Rattle.q_core.proofs.StillTidyLaws.{flight_added, row_gone}
+use Rattle.q_core.proofs.StillTidyLaws.{row_gone}
 use Rattle.q_core.specs.Known.{known_records}
 use Rattle.q_dest.specs.Dests.{begun, changed_at, Dests}
 use Rattle.q_model.specs.Sites.{site_eq}
 use Rattle.q_core.specs.Sending.{is_for, served_now}
 use Rattle.q_core.specs.State.{State}
-use Rattle.q_model.specs.Values.{Served}
 use Rattle.q_model.specs.declared.rows.Delivery.{Delivery}
 use Rattle.q_model.specs.declared.rows.Row.{Row}
 use Rattle.q_core.proofs.PoolTies.{heads_recounted}
@@ -23,7 +23,11 @@ use Rattle.q_core.specs.View.{state_of}
 use Rattle.q_peers.specs.Numbered.{rows_of}
 use Rattle.q_pool.specs.Kept.{heads}
 use Rattle.q_pool.specs.Pooled.{Pooled}
-use Rattle.q_turns.specs.Turns.{Turning}
+use Rattle.q_core.specs.ServedRows.{served_rows}
+use Rattle.q_core.specs.Ties.{AreTurnsTied}
+use Rattle.q_core.specs.Tidied.{tidied_served}
+use Rattle.q_rounds.specs.declared.peer.PeerKey.{PeerKey}
+use Rattle.q_turns.specs.Turns.{lost_at, started_at, Turning}
 use Rattle.q_core.proofs.state.Core.send.Goals as goal
 
 pub invariant_of-self-2 : goal.invariant_of-self-2
@@ -43,12 +47,22 @@ invariant_of-self-2 c =
     let less = subst (λ (s : State). s.starts < c.args.number) (sym c.self.view_is) c.requires.next in
     let few : length (a.flights.items ++ record { number = c.args.number; row = row } ∷ []) < 2 ^ 64 = grind (arith, sym added, c.add_flight.new.flights.ok, c.add_flight.new.flights.small) in
     let sites : c.begin.new.self.items ≡ map (changed_at row.site begun) a.sites.items = ap (λ (x : Dests). x.items) c.begin.ensures in
+    let found : find p rows ≡ Some row = f.2.found ∙ ap (λ (x : Row). Some x) is in
+    let begun : c.start.new.self.peers ≡ started_at row.id row.site c.args.number a.turns.peers = ap (λ (x : Turning). x.peers) c.start.ensures in
+    let lost : c.lose.new.self.peers ≡ lost_at row.id row.site c.start.new.self.peers = ap (λ (x : Turning). x.peers) c.lose.ensures in
+    let lines : c.lose.new.self.lines ≡ a.turns.lines = ap (λ (x : Turning). x.lines) c.lose.ensures ∙ ap (λ (x : Turning). x.lines) c.start.ensures in
+    let started = subst (λ ps. AreTurnsTied ps rows c.args.number) (sym begun) (turns_started a.turns.peers rows a.starts c.args.number row.id row.site less c.self.invariant.3) in
     let counted = subst (λ (fs : List Delivery). IsCounted fs c.add_flight.new.flying) added c.add_flight.ensures.counted in (
       rw (left, added) (tied_sent a.params a.admitted c.begin_flight.new.pool rows f.0 row a.flights.items a.unsettled.items a.flying c.add_flight.new.flying a.starts c.args.number there less few counted c.begin_flight.ensures c.self.invariant.0),
-      rw (slots, c.touch_message-2.ensures, c.touch_message.ensures, left, c.in_ok-note_served.ensures.ok, ap (λ (x : Turning). x.lines) c.lose.ensures) (flight_added c.args.id c.args.site c.args.number (row_gone f.0 row there c.self.invariant.1)),
+      rw (slots, c.touch_message.ensures, left, lines) (row_gone f.0 row there c.self.invariant.1),
       rw (sites, left, added) (sites_begun rows f.0 row c.args.number a.flights.items a.sites.items there c.self.invariant.2),
-      rw (ap (λ (x : Turning). x.peers) c.lose.ensures, left) (peers_lost rows f.0 row a.turns.peers c.stand_apart.ensures.apart there c.self.invariant.3),
+      rw left (rw lost (turns_lost c.start.new.self.peers rows c.args.number f.0 row c.stand_apart-2.ensures.apart started there (first_of rows c.args.id c.args.site f.0 row f.2.place found))),
     )
+
+pub start-requires-clause-own : goal.start-requires-clause-own
+start-requires-clause-own c =
+    let a = c.self.inside in
+    none_has a.turns.peers a.starts c.args.number (subst (λ (s : State). s.starts < c.args.number) (sym c.self.view_is) c.requires.next) c.self.invariant.3.known
 
 pub begin-requires : goal.begin-requires
 begin-requires c =
@@ -75,12 +89,14 @@ returns-clause-ok c = λ entry at.
     let added : c.add_flight.new.flights.items ≡ a.flights.items ++ record { number = c.args.number; row = row } ∷ [] =
     c.add_flight.ensures.items ∙ ap (λ (fs : List Delivery). fs ++ record { number = c.args.number; row = row } ∷ []) c.in_ok-reserve.ensures.items in
     let known : known_records c.begin.new.self.items ≡ known_records a.sites.items = ap (λ (x : Dests). known_records x.items) c.begin.ensures ∙ known_stays row.site begun (λ d. refl) a.sites.items in
+    let now = served_now c.args.id c.args.site c.args.number c.args.self.now.served in
+    let lines : c.lose.new.self.lines ≡ a.turns.lines = ap (λ (x : Turning). x.lines) c.lose.ensures ∙ ap (λ (x : Turning). x.lines) c.start.ensures in
     record {
       rest =
-          ap (λ (x : Turning). record (state_of a) { admitted = heads c.begin_flight.new.pool.items; waiting = rows_of c.take_row.new.waiting.items; flights = c.add_flight.new.flights.items; served = c.note_served.new.served.items; lines = x.lines; sites = known_records c.begin.new.self.items; starts = c.args.number }) c.lose.ensures
-          ∙ ap (λ rs. record (state_of a) { admitted = heads c.begin_flight.new.pool.items; waiting = rows_of c.take_row.new.waiting.items; flights = c.add_flight.new.flights.items; served = c.note_served.new.served.items; sites = rs; starts = c.args.number }) known
-          ∙ ap (λ ss. record (state_of a) { admitted = ss; waiting = rows_of c.take_row.new.waiting.items; flights = c.add_flight.new.flights.items; served = c.note_served.new.served.items; starts = c.args.number }) slots
-          ∙ ap (λ (s : State). record s { waiting = rows_of c.take_row.new.waiting.items; flights = c.add_flight.new.flights.items; served = c.note_served.new.served.items; starts = c.args.number }) c.self.view_is;
+          ap (λ ls. record (state_of a) { admitted = heads c.begin_flight.new.pool.items; waiting = rows_of c.take_row.new.waiting.items; flights = c.add_flight.new.flights.items; served = now; lines = ls; sites = known_records c.begin.new.self.items; starts = c.args.number }) lines
+          ∙ ap (λ rs. record (state_of a) { admitted = heads c.begin_flight.new.pool.items; waiting = rows_of c.take_row.new.waiting.items; flights = c.add_flight.new.flights.items; served = now; sites = rs; starts = c.args.number }) known
+          ∙ ap (λ ss. record (state_of a) { admitted = ss; waiting = rows_of c.take_row.new.waiting.items; flights = c.add_flight.new.flights.items; served = now; starts = c.args.number }) slots
+          ∙ ap (λ (s : State). record s { waiting = rows_of c.take_row.new.waiting.items; flights = c.add_flight.new.flights.items; served = now; starts = c.args.number }) c.self.view_is;
       waiting = left ∙ ap (λ k. remove rows k) e ∙ ap (λ ws. remove ws entry) same;
       flights = λ r at.
           let both : Some row ≡ Some r = sym here ∙ at in
@@ -88,8 +104,37 @@ returns-clause-ok c = λ entry at.
           added
           ∙ ap (λ (x : Row). a.flights.items ++ record { number = c.args.number; row = x } ∷ []) it
           ∙ ap (λ (fs : List Delivery). fs ++ record { number = c.args.number; row = r } ∷ []) (ap (λ (s : State). s.flights) c.self.view_is);
-      served = c.in_ok-note_served.ensures.ok ∙ ap (λ (sv : List Served). served_now c.args.id c.args.site c.args.number sv) (ap (λ (s : State). s.served) c.self.view_is);
+      served = refl;
     }
+
+-- the rows that were served and wait no more are gone
+pub returns-clause-served : goal.returns-clause-served
+returns-clause-served c =
+    let a = c.self.inside in
+    let p = is_for c.args.id c.args.site in
+    let rows = rows_of a.waiting.items in
+    let same = ap (λ (s : State). s.waiting) c.self.view_is in
+    let f = any_place p rows (ap (list_any p) same ∙ c.requires.there) in
+    let row = c.in-Some.row in
+    let is : f.1 ≡ row = (let both : Some f.1 ≡ Some row = sym f.2.found ∙ sym c.take_row.ensures.taken ∙ c.in-Some.is in cc) in
+    let there : slice_get rows f.0 ≡ Some row = f.2.there ∙ ap (λ (x : Row). Some x) is in
+    let left : rows_of c.take_row.new.waiting.items ≡ remove rows f.0 = c.take_row.ensures.rows ∙ sym (drop_first-Some p rows f.0 f.2.place) in
+    let found : find p rows ≡ Some row = f.2.found ∙ ap (λ (x : Row). Some x) is in
+    let ps = a.turns.peers in
+    let n = c.args.number in
+    let less = subst (λ (s : State). s.starts < n) (sym c.self.view_is) c.requires.next in
+    let begun : c.start.new.self.peers ≡ started_at row.id row.site n ps = ap (λ (x : Turning). x.peers) c.start.ensures in
+    let lost : c.lose.new.self.peers ≡ lost_at row.id row.site c.start.new.self.peers = ap (λ (x : Turning). x.peers) c.lose.ensures in
+    let started = subst (λ qs. AreTurnsTied qs rows n) (sym begun) (turns_started ps rows a.starts n row.id row.site less c.self.invariant.3) in
+    let s = c.stand_apart.ensures in
+    ap served_rows lost
+    ∙ served_lost c.start.new.self.peers rows f.0 row c.stand_apart-2.ensures.apart started.counts there
+    ∙ ap (tidied_served (remove rows f.0))
+    (ap served_rows begun
+    ∙ rows_started row.id row.site n (omega (arith, less)) ps s.apart (all_before ps a.starts n less c.self.invariant.3.known) (peer_of a.turns.lines ps rows s.apart s.jobs c.self.invariant.3.counts p row found)
+    ∙ ap (λ (k : PeerKey). served_now k.id k.site n (served_rows ps)) (name_found rows c.args.id c.args.site row found)
+    ∙ ap (λ (v : State). served_now c.args.id c.args.site n v.served) c.self.view_is)
+    ∙ ap (λ ws. tidied_served ws (served_now c.args.id c.args.site n c.args.self.now.served)) (sym left)
 
 pub invariant_of-self-in_default : goal.invariant_of-self-in_default
 invariant_of-self-in_default c =
@@ -99,6 +144,12 @@ invariant_of-self-in_default c =
 
 pub returns-in_default-clause-ok : goal.returns-in_default-clause-ok
 returns-in_default-clause-ok c = λ entry at.
+    let p = is_for c.args.id c.args.site in
+    let rows = rows_of c.self.inside.waiting.items in
+    let bad : true ≡ false = sym (ap (λ (s : State). list_any p s.waiting) c.self.view_is ∙ c.requires.there) ∙ none_any p rows (sym c.in_default.ensures.taken) in cc
+
+pub returns-in_default-clause-served : goal.returns-in_default-clause-served
+returns-in_default-clause-served c =
     let p = is_for c.args.id c.args.site in
     let rows = rows_of c.self.inside.waiting.items in
     let bad : true ≡ false = sym (ap (λ (s : State). list_any p s.waiting) c.self.view_is ∙ c.requires.there) ∙ none_any p rows (sym c.in_default.ensures.taken) in cc

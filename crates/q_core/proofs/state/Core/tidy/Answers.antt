@@ -1,4 +1,4 @@
-use Rattle.std.proofs.Common.{◌≡◌, ◌∙◌, ap, map, rules, sym}
+use Rattle.std.proofs.Common.{◌≡◌, ◌∙◌, ap, map, sym}
 use Rattle.std.specs.List.{enumerate_from}
 use Rattle.q_core.specs.State.{State}
 use Rattle.q_core.proofs.SiteChanges.{sites_forgotten}
@@ -6,7 +6,9 @@ use Rattle.q_core.proofs.SiteTies.{counts_of, forgotten_is, used_is}
 use Rattle.q_core.proofs.SiteViews.{kept_whole}
 use Rattle.q_core.proofs.StillTidyLines.{now_tidy}
 use Rattle.q_core.specs.Known.{forgotten, known_records}
-use Rattle.q_core.specs.Tidied.{tidied_line}
+use Rattle.q_core.proofs.TurnTies.{served_wait}
+use Rattle.q_core.specs.ServedRows.{served_rows}
+use Rattle.q_core.specs.Tidied.{tidied_line, tidied_served}
 use Rattle.q_core.specs.UsedSites.{forget_in, used_in}
 use Rattle.q_dest.specs.Dests.{Dests}
 use Rattle.q_pool.specs.Kept.{heads}
@@ -20,9 +22,9 @@ invariant_of-self c =
     let f = tidied_line (heads core.admitted.items) (rows_of core.waiting.items) in
     let lines = ap (λ (x : Turning). x.lines) c.tidy_touched_lines.ensures in
     let sites : c.forget_oldest.new.sites.items ≡ forgotten c.record_limit-limit.result core.sites.items = ap (λ (x : Dests). x.items) c.forget_oldest.ensures in
-    rw (lines, ap (λ (x : Turning). x.peers) c.tidy_touched_lines.ensures, c.tidy_touched_served.ensures, sites) (
+    rw (lines, ap (λ (x : Turning). x.peers) c.tidy_touched_lines.ensures, sites) (
       c.self.invariant.0,
-      now_tidy (heads core.admitted.items) (rows_of core.waiting.items) core.turns.lines core.served.items,
+      now_tidy (heads core.admitted.items) (rows_of core.waiting.items) core.turns.lines,
       sites_forgotten (rows_of core.waiting.items) core.flights.items c.record_limit-limit.result core.sites.items c.stand_apart.ensures.apart c.self.invariant.2,
       c.self.invariant.3,
     )
@@ -35,6 +37,7 @@ returns c =
     let ds = core.sites.items in
     let f = tidied_line (heads core.admitted.items) rows in
     let lines = ap (λ (x : Turning). x.lines) c.tidy_touched_lines.ensures in
+    let peers = ap (λ (x : Turning). x.peers) c.tidy_touched_lines.ensures in
     let counts = counts_of ds rows fs c.stand_apart.ensures.apart c.self.invariant.2 in
     let whole : used_in rows fs (known_records ds) ≡ known_records ds = used_is rows fs ds counts ∙ ap known_records (kept_whole ds c.stand_apart.ensures.kept) in
     let sites : known_records c.forget_oldest.new.sites.items ≡ forget_in rows fs core.params.recipient_limit (used_in rows fs (known_records ds)) =
@@ -43,8 +46,10 @@ returns c =
     ∙ sym (forgotten_is rows fs ds counts core.params.recipient_limit)
     ∙ ap (forget_in rows fs core.params.recipient_limit) (sym whole) in
     record {
-      rest = rw lines (ap (λ (s : State). record s { lines = map f (enumerate_from 0 core.turns.lines); served = c.tidy_touched_served.new.served.items; sites = known_records c.forget_oldest.new.sites.items }) c.self.view_is);
+      rest = rw (lines, peers) (ap (λ (s : State). record s { lines = map f (enumerate_from 0 core.turns.lines); served = served_rows core.turns.peers; sites = known_records c.forget_oldest.new.sites.items }) c.self.view_is);
       lines = lines ∙ ap (λ (s : State). map (tidied_line s.admitted s.waiting) (enumerate_from 0 s.lines)) c.self.view_is;
-      served = search rules;
+      served = ap served_rows peers
+          ∙ sym (served_wait core.turns.lines core.turns.peers rows c.stand_apart-2.ensures.apart c.stand_apart-2.ensures.jobs c.self.invariant.3.counts)
+          ∙ ap (λ (s : State). tidied_served s.waiting s.served) c.self.view_is;
       sites = sites ∙ ap (λ (s : State). forget_in s.waiting s.flights s.params.recipient_limit (used_in s.waiting s.flights s.sites)) c.self.view_is;
     }

@@ -3,7 +3,7 @@ use Rattle.std.specs.List.{list_any, remove}
 use Rattle.std.specs.Prelude.{find, position, slice_get}
 use Rattle.q_core.proofs.ListLaws.{drop_first-Some}
 use Rattle.q_core.proofs.RowWalkLaws.{any_place, none_any, same_place}
-use Rattle.q_core.proofs.PeerTies.{peers_lost}
+use Rattle.q_core.proofs.TurnTies.{first_of, served_lost, turns_lost}
 use Rattle.q_core.proofs.SiteChanges.{sites_left, sites_settled}
 use Rattle.q_core.proofs.SiteViews.{settled_used}
 use Rattle.q_core.proofs.StillTidyLaws.{row_gone}
@@ -13,7 +13,9 @@ use Rattle.q_core.specs.UsedSites.{is_left_in, used_in}
 use Rattle.q_dest.specs.Dests.{Dests, is_kept, left as left_dest, settled}
 use Rattle.q_core.specs.Leaving.{put_off_in}
 use Rattle.q_core.specs.Sending.{is_for, row_for}
+use Rattle.q_core.specs.ServedRows.{served_rows}
 use Rattle.q_core.specs.State.{State}
+use Rattle.q_core.specs.Tidied.{tidied_served}
 use Rattle.q_core.proofs.NamedLaws.{needs_named}
 use Rattle.q_core.proofs.PoolTies.{heads_recounted}
 use Rattle.q_core.proofs.TiedLaws.{tied_put_off}
@@ -47,9 +49,9 @@ returns-clause-ok c = λ entry at.
     record {
       row = ap (λ ws. slice_get ws entry) (sym same) ∙ ap (slice_get rows) (sym e) ∙ there;
       rest =
-          ap (λ (x : Turning). record (state_of a) { admitted = heads c.put_off_row.new.pool.items; waiting = rows_of c.take_row.new.waiting.items; unsettled = c.extend_from_slice.new.self.items; in_memory = c.saturating_sub-self-inside.result; lines = x.lines; sites = c.args.self.now.sites }) c.lose.ensures
-          ∙ ap (λ ss. record (state_of a) { admitted = ss; waiting = rows_of c.take_row.new.waiting.items; unsettled = c.extend_from_slice.new.self.items; in_memory = c.saturating_sub-self-inside.result; sites = c.args.self.now.sites }) slots
-          ∙ ap (λ (s : State). record s { waiting = rows_of c.take_row.new.waiting.items; unsettled = c.extend_from_slice.new.self.items; in_memory = c.saturating_sub-self-inside.result; sites = c.args.self.now.sites }) c.self.view_is;
+          ap (λ (x : Turning). record (state_of a) { admitted = heads c.put_off_row.new.pool.items; waiting = rows_of c.take_row.new.waiting.items; served = c.args.self.now.served; unsettled = c.extend_from_slice.new.self.items; in_memory = c.saturating_sub-self-inside.result; lines = x.lines; sites = c.args.self.now.sites }) c.lose.ensures
+          ∙ ap (λ ss. record (state_of a) { admitted = ss; waiting = rows_of c.take_row.new.waiting.items; served = c.args.self.now.served; unsettled = c.extend_from_slice.new.self.items; in_memory = c.saturating_sub-self-inside.result; sites = c.args.self.now.sites }) slots
+          ∙ ap (λ (s : State). record s { waiting = rows_of c.take_row.new.waiting.items; served = c.args.self.now.served; unsettled = c.extend_from_slice.new.self.items; in_memory = c.saturating_sub-self-inside.result; sites = c.args.self.now.sites }) c.self.view_is;
       waiting = left ∙ ap (λ k. remove rows k) e ∙ ap (λ ws. remove ws entry) same;
       unsettled = added ∙ ap (λ us. us ++ c.deref.result.now) (ap (λ (s : State). s.unsettled) c.self.view_is) ∙ ap (λ us. c.args.self.now.unsettled ++ us) (c.deref.ensures.value ∙ needs);
       memory = let few = ap length needs in let memory = ap (λ (s : State). s.in_memory) c.self.view_is in grind (arith, few, memory, c.saturating_sub-self-inside.ensures, c.saturating_sub-done.ensures, c.len-2.ensures, c.len-3.ensures);
@@ -77,7 +79,7 @@ invariant_of-self-2 c =
       rw (left, added) (tied_put_off a.params a.admitted c.put_off_row.new.pool rows f.0 row a.flights.items a.unsettled.items c.deref.result.now a.flying a.starts c.len.result there many few named c.put_off_row.ensures c.self.invariant.0),
       rw (slots, c.touch_message.ensures, left, ap (λ (x : Turning). x.lines) c.lose.ensures) (row_gone f.0 row there c.self.invariant.1),
       rw (sites, left) (sites_settled (remove rows f.0) a.flights.items row.site left_dest (λ d. refl) a.sites.items c.stand_apart.ensures.apart (sites_left rows f.0 row a.flights.items a.sites.items there c.self.invariant.2)),
-      rw (ap (λ (x : Turning). x.peers) c.lose.ensures, left) (peers_lost rows f.0 row a.turns.peers c.stand_apart-2.ensures.apart there c.self.invariant.3),
+      rw (ap (λ (x : Turning). x.peers) c.lose.ensures, left) (turns_lost a.turns.peers rows a.starts f.0 row c.stand_apart-2.ensures.apart c.self.invariant.3 there (first_of rows c.args.id c.args.site.now f.0 row f.2.place (f.2.found ∙ ap (λ (x : Row). Some x) is))),
     )
 
 pub returns-clause-left : goal.returns-clause-left
@@ -96,6 +98,22 @@ returns-clause-left c =
     ∙ settled_used (remove rows f.0) fs row.site left_dest (λ d. refl) a.sites.items c.stand_apart.ensures.apart (sites_left rows f.0 row fs a.sites.items there c.self.invariant.2)
     ∙ ap (λ rs. used_in rs fs (moved_back (is_left_in rs fs row.site) (known_records a.sites.items))) (sym left)
     ∙ ap (λ (s : State). used_in (rows_of c.take_row.new.waiting.items) fs (moved_back (is_left_in (rows_of c.take_row.new.waiting.items) fs row.site) s.sites)) c.self.view_is
+
+pub returns-clause-served : goal.returns-clause-served
+returns-clause-served c =
+    let a = c.self.inside in
+    let p = is_for c.args.id c.args.site.now in
+    let rows = rows_of a.waiting.items in
+    let same = ap (λ (s : State). s.waiting) c.self.view_is in
+    let f = any_place p rows (ap (list_any p) same ∙ c.requires.there) in
+    let row = c.in-Some.row in
+    let is : f.1 ≡ row = (let both : Some f.1 ≡ Some row = sym f.2.found ∙ sym c.take_row.ensures.taken ∙ c.in-Some.is in cc) in
+    let there : slice_get rows f.0 ≡ Some row = f.2.there ∙ ap (λ (x : Row). Some x) is in
+    let left : rows_of c.take_row.new.waiting.items ≡ remove rows f.0 = c.take_row.ensures.rows ∙ sym (drop_first-Some p rows f.0 f.2.place) in
+    ap (λ (x : Turning). served_rows x.peers) c.lose.ensures
+    ∙ served_lost a.turns.peers rows f.0 row c.stand_apart-2.ensures.apart c.self.invariant.3.counts there
+    ∙ ap (λ ws. tidied_served ws (served_rows a.turns.peers)) (sym left)
+    ∙ ap (λ (v : State). tidied_served (rows_of c.take_row.new.waiting.items) v.served) c.self.view_is
 
 pub invariant_of-self-in_default : goal.invariant_of-self-in_default
 invariant_of-self-in_default c =

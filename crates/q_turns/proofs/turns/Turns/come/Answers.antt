@@ -8,11 +8,13 @@ use Rattle.q_sorted.specs.declared.entry.Entry.{Entry}
 use Rattle.q_sorted.specs.Entries.{inserted}
 use Rattle.q_turns.proofs.HeadLaws.{heads_below, if_some}
 use Rattle.q_turns.proofs.LaneLaws.{inside, lanes_more}
+use Rattle.q_turns.proofs.PeerLaws.{never_last}
 use Rattle.q_turns.proofs.Placing.{with_peer}
 use Rattle.q_turns.proofs.TurnSteps.{few_heads, few_lanes_there, few_messages, sound_from, sound_more, unranked}
-use Rattle.q_turns.specs.declared.peer.Peer.{Peer}
+use Rattle.q_rounds.specs.declared.peer.Peer.{Peer}
 use Rattle.q_turns.specs.Heading.{rank_by}
-use Rattle.q_turns.specs.Turns.{is_peer, may_wait, Turning}
+use Rattle.q_rounds.specs.Rounds.{is_peer, new_peer}
+use Rattle.q_turns.specs.Turns.{may_wait, Turning}
 use Rattle.q_turns.proofs.turns.Turns.come.Goals as goal
 
 pub make_lane-requires-clause-room : goal.make_lane-requires-clause-room
@@ -27,10 +29,13 @@ make_lane-requires-clause-inside c =
     let a = c.self.inside in
     inside (rank_by a.lines.items) a.lanes.items a.peers.items a.heads.items c.stand_apart-2.ensures.apart c.self.invariant.places.placed
 
-pub push-number-requires-clause-absent : goal.push-number-requires-clause-absent
-push-number-requires-clause-absent c =
-    let p = c.args.peer in
-    none_sought (is_peer p.id p.site) c.self.inside.peers.items (ap (λ (s : Turning). find (is_peer p.id p.site) s.peers) c.self.view_is ∙ c.requires.absent)
+pub add-number-requires-clause-absent : goal.add-number-requires-clause-absent
+add-number-requires-clause-absent c =
+    let test = is_peer c.args.id c.args.site.now in
+    none_sought test c.self.inside.peers.items (ap (λ (s : Turning). find test s.peers) c.self.view_is ∙ c.requires.absent)
+
+pub add-number-requires-clause-own : goal.add-number-requires-clause-own
+add-number-requires-clause-own c = never_last (values_of c.self.inside.peers.items)
 
 pub insert-requires : goal.insert-requires
 insert-requires c =
@@ -54,18 +59,19 @@ pub put_in-requires-clause-known : goal.put_in-requires-clause-known
 put_in-requires-clause-known c =
     let a = c.self.inside in
     let lanes = c.make_lane.new.lanes in
-    let n = c.push-number.result in
-    heads_below (rank_by a.lines.items) lanes.items (with_peer n c.args.peer a.peers.items) c.make_lane.new.heads n c.args.peer c.head_of-head.result c.stand_apart-3.ensures.apart
-    (lanes_more (rank_by a.lines.items) (length a.lines.items) a.lanes.items lanes.items a.peers.items a.heads c.make_lane.new.heads c.args.peer.site c.self.invariant.places (unranked a.lines.items a.peers a.lanes a.heads a.messages a.line_room c.self.invariant) c.make_lane.ensures.made n c.args.peer c.push-number.ensures.fresh refl)
+    let n = c.add-number.result in
+    let p = new_peer c.args.id c.args.site.now 0 in
+    heads_below (rank_by a.lines.items) lanes.items (with_peer n p a.peers.items) c.make_lane.new.heads n p c.head_of-head.result c.stand_apart-3.ensures.apart
+    (lanes_more (rank_by a.lines.items) (length a.lines.items) a.lanes.items lanes.items a.peers.items a.heads c.make_lane.new.heads p.site c.self.invariant.places (unranked a.lines.items a.peers a.lanes a.heads a.messages a.line_room c.self.invariant) c.make_lane.ensures.made n p c.add-number.ensures.fresh refl)
     c.head_of-head.ensures
 
 pub invariant_of-self : goal.invariant_of-self
 invariant_of-self c =
     let a = c.self.inside in
-    let p = c.args.peer in
-    let n = c.push-number.result in
+    let p = new_peer c.args.id c.args.site.now 0 in
+    let n = c.add-number.result in
     let may = subst (λ (s : Turning). may_wait s.lines p.site.transport p.id ≡ true) (sym c.self.view_is) c.requires.job in
-    sound_from a.lines.items _ c.push-number.new.self _ c.make_lane.new.lanes _ c.put_in.new.heads _ c.insert.new.self a.line_room
-    c.push-number.ensures.items c.make_lane.ensures.lanes c.put_in.ensures
+    sound_from a.lines.items _ c.add-number.new.self _ c.make_lane.new.lanes _ c.put_in.new.heads _ c.insert.new.self a.line_room
+    c.add-number.ensures.items c.make_lane.ensures.lanes c.put_in.ensures
     (c.insert.ensures ∙ ap (λ (e : Entry). record a.messages { items = inserted e a.messages.items }) c.message_entry.ensures)
-    (sound_more a.lines.items a.peers a.lanes a.heads a.messages a.line_room c.self.invariant n p c.make_lane.new.lanes.items c.make_lane.new.heads c.head_of-head.result c.push-number.ensures.fresh c.make_lane.ensures.made c.requires.waits may c.head_of-head.ensures)
+    (sound_more a.lines.items a.peers a.lanes a.heads a.messages a.line_room c.self.invariant n p c.make_lane.new.lanes.items c.make_lane.new.heads c.head_of-head.result c.add-number.ensures.fresh c.make_lane.ensures.made refl may c.head_of-head.ensures)

@@ -10,7 +10,8 @@ use Rattle.q_turns.proofs.TurnSteps.{placed_kept, sound_line}
 use Rattle.q_turns.proofs.TurnViews.{lines_seen}
 use Rattle.q_turns.specs.Heading.{rank_by}
 use Rattle.q_turns.specs.Sound.{jobs_of}
-use Rattle.q_turns.specs.Turns.{is_peer_for, Turning}
+use Rattle.q_rounds.specs.Rounds.{is_peer_for}
+use Rattle.q_turns.specs.Turns.{Turning}
 use Rattle.q_turns.proofs.turns.Turns.leave.Goals as goal
 
 pub invariant_of-self : goal.invariant_of-self

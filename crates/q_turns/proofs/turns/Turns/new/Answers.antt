@@ -3,7 +3,7 @@ use Rattle.q_keyed.specs.Numbered.{Items}
 use Rattle.q_turns.proofs.LineSets.{empty_line, jobs_empty}
 use Rattle.q_turns.proofs.TurnSteps.{sound_empty, sound_from}
 use Rattle.q_turns.proofs.TurnViews.{lines_with, turning}
-use Rattle.q_turns.specs.declared.peer.Peer.{Peer}
+use Rattle.q_rounds.specs.declared.peer.Peer.{Peer}
 use Rattle.q_turns.specs.Sound.{IsSound}
 use Rattle.q_turns.proofs.turns.Turns.new.Goals as goal
 
