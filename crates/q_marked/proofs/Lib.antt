@@ -1,0 +1,2 @@
+mod Keying
+mod FirstMarked
