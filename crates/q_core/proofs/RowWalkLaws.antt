@@ -1,4 +1,4 @@
--- Walks along the rows that wait, and the first of a message's rows for a site.
+-- A walk along the rows that wait, and the first of a message's rows for a site.
 use Rattle.std.proofs.Common.{◌≡◌, ◌<◌, ◌∙◌, ◌∷◌, ◌+◌, [], ap, arith, Bool, cond, false, inl, inr, length, List, None, Option, refl, Some, subst, suc, sym, true, zero, ℕ}
 use Rattle.std.proofs.lemmas.Bool.{ltb-false, ltb-true}
 use Rattle.std.proofs.lemmas.Grind.{common_steps}
@@ -16,43 +16,9 @@ use Rattle.q_core.specs.Lists.{better_of, sooner_of}
 use Rattle.q_core.specs.Starting.{is_startable_in, last_start_in, next_row_of, rows_for, sent_before, sooner_row}
 use Rattle.q_core.specs.declared.state.Core.{Core}
 
-like_own : (id : Id) (r : Row) → is_of id r ≡ true → is_of r.id ≡ is_of id
-like_own id r own = ap is_of (id_eq-true r.id id own)
-
--- at a row of the message
-module _ (id : Id) (ks : List Numbered) (at : Option ℕ) (n : ℕ) (r : Row) (apart : AreApart ks) (here : at ≡ Some n) (there : row_at n ks ≡ Some r) (one : IsOne (is_of id) at ks) where
-  own : is_of id r ≡ true
-  own = let at_it : IsOne (is_of id) (Some n) ks = subst (λ o. IsOne (is_of id) o ks) here one in at_it r there
-
-  pub step_on : rest (is_of id) at ks ≡ r ∷ rest (is_of id) (next_such (λ x. is_of x.id) n ks) ks
-  step_on = ap (λ o. rest (is_of id) o ks) here ∙ next_rest (is_of id) (λ x. is_of x.id) n r ks apart own (like_own id r own) there
-
-  pub next_own : IsOne (is_of id) (next_such (λ x. is_of x.id) n ks) ks
-  next_own = next_one (is_of id) (λ x. is_of x.id) n r ks apart (like_own id r own) there
-
-  pub fewer_left : length (rest (is_of id) (next_such (λ x. is_of x.id) n ks) ks) < length (rest (is_of id) at ks)
-  fewer_left = let e = ap length step_on in omega (arith, e)
-
 -- no row is left from a number on that none has
 pub left_none : (p : Row → Bool) (ks : List Numbered) (at : Option ℕ) (n : ℕ) → at ≡ Some n → row_at n ks ≡ None → rest p at ks ≡ []
 left_none p ks at n here there = ap (λ o. rest p o ks) here ∙ absent_rest p n ks there
-
-filter_kept : {X : Type 0} (p q : X → Bool) (x : X) (xs : List X) (b : Bool) → p x ≡ b → (q x ≡ true → p x ≡ true) → filter q (filter p xs) ≡ filter q xs →
-    filter q (cond b (x ∷ filter p xs) (filter p xs)) ≡ filter q (x ∷ xs)
-filter_kept p q x xs true e of rest = ap (λ ys. cond (q x) (x ∷ ys) ys) rest
-filter_kept p q x xs false e of rest = rest ∙ fails (q x) refl
-  where
-    fails : (b : Bool) → q x ≡ b → filter q xs ≡ filter q (x ∷ xs)
-    fails true e' = let bad : true ≡ false = sym (of e') ∙ e in cc
-    fails false e' = sym (ap (λ b. cond b (x ∷ filter q xs) (filter q xs)) e')
-
-pub filter_filtered : {X : Type 0} (p q : X → Bool) → ((x : X) → q x ≡ true → p x ≡ true) → (xs : List X) → filter q (filter p xs) ≡ filter q xs
-filter_filtered p q of [] = refl
-filter_filtered p q of (x ∷ xs) = filter_kept p q x xs (p x) refl (of x) (filter_filtered p q of xs)
-
-both_left : (a b : Bool) → (a && b) ≡ true → a ≡ true
-both_left true b h = refl
-both_left false b h = h
 
 -- of what was found before, and the best of the rest
 abbrev pub merged : {A : Type 0} → (A → A → Bool) → Option A → Option A → Option A
@@ -85,25 +51,9 @@ sooner_case : {A : Type 0} (f : A → ℕ) (q : A → Bool) (best : Option A) (r
 sooner_case f q best r left true = merged_on f best (least (λ x y. nat_lt (f x) (f y)) (filter q left)) r
 sooner_case f q best r left false = refl
 
--- the row at hand is looked at
-pub sooner_on : (c : Core) (t : ℕ) (id : Id) (ks : List Numbered) (at : Option ℕ) (n : ℕ) (r : Row) (best result total : Option Row) → AreApart ks → at ≡ Some n → row_at n ks ≡ Some r → IsOne (is_of id) at ks →
-    result ≡ sooner_row c t id best r → merged (sent_before c) best (next_row_of c t id (rest (is_of id) at ks)) ≡ total →
-    merged (sent_before c) result (next_row_of c t id (rest (is_of id) (next_such (λ x. is_of x.id) n ks) ks)) ≡ total
-sooner_on c t id ks at n r best result total apart here there one is h =
-    let left = rest (is_of id) (next_such (λ x. is_of x.id) n ks) ks in
-    ap (λ o. merged (sent_before c) o (next_row_of c t id left)) is
-    ∙ sooner_case (last_start_in c) (rows_for c id t) best r left (rows_for c id t r)
-    ∙ sym (ap (λ rows. merged (sent_before c) best (next_row_of c t id rows)) (step_on id ks at n r apart here there one)) ∙ h
-
 merged_none : {A : Type 0} (before : A → A → Bool) (o : Option A) → merged before None o ≡ o
 merged_none before None = refl
 merged_none before (Some m) = refl
-
--- the message's rows that may be sent now are those of all
-pub sooner_of_all : (c : Core) (t : ℕ) (id : Id) (ks : List Numbered) → AreApart ks → next_row_of c t id (rest (is_of id) (first_such (is_of id) ks) ks) ≡ next_row_of c t id (rows_of ks)
-sooner_of_all c t id ks apart =
-    ap (next_row_of c t id) (first_rest (is_of id) ks apart)
-    ∙ ap (least (sent_before c)) (filter_filtered (is_of id) (rows_for c id t) (λ r h. both_left (is_of id r) (r.site.transport == t) (both_left (is_of id r && (r.site.transport == t)) (is_startable_in c r) h)) (rows_of ks))
 
 filter_any : (rows : List Row) → filter any_row rows ≡ rows
 filter_any [] = refl
@@ -116,6 +66,23 @@ rest_of_all ks apart = first_rest any_row ks apart ∙ filter_any (rows_of ks)
 pub step_along : (ks : List Numbered) (at : Option ℕ) (n : ℕ) (r : Row) → AreApart ks → at ≡ Some n → row_at n ks ≡ Some r →
     rest any_row at ks ≡ r ∷ rest any_row (next_such (λ x. any_row) n ks) ks
 step_along ks at n r apart here there = ap (λ o. rest any_row o ks) here ∙ next_rest any_row (λ x. any_row) n r ks apart refl refl there
+
+-- before the first row was looked at
+pub sooner_first : (c : Core) (t : ℕ) (id : Id) (ks : List Numbered) (at : Option ℕ) → AreApart ks → at ≡ first_such any_row ks →
+    merged (sent_before c) None (next_row_of c t id (rest any_row at ks)) ≡ next_row_of c t id (rows_of ks)
+sooner_first c t id ks at apart is =
+    merged_none (sent_before c) (next_row_of c t id (rest any_row at ks))
+    ∙ ap (λ o. next_row_of c t id (rest any_row o ks)) is ∙ ap (next_row_of c t id) (rest_of_all ks apart)
+
+-- the row at hand is looked at
+pub sooner_on : (c : Core) (t : ℕ) (id : Id) (ks : List Numbered) (at : Option ℕ) (n : ℕ) (r : Row) (best result total : Option Row) → AreApart ks → at ≡ Some n → row_at n ks ≡ Some r →
+    result ≡ sooner_row c t id best r → merged (sent_before c) best (next_row_of c t id (rest any_row at ks)) ≡ total →
+    merged (sent_before c) result (next_row_of c t id (rest any_row (next_such (λ x. any_row) n ks) ks)) ≡ total
+sooner_on c t id ks at n r best result total apart here there is h =
+    let left = rest any_row (next_such (λ x. any_row) n ks) ks in
+    ap (λ o. merged (sent_before c) o (next_row_of c t id left)) is
+    ∙ sooner_case (last_start_in c) (rows_for c id t) best r left (rows_for c id t r)
+    ∙ sym (ap (λ rows. merged (sent_before c) best (next_row_of c t id rows)) (step_along ks at n r apart here there)) ∙ h
 
 dropped_step : {X : Type 0} (p : X → Bool) (x : X) (xs : List X) (b : Bool) → cond b (Some x) (find p xs) ≡ None → (find p xs ≡ None → drop_first p xs ≡ xs) → cond b xs (x ∷ drop_first p xs) ≡ x ∷ xs
 dropped_step p x xs true h more = cc
@@ -194,13 +161,6 @@ narrow_place p q xs i y of place at here =
     let n = narrow p q xs y of here (ap (slice_get xs) (sym e) ∙ at) in
     let within = some_within xs i y at in
     grind (arith, common_steps, e, n, within)
-
--- before the first row was looked at
-pub sooner_first : (c : Core) (t : ℕ) (id : Id) (ks : List Numbered) (at : Option ℕ) → AreApart ks → at ≡ first_such (is_of id) ks →
-    merged (sent_before c) None (next_row_of c t id (rest (is_of id) at ks)) ≡ next_row_of c t id (rows_of ks)
-sooner_first c t id ks at apart is =
-    merged_none (sent_before c) (next_row_of c t id (rest (is_of id) at ks))
-    ∙ ap (λ o. next_row_of c t id (rest (is_of id) o ks)) is ∙ sooner_of_all c t id ks apart
 
 least_step : {X : Type 0} (before : X → X → Bool) (p : X → Bool) (x : X) (xs : List X) (b : Bool) → is_some (least before (filter p xs)) ≡ list_any p xs → is_some (least before (cond b (x ∷ filter p xs) (filter p xs))) ≡ (b || list_any p xs)
 least_step before p x xs true h = refl

@@ -74,8 +74,7 @@ impl Core {
 
     /// The row of the message that starts next at the transport. It is of the site that the
     /// message was sent to longest ago or never; among equals it is the first read. While rows may
-    /// be left in another order than that in which they were read, a walk over all rows of the
-    /// message finds it.
+    /// be left in another order than that in which they were read, a walk over all finds it.
     fn next_row(&self, id: Id, transport: u8) -> Option<&Row>
         ensures { option_copied result ≡ next_row_in self.now transport id }
     {
@@ -134,13 +133,13 @@ fn next_row_among<'a>(
 {
     waiting.stand_apart();
     let mut next = None;
-    let mut at = waiting.first_of(id);
+    let mut at = waiting.first();
     while let Some(number) = at {
         let Some(row) = waiting.get(number) else {
             return next;
         };
         next = core.sooner(id, transport, next, row);
-        at = waiting.next_of(number);
+        at = waiting.next(number);
     }
     next
 }

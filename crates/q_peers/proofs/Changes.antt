@@ -7,7 +7,7 @@ use Rattle.std.specs.Prelude.{◌==◌, filter, not}
 use Rattle.q_chains.proofs.Borders.{stands_below}
 use Rattle.q_chains.specs.Lists.{first_of, is_in, Lists, pushed, StandOnce, without}
 use Rattle.q_model.specs.declared.rows.Row.{Row}
-use Rattle.q_peers.specs.Buckets.{message_key, site_key}
+use Rattle.q_peers.specs.Buckets.{peer_key, site_key}
 use Rattle.q_peers.specs.Numbered.{has_number, Numbered}
 use Rattle.q_peers.specs.Slots.{items_of}
 use Rattle.q_peers.specs.Sound.{AreFiled, IsSound}
@@ -22,7 +22,7 @@ use Rattle.q_peers.proofs.Walks.{once_in}
 abbrev pub moved : ℕ → ℕ → Lists → Lists
 moved list n s = record s { lists = pushed list n (map (without n) s.lists) }
 
-module _ (rows : List (Option Row)) (order messages sites : Lists) (live room : ℕ) (sound : IsSound rows order messages sites live room) where
+module _ (rows : List (Option Row)) (order peers sites : Lists) (live room : ℕ) (sound : IsSound rows order peers sites live room) where
   abbrev ns : List ℕ
   ns = get_or order.lists 0 []
 
@@ -33,7 +33,7 @@ module _ (rows : List (Option Row)) (order messages sites : Lists) (live room : 
   pub has_free : length (items_of rows ns) < room → first_of free ≡ None → ⊥
   has_free few h =
       let none = first_none free h in
-      let all = count rows order messages sites live room sound in
+      let all = count rows order peers sites live room sound in
       omega (arith, few, none, all, sound.all)
 
   left_two : (n : ℕ) → length (map (without n) order.lists) ≡ 2
@@ -74,8 +74,8 @@ module _ (rows : List (Option Row)) (order messages sites : Lists) (live room : 
         let other = eqb-false m n e in
         in_more m n ns other ∙ sound.filled m ∙ sym (ap is_some (get_or-set_other rows n m (Some r) None other))
 
-    pub sound_come : (r : Row) (b c : ℕ) → b ≡ message_key r % room → b < room → c ≡ site_key r % room → c < room →
-        IsSound (set rows n (Some r)) (moved 0 n order) (record messages { lists = pushed b n messages.lists }) (record sites { lists = pushed c n sites.lists }) (live + 1) room
+    pub sound_come : (r : Row) (b c : ℕ) → b ≡ peer_key r % room → b < room → c ≡ site_key r % room → c < room →
+        IsSound (set rows n (Some r)) (moved 0 n order) (record peers { lists = pushed b n peers.lists }) (record sites { lists = pushed c n sites.lists }) (live + 1) room
     sound_come r b c is_b few_b is_c few_c =
         let inside : n < length rows = (let k = known in omega (arith, k, sound.slots)) in
         let more : length (get_or (moved 0 n order).lists 0 []) ≡ length ns + 1 = ap length first_list ∙ length-append ns (n ∷ []) in
@@ -89,8 +89,8 @@ module _ (rows : List (Option Row)) (order messages sites : Lists) (live room : 
           filled = λ m. ap (is_in m) first_list ∙ filled_step r m (m == n) refl;
           all = omega (arith, more, fewer, sound.all);
           count = omega (arith, more, sound.count);
-          by_message = subst (λ (ms : List ℕ). AreFiled message_key (set rows n (Some r)) ms room (record messages { lists = pushed b n messages.lists })) (sym first_list)
-              (filed_come message_key rows ns room messages sound.by_message n b r lacks inside is_b few_b);
+          by_peer = subst (λ (ms : List ℕ). AreFiled peer_key (set rows n (Some r)) ms room (record peers { lists = pushed b n peers.lists })) (sym first_list)
+              (filed_come peer_key rows ns room peers sound.by_peer n b r lacks inside is_b few_b);
           by_site = subst (λ (ms : List ℕ). AreFiled site_key (set rows n (Some r)) ms room (record sites { lists = pushed c n sites.lists })) (sym first_list)
               (filed_come site_key rows ns room sites sound.by_site n c r lacks inside is_c few_c);
         }
@@ -128,7 +128,7 @@ module _ (rows : List (Option Row)) (order messages sites : Lists) (live room : 
         let other = eqb-false m n e in
         in_without m n ns other ∙ sound.filled m ∙ sym (ap is_some (get_or-set_other rows n m None None other))
 
-    pub sound_go : IsSound (set rows n None) (moved 1 n order) (record messages { lists = map (without n) messages.lists }) (record sites { lists = map (without n) sites.lists }) (live - 1) room
+    pub sound_go : IsSound (set rows n None) (moved 1 n order) (record peers { lists = map (without n) peers.lists }) (record sites { lists = map (without n) sites.lists }) (live - 1) room
     sound_go =
         let inside : n < length rows = (let k = waits_below in omega (arith, k, sound.slots)) in
         let fewer : length (get_or (moved 1 n order).lists 0 []) + 1 ≡ length ns = ap (λ (ms : List ℕ). length ms + 1) first_left ∙ length_without n ns (once_at 0 order.lists (once_in order once)) waits in
@@ -142,8 +142,8 @@ module _ (rows : List (Option Row)) (order messages sites : Lists) (live room : 
           filled = λ m. ap (is_in m) first_left ∙ empty_step m (m == n) refl inside;
           all = omega (arith, more, fewer, sound.all);
           count = omega (arith, fewer, sound.count);
-          by_message = subst (λ (ms : List ℕ). AreFiled message_key (set rows n None) ms room (record messages { lists = map (without n) messages.lists })) (sym first_left)
-              (filed_go message_key rows ns room messages sound.by_message n);
+          by_peer = subst (λ (ms : List ℕ). AreFiled peer_key (set rows n None) ms room (record peers { lists = map (without n) peers.lists })) (sym first_left)
+              (filed_go peer_key rows ns room peers sound.by_peer n);
           by_site = subst (λ (ms : List ℕ). AreFiled site_key (set rows n None) ms room (record sites { lists = map (without n) sites.lists })) (sym first_left)
               (filed_go site_key rows ns room sites sound.by_site n);
         }

@@ -28,7 +28,7 @@ begins b s from h = subst (λ (o : Option ℕ). IfSome o (λ n. stands n s.lists
 pub goes_on : (n : ℕ) (s : Lists) (from : Option ℕ) → from ≡ behind n (list_with n s.lists) → IfSome from (λ n. stands n s.lists ≡ true)
 goes_on n s from h = subst (λ (o : Option ℕ). IfSome o (λ n. stands n s.lists ≡ true)) (sym h) (next_stands n s.lists)
 
-module _ (rows : List (Option Row)) (order messages sites : Lists) (live room : ℕ) (sound : IsSound rows order messages sites live room) where
+module _ (rows : List (Option Row)) (order peers sites : Lists) (live room : ℕ) (sound : IsSound rows order peers sites live room) where
   abbrev ns : List ℕ
   ns = get_or order.lists 0 []
 
@@ -67,7 +67,7 @@ module _ (rows : List (Option Row)) (order messages sites : Lists) (live room : 
   pub no_row : (like : Row → Row → Bool) (n : ℕ) → get_or rows n None ≡ None → next_such like n (items_of rows ns) ≡ None
   no_row like n h = next_none like rows n ns h
 
-  -- In buckets by a key: those of messages, or of sites.
+  -- In buckets by a key: those of messages at sites, or of sites.
   module _ (key : Row → ℕ) (buckets : Lists) (filed : AreFiled key rows ns room buckets) (once : StandOnce buckets) where
     -- a walk from the first number of the bucket on
     pub first_in_bucket : (b : ℕ) (p : Row → Bool) → b < room → ((r : Row) → p r ≡ true → is_in_bucket key room b r ≡ true) →

@@ -3,7 +3,7 @@ use Rattle.std.specs.Option.{is_some}
 use Rattle.std.specs.Prelude.{◌≡◌, ◌≤◌, ◌<◌, ◌+◌, ◌^◌, [], filter, get_or, length, List, None, Option, ℕ}
 use Rattle.q_chains.specs.Lists.{is_in, Lists}
 use Rattle.q_model.specs.declared.rows.Row.{Row}
-use Rattle.q_peers.specs.Buckets.{message_key, site_key}
+use Rattle.q_peers.specs.Buckets.{peer_key, site_key}
 use Rattle.q_peers.specs.Slots.{is_in_bucket, passes}
 
 -- the numbers of rows that wait stand in the buckets of their rows, in the same order
@@ -15,7 +15,7 @@ pub record AreFiled (key : Row → ℕ) (rows : List (Option Row)) (waiting : Li
       → get_or buckets.lists b [] ≡ filter (passes (is_in_bucket key room b) rows) waiting
 
 -- of the two lists in `order` one has the numbers of rows that wait, and the other the free ones
-pub record IsSound (rows : List (Option Row)) (order messages sites : Lists) (live room : ℕ)
+pub record IsSound (rows : List (Option Row)) (order peers sites : Lists) (live room : ℕ)
     : Type 0 where
   pub some : 1 ≤ room
   pub few : room < 2 ^ 30
@@ -25,5 +25,5 @@ pub record IsSound (rows : List (Option Row)) (order messages sites : Lists) (li
   pub filled : (n : ℕ) → is_in n (get_or order.lists 0 []) ≡ is_some (get_or rows n None)
   pub all : length (get_or order.lists 0 []) + length (get_or order.lists 1 []) ≡ room
   pub count : live ≡ length (get_or order.lists 0 [])
-  pub by_message : AreFiled message_key rows (get_or order.lists 0 []) room messages
+  pub by_peer : AreFiled peer_key rows (get_or order.lists 0 []) room peers
   pub by_site : AreFiled site_key rows (get_or order.lists 0 []) room sites

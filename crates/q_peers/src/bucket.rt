@@ -1,6 +1,6 @@
-//! Buckets of messages and of sites.
+//! Buckets of peers, which are messages at sites, and of sites.
 ghost use Rattle.std.specs.Prelude.{◌≡◌, ◌≤◌, ◌<◌, ◌%◌};
-ghost use Rattle.q_peers.specs.Buckets.{hash_with, site_hash};
+ghost use Rattle.q_peers.specs.Buckets.{hash_with, peer_hash, site_hash};
 
 use q_model::{Id, Site};
 
@@ -26,13 +26,20 @@ pub fn site_hash(site: &Site) -> u32
     hash as u32
 }
 
-/// The bucket of a message, of so many.
-pub(crate) fn message_bucket(id: Id, buckets: u32) -> u32
+/// A number that is taken from a message and a site.
+pub fn peer_hash(id: Id, site: &Site) -> u32
+    ensures { result ≡ peer_hash id site.now }
+{
+    ((u64::from(site_hash(site)) * 31 + u64::from(id.serial)) % MODULUS) as u32
+}
+
+/// The bucket of a message at a site, of so many.
+pub(crate) fn peer_bucket(id: Id, site: &Site, buckets: u32) -> u32
     requires { 1 ≤ buckets }
-    ensures is { result ≡ id.serial % buckets }
+    ensures is { result ≡ peer_hash id site.now % buckets }
     ensures below { result < buckets }
 {
-    id.serial % buckets
+    peer_hash(id, site) % buckets
 }
 
 /// The bucket of a site, of so many.

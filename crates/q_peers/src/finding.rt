@@ -1,12 +1,12 @@
-//! The first row, and the next one: of all, of a message, and of a site.
+//! The first row, and the next one: of all, and of a site; and the first of a message to a site.
 ghost use Rattle.std.specs.Prelude.{◌≡◌};
 ghost use Rattle.std.specs.List.{list_any};
-ghost use Rattle.q_peers.specs.Numbered.{any_row, first_such, is_at, is_for, is_of, next_such, rows_of};
+ghost use Rattle.q_peers.specs.Numbered.{any_row, first_such, is_at, is_for, next_such, rows_of};
 
-use crate::bucket::{message_bucket, site_bucket};
+use crate::bucket::{peer_bucket, site_bucket};
 use crate::slots::{WAITING, row_at};
 use crate::waiting::Waiting;
-use crate::walk::{first_at_from, first_for_from, first_of_from};
+use crate::walk::{first_at_from, first_for_from};
 use q_model::{Id, Site};
 
 impl Waiting {
@@ -24,26 +24,6 @@ impl Waiting {
         let _row = row_at(&self.rows, number)?;
         self.order.stand_once();
         self.order.next(number)
-    }
-
-    /// The number of the first row of a message, by a walk along its bucket.
-    pub fn first_of(&self, id: Id) -> Option<u32>
-        ensures { result ≡ first_such (is_of id) self.now.items }
-    {
-        self.by_message.stand_once();
-        let from = self.by_message.first(message_bucket(id, self.room));
-        first_of_from(&self.rows, &self.by_message, from, id)
-    }
-
-    /// The number of the next row of the same message, behind the one of this number, by a walk
-    /// along its bucket.
-    pub fn next_of(&self, number: u32) -> Option<u32>
-        ensures { result ≡ next_such (λ r. is_of r.id) number self.now.items }
-    {
-        let id = row_at(&self.rows, number)?.id;
-        self.by_message.stand_once();
-        let from = self.by_message.next(number);
-        first_of_from(&self.rows, &self.by_message, from, id)
     }
 
     /// The number of the first row to a site, by a walk along its bucket.
@@ -66,13 +46,13 @@ impl Waiting {
         first_at_from(&self.rows, &self.by_site, from, site)
     }
 
-    /// The number of the first row of a message to a site, by a walk along the message's bucket.
+    /// The number of the first row of a message to a site, by a walk along their bucket.
     pub fn first_for(&self, id: Id, site: &Site) -> Option<u32>
         ensures { result ≡ first_such (is_for id site.now) self.now.items }
     {
-        self.by_message.stand_once();
-        let from = self.by_message.first(message_bucket(id, self.room));
-        first_for_from(&self.rows, &self.by_message, from, id, site)
+        self.by_peer.stand_once();
+        let from = self.by_peer.first(peer_bucket(id, site, self.room));
+        first_for_from(&self.rows, &self.by_peer, from, id, site)
     }
 
     /// Whether a row waits that goes to the site.

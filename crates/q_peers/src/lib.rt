@@ -1,11 +1,12 @@
 //! The rows that wait, in the order in which they came. A row has those recipients of a message
-//! that one delivery may carry to one site. Of all rows, of those of a message and of those to a
-//! site the first is found, and the next one behind a row, without a walk over the others; and a
-//! row leaves from anywhere at the same cost. So a decision costs no more where many rows wait.
+//! that one delivery may carry to one site. Of all rows and of those to a site the first is found,
+//! and the next one behind a row, and the first of a message to a site, without a walk over the
+//! others; and a row leaves from anywhere at the same cost. So a decision costs no more where many
+//! rows wait.
 //!
 //! A row has a number while it waits, which no other row has; the number of a row that went is
 //! given again. The numbers are chained in the order in which their rows came, and once more in
-//! buckets by message and in buckets by site, as many of each as rows have room. Only along one
+//! buckets by message and site and in buckets by site, as many of each as rows have room. Only along one
 //! bucket does a call walk.
 //!
 //! Room is made once, by `new`; no other call takes memory or can fail. It is an error to make it
@@ -21,5 +22,5 @@ mod walk;
 #[cfg(test)]
 mod worked;
 
-pub use bucket::site_hash;
+pub use bucket::{peer_hash, site_hash};
 pub use waiting::Waiting;

@@ -5,7 +5,7 @@ ghost use Rattle.q_model.specs.Lists.{drop_first};
 ghost use Rattle.q_model.specs.declared.rows.Row.{Row};
 ghost use Rattle.q_peers.specs.Numbered.{AreApart, first_such, has_number, row_at, rows_of};
 
-use crate::bucket::{message_bucket, site_bucket};
+use crate::bucket::{peer_bucket, site_bucket};
 use crate::slots::{FREE, WAITING, fresh_order, fresh_rows, put_row, row_at, take_row};
 use q_chains::Chains;
 use q_model::Row;
@@ -19,8 +19,8 @@ pub struct Waiting {
     pub(crate) rows: Vec<Option<Row>>,
     /// Two lists: the numbers of the rows in the order in which they came, and the free numbers.
     pub(crate) order: Chains,
-    /// The numbers in each bucket of messages, in the order in which the rows came.
-    pub(crate) by_message: Chains,
+    /// The numbers in each bucket of messages at sites, in the order in which the rows came.
+    pub(crate) by_peer: Chains,
     /// The same in each bucket of sites.
     pub(crate) by_site: Chains,
     pub(crate) live: u32,
@@ -41,7 +41,7 @@ impl Model for Waiting {
       room = a.room;
     } };
 
-    ghost invariant = { λ a. IsSound a.rows.items a.order a.by_message a.by_site a.live a.room };
+    ghost invariant = { λ a. IsSound a.rows.items a.order a.by_peer a.by_site a.live a.room };
 }
 
 impl Waiting {
@@ -54,12 +54,12 @@ impl Waiting {
     {
         let rows = fresh_rows(alloc, room)?;
         let order = fresh_order(alloc, room)?;
-        let by_message = Chains::new(alloc, room, room)?;
+        let by_peer = Chains::new(alloc, room, room)?;
         let by_site = Chains::new(alloc, room, room)?;
         Ok(Waiting {
             rows,
             order,
-            by_message,
+            by_peer,
             by_site,
             live: 0,
             room,
@@ -105,16 +105,17 @@ impl Waiting {
         } }
         ensures rows { rows_of self.new.items ≡ rows_of self.old.items ++ row ∷ [] }
         ensures fresh { find (has_number result) self.old.items ≡ None }
+        ensures below { result < self.old.room }
     {
         self.order.stand_once();
         let Some(number) = self.order.first(FREE) else {
             unreachable!()
         };
-        let message = message_bucket(row.id, self.room);
+        let peer = peer_bucket(row.id, &row.site, self.room);
         let site = site_bucket(&row.site, self.room);
         self.order.remove(number);
         self.order.push(WAITING, number);
-        self.by_message.push(message, number);
+        self.by_peer.push(peer, number);
         self.by_site.push(site, number);
         put_row(&mut self.rows, number, row);
         self.live += 1;
@@ -135,7 +136,7 @@ impl Waiting {
         }
         self.order.remove(number);
         self.order.push(FREE, number);
-        self.by_message.remove(number);
+        self.by_peer.remove(number);
         self.by_site.remove(number);
         self.live -= 1;
         take_row(&mut self.rows, number)

@@ -3,7 +3,7 @@ ghost use Rattle.std.specs.Prelude.{◌≡◌, find, IfSome, true};
 ghost use Rattle.q_chains.specs.Lists.{stands};
 ghost use Rattle.q_model.specs.Ids.{id_eq};
 ghost use Rattle.q_model.specs.Sites.{site_eq};
-ghost use Rattle.q_peers.specs.Numbered.{is_at, is_for, is_of};
+ghost use Rattle.q_peers.specs.Numbered.{is_at, is_for};
 ghost use Rattle.q_peers.specs.Slots.{from_on, passes};
 
 use crate::slots::row_at;
@@ -22,17 +22,7 @@ fn same_site(a: &Site, b: &Site) -> bool
     a.transport == b.transport && a.hop.bytes() == b.hop.bytes()
 }
 
-/// Whether the row of the number is of the message.
-fn is_row_of(rows: &Vec<Option<Row>>, number: u32, id: Id) -> bool
-    ensures { result ≡ passes (is_of id) rows.now.items number }
-{
-    match row_at(rows, number) {
-        Some(row) => same_id(row.id, id),
-        None => false,
-    }
-}
-
-/// Whether it goes to the site.
+/// Whether the row of the number goes to the site.
 fn is_row_at(rows: &Vec<Option<Row>>, number: u32, site: &Site) -> bool
     ensures { result ≡ passes (is_at site.now) rows.now.items number }
 {
@@ -50,28 +40,6 @@ fn is_row_for(rows: &Vec<Option<Row>>, number: u32, id: Id, site: &Site) -> bool
         Some(row) => same_id(row.id, id) && same_site(&row.site, site),
         None => false,
     }
-}
-
-/// The first number whose row is of the message, from this one on in its list.
-pub(crate) fn first_of_from(
-    rows: &Vec<Option<Row>>,
-    lists: &Chains,
-    from: Option<u32>,
-    id: Id,
-) -> Option<u32>
-    requires { IfSome from (λ number. stands number lists.now.lists ≡ true) }
-    ensures { result
-        ≡ find (passes (is_of id) rows.now.items) (from_on from lists.now.lists) }
-{
-    lists.stand_once();
-    let mut at = from;
-    while let Some(number) = at {
-        if is_row_of(rows, number, id) {
-            return Some(number);
-        }
-        at = lists.next(number);
-    }
-    None
 }
 
 /// The first number whose row goes to the site, from this one on in its list.

@@ -1,5 +1,5 @@
-//! Worked sequences, with room for four rows. Messages 1, 5 and 9 are of one bucket, and so are the
-//! sites of the transports 1, 5 and 9.
+//! Worked sequences, with room for four rows. The sites of the transports 1, 5 and 9 are of one
+//! bucket, and so are the messages 1, 5 and 9 at each of them.
 ghost use Rattle.std.specs.Prelude.{◌≤◌, ◌<◌, ◌^◌};
 
 use crate::Waiting;
@@ -21,7 +21,6 @@ enum Call {
 #[derive(Clone, Copy, Debug)]
 enum Rows {
     All,
-    Of(u32),
     At(u8),
 }
 
@@ -113,7 +112,6 @@ fn pair_at(waiting: &Waiting, number: u32) -> Option<Pair> {
 fn first(waiting: &Waiting, rows: Rows) -> Option<u32> {
     match rows {
         Rows::All => waiting.first(),
-        Rows::Of(serial) => waiting.first_of(id(serial)),
         Rows::At(transport) => waiting.first_at(&site(transport)?),
     }
 }
@@ -121,7 +119,6 @@ fn first(waiting: &Waiting, rows: Rows) -> Option<u32> {
 fn next(waiting: &Waiting, rows: Rows, number: u32) -> Option<u32> {
     match rows {
         Rows::All => waiting.next(number),
-        Rows::Of(_) => waiting.next_of(number),
         Rows::At(_) => waiting.next_at(number),
     }
 }
@@ -129,7 +126,6 @@ fn next(waiting: &Waiting, rows: Rows, number: u32) -> Option<u32> {
 fn is_read(rows: Rows, pair: Pair) -> bool {
     match rows {
         Rows::All => true,
-        Rows::Of(serial) => pair.0 == serial,
         Rows::At(transport) => pair.1 == transport,
     }
 }
@@ -154,6 +150,17 @@ fn reads(waiting: &Waiting, rows: Rows, want: &[Pair]) -> bool {
 /// Whether one of these pairs is of the transport.
 fn has_transport(want: &[Pair], transport: u8) -> bool {
     want.iter().any(|pair| pair.1 == transport)
+}
+
+/// Whether one of these pairs is of the message and the transport.
+fn is_for(want: &[Pair], serial: u32, transport: u8) -> bool {
+    want.iter().any(|pair| *pair == (serial, transport))
+}
+
+/// Whether a row of the message waits at the site of a transport.
+fn waits_for(waiting: &Waiting, serial: u32, transport: u8) -> Option<bool> {
+    let number = waiting.first_for(id(serial), &site(transport)?);
+    Some(number.is_some_and(|number| pair_at(waiting, number) == Some((serial, transport))))
 }
 
 /// Whether a row waits at the site of a transport.
@@ -183,9 +190,11 @@ fn rows_after_each_call(rt: HostRuntime) -> Result<(), Fail> {
         assert_eq!(rt; waiting.len(), want.len());
         assert!(rt; reads(&waiting, Rows::All, want), "row {i}");
         for (serial, transport) in ASKED {
-            assert!(rt;
-                reads(&waiting, Rows::Of(serial), want),
-                "row {i}, message {serial}"
+            let rows = is_for(want, serial, transport);
+            assert_eq!(rt;
+                waits_for(&waiting, serial, transport),
+                Some(rows),
+                "row {i}"
             );
             assert!(rt;
                 reads(&waiting, Rows::At(transport), want),
@@ -212,7 +221,7 @@ fn numbers_stay(rt: HostRuntime) -> Result<(), Fail> {
     assert!(rt; waiting.get(first).is_none());
     assert!(rt; waiting.remove(first).is_none());
     assert_eq!(rt; waiting.next(first), None);
-    assert_eq!(rt; waiting.next_of(first), None);
+    assert_eq!(rt; waiting.next_at(first), None);
     assert_eq!(rt; pair_at(&waiting, second), Some((2, 1)));
     // its number is the only one that is free
     assert_eq!(rt; added(rt.alloc(), &mut waiting, 3, 1), Some(first));

@@ -1,6 +1,6 @@
 -- What a contract sees of peers in their rounds.
 use Rattle.std.specs.Option.{option_map_or}
-use Rattle.std.specs.Prelude.{◌≡◌, ◌%◌, ◌*◌, ◌&&◌, ◌||◌, ◌+◌, ◌-◌, ◌==◌, [], ◌∷◌, Bool, false, filter, find, if◌then◌else◌, List, nat_lt, None, not, Option, ℕ}
+use Rattle.std.specs.Prelude.{◌≡◌, ◌&&◌, ◌||◌, ◌+◌, ◌-◌, ◌==◌, [], ◌∷◌, Bool, false, filter, find, if◌then◌else◌, List, nat_lt, None, not, Option, ℕ}
 use Rattle.q_dest.specs.declared.dest.Dest.{Dest}
 use Rattle.q_dest.specs.Dests.{has_space, is_at}
 use Rattle.q_keyed.specs.Numbered.{Numbered}
@@ -9,7 +9,7 @@ use Rattle.q_model.specs.Ids.{id_eq}
 use Rattle.q_model.specs.Lists.{least}
 use Rattle.q_model.specs.Sites.{site_eq}
 use Rattle.q_model.specs.Values.{Site}
-use Rattle.q_peers.specs.Buckets.{site_hash}
+use Rattle.q_peers.specs.Buckets.{peer_hash}
 use Rattle.q_rounds.specs.declared.peer.Peer.{Peer}
 use Rattle.q_rounds.specs.declared.peer.PeerKey.{PeerKey}
 
@@ -21,7 +21,7 @@ key_eq a b = id_eq a.id b.id && site_eq a.site b.site
 
 -- a number that is taken from both
 abbrev pub key_hash : PeerKey → ℕ
-key_hash k = (site_hash k.site * 31 + k.id.serial) % 2147483647
+key_hash k = peer_hash k.id k.site
 
 -- the peer of the message at the site
 abbrev pub is_peer : Id → Site → Peer → Bool

@@ -1,10 +1,10 @@
 //! A peer.
 ghost use Rattle.std.specs.Prelude.{◌≡◌, ◌+◌, ◌<◌, ◌^◌};
-ghost use Rattle.q_rounds.specs.Rounds.{gained, key_hash, lost, new_peer, started};
+ghost use Rattle.q_rounds.specs.Rounds.{gained, lost, new_peer, started};
 
 use q_keyed::HasKey;
 use q_model::{Id, Site};
-use q_peers::site_hash;
+use q_peers::peer_hash;
 
 /// A message at a site for which rows of it wait.
 #[derive(Clone, Copy, Debug)]
@@ -26,16 +26,6 @@ pub struct PeerKey {
     pub site: Site,
 }
 
-/// A prime, and the greatest number of 31 bits.
-const MODULUS: u64 = 2_147_483_647;
-
-/// A number that is taken from both.
-fn key_hash(id: Id, site: &Site) -> u32
-    ensures { result ≡ key_hash (record { id = id; site = site.now }) }
-{
-    ((u64::from(site_hash(site)) * 31 + u64::from(id.serial)) % MODULUS) as u32
-}
-
 impl HasKey for Peer {
     ghost use Rattle.q_rounds.specs.Rounds.{key_eq, key_hash, key_of};
     ghost use Rattle.q_rounds.specs.KeyLaws.{key_eq-refl, key_eq-true};
@@ -53,11 +43,11 @@ impl HasKey for Peer {
     }
 
     fn hash(&self) -> u32 {
-        key_hash(self.id, &self.site)
+        peer_hash(self.id, &self.site)
     }
 
     fn hash_of(key: &PeerKey) -> u32 {
-        key_hash(key.id, &key.site)
+        peer_hash(key.id, &key.site)
     }
 
     ghost is_same = { key_eq-true };

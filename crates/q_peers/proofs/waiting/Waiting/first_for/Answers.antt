@@ -1,5 +1,5 @@
 use Rattle.std.proofs.Common.{◌∙◌, ap}
-use Rattle.q_peers.specs.Buckets.{message_key}
+use Rattle.q_peers.specs.Buckets.{peer_key}
 use Rattle.std.specs.Prelude.{find}
 use Rattle.q_peers.specs.Slots.{from_on, passes}
 use Rattle.q_peers.specs.Numbered.{first_such, is_for, Items}
@@ -8,14 +8,14 @@ use Rattle.q_peers.proofs.Standing.{begins, first_in_bucket}
 use Rattle.q_peers.proofs.waiting.Waiting.first_for.Goals as goal
 
 pub first_for_from-requires : goal.first_for_from-requires
-first_for_from-requires c = begins c.message_bucket.result c.self.inside.by_message c.first-from.result c.first-from.ensures
+first_for_from-requires c = begins c.peer_bucket.result c.self.inside.by_peer c.first-from.result c.first-from.ensures
 
 pub returns : goal.returns
 returns c =
     let a = c.self.inside in
-    let b = c.message_bucket.result in
+    let b = c.peer_bucket.result in
     let p = is_for c.args.id c.args.site.now in
     c.first_for_from.ensures
-    ∙ ap (λ o. find (passes p a.rows.items) (from_on o a.by_message.lists)) c.first-from.ensures
-    ∙ first_in_bucket a.rows.items a.order a.by_message a.by_site a.live a.room c.self.invariant message_key a.by_message c.self.invariant.by_message c.stand_once.ensures b p c.message_bucket.ensures.below (bucket_for c.args.id c.args.site.now a.room b c.message_bucket.ensures.is)
+    ∙ ap (λ o. find (passes p a.rows.items) (from_on o a.by_peer.lists)) c.first-from.ensures
+    ∙ first_in_bucket a.rows.items a.order a.by_peer a.by_site a.live a.room c.self.invariant peer_key a.by_peer c.self.invariant.by_peer c.stand_once.ensures b p c.peer_bucket.ensures.below (bucket_for c.args.id c.args.site.now a.room b c.peer_bucket.ensures.is)
     ∙ ap (λ (v : Items). first_such p v.items) c.self.view_is

@@ -9,7 +9,7 @@ returns-in_err-_row c =
     let a = c.self.inside in
     let n = c.args.number in
     c.from_residual.ensures
-    ∙ sym (no_row a.rows.items a.order a.by_message a.by_site a.live a.room c.self.invariant (λ r. any_row) n (sym c.row_at.ensures ∙ ap option_copied c.in_err-_row.was))
+    ∙ sym (no_row a.rows.items a.order a.by_peer a.by_site a.live a.room c.self.invariant (λ r. any_row) n (sym c.row_at.ensures ∙ ap option_copied c.in_err-_row.was))
     ∙ ap (λ (v : Items). next_such (λ r. any_row) n v.items) c.self.view_is
 
 pub returns : goal.returns
@@ -17,5 +17,5 @@ returns c =
     let a = c.self.inside in
     let n = c.args.number in
     c.next.ensures
-    ∙ sym (next_row a.rows.items a.order a.by_message a.by_site a.live a.room c.self.invariant c.stand_once.ensures n c.in_ok-_row._row.now (sym c.row_at.ensures ∙ ap option_copied c.in_ok-_row.was))
+    ∙ sym (next_row a.rows.items a.order a.by_peer a.by_site a.live a.room c.self.invariant c.stand_once.ensures n c.in_ok-_row._row.now (sym c.row_at.ensures ∙ ap option_copied c.in_ok-_row.was))
     ∙ ap (λ (v : Items). next_such (λ r. any_row) n v.items) c.self.view_is

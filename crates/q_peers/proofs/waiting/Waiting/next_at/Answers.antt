@@ -14,14 +14,14 @@ returns-in_err-site c =
     let a = c.self.inside in
     let n = c.args.number in
     c.from_residual.ensures
-    ∙ sym (no_row a.rows.items a.order a.by_message a.by_site a.live a.room c.self.invariant (λ r. is_at r.site) n (sym c.row_at.ensures ∙ ap option_copied c.in_err-site.was))
+    ∙ sym (no_row a.rows.items a.order a.by_peer a.by_site a.live a.room c.self.invariant (λ r. is_at r.site) n (sym c.row_at.ensures ∙ ap option_copied c.in_err-site.was))
     ∙ ap (λ (v : Items). next_such (λ r. is_at r.site) n v.items) c.self.view_is
 
 pub next-from-requires : goal.next-from-requires
 next-from-requires c =
     let a = c.self.inside in
     let r = c.in_ok-site.field-0.now in
-    stands_filed a.rows.items a.order a.by_message a.by_site a.live a.room c.self.invariant site_key a.by_site c.self.invariant.by_site c.stand_once.ensures c.args.number r
+    stands_filed a.rows.items a.order a.by_peer a.by_site a.live a.room c.self.invariant site_key a.by_site c.self.invariant.by_site c.stand_once.ensures c.args.number r
     (sym c.row_at.ensures ∙ ap option_copied c.in_ok-site.was) (bucket_below (site_key r) a.room c.self.invariant.some)
 
 pub first_at_from-requires : goal.first_at_from-requires
@@ -35,7 +35,7 @@ returns c =
     let like : Row → Row → Bool = λ q. is_at q.site in
     c.first_at_from.ensures
     ∙ ap (λ o. find (passes (like r) a.rows.items) (from_on o a.by_site.lists)) c.next-from.ensures
-    ∙ next_in_bucket a.rows.items a.order a.by_message a.by_site a.live a.room c.self.invariant site_key a.by_site c.self.invariant.by_site c.stand_once.ensures like n r
+    ∙ next_in_bucket a.rows.items a.order a.by_peer a.by_site a.live a.room c.self.invariant site_key a.by_site c.self.invariant.by_site c.stand_once.ensures like n r
     (sym c.row_at.ensures ∙ ap option_copied c.in_ok-site.was) (bucket_below (site_key r) a.room c.self.invariant.some)
     (site_bucket r.site a.room (site_key r % a.room) refl)
     ∙ ap (λ (v : Items). next_such like n v.items) c.self.view_is

@@ -2,7 +2,7 @@ use Rattle.std.proofs.Common.{◌≡◌, ◌∙◌, ◌∷◌, ◌++◌, ◌<◌
 use Rattle.std.proofs.lemmas.List.{map-append}
 use Rattle.std.specs.Prelude.{find}
 use Rattle.q_chains.specs.Lists.{Lists, pushed, stands}
-use Rattle.q_peers.specs.Buckets.{message_key, site_key}
+use Rattle.q_peers.specs.Buckets.{peer_key, site_key}
 use Rattle.q_peers.specs.Numbered.{has_number, Items, Numbered, rows_of}
 use Rattle.q_peers.specs.Slots.{items_of}
 use Rattle.q_peers.proofs.Changes.{has_free, items_come, known, lacks, moved, sound_come}
@@ -15,19 +15,19 @@ use Rattle.q_peers.proofs.waiting.Waiting.push.Goals as goal
 pub unreachable-requires : goal.unreachable-requires
 unreachable-requires c =
     let a = c.self.inside in
-    has_free a.rows.items a.order a.by_message a.by_site a.live a.room c.self.invariant
+    has_free a.rows.items a.order a.by_peer a.by_site a.live a.room c.self.invariant
     (subst (λ (v : Items). length v.items < v.room) (sym c.self.view_is) c.requires) (sym c.first.ensures ∙ c.in_default.is)
 
 pub remove-requires : goal.remove-requires
 remove-requires c =
     let a = c.self.inside in
-    let below = known a.rows.items a.order a.by_message a.by_site a.live a.room c.self.invariant c.stand_once.ensures c.in-Some.number (sym c.first.ensures ∙ c.in-Some.is) in
+    let below = known a.rows.items a.order a.by_peer a.by_site a.live a.room c.self.invariant c.stand_once.ensures c.in-Some.number (sym c.first.ensures ∙ c.in-Some.is) in
     omega (arith, below, c.self.invariant.known)
 
 pub push-requires-clause-known : goal.push-requires-clause-known
 push-requires-clause-known c =
     let a = c.self.inside in
-    let below = known a.rows.items a.order a.by_message a.by_site a.live a.room c.self.invariant c.stand_once.ensures c.in-Some.number (sym c.first.ensures ∙ c.in-Some.is) in
+    let below = known a.rows.items a.order a.by_peer a.by_site a.live a.room c.self.invariant c.stand_once.ensures c.in-Some.number (sym c.first.ensures ∙ c.in-Some.is) in
     let same = ap (λ (s : Lists). s.numbers) c.remove.ensures in
     omega (arith, below, same, c.self.invariant.known)
 
@@ -38,31 +38,31 @@ push-requires-clause-free c =
 pub push-requires-2-clause-known : goal.push-requires-2-clause-known
 push-requires-2-clause-known c =
     let a = c.self.inside in
-    let below = known a.rows.items a.order a.by_message a.by_site a.live a.room c.self.invariant c.stand_once.ensures c.in-Some.number (sym c.first.ensures ∙ c.in-Some.is) in
-    omega (arith, below, c.self.invariant.by_message.numbers)
+    let below = known a.rows.items a.order a.by_peer a.by_site a.live a.room c.self.invariant c.stand_once.ensures c.in-Some.number (sym c.first.ensures ∙ c.in-Some.is) in
+    omega (arith, below, c.self.invariant.by_peer.numbers)
 
 pub push-requires-2-clause-free : goal.push-requires-2-clause-free
 push-requires-2-clause-free c =
     let a = c.self.inside in
-    lacks_filed message_key a.rows.items (get_or a.order.lists 0 []) a.room a.by_message c.self.invariant.by_message c.in-Some.number
-    (lacks a.rows.items a.order a.by_message a.by_site a.live a.room c.self.invariant c.stand_once.ensures c.in-Some.number (sym c.first.ensures ∙ c.in-Some.is))
+    lacks_filed peer_key a.rows.items (get_or a.order.lists 0 []) a.room a.by_peer c.self.invariant.by_peer c.in-Some.number
+    (lacks a.rows.items a.order a.by_peer a.by_site a.live a.room c.self.invariant c.stand_once.ensures c.in-Some.number (sym c.first.ensures ∙ c.in-Some.is))
 
 pub push-requires-3-clause-known : goal.push-requires-3-clause-known
 push-requires-3-clause-known c =
     let a = c.self.inside in
-    let below = known a.rows.items a.order a.by_message a.by_site a.live a.room c.self.invariant c.stand_once.ensures c.in-Some.number (sym c.first.ensures ∙ c.in-Some.is) in
+    let below = known a.rows.items a.order a.by_peer a.by_site a.live a.room c.self.invariant c.stand_once.ensures c.in-Some.number (sym c.first.ensures ∙ c.in-Some.is) in
     omega (arith, below, c.self.invariant.by_site.numbers)
 
 pub push-requires-3-clause-free : goal.push-requires-3-clause-free
 push-requires-3-clause-free c =
     let a = c.self.inside in
     lacks_filed site_key a.rows.items (get_or a.order.lists 0 []) a.room a.by_site c.self.invariant.by_site c.in-Some.number
-    (lacks a.rows.items a.order a.by_message a.by_site a.live a.room c.self.invariant c.stand_once.ensures c.in-Some.number (sym c.first.ensures ∙ c.in-Some.is))
+    (lacks a.rows.items a.order a.by_peer a.by_site a.live a.room c.self.invariant c.stand_once.ensures c.in-Some.number (sym c.first.ensures ∙ c.in-Some.is))
 
 pub put_row-requires : goal.put_row-requires
 put_row-requires c =
     let a = c.self.inside in
-    let below = known a.rows.items a.order a.by_message a.by_site a.live a.room c.self.invariant c.stand_once.ensures c.in-Some.number (sym c.first.ensures ∙ c.in-Some.is) in
+    let below = known a.rows.items a.order a.by_peer a.by_site a.live a.room c.self.invariant c.stand_once.ensures c.in-Some.number (sym c.first.ensures ∙ c.in-Some.is) in
     omega (arith, below, c.self.invariant.slots)
 
 -- where the number stands then
@@ -72,9 +72,9 @@ placed c = c.push.ensures ∙ ap (λ (s : Lists). record s { lists = pushed 0 c.
 pub invariant_of-self : goal.invariant_of-self
 invariant_of-self c =
     let a = c.self.inside in
-    let law = sound_come a.rows.items a.order a.by_message a.by_site a.live a.room c.self.invariant c.stand_once.ensures c.in-Some.number (sym c.first.ensures ∙ c.in-Some.is)
-    c.args.row c.message_bucket-message.result c.site_bucket-site.result
-    c.message_bucket-message.ensures.is c.message_bucket-message.ensures.below c.site_bucket-site.ensures.is c.site_bucket-site.ensures.below in
+    let law = sound_come a.rows.items a.order a.by_peer a.by_site a.live a.room c.self.invariant c.stand_once.ensures c.in-Some.number (sym c.first.ensures ∙ c.in-Some.is)
+    c.args.row c.peer_bucket-peer.result c.site_bucket-site.result
+    c.peer_bucket-peer.ensures.is c.peer_bucket-peer.ensures.below c.site_bucket-site.ensures.is c.site_bucket-site.ensures.below in
     let order = placed c in
     rw (c.put_row.ensures, order, c.push-2.ensures, c.push-3.ensures) law
 
@@ -84,7 +84,7 @@ items c =
     let a = c.self.inside in
     ap (λ (s : Lists). items_of c.put_row.new.rows.items (get_or s.lists 0 [])) (placed c)
     ∙ ap (λ rows. items_of rows (get_or (moved 0 c.in-Some.number a.order).lists 0 [])) c.put_row.ensures
-    ∙ items_come a.rows.items a.order a.by_message a.by_site a.live a.room c.self.invariant c.stand_once.ensures c.in-Some.number (sym c.first.ensures ∙ c.in-Some.is) c.args.row
+    ∙ items_come a.rows.items a.order a.by_peer a.by_site a.live a.room c.self.invariant c.stand_once.ensures c.in-Some.number (sym c.first.ensures ∙ c.in-Some.is) c.args.row
     ∙ ap (λ (v : Items). v.items ++ record { number = c.in-Some.number; row = c.args.row } ∷ []) c.self.view_is
 
 pub returns-clause-items : goal.returns-clause-items
@@ -102,4 +102,11 @@ returns-clause-fresh c =
     let n = c.in-Some.number in
     sym (ap (λ (v : Items). find (has_number n) v.items) c.self.view_is)
     ∙ absent_item n a.rows.items (get_or a.order.lists 0 [])
-    (lacks a.rows.items a.order a.by_message a.by_site a.live a.room c.self.invariant c.stand_once.ensures n (sym c.first.ensures ∙ c.in-Some.is))
+    (lacks a.rows.items a.order a.by_peer a.by_site a.live a.room c.self.invariant c.stand_once.ensures n (sym c.first.ensures ∙ c.in-Some.is))
+
+pub returns-clause-below : goal.returns-clause-below
+returns-clause-below c =
+    let a = c.self.inside in
+    let below = known a.rows.items a.order a.by_peer a.by_site a.live a.room c.self.invariant c.stand_once.ensures c.in-Some.number (sym c.first.ensures ∙ c.in-Some.is) in
+    let room = ap (λ (v : Items). v.room) c.self.view_is in
+    omega (arith, below, c.self.invariant.known, room)

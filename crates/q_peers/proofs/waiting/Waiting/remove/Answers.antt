@@ -26,7 +26,7 @@ returns-then-is_none-clause-taken c =
     let n = c.args.number in
     let empty : is_some (get_or a.rows.items n None) ≡ false = ap is_some (sym c.row_at.ensures) ∙ copied c.row_at.result ∙ c.is_none.ensures ∙ ap not c.if-is_none.true in
     sym (none (get_or a.rows.items n None) empty)
-    ∙ sym (row a.rows.items a.order a.by_message a.by_site a.live a.room c.self.invariant n)
+    ∙ sym (row a.rows.items a.order a.by_peer a.by_site a.live a.room c.self.invariant n)
     ∙ ap (λ (v : Items). row_at n v.items) c.self.view_is
 
 pub returns-then-is_none-clause-items : goal.returns-then-is_none-clause-items
@@ -35,13 +35,13 @@ returns-then-is_none-clause-items c =
     let n = c.args.number in
     let empty : is_some (get_or a.rows.items n None) ≡ false = ap is_some (sym c.row_at.ensures) ∙ copied c.row_at.result ∙ c.is_none.ensures ∙ ap not c.if-is_none.true in
     sym c.self.view_is
-    ∙ ap (λ (ks : List Numbered). record { items = ks; room = a.room }) (sym (items_stay a.rows.items a.order a.by_message a.by_site a.live a.room c.self.invariant n empty))
+    ∙ ap (λ (ks : List Numbered). record { items = ks; room = a.room }) (sym (items_stay a.rows.items a.order a.by_peer a.by_site a.live a.room c.self.invariant n empty))
     ∙ ap (λ (v : Items). record v { items = filter (λ k. not (has_number n k)) v.items }) c.self.view_is
 
 pub returns-then-is_none-clause-rows : goal.returns-then-is_none-clause-rows
 returns-then-is_none-clause-rows c = λ p h.
     let a = c.self.inside in
-    let alone = subst (λ (v : Items). AreApart v.items) c.self.view_is (apart a.rows.items a.order a.by_message a.by_site a.live a.room c.self.invariant c.stand_once.ensures) in
+    let alone = subst (λ (v : Items). AreApart v.items) c.self.view_is (apart a.rows.items a.order a.by_peer a.by_site a.live a.room c.self.invariant c.stand_once.ensures) in
     ap (λ (v : Items). rows_of v.items) (returns-then-is_none-clause-items c) ∙ drops p c.args.number c.args.self.now.items alone h
 
 pub push-requires-clause-free : goal.push-requires-clause-free
@@ -61,13 +61,13 @@ invariant_of-self c =
     let a = c.self.inside in
     let order = placed c in
     rw (c.take_row.ensures.rows, order, c.remove-2.ensures, c.remove-3.ensures)
-    (sound_go a.rows.items a.order a.by_message a.by_site a.live a.room c.self.invariant c.stand_once.ensures c.args.number (there c))
+    (sound_go a.rows.items a.order a.by_peer a.by_site a.live a.room c.self.invariant c.stand_once.ensures c.args.number (there c))
 
 pub returns-clause-taken : goal.returns-clause-taken
 returns-clause-taken c =
     let a = c.self.inside in
     c.take_row.ensures.taken
-    ∙ sym (row a.rows.items a.order a.by_message a.by_site a.live a.room c.self.invariant c.args.number)
+    ∙ sym (row a.rows.items a.order a.by_peer a.by_site a.live a.room c.self.invariant c.args.number)
     ∙ ap (λ (v : Items). row_at c.args.number v.items) c.self.view_is
 
 pub returns-clause-items : goal.returns-clause-items
@@ -76,11 +76,11 @@ returns-clause-items c =
     let n = c.args.number in
     ap (λ (s : Lists). record { items = items_of c.take_row.new.rows.items (get_or s.lists 0 []); room = a.room }) (placed c)
     ∙ ap (λ rows. record { items = items_of rows (get_or (moved 1 n a.order).lists 0 []); room = a.room }) c.take_row.ensures.rows
-    ∙ ap (λ (ks : List Numbered). record { items = ks; room = a.room }) (items_go a.rows.items a.order a.by_message a.by_site a.live a.room c.self.invariant c.stand_once.ensures n (there c))
+    ∙ ap (λ (ks : List Numbered). record { items = ks; room = a.room }) (items_go a.rows.items a.order a.by_peer a.by_site a.live a.room c.self.invariant c.stand_once.ensures n (there c))
     ∙ ap (λ (v : Items). record v { items = filter (λ k. not (has_number n k)) v.items }) c.self.view_is
 
 pub returns-clause-rows : goal.returns-clause-rows
 returns-clause-rows c = λ p h.
     let a = c.self.inside in
-    let alone = subst (λ (v : Items). AreApart v.items) c.self.view_is (apart a.rows.items a.order a.by_message a.by_site a.live a.room c.self.invariant c.stand_once.ensures) in
+    let alone = subst (λ (v : Items). AreApart v.items) c.self.view_is (apart a.rows.items a.order a.by_peer a.by_site a.live a.room c.self.invariant c.stand_once.ensures) in
     ap (λ (v : Items). rows_of v.items) (returns-clause-items c) ∙ drops p c.args.number c.args.self.now.items alone h
