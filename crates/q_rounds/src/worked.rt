@@ -223,9 +223,14 @@ fn next(rounds: &Rounds, sites: &Sites, transport: usize) -> Next {
     (None, rest)
 }
 
+/// No peer, in a box: a test lets it go at each of its ends.
+fn fresh(alloc: Global) -> Result<Box<Rounds>, AllocError> {
+    let rounds = Rounds::new(alloc, ROOM)?;
+    Ok(Box::new(alloc, rounds)?)
+}
+
 /// All five sites, each alive.
-fn fresh_sites(alloc: Global) -> Result<Sites, AllocError> {
-    let mut sites = Sites::new(alloc, 5)?;
+fn wake_all(sites: &mut Sites) {
     for number in 0..5 {
         if let Some(site) = site(number) {
             if sites.spare() > 0 && sites.waiting(&site) < 100 {
@@ -233,19 +238,33 @@ fn fresh_sites(alloc: Global) -> Result<Sites, AllocError> {
             }
         }
     }
-    Ok(sites)
+}
+
+fn fresh_sites(alloc: Global) -> Result<Box<Sites>, AllocError> {
+    let sites = Sites::new(alloc, 5)?;
+    let mut boxed = Box::new(alloc, sites)?;
+    wake_all(&mut boxed);
+    Ok(boxed)
+}
+
+/// Makes the calls of the rows, and gives the first row behind which something else is next.
+fn first_wrong(rounds: &mut Rounds, sites: &mut Sites) -> Option<usize> {
+    for i in 0..ROWS.len() {
+        let (call, even, odd) = ROWS[i];
+        let made = make(rounds, sites, call);
+        let found = (next(rounds, sites, 0), next(rounds, sites, 1));
+        if made.is_none() || found != (even, odd) {
+            return Some(i);
+        }
+    }
+    None
 }
 
 #[test]
 fn next_after_each_call(rt: HostRuntime) -> Result<(), Fail> {
-    let mut rounds = Rounds::new(rt.alloc(), ROOM)?;
+    let mut rounds = fresh(rt.alloc())?;
     let mut sites = fresh_sites(rt.alloc())?;
-    for i in 0..ROWS.len() {
-        let (call, even, odd) = ROWS[i];
-        assert!(rt; make(&mut rounds, &mut sites, call).is_some());
-        let found = (next(&rounds, &sites, 0), next(&rounds, &sites, 1));
-        assert_eq!(rt; found, (even, odd), "row {i}");
-    }
+    assert_eq!(rt; first_wrong(&mut rounds, &mut sites), None);
     assert_eq!(rt; (rounds.len(), rounds.spare()), (1, 3));
     Ok(())
 }
@@ -253,7 +272,7 @@ fn next_after_each_call(rt: HostRuntime) -> Result<(), Fail> {
 /// A peer that loses a row before it was sent to is passed until it is.
 #[test]
 fn rows_out_of_order(rt: HostRuntime) -> Result<(), Fail> {
-    let mut rounds = Rounds::new(rt.alloc(), ROOM)?;
+    let mut rounds = fresh(rt.alloc())?;
     let mut sites = fresh_sites(rt.alloc())?;
     let rows = [
         (Call::Add(1, 0, 0), false),
