@@ -15,7 +15,7 @@ use Rattle.q_jobs.specs.declared.job.Job.{Job}
 use Rattle.q_model.specs.declared.id.Id.{Id}
 use Rattle.q_model.specs.declared.rows.Row.{Row}
 use Rattle.q_model.specs.Ids.{id_eq}
-use Rattle.q_peers.specs.Numbered.{rows_of}
+use Rattle.q_held.specs.Held.{rows_of}
 use Rattle.q_rounds.specs.declared.peer.PeerKey.{PeerKey}
 use Rattle.q_rounds.specs.Rounds.{has_space_at}
 use Rattle.q_turns.specs.Turns.{AreApart, HaveJobs, is_able, line_at}

@@ -50,7 +50,9 @@ pub mod SameLaws
 pub mod PlacedLaws
 pub mod RestLaws
 pub mod DueLaws
-pub mod DeferLaws
+pub mod DeadLaws
+mod DeadRows
+mod DeferLaws
 pub mod RemoveLaws
 pub mod AddedLaws
 pub mod BounceLaws

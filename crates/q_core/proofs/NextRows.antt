@@ -14,7 +14,7 @@ use Rattle.q_core.specs.View.{state_of}
 use Rattle.q_model.specs.declared.id.Id.{Id}
 use Rattle.q_model.specs.declared.rows.Row.{Row}
 use Rattle.q_model.specs.Lists.{least}
-use Rattle.q_peers.specs.Numbered.{rows_of}
+use Rattle.q_held.specs.Held.{rows_of}
 use Rattle.q_rounds.specs.declared.peer.Peer.{Peer}
 use Rattle.q_rounds.specs.Rounds.{AreStartsApart, is_passed, next_in}
 use Rattle.q_turns.specs.Turns.{AreApart, HaveJobs}

@@ -1,19 +1,18 @@
 -- A walk along the rows that wait, and the first of a message's rows for a site.
-use Rattle.std.proofs.Common.{◌≡◌, ◌<◌, ◌∙◌, ◌∷◌, ◌+◌, [], ap, arith, Bool, cond, false, inl, inr, length, List, None, Option, refl, Some, subst, suc, sym, true, zero, ℕ}
+use Rattle.std.proofs.Common.{◌≡◌, ◌<◌, ◌∙◌, ◌∷◌, ◌+◌, [], ap, arith, Bool, cond, false, inl, inr, length, List, None, Option, refl, Some, suc, sym, true, zero, ℕ}
 use Rattle.std.proofs.lemmas.Bool.{ltb-false, ltb-true}
 use Rattle.std.proofs.lemmas.Grind.{common_steps}
 use Rattle.std.specs.List.{list_any, position_or_len}
 use Rattle.std.specs.Option.{is_some}
-use Rattle.std.specs.Prelude.{◌&&◌, ◌||◌, ◌==◌, filter, find, nat_lt, not, position, slice_get}
-use Rattle.q_model.proofs.IdLaws.{id_eq-true}
+use Rattle.std.specs.Prelude.{◌||◌, filter, find, nat_lt, not, position, slice_get}
 use Rattle.q_model.specs.declared.id.Id.{Id}
 use Rattle.q_model.specs.declared.rows.Row.{Row}
 use Rattle.q_model.specs.Lists.{drop_first, least}
-use Rattle.q_peers.proofs.Rests.{absent_rest, first_rest, IsOne, next_one, next_rest, rest}
-use Rattle.q_peers.specs.Numbered.{any_row, AreApart, first_such, is_of, next_such, Numbered, row_at, rows_of}
+use Rattle.q_peers.proofs.Rests.{absent_rest, first_rest, next_rest, rest}
+use Rattle.q_peers.specs.Numbered.{any_row, AreApart, first_such, next_such, Numbered, row_at, rows_of}
 use Rattle.q_core.proofs.ListLaws.{IsFoundAt, position-find}
 use Rattle.q_core.specs.Lists.{better_of, sooner_of}
-use Rattle.q_core.specs.Starting.{is_startable_in, last_start_in, next_row_of, rows_for, sent_before, sooner_row}
+use Rattle.q_core.specs.Starting.{last_start_in, next_row_of, rows_for, sent_before, sooner_row}
 use Rattle.q_core.specs.declared.state.Core.{Core}
 
 -- no row is left from a number on that none has

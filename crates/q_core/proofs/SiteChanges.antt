@@ -53,7 +53,7 @@ remembered_step : (dead : Bool) (w b : ℕ) → (dead && ((w == 0) && (b == 0)))
 remembered_step true w b h = unused_parts w b h
 remembered_step false w b h = cc
 
-remembered_none : (d : Dest) → is_remembered d ≡ true → (d.waiting ≡ 0) × (d.busy ≡ 0)
+pub remembered_none : (d : Dest) → is_remembered d ≡ true → (d.waiting ≡ 0) × (d.busy ≡ 0)
 remembered_none d h = remembered_step (not (is_alive d.known.health)) d.waiting d.busy h
 
 module _ (rows : List Row) (fs : List Delivery) where

@@ -58,7 +58,7 @@ module _ {K D : Type 0} (eq : K → K → Bool) (key : D → K) (same : (a b : K
     map_step y d o o' h true = counts d
     map_step y d o o' h false = h
 
-    tally_same : (y : K) (ds : List D) → tally_of eq key g (map f ds) y ≡ tally_of eq key g ds y
+    pub tally_same : (y : K) (ds : List D) → tally_of eq key g (map f ds) y ≡ tally_of eq key g ds y
     tally_same y [] = refl
     tally_same y (d ∷ ds) =
         ap (λ i. option_map_or g (cond (eq i y) (Some (f d)) (find (λ d. eq (key d) y) (map f ds))) 0) (stays d)
@@ -75,7 +75,7 @@ module _ {K D : Type 0} (eq : K → K → Bool) (key : D → K) (same : (a b : K
   nothing_yet g new h true = h
   nothing_yet g new h false = refl
 
-  tally_last : (g : D → ℕ) (y : K) (ds : List D) (new : D) → g new ≡ 0 → tally_of eq key g (ds ++ new ∷ []) y ≡ tally_of eq key g ds y
+  pub tally_last : (g : D → ℕ) (y : K) (ds : List D) (new : D) → g new ≡ 0 → tally_of eq key g (ds ++ new ∷ []) y ≡ tally_of eq key g ds y
   tally_last g y [] new h = nothing_yet g new h (eq (key new) y)
   tally_last g y (d ∷ ds) new h = last_step g y d (find (λ d. eq (key d) y) ds) (find (λ d. eq (key d) y) (ds ++ new ∷ [])) (tally_last g y ds new h) (eq (key d) y)
 
@@ -166,7 +166,7 @@ module _ {K D : Type 0} (eq : K → K → Bool) (key : D → K) (same : (a b : K
   filtered_step g keep y d ds zero none rest true false t k = rest ∙ none_under g d y ds t none ∙ sym (zero k)
   filtered_step g keep y d ds zero none rest false false t k = rest
 
-  tally_filter : (g : D → ℕ) (keep : D → Bool) → ((d : D) → keep d ≡ false → g d ≡ 0) → (y : K) (ds : List D) → AreKeyed ds → tally_of eq key g (filter keep ds) y ≡ tally_of eq key g ds y
+  pub tally_filter : (g : D → ℕ) (keep : D → Bool) → ((d : D) → keep d ≡ false → g d ≡ 0) → (y : K) (ds : List D) → AreKeyed ds → tally_of eq key g (filter keep ds) y ≡ tally_of eq key g ds y
   tally_filter g keep zero y [] apart = refl
   tally_filter g keep zero y (d ∷ ds) apart = filtered_step g keep y d ds (zero d) apart.0 (tally_filter g keep zero y ds apart.1) (eq (key d) y) (keep d) refl refl
 
@@ -181,7 +181,7 @@ module _ {K D : Type 0} (eq : K → K → Bool) (key : D → K) (same : (a b : K
   dropped_step g test y d ds zero none rest true false t k = ap (λ b. option_map_or g (cond b (Some d) (find (λ e. eq (key e) y) (drop_first test ds))) 0) t
   dropped_step g test y d ds zero none rest false false t k = ap (λ b. option_map_or g (cond b (Some d) (find (λ e. eq (key e) y) (drop_first test ds))) 0) t ∙ rest
 
-  tally_drop : (g : D → ℕ) (test : D → Bool) → ((d : D) → test d ≡ true → g d ≡ 0) → (y : K) (ds : List D) → AreKeyed ds → tally_of eq key g (drop_first test ds) y ≡ tally_of eq key g ds y
+  pub tally_drop : (g : D → ℕ) (test : D → Bool) → ((d : D) → test d ≡ true → g d ≡ 0) → (y : K) (ds : List D) → AreKeyed ds → tally_of eq key g (drop_first test ds) y ≡ tally_of eq key g ds y
   tally_drop g test zero y [] apart = refl
   tally_drop g test zero y (d ∷ ds) apart = dropped_step g test y d ds (zero d) apart.0 (tally_drop g test zero y ds apart.1) (eq (key d) y) (test d) refl refl
 
@@ -233,7 +233,7 @@ module _ {K D : Type 0} (eq : K → K → Bool) (key : D → K) (same : (a b : K
   moved_one g test y x [] apart h = cc
   moved_one g test y x (d ∷ ds) apart h = moved_step g test y d x ds apart.0 (moved_one g test y x ds apart.1) (test d) refl h
 
-  moved_by : (g : D → ℕ) (test : D → Bool) (y : K) (ds : List D) (o : Option D) → AreKeyed ds → find test ds ≡ o → tally_of eq key g (option_map_or (λ x. drop_first test ds ++ x ∷ []) o ds) y ≡ tally_of eq key g ds y
+  pub moved_by : (g : D → ℕ) (test : D → Bool) (y : K) (ds : List D) (o : Option D) → AreKeyed ds → find test ds ≡ o → tally_of eq key g (option_map_or (λ x. drop_first test ds ++ x ∷ []) o ds) y ≡ tally_of eq key g ds y
   moved_by g test y ds None apart h = refl
   moved_by g test y ds (Some x) apart h = moved_one g test y x ds apart h
 
@@ -241,7 +241,7 @@ module _ {K D : Type 0} (eq : K → K → Bool) (key : D → K) (same : (a b : K
   pub tally_moved : {X : Type 0} (g : D → ℕ) (test : D → Bool) (name : X → K) (ds : List D) (xs : List X) → AreKeyed ds → AreTallied eq key g name ds xs → AreTallied eq key g name (moved_back test ds) xs
   tally_moved g test name ds xs apart tie = λ y. moved_by g test y ds (find test ds) apart refl ∙ tie y
 
-  flipped : (a b : K) (t : Bool) → eq b a ≡ t → eq a b ≡ false → t ≡ false
+  pub flipped : (a b : K) (t : Bool) → eq b a ≡ t → eq a b ≡ false → t ≡ false
   flipped a b false h k = refl
   flipped a b true h k =
       let is : b ≡ a = same b a h in

@@ -1,10 +1,11 @@
 -- What always holds of the parts of a core.
 use Rattle.std.specs.List.{AllByRecursion}
 use Rattle.std.specs.Option.{option_map_or}
-use Rattle.std.specs.Prelude.{◌≡◌, ◌≤◌, ◌==◌, ◌&&◌, ◌||◌, [], Bool, count_by, find, List, None, not, true, ℕ, ◌∷◌}
+use Rattle.std.specs.Prelude.{◌≡◌, ◌≤◌, ◌==◌, ◌&&◌, ◌||◌, [], Bool, count_by, false, find, List, None, not, true, ℕ, ◌∷◌}
 use Rattle.q_core.specs.Counted.{IsCounted}
 use Rattle.q_core.specs.Known.{site_of}
 use Rattle.q_dest.specs.declared.dest.Dest.{Dest}
+use Rattle.q_dest.specs.Dests.{is_at, is_dead}
 use Rattle.q_model.specs.Sites.{site_eq}
 use Rattle.q_model.specs.declared.id.Id.{Id}
 use Rattle.q_model.specs.declared.rows.Delivery.{Delivery}
@@ -103,6 +104,10 @@ pub record AreTurnsTied (ps : List Peer) (rows : List Row) (starts : ℕ) : Type
   pub counts : ArePeersTied ps rows
   pub order : AreInOrder rows ps
   pub known : AllByRecursion (λ p. p.last ≤ starts) ps
+
+-- the row goes to a site that is dead
+abbrev pub goes_to_dead : List Dest → Row → Bool
+goes_to_dead ds r = option_map_or is_dead (find (is_at r.site) ds) false
 
 pub record AreSitesTied (ds : List Dest) (rows : List Row) (fs : List Delivery) : Type 0 where
   pub waiting : AreWaitingTied ds rows

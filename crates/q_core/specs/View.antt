@@ -3,7 +3,7 @@ use Rattle.q_core.specs.Known.{known_records}
 use Rattle.q_core.specs.ServedRows.{served_rows}
 use Rattle.q_core.specs.State.{State}
 use Rattle.q_core.specs.declared.state.Core.TheInside.{Inside}
-use Rattle.q_peers.specs.Numbered.{rows_of}
+use Rattle.q_held.specs.Held.{rows_of}
 use Rattle.q_pool.specs.Kept.{heads}
 
 abbrev pub state_of : Inside → State

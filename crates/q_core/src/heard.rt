@@ -5,6 +5,7 @@ ghost use Rattle.q_core.specs.Changes.{IsRevived, IsWoken, all_revived, asked_wh
 ghost use Rattle.q_model.specs.Step.{after};
 
 use crate::clock::Clock;
+use crate::dead_rows::hold_dead;
 use crate::state::{Core, Seen};
 use q_model::{Entry, Moment, Trigger};
 
@@ -31,6 +32,7 @@ impl Core {
         self.timed = true;
         self.sites.stand_apart();
         self.sites.revive_due(&self.params, moment);
+        hold_dead(&mut self.waiting, &self.sites);
     }
 
     /// Asks for the scan that is due.
@@ -60,6 +62,7 @@ impl Core {
     {
         self.sites.stand_apart();
         self.sites.revive_all(&self.params);
+        hold_dead(&mut self.waiting, &self.sites);
     }
 
     fn hear_scan(&mut self)

@@ -4,16 +4,16 @@ ghost use Rattle.std.specs.List.{enumerate_from, list_all, list_any};
 ghost use Rattle.q_core.specs.Loading.{AreRowsOf, can_join, joined_within, joins_in, new_sites};
 ghost use Rattle.q_core.specs.Known.{known_records};
 ghost use Rattle.q_core.specs.ServedRows.{served_rows};
-ghost use Rattle.q_core.specs.Ties.{AreBusyTied, ArePeersTied, AreTurnsTied, AreWaitingTied};
+ghost use Rattle.q_core.specs.Ties.{AreBusyTied, ArePeersTied, AreTurnsTied, AreWaitingTied, goes_to_dead};
 ghost use Rattle.q_model.specs.declared.rows.Delivery.{Delivery};
-ghost use Rattle.q_peers.specs.Numbered.{rows_of};
+ghost use Rattle.q_held.specs.Held.{rows_of};
 ghost use Rattle.q_model.specs.declared.rows.Row.{Row};
 ghost use Rattle.q_turns.specs.Turns.{line_at, may_wait, with_line};
 
 use q_dest::Sites;
+use q_held::Rows;
 use q_model::{Id, Row, Site};
 use q_params::Params;
-use q_peers::Waiting;
 use q_turns::Turns;
 
 /// The site of the row at a place.
@@ -25,7 +25,7 @@ fn site_at(rows: &[Row], i: usize) -> &Site
 }
 
 /// Counts these rows, of which none waits yet, at their sites. A site that has no record gets one.
-pub(crate) fn count_rows(sites: &mut Sites, rows: &[Row], waiting: &Waiting, params: &Params)
+pub(crate) fn count_rows(sites: &mut Sites, rows: &[Row], waiting: &Rows, params: &Params)
     requires tied { AreWaitingTied sites.old.items (rows_of waiting.now.items) }
     requires room { length sites.old.items + length rows.now ≤ sites.old.room }
     requires few { length (rows_of waiting.now.items) + length rows.now < 2 ^ 32 }
@@ -34,6 +34,7 @@ pub(crate) fn count_rows(sites: &mut Sites, rows: &[Row], waiting: &Waiting, par
     ensures waiting { AreWaitingTied sites.new.items (rows_of waiting.now.items ++ rows.now) }
     ensures busy { (fs : List Delivery) → AreBusyTied sites.old.items fs
         → AreBusyTied sites.new.items fs }
+    ensures dead { (r : Row) → goes_to_dead sites.new.items r ≡ goes_to_dead sites.old.items r }
 {
     for i in 0..rows.len() {
         sites.gain(site_at(rows, i), params);
@@ -101,7 +102,7 @@ pub(crate) fn join_lines(turns: &mut Turns, id: Id, rows: &[Row])
 
 /// Counts these rows of the message, of which none waits yet, at their peers. It has a job at the
 /// transport of each that has a line.
-pub(crate) fn count_peers(turns: &mut Turns, id: Id, rows: &[Row], waiting: &Waiting)
+pub(crate) fn count_peers(turns: &mut Turns, id: Id, rows: &[Row], waiting: &Rows)
     requires own { AreRowsOf id rows.now }
     requires jobs { list_all (λ r. may_wait turns.old.lines r.site.transport id) rows.now ≡ true }
     requires tied { ArePeersTied turns.old.peers (rows_of waiting.now.items) }

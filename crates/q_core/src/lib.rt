@@ -26,6 +26,7 @@ mod clearing;
 mod clock;
 mod corrupt;
 mod counting;
+mod dead_rows;
 mod deciding;
 mod decision;
 mod delivery;

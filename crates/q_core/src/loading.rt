@@ -71,7 +71,7 @@ impl Core {
         count_peers(&mut self.turns, id, &rows, &self.waiting);
         count_rows(&mut self.sites, &rows, &self.waiting, &self.params);
         let count = rows.len() as u64;
-        add_all(&mut self.waiting, rows);
+        add_all(&mut self.waiting, rows, &self.sites);
         gain_waiting(&mut self.admitted, id, count);
         touch_message(&mut self.touched_message, id);
         Ok(())

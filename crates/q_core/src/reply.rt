@@ -8,6 +8,7 @@ ghost use Rattle.q_model.specs.declared.rows.Delivery.{Delivery as DeliveryOf};
 ghost use Rattle.q_core.specs.Leaving.{AreAdded, IsSiteHeard, IsLanded, replied_in};
 
 use crate::counting::{end_flight, gain_unsettled};
+use crate::dead_rows::hold_at;
 use crate::flying::recount;
 use crate::needs::needs;
 use crate::state::Core;
@@ -67,14 +68,18 @@ impl Core {
         Ok(Some(site))
     }
 
-    /// Lets the site hear of a delivery that is still in flight.
+    /// Lets the site hear of a delivery that is still in flight. Its rows are held back where it
+    /// died.
     fn hear_site(&mut self, site: &Site, state: SiteState)
         requires { 1 ≤ busy_in self.old.flights site.now }
         ensures { IsSiteHeard self.old self.new site.now state }
     {
         let moment = self.clock.seconds;
         self.sites.stand_apart();
+        let was_dead = self.sites.is_dead(site);
         self.sites.hear(site, &self.params, moment, state);
+        let is_dead = self.sites.is_dead(site);
+        hold_at(&mut self.waiting, site, was_dead, is_dead);
     }
 
     /// The delivery of this number is over. Where nothing goes to its site any more, the site is

@@ -1,19 +1,21 @@
 //! What is asked of the rows that wait, and how they come and go.
-ghost use Rattle.std.specs.Prelude.{◌≡◌, ◌≤◌, ◌<◌, ◌+◌, ◌++◌, ◌^◌, count_by, find, length};
+ghost use Rattle.std.specs.Prelude.{◌≡◌, Bool, ◌≤◌, ◌<◌, ◌+◌, ◌++◌, ◌^◌, count_by, find, length};
 ghost use Rattle.std.specs.Option.{option_copied};
 ghost use Rattle.q_core.specs.RowWalks.{is_row_for};
 ghost use Rattle.q_core.specs.Sending.{is_for};
 ghost use Rattle.q_core.specs.Tidied.{waits_for as waits_for_in};
-ghost use Rattle.q_core.specs.Ties.{ArePeersTied};
+ghost use Rattle.q_core.specs.Ties.{ArePeersTied, goes_to_dead};
+ghost use Rattle.q_held.specs.Held.{AreHeldBy, rows_of};
 ghost use Rattle.q_model.specs.Lists.{drop_first};
-ghost use Rattle.q_peers.specs.Numbered.{rows_of};
+ghost use Rattle.q_model.specs.declared.rows.Row.{Row};
 
+use q_dest::Sites;
+use q_held::Rows;
 use q_model::{Id, Row, Site};
-use q_peers::Waiting;
 use q_turns::Turns;
 
 /// How many rows of the message wait for the transport.
-pub(crate) fn waiting_for(turns: &Turns, waiting: &Waiting, id: Id, transport: usize) -> u64
+pub(crate) fn waiting_for(turns: &Turns, waiting: &Rows, id: Id, transport: usize) -> u64
     requires { ArePeersTied turns.now.peers (rows_of waiting.now.items) }
     ensures count { result ≡ count_by (is_row_for id transport) (rows_of waiting.now.items) }
     ensures few { result ≤ 2 ^ 30 }
@@ -24,7 +26,7 @@ pub(crate) fn waiting_for(turns: &Turns, waiting: &Waiting, id: Id, transport: u
 }
 
 /// Whether a row of the message waits for the transport.
-pub(crate) fn waits_for(turns: &Turns, waiting: &Waiting, id: Id, transport: usize) -> bool
+pub(crate) fn waits_for(turns: &Turns, waiting: &Rows, id: Id, transport: usize) -> bool
     requires { ArePeersTied turns.now.peers (rows_of waiting.now.items) }
     ensures { result ≡ waits_for_in (rows_of waiting.now.items) id transport }
 {
@@ -32,7 +34,7 @@ pub(crate) fn waits_for(turns: &Turns, waiting: &Waiting, id: Id, transport: usi
 }
 
 /// The message's first row for the site.
-pub(crate) fn first_row<'a>(waiting: &'a Waiting, id: Id, site: &Site) -> Option<&'a Row>
+pub(crate) fn first_row<'a>(waiting: &'a Rows, id: Id, site: &Site) -> Option<&'a Row>
     ensures { option_copied result ≡ find (is_for id site.now) (rows_of waiting.now.items) }
 {
     waiting.stand_apart();
@@ -42,9 +44,10 @@ pub(crate) fn first_row<'a>(waiting: &'a Waiting, id: Id, site: &Site) -> Option
     }
 }
 
-/// Takes the message's first row for the site out.
-pub(crate) fn take_row(waiting: &mut Waiting, id: Id, site: &Site) -> Option<Row>
+/// Takes the message's first row for the site out. The others are held back as they were.
+pub(crate) fn take_row(waiting: &mut Rows, id: Id, site: &Site) -> Option<Row>
     ensures taken { result ≡ find (is_for id site.now) (rows_of waiting.old.items) }
+    ensures held { (p : Row → Bool) → AreHeldBy p waiting.old.items → AreHeldBy p waiting.new.items }
     ensures rows { rows_of waiting.new.items
         ≡ drop_first (is_for id site.now) (rows_of waiting.old.items) }
 {
@@ -55,14 +58,17 @@ pub(crate) fn take_row(waiting: &mut Waiting, id: Id, site: &Site) -> Option<Row
     }
 }
 
-/// Adds the rows behind all others, as long as they have room.
-pub(crate) fn add_all(waiting: &mut Waiting, rows: Vec<Row>)
+/// Adds the rows behind all others, as long as they have room. Those to dead sites are held back.
+pub(crate) fn add_all(waiting: &mut Rows, rows: Vec<Row>, sites: &Sites)
     requires { length (rows_of waiting.old.items) + length rows.items ≤ waiting.old.room }
-    ensures { rows_of waiting.new.items ≡ rows_of waiting.old.items ++ rows.items }
+    ensures rows { rows_of waiting.new.items ≡ rows_of waiting.old.items ++ rows.items }
+    ensures held { AreHeldBy (goes_to_dead sites.now.items) waiting.old.items
+        → AreHeldBy (goes_to_dead sites.now.items) waiting.new.items }
 {
     let mut rest = rows;
     rest.reverse();
     while let Some(row) = rest.pop() {
-        let _ = waiting.push(row);
+        let is_dead = sites.is_dead(&row.site);
+        let _ = waiting.push(row, is_dead);
     }
 }

@@ -2,14 +2,14 @@
 ghost use Rattle.std.specs.Prelude.{◌≡◌, ◌<◌, ◌^◌, nat_lt};
 ghost use Rattle.std.specs.Option.{option_copied};
 ghost use Rattle.q_core.specs.Starting.{can_start_in, flights_at, has_room_in, is_startable_in, last_start_in, next_row_in, next_row_of, rows_for, start_in, sooner_row};
-ghost use Rattle.q_peers.specs.Numbered.{rows_of};
+ghost use Rattle.q_held.specs.Held.{rows_of};
 
 use crate::decision::Decision;
 use crate::names::same_id;
 use crate::rows::first_row;
 use crate::state::Core;
+use q_held::Rows;
 use q_model::{Id, Row, Site};
-use q_peers::Waiting;
 
 impl Core {
     pub(crate) fn flights_of(&self, transport: u8) -> usize
@@ -122,12 +122,7 @@ impl Core {
 }
 
 /// The row of the message that starts next at the transport, of these rows.
-fn next_row_among<'a>(
-    core: &'a Core,
-    waiting: &'a Waiting,
-    id: Id,
-    transport: u8,
-) -> Option<&'a Row>
+fn next_row_among<'a>(core: &'a Core, waiting: &'a Rows, id: Id, transport: u8) -> Option<&'a Row>
     ensures { option_copied result
         ≡ next_row_of core.now transport id (rows_of waiting.now.items) }
 {

@@ -12,11 +12,11 @@ use crate::decision::Found;
 use crate::flying::Flying;
 use crate::touched::Touched;
 use q_dest::Sites;
+use q_held::Rows;
 use q_model::{
     Delivery, Entry, Id, Mode, Moment, NoMemory, Positions, Request, Scan, Site, Unsettled,
 };
 use q_params::Params;
-use q_peers::Waiting;
 use q_pool::{Pool, Slot};
 use q_turns::Turns;
 use std::alloc::Global;
@@ -54,7 +54,7 @@ pub struct Core {
     pub(crate) ignores: bool,
     pub(crate) deferred_turn: bool,
     pub(crate) admitted: Pool,
-    pub(crate) waiting: Waiting,
+    pub(crate) waiting: Rows,
     pub(crate) flights: Vec<Delivery>,
     /// How many of them are at each transport.
     pub(crate) flying: Flying,
@@ -87,9 +87,9 @@ impl Model for Core {
 
     ghost view = { state_of };
 
-    ghost use Rattle.q_core.specs.Ties.{AreSitesTied, AreTied, AreTurnsTied};
+    ghost use Rattle.q_core.specs.Ties.{AreSitesTied, AreTied, AreTurnsTied, goes_to_dead};
     ghost use Rattle.q_core.specs.Touched.{IsTidyBut};
-    ghost use Rattle.q_peers.specs.Numbered.{rows_of};
+    ghost use Rattle.q_held.specs.Held.{AreHeldBy, rows_of};
     ghost use Rattle.q_pool.specs.Kept.{heads};
 
     ghost invariant = { λ a. AreTied a.params a.admitted (rows_of a.waiting.items)
@@ -97,7 +97,8 @@ impl Model for Core {
         × IsTidyBut a.touched_message (heads a.admitted.items) (rows_of a.waiting.items)
         a.turns.lines
         × AreSitesTied a.sites.items (rows_of a.waiting.items) a.flights.items
-        × AreTurnsTied a.turns.peers (rows_of a.waiting.items) a.starts };
+        × AreTurnsTied a.turns.peers (rows_of a.waiting.items) a.starts
+        × AreHeldBy (goes_to_dead a.sites.items) a.waiting.items };
 }
 
 impl Core {
@@ -124,7 +125,7 @@ impl Core {
             params.mark_sync_limit,
             params.qmgr_message_recipient_minimum,
         )?;
-        let waiting = Waiting::new(alloc, params.qmgr_message_recipient_limit)?;
+        let waiting = Rows::new(alloc, params.qmgr_message_recipient_limit)?;
         let sites = Sites::new(alloc, 2 * params.qmgr_message_recipient_limit)?;
         Ok(Core {
             params,

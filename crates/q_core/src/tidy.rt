@@ -8,7 +8,7 @@ ghost use Rattle.q_core.specs.Known.{forgotten};
 ghost use Rattle.q_jobs.specs.Jobs.{is_job_of_another};
 ghost use Rattle.q_pool.specs.Kept.{heads};
 ghost use Rattle.q_core.specs.Tidied.{leaves_among, tidied_jobs, tidied_line, slot_among, stays_among, unread_among, waits_for as waits_for_in};
-ghost use Rattle.q_peers.specs.Numbered.{rows_of};
+ghost use Rattle.q_held.specs.Held.{rows_of};
 ghost use Rattle.q_turns.specs.Turns.{line_at, with_line};
 
 use crate::rows::waits_for;
@@ -16,8 +16,8 @@ use crate::state::Core;
 use crate::tidy_touched::tidy_touched_lines;
 use crate::touched::{Touched, record_limit};
 use q_dest::Sites;
+use q_held::Rows;
 use q_model::Id;
-use q_peers::Waiting;
 use q_pool::{Pool, Slot};
 use q_turns::Turns;
 
@@ -44,7 +44,7 @@ pub(crate) fn unread(admitted: &Pool, id: Id) -> u32
 pub(crate) fn stays(
     turns: &Turns,
     admitted: &Pool,
-    waiting: &Waiting,
+    waiting: &Rows,
     id: Id,
     transport: usize,
 ) -> bool
@@ -55,7 +55,7 @@ pub(crate) fn stays(
 }
 
 /// The message of the first job that has nothing left.
-fn first_to_leave(turns: &Turns, admitted: &Pool, waiting: &Waiting, transport: usize) -> Option<Id>
+fn first_to_leave(turns: &Turns, admitted: &Pool, waiting: &Rows, transport: usize) -> Option<Id>
     requires { ArePeersTied turns.now.peers (rows_of waiting.now.items) }
     ensures { result ≡ option_map (λ j. j.id) (find (leaves_among (heads admitted.now.items)
         (rows_of waiting.now.items) transport) (line_at transport turns.now.lines)) }
@@ -72,7 +72,7 @@ fn first_to_leave(turns: &Turns, admitted: &Pool, waiting: &Waiting, transport: 
 }
 
 /// The message, of which no row waits at the transport, leaves its line.
-pub(crate) fn leave_line(turns: &mut Turns, id: Id, waiting: &Waiting, transport: usize)
+pub(crate) fn leave_line(turns: &mut Turns, id: Id, waiting: &Rows, transport: usize)
     requires there { transport < length turns.old.lines }
     requires tied { ArePeersTied turns.old.peers (rows_of waiting.now.items) }
     requires done { waits_for_in (rows_of waiting.now.items) id transport ≡ false }
@@ -86,7 +86,7 @@ pub(crate) fn leave_line(turns: &mut Turns, id: Id, waiting: &Waiting, transport
 }
 
 /// Takes the jobs that have nothing left out of the line: one leaves at a time, for the most part.
-fn tidy_line(turns: &mut Turns, admitted: &Pool, waiting: &Waiting, transport: usize)
+fn tidy_line(turns: &mut Turns, admitted: &Pool, waiting: &Rows, transport: usize)
     requires there { transport < length turns.old.lines }
     requires tied { ArePeersTied turns.old.peers (rows_of waiting.now.items) }
     ensures { turns.new ≡ record turns.old {
@@ -100,7 +100,7 @@ fn tidy_line(turns: &mut Turns, admitted: &Pool, waiting: &Waiting, transport: u
 }
 
 /// Takes the jobs that have nothing left out of the lines.
-pub(crate) fn tidy_lines(turns: &mut Turns, admitted: &Pool, waiting: &Waiting)
+pub(crate) fn tidy_lines(turns: &mut Turns, admitted: &Pool, waiting: &Rows)
     requires { ArePeersTied turns.old.peers (rows_of waiting.now.items) }
     ensures { turns.new ≡ record turns.old {
       lines = map (tidied_line (heads admitted.now.items)

@@ -6,18 +6,18 @@ ghost use Rattle.q_core.specs.Tidied.{tidied_jobs, tidied_line};
 ghost use Rattle.q_pool.specs.Kept.{heads};
 ghost use Rattle.q_core.specs.Touched.{DoJobsStay, jobs_stay};
 ghost use Rattle.q_core.specs.declared.touched.Touched.TheVariants.{One};
-ghost use Rattle.q_peers.specs.Numbered.{rows_of};
+ghost use Rattle.q_held.specs.Held.{rows_of};
 ghost use Rattle.q_turns.specs.Turns.{line_at, with_line};
 
 use crate::tidy::{leave_line, stays, tidy_lines};
 use crate::touched::Touched;
+use q_held::Rows;
 use q_model::Id;
-use q_peers::Waiting;
 use q_pool::Pool;
 use q_turns::Turns;
 
 /// Takes the message's job out of the line, where it has nothing left.
-fn tidy_job(turns: &mut Turns, id: Id, admitted: &Pool, waiting: &Waiting, transport: usize)
+fn tidy_job(turns: &mut Turns, id: Id, admitted: &Pool, waiting: &Rows, transport: usize)
     requires there { transport < length turns.old.lines }
     requires tied { ArePeersTied turns.old.peers (rows_of waiting.now.items) }
     requires others { jobs_stay (One id) (heads admitted.now.items) (rows_of waiting.now.items)
@@ -33,7 +33,7 @@ fn tidy_job(turns: &mut Turns, id: Id, admitted: &Pool, waiting: &Waiting, trans
 }
 
 /// Takes the message's jobs out of the lines, where they have nothing left.
-fn tidy_message(turns: &mut Turns, id: Id, admitted: &Pool, waiting: &Waiting)
+fn tidy_message(turns: &mut Turns, id: Id, admitted: &Pool, waiting: &Rows)
     requires tied { ArePeersTied turns.old.peers (rows_of waiting.now.items) }
     requires others { DoJobsStay (One id) (heads admitted.now.items) (rows_of waiting.now.items)
         turns.old.lines }
@@ -52,7 +52,7 @@ pub(crate) fn tidy_touched_lines(
     turns: &mut Turns,
     touched: &Touched<Id>,
     admitted: &Pool,
-    waiting: &Waiting,
+    waiting: &Rows,
 )
     requires tied { ArePeersTied turns.old.peers (rows_of waiting.now.items) }
     requires others { DoJobsStay touched.now (heads admitted.now.items)

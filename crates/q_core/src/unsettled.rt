@@ -1,16 +1,12 @@
 //! Outcomes that aren't on disk yet, and rows that can't be sent.
-ghost use Rattle.std.specs.List.{list_any};
 ghost use Rattle.std.specs.Option.{option_copied};
 ghost use Rattle.std.specs.Prelude.{◌≡◌, find};
 ghost use Rattle.q_core.specs.Held.{is_dead_in};
 ghost use Rattle.q_core.specs.Rules.{decision_of, first_need_in, next_skip_in, next_skip_number};
-ghost use Rattle.q_core.specs.UsedSites.{is_dead_with};
-ghost use Rattle.q_peers.specs.Numbered.{rows_of};
 
 use crate::decision::Decision;
 use crate::state::Core;
 use q_model::{Failure, Need, Row, Unsettled};
-use q_peers::Waiting;
 
 /// What an outcome needs first: a record of its failure, or its mark.
 fn needed(row: &Unsettled) -> Decision
@@ -32,25 +28,6 @@ fn needed(row: &Unsettled) -> Decision
     }
 }
 
-/// The first of these rows whose site is dead.
-fn first_dead_among<'a>(core: &Core, waiting: &'a Waiting) -> Option<&'a Row>
-    ensures { option_copied result
-        ≡ find (λ r. is_dead_in core.now r.site) (rows_of waiting.now.items) }
-{
-    waiting.stand_apart();
-    let mut at = waiting.first();
-    while let Some(number) = at {
-        let Some(row) = waiting.get(number) else {
-            return None;
-        };
-        if core.is_dead_site(&row.site) {
-            return Some(row);
-        }
-        at = waiting.next(number);
-    }
-    None
-}
-
 impl Core {
     pub(crate) fn first_need(&self) -> Option<Decision>
         ensures { result ≡ first_need_in self.now }
@@ -61,22 +38,15 @@ impl Core {
         }
     }
 
-    /// Whether a row waits at a site that is dead.
-    fn waits_at_dead(&self) -> bool
-        ensures { result ≡ list_any (is_dead_with self.now.waiting) self.now.sites }
-    {
-        self.sites.stand_apart();
-        self.sites.dead_waiting() != 0
-    }
-
     /// The first waiting row whose site is dead.
     fn first_dead(&self) -> Option<&Row>
         ensures { option_copied result ≡ find (λ r. is_dead_in self.now r.site) self.now.waiting }
     {
-        if !self.waits_at_dead() {
-            return None;
+        self.waiting.stand_apart();
+        match self.waiting.first_held() {
+            Some(number) => self.waiting.get(number),
+            None => None,
         }
-        first_dead_among(self, &self.waiting)
     }
 
     /// The number of the row that is put off next.

@@ -2,6 +2,6 @@ pub mod Plain
 pub mod Tested
 mod Views
 mod Changes
-mod Walk
+pub mod Walk
 mod Releasing
 mod HeldRows

@@ -1,5 +1,5 @@
 -- What callers conclude of the rows with their numbers, whatever is held back.
-use Rattle.std.proofs.Common.{◌≡◌, ◌∙◌, ◌∷◌, [], ap, Bool, cond, false, List, map, refl, true, ℕ}
+use Rattle.std.proofs.Common.{◌≡◌, ◌∙◌, ◌∷◌, [], ap, Bool, cond, false, List, map, refl, sym, true, ℕ}
 use Rattle.std.specs.Prelude.{filter, not}
 use Rattle.q_model.specs.Sites.{site_eq}
 use Rattle.q_model.specs.Values.{Site}
@@ -36,3 +36,13 @@ left_step n h hs false rest = rest
 pub plain_left : (n : ℕ) (hs : List HeldRow) → plain (filter (λ h. not (has_number n (numbered h))) hs) ≡ filter (λ k. not (has_number n k)) (plain hs)
 plain_left n [] = refl
 plain_left n (h ∷ hs) = left_step n h hs (not (has_number n (numbered h))) (plain_left n hs)
+
+-- the rows of a list of rows with their numbers stay where these stay
+pub rows_stay : (hs new : List HeldRow) → plain new ≡ plain hs → rows_of new ≡ rows_of hs
+rows_stay hs new same = sym (rows_plain new) ∙ ap peers.rows_of same ∙ rows_plain hs
+
+pub rows_held : (site : Site) (held : Bool) (hs : List HeldRow) → rows_of (map (held_at site held) hs) ≡ rows_of hs
+rows_held site held hs = rows_stay hs (map (held_at site held) hs) (plain_held site held hs)
+
+pub rows_released : (hs : List HeldRow) → rows_of (map released hs) ≡ rows_of hs
+rows_released hs = rows_stay hs (map released hs) (plain_released hs)

@@ -1,17 +1,12 @@
 -- What callers conclude where just those rows are held back that pass a test.
 use Rattle.std.proofs.Common.{◌≡◌, ◌∙◌, ◌∷◌, ◌++◌, [], ap, Bool, cond, false, List, map, option_map, refl, Some, sym, true}
-use Rattle.std.specs.List.{AllByRecursion}
 use Rattle.std.specs.Prelude.{filter, find}
 use Rattle.q_model.proofs.EachLaws.{each-append, each-map, each-same}
 use Rattle.q_model.specs.declared.rows.Row.{Row}
 use Rattle.q_model.specs.Sites.{site_eq}
 use Rattle.q_model.specs.Values.{Site}
 use Rattle.q_peers.specs.Numbered.{first_such, Numbered}
-use Rattle.q_held.specs.Held.{held_at, HeldRow, numbered, plain, released}
-
--- a row is held back exactly where it passes
-abbrev pub AreHeldBy : (Row → Bool) → List HeldRow → Type 0
-AreHeldBy p hs = AllByRecursion (λ h. h.held ≡ p h.row) hs
+use Rattle.q_held.specs.Held.{AreHeldBy, held_at, HeldRow, numbered, plain, released}
 
 first_step : (p : Row → Bool) (h : HeldRow) (hs : List HeldRow) (t u : Bool) → t ≡ u → option_map (λ (h : HeldRow). h.number) (find (λ h. h.held) hs) ≡ first_such p (plain hs) →
     option_map (λ (h : HeldRow). h.number) (cond t (Some h) (find (λ h. h.held) hs)) ≡ option_map (λ (k : Numbered). k.number) (cond u (Some (numbered h)) (find (λ k. p k.row) (plain hs)))

@@ -140,7 +140,7 @@ put_one b h (x ∷ xs) ys apart =
     ap (λ l. l ∷ map (put h.number b) (xs ++ h ∷ ys)) (put_other h.number b x (ahead_other x.number h xs ys apart.0))
     ∙ ap (λ l. x ∷ l) (put_one b h xs ys apart.1)
 
-found_here : (h : HeldRow) (xs ys : List HeldRow) → AreApart (plain (xs ++ h ∷ ys)) → find (has_number h.number) (plain (xs ++ h ∷ ys)) ≡ Some (numbered h)
+pub found_here : (h : HeldRow) (xs ys : List HeldRow) → AreApart (plain (xs ++ h ∷ ys)) → find (has_number h.number) (plain (xs ++ h ∷ ys)) ≡ Some (numbered h)
 found_here h [] ys apart = ap (λ t. cond t (Some (numbered h)) (find (has_number h.number) (plain ys))) (own_test h.number)
 found_here h (x ∷ xs) ys apart =
     ap (λ t. cond t (Some (numbered x)) (find (has_number h.number) (plain (xs ++ h ∷ ys)))) (ahead_other x.number h xs ys apart.0)

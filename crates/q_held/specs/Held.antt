@@ -1,5 +1,6 @@
 -- What a contract sees of the rows that wait, of which some are held back.
-use Rattle.std.specs.Prelude.{Bool, false, if◌then◌else◌, List, map, ℕ}
+use Rattle.std.specs.List.{AllByRecursion}
+use Rattle.std.specs.Prelude.{◌≡◌, Bool, false, if◌then◌else◌, List, map, ℕ}
 use Rattle.q_model.specs.declared.rows.Row.{Row}
 use Rattle.q_model.specs.Sites.{site_eq}
 use Rattle.q_model.specs.Values.{Site}
@@ -33,3 +34,7 @@ held_at site held h = if site_eq h.row.site site then record h { held = held } e
 -- the row let go
 abbrev pub released : HeldRow → HeldRow
 released h = record h { held = false }
+
+-- a row is held back exactly where it passes
+abbrev pub AreHeldBy : (Row → Bool) → List HeldRow → Type 0
+AreHeldBy p hs = AllByRecursion (λ h. h.held ≡ p h.row) hs

@@ -11,7 +11,7 @@ use Rattle.q_core.proofs.TurnTies.{served_gained, turns_gained}
 use Rattle.q_core.specs.ServedRows.{served_rows}
 use Rattle.q_core.specs.Ties.{ArePeersTied, AreTurnsTied}
 use Rattle.q_model.specs.declared.rows.Row.{Row}
-use Rattle.q_peers.specs.Numbered.{rows_of}
+use Rattle.q_held.specs.Held.{rows_of}
 use Rattle.q_rounds.specs.declared.peer.PeerKey.{PeerKey}
 use Rattle.q_rounds.specs.Rounds.{is_peer, key_eq}
 use Rattle.q_turns.specs.Turns.{gained_at, may_wait, Turning}

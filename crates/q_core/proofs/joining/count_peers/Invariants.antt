@@ -1,7 +1,7 @@
 use Rattle.std.proofs.Common.{◌≡◌, ◌≤◌, ◌+◌, ◌++◌, length, take, ℕ}
 use Rattle.q_core.specs.ServedRows.{served_rows}
 use Rattle.q_core.specs.Ties.{ArePeersTied, AreTurnsTied}
-use Rattle.q_peers.specs.Numbered.{rows_of}
+use Rattle.q_held.specs.Held.{rows_of}
 use Rattle.q_core.proofs.joining.count_peers.Given as goal
 
 -- the rows before this one are counted

@@ -6,15 +6,16 @@ use Rattle.std.specs.Prelude.{slice_get}
 use Rattle.q_core.proofs.GroupLaws.{sites_more}
 use Rattle.q_core.proofs.CountLaws.{count_within}
 use Rattle.q_core.proofs.CountedLaws.{one_more}
+use Rattle.q_core.proofs.DeadLaws.{alike_gained}
 use Rattle.q_core.proofs.SiteChanges.{busy_gained, known_gained, one_site_more, waiting_gained}
 use Rattle.q_core.proofs.SiteViews.{known_more}
 use Rattle.q_core.specs.Known.{known_records}
 use Rattle.q_core.specs.Loading.{new_sites}
-use Rattle.q_core.specs.Ties.{AreBusyTied, AreWaitingTied}
+use Rattle.q_core.specs.Ties.{AreBusyTied, AreWaitingTied, goes_to_dead}
 use Rattle.q_dest.specs.Dests.{Dests, gained_at, is_at, new_dest}
 use Rattle.q_model.specs.declared.rows.Row.{Row}
 use Rattle.q_model.specs.Sites.{site_eq}
-use Rattle.q_peers.specs.Numbered.{rows_of}
+use Rattle.q_held.specs.Held.{rows_of}
 use Rattle.q_core.proofs.joining.count_rows.Goals as goal
 
 there_at : (rows : List Row) (i : ℕ) → i < length rows → (r : Row) × (slice_get rows i ≡ Some r)
@@ -48,6 +49,7 @@ loop-i-preserved c =
       λ fs tie. subst (λ xs. AreBusyTied xs fs) (sym is) (busy_gained r ds new refl fs refl (c.loop-i.invariant.2 fs tie) b),
       rw is (omega (arith, one_site_more r ds new refl b, c.loop-i.invariant.3)),
       ap (λ (x : Dests). x.room) c.gain.ensures ∙ c.loop-i.invariant.4,
+      λ x. ap (λ ds. goes_to_dead ds x) is ∙ alike_gained r ds new refl refl b x ∙ c.loop-i.invariant.5 x,
     )
 
 pub gain-requires-clause-few : goal.gain-requires-clause-few

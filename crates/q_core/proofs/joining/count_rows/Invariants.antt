@@ -1,9 +1,10 @@
 use Rattle.std.proofs.Common.{◌≡◌, ◌≤◌, ◌+◌, ◌++◌, [], length, List, take}
 use Rattle.q_core.specs.Known.{known_records}
 use Rattle.q_core.specs.Loading.{new_sites}
-use Rattle.q_core.specs.Ties.{AreBusyTied, AreWaitingTied}
+use Rattle.q_core.specs.Ties.{AreBusyTied, AreWaitingTied, goes_to_dead}
 use Rattle.q_model.specs.declared.rows.Delivery.{Delivery}
-use Rattle.q_peers.specs.Numbered.{rows_of}
+use Rattle.q_model.specs.declared.rows.Row.{Row}
+use Rattle.q_held.specs.Held.{rows_of}
 use Rattle.q_core.proofs.joining.count_rows.Given as goal
 
 -- the rows before this one are counted
@@ -13,3 +14,4 @@ invariant-loop-i l =
     × AreWaitingTied l.sites.items (rows_of l.waiting.items ++ take l.i l.rows)
     × ((fs : List Delivery) → AreBusyTied l.initial.sites.items fs → AreBusyTied l.sites.items fs)
     × (length l.sites.items ≤ length l.initial.sites.items + l.i) × (l.sites.room ≡ l.initial.sites.room)
+    × ((r : Row) → goes_to_dead l.sites.items r ≡ goes_to_dead l.initial.sites.items r)

@@ -3,7 +3,7 @@ use Rattle.std.proofs.lemmas.List.{length-map}
 use Rattle.q_core.proofs.CountLaws.{count_within}
 use Rattle.q_core.proofs.TurnTies.{rest_counted}
 use Rattle.q_core.specs.RowWalks.{is_row_for}
-use Rattle.q_peers.specs.Numbered.{Numbered, rows_of}
+use Rattle.q_held.specs.Held.{HeldRow, rows_of}
 use Rattle.q_core.proofs.rows.waiting_for.Goals as goal
 
 pub returns-clause-count : goal.returns-clause-count
@@ -16,5 +16,5 @@ returns-clause-few c =
     let rows = rows_of c.args.waiting.now.items in
     let count = c.rest.ensures ∙ rest_counted c.args.id c.args.transport c.args.turns.now.peers rows c.stand_apart.ensures.apart c.requires in
     let within = count_within (is_row_for c.args.id c.args.transport) rows in
-    let same = length-map c.args.waiting.now.items (λ (k : Numbered). k.row) in
+    let same = length-map c.args.waiting.now.items (λ (k : HeldRow). k.row) in
     omega (arith, count, within, same, c.stand_apart-2.ensures.within, c.stand_apart-2.ensures.few)

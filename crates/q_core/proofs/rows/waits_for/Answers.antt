@@ -2,7 +2,7 @@ use Rattle.std.proofs.Common.{◌∙◌, ap, sym}
 use Rattle.std.specs.Prelude.{◌==◌, not}
 use Rattle.q_core.proofs.PoolTies.{any_count}
 use Rattle.q_core.specs.RowWalks.{is_row_for}
-use Rattle.q_peers.specs.Numbered.{rows_of}
+use Rattle.q_held.specs.Held.{rows_of}
 use Rattle.q_core.proofs.rows.waits_for.Goals as goal
 
 pub returns : goal.returns

@@ -2,7 +2,7 @@ use Rattle.std.proofs.Common.{◌∙◌, ap, find, not, sym}
 use Rattle.std.specs.Option.{option_copied}
 use Rattle.q_core.specs.Tidied.{leaves_among}
 use Rattle.q_pool.specs.Kept.{heads}
-use Rattle.q_peers.specs.Numbered.{rows_of}
+use Rattle.q_held.specs.Held.{rows_of}
 use Rattle.q_jobs.proofs.LineWalks.{found_behind, from_first, shorter}
 use Rattle.q_jobs.specs.Jobs.{jobs_from}
 use Rattle.q_turns.proofs.WithLine.{apart_at}

@@ -3,7 +3,7 @@ use Rattle.std.specs.Option.{option_copied}
 use Rattle.q_core.specs.Tidied.{leaves_among}
 use Rattle.q_jobs.specs.Jobs.{jobs_from}
 use Rattle.q_pool.specs.Kept.{heads}
-use Rattle.q_peers.specs.Numbered.{rows_of}
+use Rattle.q_held.specs.Held.{rows_of}
 use Rattle.q_turns.specs.Turns.{line_at}
 use Rattle.q_core.proofs.tidy.first_to_leave.Given as goal
 

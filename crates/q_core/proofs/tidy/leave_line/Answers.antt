@@ -2,7 +2,7 @@ use Rattle.std.proofs.Common.{◌∙◌, ◌==◌}
 use Rattle.std.specs.Prelude.{◌&&◌}
 use Rattle.q_core.proofs.PeerTies.{any_peer}
 use Rattle.q_model.specs.Ids.{id_eq}
-use Rattle.q_peers.specs.Numbered.{rows_of}
+use Rattle.q_held.specs.Held.{rows_of}
 use Rattle.q_rounds.specs.declared.peer.PeerKey.{PeerKey}
 use Rattle.q_core.proofs.tidy.leave_line.Goals as goal
 

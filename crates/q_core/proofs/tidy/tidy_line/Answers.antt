@@ -5,7 +5,7 @@ use Rattle.q_core.specs.Tidied.{leaves_among, tidied_jobs}
 use Rattle.q_jobs.specs.declared.job.Job.{Job}
 use Rattle.q_jobs.specs.Jobs.{is_job_of_another}
 use Rattle.q_pool.specs.Kept.{heads}
-use Rattle.q_peers.specs.Numbered.{rows_of}
+use Rattle.q_held.specs.Held.{rows_of}
 use Rattle.q_turns.proofs.WithLine.{length_with, line_with, with_both, with_same, with_twice}
 use Rattle.q_turns.specs.Turns.{line_at, Turning, with_line}
 use Rattle.q_core.proofs.tidy.tidy_line.Goals as goal

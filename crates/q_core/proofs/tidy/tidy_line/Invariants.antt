@@ -1,7 +1,7 @@
 use Rattle.std.proofs.Common.{◌≡◌, length}
 use Rattle.q_core.specs.Tidied.{tidied_jobs}
 use Rattle.q_pool.specs.Kept.{heads}
-use Rattle.q_peers.specs.Numbered.{rows_of}
+use Rattle.q_held.specs.Held.{rows_of}
 use Rattle.q_turns.specs.Turns.{line_at, with_line}
 use Rattle.q_core.proofs.tidy.tidy_line.Given as goal
 

@@ -2,7 +2,7 @@ use Rattle.std.proofs.Common.{◌≡◌, ◌∙◌, ◌+◌, add-one, ap, arith,
 use Rattle.q_core.specs.Ties.{ArePeersTied}
 use Rattle.q_core.specs.Tidied.{tidied_line}
 use Rattle.q_pool.specs.Kept.{heads}
-use Rattle.q_peers.specs.Numbered.{rows_of}
+use Rattle.q_held.specs.Held.{rows_of}
 use Rattle.q_turns.proofs.WithLine.{all_below, changed_below, length_below, one_below}
 use Rattle.q_turns.specs.Turns.{Turning, with_line}
 use Rattle.q_core.proofs.tidy.tidy_lines.Goals as goal

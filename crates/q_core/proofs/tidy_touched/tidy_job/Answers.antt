@@ -4,7 +4,7 @@ use Rattle.q_core.proofs.TidyTouchedLaws.{job_leaves, job_stays}
 use Rattle.q_core.specs.Tidied.{tidied_jobs}
 use Rattle.q_jobs.specs.Jobs.{is_job_of_another}
 use Rattle.q_pool.specs.Kept.{heads}
-use Rattle.q_peers.specs.Numbered.{rows_of}
+use Rattle.q_held.specs.Held.{rows_of}
 use Rattle.q_turns.proofs.WithLine.{with_both, with_same}
 use Rattle.q_turns.specs.Turns.{line_at}
 use Rattle.q_core.proofs.tidy_touched.tidy_job.Goals as goal

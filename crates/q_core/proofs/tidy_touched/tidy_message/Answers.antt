@@ -4,7 +4,7 @@ use Rattle.q_core.specs.Tidied.{tidied_line}
 use Rattle.q_core.specs.Touched.{jobs_stay}
 use Rattle.q_core.specs.declared.touched.Touched.TheVariants.{One}
 use Rattle.q_pool.specs.Kept.{heads}
-use Rattle.q_peers.specs.Numbered.{rows_of}
+use Rattle.q_held.specs.Held.{rows_of}
 use Rattle.q_turns.proofs.WithLine.{all_below, changed_below, length_below, line_below, line_there, one_below}
 use Rattle.q_turns.specs.Turns.{line_at, Turning, with_line}
 use Rattle.q_core.proofs.tidy_touched.tidy_message.Goals as goal

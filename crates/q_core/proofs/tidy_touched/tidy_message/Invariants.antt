@@ -1,7 +1,7 @@
 use Rattle.std.proofs.Common.{◌≡◌}
 use Rattle.q_core.specs.Tidied.{tidied_line}
 use Rattle.q_pool.specs.Kept.{heads}
-use Rattle.q_peers.specs.Numbered.{rows_of}
+use Rattle.q_held.specs.Held.{rows_of}
 use Rattle.q_turns.proofs.WithLine.{changed_below}
 use Rattle.q_core.proofs.tidy_touched.tidy_message.Given as goal
 

@@ -2,7 +2,7 @@ use Rattle.std.proofs.Common.{ap, subst, sym}
 use Rattle.q_core.proofs.TidyTouchedLaws.{lines_whole}
 use Rattle.q_core.specs.Touched.{DoJobsStay}
 use Rattle.q_pool.specs.Kept.{heads}
-use Rattle.q_peers.specs.Numbered.{rows_of}
+use Rattle.q_held.specs.Held.{rows_of}
 use Rattle.q_core.proofs.tidy_touched.tidy_touched_lines.Goals as goal
 
 pub returns-in-Nothing : goal.returns-in-Nothing

@@ -9,7 +9,7 @@ use Rattle.q_core.specs.View.{state_of}
 use Rattle.q_pool.specs.Kept.{heads}
 use Rattle.q_pool.specs.Pooled.{Pooled}
 use Rattle.q_pool.specs.declared.kept.Kept.{Kept}
-use Rattle.q_peers.specs.Numbered.{rows_of}
+use Rattle.q_held.specs.Held.{rows_of}
 use Rattle.q_core.proofs.state.Core.add_message.Goals as goal
 
 pub push-requires-clause-absent : goal.push-requires-clause-absent
@@ -32,6 +32,7 @@ invariant_of-self c =
       rw slots (slot_entered _ c.self.invariant.1),
       c.self.invariant.2,
       c.self.invariant.3,
+      c.self.invariant.4,
     )
 
 pub returns : goal.returns

@@ -15,7 +15,7 @@ use Rattle.q_model.specs.declared.rows.Unsettled.{Unsettled}
 use Rattle.q_pool.specs.Kept.{heads}
 use Rattle.q_pool.specs.Pooled.{Pooled}
 use Rattle.q_pool.specs.declared.kept.Kept.{Kept}
-use Rattle.q_peers.specs.Numbered.{rows_of}
+use Rattle.q_held.specs.Held.{rows_of}
 use Rattle.q_core.proofs.SiteTies.{flies_there}
 use Rattle.q_core.proofs.state.Core.add_outcomes.Goals as goal
 
@@ -36,6 +36,7 @@ invariant_of-self-2 c =
       rw slots c.self.invariant.1,
       c.self.invariant.2,
       c.self.invariant.3,
+      c.self.invariant.4,
     )
 
 pub returns-clause-busy : goal.returns-clause-busy

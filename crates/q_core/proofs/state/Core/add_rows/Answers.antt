@@ -11,7 +11,7 @@ use Rattle.q_core.specs.Loading.{can_join, joined_line, joined_within, new_sites
 use Rattle.q_core.specs.State.{State}
 use Rattle.q_core.specs.Known.{known_records}
 use Rattle.q_core.specs.ServedRows.{served_rows}
-use Rattle.q_core.specs.Ties.{ArePeersTied, AreSitesTied, AreTurnsTied, AreWaitingTied}
+use Rattle.q_core.specs.Ties.{ArePeersTied, AreSitesTied, AreTurnsTied, AreWaitingTied, goes_to_dead}
 use Rattle.q_core.specs.View.{state_of}
 use Rattle.q_pool.specs.Kept.{heads}
 use Rattle.q_pool.specs.Pooled.{Pooled}
@@ -19,7 +19,8 @@ use Rattle.q_core.proofs.JoinedJobs.{all_may_wait}
 use Rattle.q_core.specs.Loading.{AreRowsOf}
 use Rattle.q_model.specs.declared.rows.Row.{Row}
 use Rattle.q_turns.specs.Turns.{may_wait, Turning}
-use Rattle.q_peers.specs.Numbered.{Numbered, rows_of}
+use Rattle.q_held.proofs.Tested.{tested_alike}
+use Rattle.q_held.specs.Held.{HeldRow, rows_of}
 use Rattle.q_core.proofs.state.Core.add_rows.Goals as goal
 
 pub count_peers-requires-clause-own : goal.count_peers-requires-clause-own
@@ -56,7 +57,7 @@ invariant_of-self c =
     let rows = c.args.rows.items in
     let ds = core.sites.items in
     let fs = core.flights.items in
-    let waiting : rows_of c.add_all.new.waiting.items ≡ rows_of core.waiting.items ++ rows = c.add_all.ensures in
+    let waiting : rows_of c.add_all.new.waiting.items ≡ rows_of core.waiting.items ++ rows = c.add_all.ensures.rows in
     let can : list_all (can_join c.args.id rows core.turns.line_room) (enumerate_from 0 core.turns.lines) ≡ true = search rules in
     let turns : c.join_lines.new.turns ≡ record core.turns { lines = map (joined_line c.args.id rows) (enumerate_from 0 core.turns.lines) } =
     c.join_lines.ensures ∙ ap (λ rs. record core.turns { lines = map (joined_within c.args.id rs core.turns.line_room) (enumerate_from 0 core.turns.lines) }) c.deref-2.ensures.value
@@ -66,7 +67,7 @@ invariant_of-self c =
     let own = present_held (state_of core) core.admitted.items refl c.args.id (ap (λ (s : State). is_admitted_in s c.args.id) c.self.view_is ∙ c.requires.there) in
     let count : c.len-count.result ≡ length rows = search rules in
     let total = length-append (rows_of core.waiting.items) rows in
-    let same = length-map core.waiting.items (λ (k : Numbered). k.row) in
+    let same = length-map core.waiting.items (λ (k : HeldRow). k.row) in
     let new : c.len.result ≡ length rows = search rules in
     let fits : length (rows_of core.waiting.items ++ rows) < 2 ^ 64 = omega (arith, total, same, new, c.stand_apart.ensures.within, c.stand_apart.ensures.few, c.spare.ensures, c.if-spare-len.false) in
     let tied : AreSitesTied c.count_rows.new.sites.items (rows_of core.waiting.items ++ rows) fs = record {
@@ -79,13 +80,14 @@ invariant_of-self c =
       rw waiting tied,
       rw waiting (subst (λ rs. AreTurnsTied c.count_peers.new.turns.peers (rows_of core.waiting.items ++ rs) core.starts) c.deref-3.ensures.value
           (c.count_peers.ensures.tied core.starts (subst (λ ps. AreTurnsTied ps (rows_of core.waiting.items) core.starts) (sym (ap (λ (x : Turning). x.peers) c.join_lines.ensures)) c.self.invariant.3))),
+      c.add_all.ensures.held (tested_alike (goes_to_dead ds) (goes_to_dead c.count_rows.new.sites.items) core.waiting.items (λ r. sym (c.count_rows.ensures.dead r)) c.self.invariant.4),
     )
 
 pub returns-clause-ok : goal.returns-clause-ok
 returns-clause-ok c =
     let core = c.self.inside in
     let rows = c.args.rows.items in
-    let waiting : rows_of c.add_all.new.waiting.items ≡ rows_of core.waiting.items ++ rows = c.add_all.ensures in
+    let waiting : rows_of c.add_all.new.waiting.items ≡ rows_of core.waiting.items ++ rows = c.add_all.ensures.rows in
     let can : list_all (can_join c.args.id rows core.turns.line_room) (enumerate_from 0 core.turns.lines) ≡ true = search rules in
     let turns : c.join_lines.new.turns ≡ record core.turns { lines = map (joined_line c.args.id rows) (enumerate_from 0 core.turns.lines) } =
     c.join_lines.ensures ∙ ap (λ rs. record core.turns { lines = map (joined_within c.args.id rs core.turns.line_room) (enumerate_from 0 core.turns.lines) }) c.deref-2.ensures.value

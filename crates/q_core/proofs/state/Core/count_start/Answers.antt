@@ -11,7 +11,7 @@ pub invariant_of-self : goal.invariant_of-self
 invariant_of-self c =
     let lines = ap (λ (x : Turning). x.lines) c.count_start.ensures in
     let peers = ap (λ (x : Turning). x.peers) c.count_start.ensures in
-    rw (lines, peers) (c.self.invariant.0, start_counted c.args.id _ c.self.invariant.1, c.self.invariant.2, c.self.invariant.3)
+    rw (lines, peers) (c.self.invariant.0, start_counted c.args.id _ c.self.invariant.1, c.self.invariant.2, c.self.invariant.3, c.self.invariant.4)
 
 pub returns : goal.returns
 returns c =

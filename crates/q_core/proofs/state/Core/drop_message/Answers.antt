@@ -8,7 +8,7 @@ use Rattle.q_core.specs.View.{state_of}
 use Rattle.q_core.specs.Held.{has_rows_in}
 use Rattle.q_pool.specs.Kept.{heads}
 use Rattle.q_pool.specs.Pooled.{Pooled}
-use Rattle.q_peers.specs.Numbered.{rows_of}
+use Rattle.q_held.specs.Held.{rows_of}
 use Rattle.q_core.proofs.state.Core.drop_message.Goals as goal
 
 pub invariant_of-self : goal.invariant_of-self
@@ -21,6 +21,7 @@ invariant_of-self c =
       rw (slots, c.touch_unread.ensures) (slot_gone c.args.id c.self.invariant.1),
       c.self.invariant.2,
       c.self.invariant.3,
+      c.self.invariant.4,
     )
 
 pub returns : goal.returns

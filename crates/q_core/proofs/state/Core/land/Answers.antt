@@ -16,7 +16,10 @@ use Rattle.q_core.specs.View.{state_of}
 use Rattle.q_model.specs.declared.rows.Delivery.{Delivery}
 use Rattle.q_pool.specs.Kept.{heads}
 use Rattle.q_pool.specs.Pooled.{Pooled}
-use Rattle.q_peers.specs.Numbered.{rows_of}
+use Rattle.q_core.proofs.DeadLaws.{alike_settled}
+use Rattle.q_core.specs.Ties.{goes_to_dead}
+use Rattle.q_held.proofs.Tested.{tested_alike}
+use Rattle.q_held.specs.Held.{rows_of}
 use Rattle.q_core.proofs.state.Core.land.Goals as goal
 
 pub returns-in_default-clause-landed : goal.returns-in_default-clause-landed
@@ -44,6 +47,8 @@ invariant_of-self c =
       rw (sites, c.land-2.ensures) (sites_settled rows fs f.row.site landed (λ d. refl) a.sites.items c.stand_apart.ensures.apart
           (sites_landed rows a.flights.items a.starts c.args.number f a.sites.items c.self.invariant.0.numbers at c.self.invariant.2)),
       c.self.invariant.3,
+      rw sites (tested_alike (goes_to_dead a.sites.items) (goes_to_dead (filter is_kept (settled f.row.site landed a.sites.items))) a.waiting.items
+          (λ r. sym (alike_settled f.row.site landed (λ d. refl) a.sites.items c.stand_apart.ensures.apart r)) c.self.invariant.4),
     )
 
 pub returns-clause-landed : goal.returns-clause-landed

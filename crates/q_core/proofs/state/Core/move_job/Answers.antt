@@ -13,7 +13,7 @@ pub invariant_of-self : goal.invariant_of-self
 invariant_of-self c =
     let lines = ap (λ (x : Turning). x.lines) c.preempt.ensures in
     let peers = ap (λ (x : Turning). x.peers) c.preempt.ensures in
-    rw (lines, peers) (c.self.invariant.0, job_moved c.args.child c.args.parent c.args.transport c.args.need c.args.left c.self.invariant.1, c.self.invariant.2, c.self.invariant.3)
+    rw (lines, peers) (c.self.invariant.0, job_moved c.args.child c.args.parent c.args.transport c.args.need c.args.left c.self.invariant.1, c.self.invariant.2, c.self.invariant.3, c.self.invariant.4)
 
 pub returns : goal.returns
 returns c =

@@ -3,7 +3,7 @@ use Rattle.q_laws.proofs.Beginnings.{begins_consistent}
 use Rattle.q_laws.proofs.SiteEntries.{sites_at_life}
 use Rattle.q_model.specs.Ledger.{opening}
 use Rattle.q_core.proofs.BeginLaws.{open_windows, usable}
-use Rattle.std.proofs.Common.{◌≡◌, ◌∙◌, ◌+◌, [], ap, subst, false, None, refl}
+use Rattle.std.proofs.Common.{◌≡◌, ◌∙◌, ◌+◌, [], ap, subst, false, None, refl, sym}
 use Rattle.q_core.proofs.BeginLaws.{begin_law, begin_living, begin_moment}
 use Rattle.q_core.specs.Known.{known_records}
 use Rattle.q_dest.specs.Dests.{Dests}
@@ -16,8 +16,9 @@ use Rattle.q_core.proofs.StillTidyLines.{new_tidy}
 use Rattle.q_core.proofs.TiedLaws.{tied_new}
 use Rattle.q_core.proofs.TurnTies.{turns_new}
 use Rattle.q_core.specs.ServedRows.{served_rows}
+use Rattle.q_core.specs.Ties.{goes_to_dead}
 use Rattle.q_model.specs.Settings.{Settings}
-use Rattle.q_peers.specs.Numbered.{Items, rows_of}
+use Rattle.q_held.specs.Held.{AreHeldBy, Held, rows_of}
 use Rattle.q_pool.specs.Kept.{heads}
 use Rattle.q_pool.specs.Pooled.{Pooled}
 use Rattle.q_turns.specs.Turns.{Turning}
@@ -59,7 +60,7 @@ returns-clause-consistent c = λ w book settings count k s.
       mode_is = refl;
       clock = c.new-5.ensures;
       admitted = ap (λ (m : Pooled). heads m.items) c.in_ok-admitted.ensures;
-      waiting = ap (λ (v : Items). rows_of v.items) c.in_ok-waiting.ensures;
+      waiting = ap (λ (v : Held). rows_of v.items) c.in_ok-waiting.ensures;
       flights = c.new-6.ensures.items;
       served = ap (λ (x : Turning). served_rows x.peers) c.in_ok-turns.ensures;
       unsettled = c.new-7.ensures.items;
@@ -78,8 +79,9 @@ pub invariant_of-result : goal.invariant_of-result
 invariant_of-result c =
     let made = c.in_ok-admitted.ensures ∙ ap (λ (p : Settings). record { items = []; room = p.active_limit; sync_limit = p.mark_sync_limit; minimum = p.recipient_minimum }) c.params.view_is in
     let slots : heads c.in_ok-admitted.admitted.items ≡ [] = ap (λ (m : Pooled). heads m.items) c.in_ok-admitted.ensures in (
-      tied_new c.args.params c.in_ok-admitted.admitted (rows_of c.in_ok-waiting.waiting.items) c.new-6.result.items c.new-7.result.items _ made (ap (λ (v : Items). rows_of v.items) c.in_ok-waiting.ensures) c.new-6.ensures.items c.new-7.ensures.items counted_none,
-      rw (slots, ap (λ (v : Items). rows_of v.items) c.in_ok-waiting.ensures, ap (λ (x : Turning). x.lines) c.in_ok-turns.ensures) (new_tidy c.args.transports),
-      sites_new c.in_ok-sites.sites.items (rows_of c.in_ok-waiting.waiting.items) c.new-6.result.items (ap (λ (x : Dests). x.items) c.in_ok-sites.ensures) (ap (λ (v : Items). rows_of v.items) c.in_ok-waiting.ensures) c.new-6.ensures.items,
-      turns_new c.in_ok-turns.turns.peers (rows_of c.in_ok-waiting.waiting.items) (ap (λ (x : Turning). x.peers) c.in_ok-turns.ensures) (ap (λ (v : Items). rows_of v.items) c.in_ok-waiting.ensures),
+      tied_new c.args.params c.in_ok-admitted.admitted (rows_of c.in_ok-waiting.waiting.items) c.new-6.result.items c.new-7.result.items _ made (ap (λ (v : Held). rows_of v.items) c.in_ok-waiting.ensures) c.new-6.ensures.items c.new-7.ensures.items counted_none,
+      rw (slots, ap (λ (v : Held). rows_of v.items) c.in_ok-waiting.ensures, ap (λ (x : Turning). x.lines) c.in_ok-turns.ensures) (new_tidy c.args.transports),
+      sites_new c.in_ok-sites.sites.items (rows_of c.in_ok-waiting.waiting.items) c.new-6.result.items (ap (λ (x : Dests). x.items) c.in_ok-sites.ensures) (ap (λ (v : Held). rows_of v.items) c.in_ok-waiting.ensures) c.new-6.ensures.items,
+      turns_new c.in_ok-turns.turns.peers (rows_of c.in_ok-waiting.waiting.items) (ap (λ (x : Turning). x.peers) c.in_ok-turns.ensures) (ap (λ (v : Held). rows_of v.items) c.in_ok-waiting.ensures),
+      subst (AreHeldBy (goes_to_dead c.in_ok-sites.sites.items)) (sym (ap (λ (v : Held). v.items) c.in_ok-waiting.ensures)) tt,
     )

@@ -7,7 +7,7 @@ use Rattle.q_core.specs.State.{State}
 use Rattle.q_pool.specs.Kept.{heads}
 use Rattle.q_pool.specs.Pooled.{Pooled}
 use Rattle.q_pool.specs.Slots.{changed_at, with_damage}
-use Rattle.q_peers.specs.Numbered.{rows_of}
+use Rattle.q_held.specs.Held.{rows_of}
 use Rattle.q_core.proofs.state.Core.note_damage.Goals as goal
 
 pub invariant_of-self : goal.invariant_of-self
@@ -19,6 +19,7 @@ invariant_of-self c =
       rw (slots, c.touch_message.ensures) (slots_touched c.args.id (unread_other c.args.id with_damage (λ s. refl) (heads a.admitted.items)) c.self.invariant.1),
       c.self.invariant.2,
       c.self.invariant.3,
+      c.self.invariant.4,
     )
 
 pub returns : goal.returns

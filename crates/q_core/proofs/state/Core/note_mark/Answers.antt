@@ -7,7 +7,7 @@ use Rattle.q_core.specs.State.{State}
 use Rattle.q_pool.specs.Kept.{heads}
 use Rattle.q_pool.specs.Pooled.{Pooled}
 use Rattle.q_pool.specs.Slots.{changed_at, with_slot_mark}
-use Rattle.q_peers.specs.Numbered.{rows_of}
+use Rattle.q_held.specs.Held.{rows_of}
 use Rattle.q_core.proofs.state.Core.note_mark.Goals as goal
 
 pub invariant_of-self : goal.invariant_of-self
@@ -19,6 +19,7 @@ invariant_of-self c =
       rw slots (slots_same (unread_same c.args.id with_slot_mark mark_id mark_left (heads a.admitted.items)) c.self.invariant.1),
       c.self.invariant.2,
       c.self.invariant.3,
+      c.self.invariant.4,
     )
 
 pub returns : goal.returns

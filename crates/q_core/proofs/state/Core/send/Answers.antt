@@ -20,11 +20,13 @@ use Rattle.q_core.proofs.TiedLaws.{tied_sent}
 use Rattle.q_core.specs.Counted.{IsCounted}
 use Rattle.q_core.specs.Counting.{with_flight}
 use Rattle.q_core.specs.View.{state_of}
-use Rattle.q_peers.specs.Numbered.{rows_of}
+use Rattle.q_held.proofs.Tested.{tested_alike}
+use Rattle.q_held.specs.Held.{rows_of}
+use Rattle.q_core.proofs.DeadLaws.{alike_changed}
 use Rattle.q_pool.specs.Kept.{heads}
 use Rattle.q_pool.specs.Pooled.{Pooled}
 use Rattle.q_core.specs.ServedRows.{served_rows}
-use Rattle.q_core.specs.Ties.{AreTurnsTied}
+use Rattle.q_core.specs.Ties.{AreTurnsTied, goes_to_dead}
 use Rattle.q_core.specs.Tidied.{tidied_served}
 use Rattle.q_rounds.specs.declared.peer.PeerKey.{PeerKey}
 use Rattle.q_turns.specs.Turns.{lost_at, started_at, Turning}
@@ -48,15 +50,17 @@ invariant_of-self-2 c =
     let few : length (a.flights.items ++ record { number = c.args.number; row = row } ∷ []) < 2 ^ 64 = grind (arith, sym added, c.add_flight.new.flights.ok, c.add_flight.new.flights.small) in
     let sites : c.begin.new.self.items ≡ map (changed_at row.site begun) a.sites.items = ap (λ (x : Dests). x.items) c.begin.ensures in
     let found : find p rows ≡ Some row = f.2.found ∙ ap (λ (x : Row). Some x) is in
-    let begun : c.start.new.self.peers ≡ started_at row.id row.site c.args.number a.turns.peers = ap (λ (x : Turning). x.peers) c.start.ensures in
+    let again : c.start.new.self.peers ≡ started_at row.id row.site c.args.number a.turns.peers = ap (λ (x : Turning). x.peers) c.start.ensures in
     let lost : c.lose.new.self.peers ≡ lost_at row.id row.site c.start.new.self.peers = ap (λ (x : Turning). x.peers) c.lose.ensures in
     let lines : c.lose.new.self.lines ≡ a.turns.lines = ap (λ (x : Turning). x.lines) c.lose.ensures ∙ ap (λ (x : Turning). x.lines) c.start.ensures in
-    let started = subst (λ ps. AreTurnsTied ps rows c.args.number) (sym begun) (turns_started a.turns.peers rows a.starts c.args.number row.id row.site less c.self.invariant.3) in
+    let started = subst (λ ps. AreTurnsTied ps rows c.args.number) (sym again) (turns_started a.turns.peers rows a.starts c.args.number row.id row.site less c.self.invariant.3) in
     let counted = subst (λ (fs : List Delivery). IsCounted fs c.add_flight.new.flying) added c.add_flight.ensures.counted in (
       rw (left, added) (tied_sent a.params a.admitted c.begin_flight.new.pool rows f.0 row a.flights.items a.unsettled.items a.flying c.add_flight.new.flying a.starts c.args.number there less few counted c.begin_flight.ensures c.self.invariant.0),
       rw (slots, c.touch_message.ensures, left, lines) (row_gone f.0 row there c.self.invariant.1),
       rw (sites, left, added) (sites_begun rows f.0 row c.args.number a.flights.items a.sites.items there c.self.invariant.2),
       rw left (rw lost (turns_lost c.start.new.self.peers rows c.args.number f.0 row c.stand_apart-2.ensures.apart started there (first_of rows c.args.id c.args.site f.0 row f.2.place found))),
+      rw sites (tested_alike (goes_to_dead a.sites.items) (goes_to_dead (map (changed_at row.site begun) a.sites.items)) c.take_row.new.waiting.items (λ r. sym (alike_changed row.site begun (λ d. refl) a.sites.items r))
+          (c.take_row.ensures.held (goes_to_dead a.sites.items) c.self.invariant.4)),
     )
 
 pub start-requires-clause-own : goal.start-requires-clause-own

@@ -8,7 +8,7 @@ use Rattle.q_core.specs.State.{State}
 use Rattle.q_core.specs.View.{state_of}
 use Rattle.q_pool.specs.Kept.{heads}
 use Rattle.q_pool.specs.Pooled.{Pooled}
-use Rattle.q_peers.specs.Numbered.{rows_of}
+use Rattle.q_held.specs.Held.{rows_of}
 use Rattle.q_core.proofs.state.Core.settle_first.Goals as goal
 
 pub invariant_of-self : goal.invariant_of-self
@@ -23,6 +23,7 @@ invariant_of-self c =
       rw slots c.self.invariant.1,
       c.self.invariant.2,
       c.self.invariant.3,
+      c.self.invariant.4,
     )
 
 pub returns-clause-change : goal.returns-clause-change

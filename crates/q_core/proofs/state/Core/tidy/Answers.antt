@@ -1,6 +1,7 @@
 use Rattle.std.proofs.Common.{◌≡◌, ◌∙◌, ap, map, sym}
 use Rattle.std.specs.List.{enumerate_from}
 use Rattle.q_core.specs.State.{State}
+use Rattle.q_core.proofs.DeadLaws.{held_forgotten}
 use Rattle.q_core.proofs.SiteChanges.{sites_forgotten}
 use Rattle.q_core.proofs.SiteTies.{counts_of, forgotten_is, used_is}
 use Rattle.q_core.proofs.SiteViews.{kept_whole}
@@ -12,7 +13,7 @@ use Rattle.q_core.specs.Tidied.{tidied_line, tidied_served}
 use Rattle.q_core.specs.UsedSites.{forget_in, used_in}
 use Rattle.q_dest.specs.Dests.{Dests}
 use Rattle.q_pool.specs.Kept.{heads}
-use Rattle.q_peers.specs.Numbered.{rows_of}
+use Rattle.q_held.specs.Held.{rows_of}
 use Rattle.q_turns.specs.Turns.{Turning}
 use Rattle.q_core.proofs.state.Core.tidy.Goals as goal
 
@@ -27,6 +28,7 @@ invariant_of-self c =
       now_tidy (heads core.admitted.items) (rows_of core.waiting.items) core.turns.lines,
       sites_forgotten (rows_of core.waiting.items) core.flights.items c.record_limit-limit.result core.sites.items c.stand_apart.ensures.apart c.self.invariant.2,
       c.self.invariant.3,
+      held_forgotten c.record_limit-limit.result core.sites.items core.waiting.items c.stand_apart.ensures.apart c.self.invariant.2.waiting c.self.invariant.4,
     )
 
 pub returns : goal.returns

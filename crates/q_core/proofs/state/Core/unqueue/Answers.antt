@@ -20,11 +20,13 @@ use Rattle.q_core.proofs.NamedLaws.{needs_named}
 use Rattle.q_core.proofs.PoolTies.{heads_recounted}
 use Rattle.q_core.proofs.TiedLaws.{tied_put_off}
 use Rattle.q_core.specs.Counting.{with_row_put_off}
-use Rattle.q_core.specs.Ties.{AreNamed}
+use Rattle.q_core.specs.Ties.{AreNamed, goes_to_dead}
 use Rattle.q_core.specs.View.{state_of}
 use Rattle.q_model.specs.declared.rows.Row.{Row}
 use Rattle.q_model.specs.declared.rows.Unsettled.{Unsettled}
-use Rattle.q_peers.specs.Numbered.{rows_of}
+use Rattle.q_held.proofs.Tested.{tested_alike}
+use Rattle.q_held.specs.Held.{rows_of}
+use Rattle.q_core.proofs.DeadLaws.{alike_settled}
 use Rattle.q_pool.specs.Kept.{heads}
 use Rattle.q_pool.specs.Pooled.{Pooled}
 use Rattle.q_turns.specs.Turns.{Turning}
@@ -80,6 +82,8 @@ invariant_of-self-2 c =
       rw (slots, c.touch_message.ensures, left, ap (λ (x : Turning). x.lines) c.lose.ensures) (row_gone f.0 row there c.self.invariant.1),
       rw (sites, left) (sites_settled (remove rows f.0) a.flights.items row.site left_dest (λ d. refl) a.sites.items c.stand_apart.ensures.apart (sites_left rows f.0 row a.flights.items a.sites.items there c.self.invariant.2)),
       rw (ap (λ (x : Turning). x.peers) c.lose.ensures, left) (turns_lost a.turns.peers rows a.starts f.0 row c.stand_apart-2.ensures.apart c.self.invariant.3 there (first_of rows c.args.id c.args.site.now f.0 row f.2.place (f.2.found ∙ ap (λ (x : Row). Some x) is))),
+      rw sites (tested_alike (goes_to_dead a.sites.items) (goes_to_dead (filter is_kept (settled row.site left_dest a.sites.items))) c.take_row.new.waiting.items
+          (λ r. sym (alike_settled row.site left_dest (λ d. refl) a.sites.items c.stand_apart.ensures.apart r)) (c.take_row.ensures.held (goes_to_dead a.sites.items) c.self.invariant.4)),
     )
 
 pub returns-clause-left : goal.returns-clause-left
