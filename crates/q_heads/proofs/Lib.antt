@@ -5,3 +5,4 @@ pub mod Marking
 pub mod Marked
 pub mod Renewal
 pub mod LaneRows
+pub mod LaneWalk

@@ -1,6 +1,6 @@
 //! The entries and their heads.
-ghost use Rattle.std.specs.Prelude.{◌≡◌, ◌≤◌, ◌<◌, ◌-◌, ◌^◌, [], filter, find, IfOk, length, None, replicate, set};
-ghost use Rattle.q_sorted.specs.Entries.{inserted, is_another, is_of, Rises};
+ghost use Rattle.std.specs.Prelude.{◌≡◌, ◌≤◌, ◌<◌, ◌-◌, ◌^◌, ◌&&◌, [], filter, find, IfOk, length, None, replicate, set};
+ghost use Rattle.q_sorted.specs.Entries.{goes_before, inserted, is_another, is_of, Rises};
 ghost use Rattle.q_heads.specs.Lanes.{AreKnown, class_of, foremost, heads_behind, heads_of};
 
 use crate::marks::{mark_in, mark_of, renew};
@@ -131,6 +131,20 @@ impl Heads {
         ensures { result ≡ find (is_of lane) self.now.items }
     {
         self.entries.first_of(lane)
+    }
+
+    /// The entry right behind this one in its lane, whether this one stands there or not.
+    pub fn behind_in_lane(&self, entry: &Entry) -> Option<Entry>
+        ensures { result
+            ≡ find (λ x. is_of entry.now.group x && goes_before entry.now x) self.now.items }
+    {
+        self.entries.stand_sorted();
+        let next = self.entries.behind(entry)?;
+        if next.group == entry.group {
+            Some(next)
+        } else {
+            None
+        }
     }
 
     /// The first head of the class.

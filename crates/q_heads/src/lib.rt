@@ -2,7 +2,8 @@
 //! class stand in order over all its lanes. It is for jobs of messages that wait at next hops: a
 //! lane is a next hop, its class the transport, and the key the job's rank in the transport's line.
 //! The first job that can be sent is found in a walk along the heads, by `first` and then `behind`,
-//! that passes only next hops that are full, and of each of them one job.
+//! that passes only next hops that are full, and of each of them one job. Where that one job isn't
+//! wanted, `behind_in_lane` gives the one behind it.
 //!
 //! In a lane entries go by key, then by item, and heads go by key, then by lane. Each call costs a
 //! few searches among all entries and among the heads. An entry that comes or goes moves its lane's

@@ -102,6 +102,17 @@ const BEHIND: [(Parts, Option<Parts>); 7] = [
     ((2, 30, 4), None),
 ];
 
+/// An entry, and the one right behind it in its lane.
+const IN_LANE: [(Parts, Option<Parts>); 6] = [
+    ((1, 20, 8), Some((1, 50, 7))),
+    ((1, 50, 7), None),
+    // it doesn't stand there
+    ((1, 20, 7), Some((1, 20, 8))),
+    ((0, 90, 9), None),
+    ((3, 20, 0), Some((3, 90, 1))),
+    ((9, 0, 0), None),
+];
+
 fn entry_of(parts: Parts) -> Entry {
     Entry {
         group: parts.0,
@@ -183,6 +194,9 @@ fn found_among_entries(rt: HostRuntime) -> Result<(), Fail> {
     }
     for (parts, behind) in BEHIND {
         assert_eq!(rt; next(&heads, parts), behind);
+    }
+    for (parts, behind) in IN_LANE {
+        assert_eq!(rt; parts_of(heads.behind_in_lane(&entry_of(parts))), behind);
     }
     Ok(())
 }
