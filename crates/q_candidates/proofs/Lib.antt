@@ -1,0 +1,16 @@
+pub mod Keys
+pub mod Lanes
+pub mod EntryLaws
+pub mod Making
+pub mod Entering
+pub mod Leaving
+pub mod Listing
+pub mod Steps
+pub mod Views
+pub mod LaneHeads
+pub mod ClassWalk
+pub mod NeedLaws
+pub mod Better
+pub mod ItemSame
+pub mod BestOfNeed
+pub mod SoFar

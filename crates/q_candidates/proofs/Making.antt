@@ -1,0 +1,133 @@
+-- A lane is made.
+use Rattle.std.proofs.Common.{◌≡◌, ◌≢◌, ◌∙◌, ◌∷◌, ◌++◌, ◌<◌, ◌≤◌, [], ap, arith, false, inl, inr, length, List, None, Option, option_map, refl, set, Some, subst, sym, true, ℕ, ◌⊎◌}
+use Rattle.std.proofs.lemmas.Bool.{cases_Bool, cases_eq, eqb-true, false_from_ne_true}
+use Rattle.std.proofs.lemmas.List.{get_or-set_other, get_or-set_same}
+use Rattle.std.specs.Option.{is_some}
+use Rattle.std.specs.Prelude.{◌==◌, find}
+use Rattle.q_heads.proofs.LaneWalk.{none_sought}
+use Rattle.q_heads.specs.Lanes.{class_of, Lanes, stands}
+use Rattle.q_keyed.specs.Numbered.{has_number, item_at, Items, Numbered}
+use Rattle.q_model.specs.Values.{Site}
+use Rattle.q_rounds.proofs.Entered.{come, most_entries}
+use Rattle.q_rounds.proofs.ItemSets.{free_item, unless_none}
+use Rattle.q_rounds.proofs.Lookups.{other_more, own_more, such_more, such_stays}
+use Rattle.q_rounds.specs.Listing.{AreEntries}
+use Rattle.q_sorted.specs.declared.entry.Entry.{Entry}
+use Rattle.q_sorted.specs.Entries.{Entries, inserted, is_of, Rises}
+use Rattle.q_candidates.specs.declared.index.Index.{Index}
+use Rattle.q_candidates.specs.declared.lane.Lane.{Lane}
+use Rattle.q_candidates.specs.Filing.{class_for, HasGrown, is_lane, lane_of, need_at, need_entry}
+use Rattle.q_candidates.specs.Sound.{AreLanes, IsLaid, IsLane}
+use Rattle.q_candidates.proofs.EntryLaws.{some_from}
+use Rattle.q_candidates.proofs.Lanes.{lane_from, lane_parts}
+
+pub index_of : Items Lane → Lanes → Lanes → Entries → Index
+index_of lanes ages ranks needs = record { lanes = lanes; ages = ages; ranks = ranks; needs = needs }
+
+no_item_is : (n : ℕ) (lanes : List (Numbered Lane)) → find (has_number n) lanes ≡ None → is_some (item_at n lanes) ≡ true → ⊥
+no_item_is n lanes fresh there = let x = some_from (item_at n lanes) there in unless_none (item_at n lanes) x.0 (free_item n lanes fresh) x.1
+
+-- no entry stands in a lane that there isn't
+pub free_lane : (n : ℕ) (lanes : List (Numbered Lane)) (items : List Entry) → ((e : Entry) → stands e items ≡ true → is_some (item_at e.group lanes) ≡ true) → find (has_number n) lanes ≡ None → find (is_of n) items ≡ None
+free_lane n lanes items inside fresh =
+    none_sought (is_of n) items (λ e there. false_from_ne_true (e.group == n) (λ h.
+    no_item_is n lanes fresh (subst (λ m. is_some (item_at m lanes) ≡ true) (eqb-true e.group n h) (inside e there))))
+
+held_need : (lanes : List (Numbered Lane)) (m : ℕ) (e : Entry) → need_at lanes m ≡ Some e → is_some (item_at m lanes) ≡ true
+held_need lanes m e h = step (item_at m lanes) h
+  where
+    step : (o : Option Lane) → option_map (need_entry m) o ≡ Some e → is_some o ≡ true
+    step None k = absurd cc
+    step (Some l) k = refl
+
+-- there are no more needs than lanes
+pub most_needs : (lanes : List (Numbered Lane)) (needs : List Entry) → AreEntries (need_at lanes) needs → Rises needs → length needs ≤ length lanes
+most_needs lanes needs are rising = most_entries (need_at lanes) needs lanes are rising (held_need lanes)
+
+module _ (site : Site) (need : ℕ) (i : Index) (n : ℕ) where
+  abbrev the_lane : Lane
+  the_lane = record { site = site; need = need }
+
+  abbrev pub more : List (Numbered Lane)
+  more = i.lanes.items ++ record { number = n; item = the_lane } ∷ []
+
+  abbrev pub classed : Lanes → Lanes
+  classed heads = record heads { classes = set heads.classes n (class_for site.transport need) }
+
+  abbrev pub after : Index
+  after = record {
+    lanes = record i.lanes { items = more };
+    ages = classed i.ages;
+    ranks = classed i.ranks;
+    needs = record i.needs { items = inserted (need_entry n the_lane) i.needs.items };
+  }
+
+  module _ (laid : IsLaid i) (fresh : find (has_number n) i.lanes.items ≡ None) (none : lane_of site need i.lanes.items ≡ None) (below : n < i.lanes.room) where
+    set_step : (heads : Lanes) → AreLanes i.lanes.items heads → n < heads.lanes → length heads.classes ≡ heads.lanes → (j : ℕ) (l : Lane) → item_at j more ≡ Some l → (j ≡ n) ⊎ (j ≢ n) → IsLane j l (classed heads)
+    set_step heads are low within j l h (inl same) =
+        let some : Some the_lane ≡ Some l = sym (own_more n the_lane i.lanes.items fresh) ∙ ap (λ m. item_at m more) (sym same) ∙ h in
+        let its : the_lane ≡ l = cc in
+        record {
+          below = omega (arith, same, low);
+          class = ap (λ m. class_of m (classed heads).classes) same ∙ get_or-set_same heads.classes n (class_for site.transport need) 0 (omega (arith, low, within))
+              ∙ ap (λ (y : Lane). class_for y.site.transport y.need) its;
+        }
+    set_step heads are low within j l h (inr other) =
+        let is = are j l (sym (other_more n j the_lane i.lanes.items other) ∙ h) in
+        record { below = is.below; class = get_or-set_other heads.classes n j (class_for site.transport need) 0 other ∙ is.class }
+
+    lanes_set : (heads : Lanes) → AreLanes i.lanes.items heads → n < heads.lanes → length heads.classes ≡ heads.lanes → AreLanes more (classed heads)
+    lanes_set heads are low within j l h = set_step heads are low within j l h (cases_eq j n)
+
+    pub made_laid : length i.ages.classes ≡ i.ages.lanes → length i.ranks.classes ≡ i.ranks.lanes → IsLaid after
+    made_laid ages ranks = record {
+      ages = lanes_set i.ages laid.ages (omega (arith, below, laid.age_lanes)) ages;
+      ranks = lanes_set i.ranks laid.ranks (omega (arith, below, laid.rank_lanes)) ranks;
+      listed = come (need_at i.lanes.items) (need_at more) i.needs.items laid.listed n (λ m other. ap (option_map (need_entry m)) (other_more n m the_lane i.lanes.items other))
+          (need_entry n the_lane) (ap (option_map (need_entry n)) (free_item n i.lanes.items fresh)) (ap (option_map (need_entry n)) (own_more n the_lane i.lanes.items fresh)) refl;
+      age_lanes = laid.age_lanes;
+      age_room = laid.age_room;
+      rank_lanes = laid.rank_lanes;
+      rank_room = laid.rank_room;
+      need_room = laid.need_room;
+    }
+
+    pub made_own : lane_of site need more ≡ Some n
+    made_own = such_more (is_lane site need) (record { number = n; item = the_lane }) i.lanes.items none (lane_from site need the_lane refl refl)
+
+    kept_step : (s : Site) (d : ℕ) → is_some (lane_of s d i.lanes.items) ≡ true → (is_lane s d the_lane ≡ true) ⊎ (is_lane s d the_lane ≡ false) → lane_of s d more ≡ lane_of s d i.lanes.items
+    kept_step s d there (inl own) =
+        let parts = lane_parts s d the_lane own in
+        let x = some_from (lane_of s d i.lanes.items) there in
+        absurd (unless_none (lane_of s d i.lanes.items) x.0 (ap (λ t. lane_of t d i.lanes.items) (sym parts.0) ∙ ap (λ m. lane_of site m i.lanes.items) (sym parts.1) ∙ none) x.1)
+    kept_step s d there (inr other) = such_stays (is_lane s d) (record { number = n; item = the_lane }) i.lanes.items other
+
+    lanes_step : (j : ℕ) (l : Lane) → item_at j more ≡ Some l → (j ≡ n) ⊎ (j ≢ n) → (item_at j i.lanes.items ≡ Some l) ⊎ ((l.site ≡ site) × (l.need ≡ need))
+    lanes_step j l h (inl same) =
+        let some : Some the_lane ≡ Some l = sym (own_more n the_lane i.lanes.items fresh) ∙ ap (λ m. item_at m more) (sym same) ∙ h in
+        let its : the_lane ≡ l = cc in
+        inr (ap (λ (y : Lane). y.site) (sym its), ap (λ (y : Lane). y.need) (sym its))
+    lanes_step j l h (inr other) = inl (sym (other_more n j the_lane i.lanes.items other) ∙ h)
+
+    pub made_grown : HasGrown site need i after
+    made_grown = record {
+      kept = λ s d there. kept_step s d there (cases_Bool (is_lane s d the_lane));
+      lanes = λ j l h. lanes_step j l h (cases_eq j n);
+      ages = refl;
+      ranks = refl;
+      room = refl;
+    }
+
+-- the lane was there
+pub grown_none : (site : Site) (need : ℕ) (i : Index) → HasGrown site need i i
+grown_none site need i = record { kept = λ s d there. refl; lanes = λ j l h. inl h; ages = refl; ranks = refl; room = refl }
+
+-- what is made of all four parts
+pub after_from : (P : Index → Type 0) (site : Site) (need : ℕ) (i : Index) (n : ℕ) (lanes : Items Lane) (ages ranks : Lanes) (needs : Entries) → lanes ≡ (after site need i n).lanes → ages ≡ (after site need i n).ages → ranks ≡ (after site need i n).ranks → needs ≡ (after site need i n).needs → P (after site need i n) →
+    P (record { lanes = lanes; ages = ages; ranks = ranks; needs = needs })
+after_from P site need i n lanes ages ranks needs a b c d p =
+    let w = after site need i n in
+    subst (λ (x : Items Lane). P (record { lanes = x; ages = ages; ranks = ranks; needs = needs })) (sym a)
+    (subst (λ (x : Lanes). P (record { lanes = w.lanes; ages = x; ranks = ranks; needs = needs })) (sym b)
+    (subst (λ (x : Lanes). P (record { lanes = w.lanes; ages = w.ages; ranks = x; needs = needs })) (sym c)
+    (subst (λ (x : Entries). P (record { lanes = w.lanes; ages = w.ages; ranks = w.ranks; needs = x })) (sym d) p)))

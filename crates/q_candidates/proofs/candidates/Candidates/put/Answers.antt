@@ -1,0 +1,108 @@
+use Rattle.std.proofs.Common.{◌≡◌, ◌∙◌, ◌∷◌, ◌++◌, ◌<◌, [], ap, arith, find, length, map, None, Option, refl, Some, subst, sym}
+use Rattle.std.proofs.lemmas.List.{length-map}
+use Rattle.std.specs.Option.{is_some}
+use Rattle.std.specs.Prelude.{IfSome}
+use Rattle.q_keyed.specs.Numbered.{first_such, Items, Numbered, put_at, values_of, without_number}
+use Rattle.q_rounds.proofs.ItemSets.{free_item, unless_none}
+use Rattle.q_rounds.proofs.Lookups.{fewer_at, own_left}
+use Rattle.q_rounds.specs.Rounds.{key_eq}
+use Rattle.q_candidates.specs.Candidates.{is_of, key_of, Listed, put_in}
+use Rattle.q_candidates.specs.declared.candidate.Candidate.{Candidate}
+use Rattle.q_candidates.proofs.Listing.{held, none_of, put_new, put_old, same_key}
+use Rattle.q_candidates.proofs.Steps.{fit_less, fit_set, is_less, is_more, is_put, sound_from}
+use Rattle.q_candidates.proofs.Views.{listed_of}
+use Rattle.q_candidates.proofs.candidates.Candidates.put.Goals as goal
+
+pub push-number-requires-clause-room : goal.push-number-requires-clause-room
+push-number-requires-clause-room c =
+    let ks = c.self.inside.candidates.items in
+    let x = c.args.candidate in
+    let none : first_such (is_of x.id x.site) ks ≡ None = sym (c.find.ensures ∙ ap (λ k. first_such (λ t. key_eq (key_of t) k) ks) c.key.ensures) ∙ c.in_default.is in
+    let room = subst (λ (v : Listed). find (is_of x.id x.site) v.items ≡ None → length v.items < v.room) (sym c.self.view_is) c.requires.room (none_of x.id x.site ks none) in
+    omega (arith, room, length-map ks (λ (k : Numbered Candidate). k.item))
+
+pub enter-requires-clause-space : goal.enter-requires-clause-space
+enter-requires-clause-space c =
+    let ks = c.self.inside.candidates.items in
+    let x = c.args.candidate in
+    let none : first_such (is_of x.id x.site) ks ≡ None = sym (c.find.ensures ∙ ap (λ k. first_such (λ t. key_eq (key_of t) k) ks) c.key.ensures) ∙ c.in_default.is in
+    let room = subst (λ (v : Listed). find (is_of x.id x.site) v.items ≡ None → length v.items < v.room) (sym c.self.view_is) c.requires.room (none_of x.id x.site ks none) in
+    record {
+      candidates = ks;
+      filed = c.self.invariant.filed;
+      fewer = omega (arith, room, length-map ks (λ (k : Numbered Candidate). k.item), c.self.invariant.room);
+    }
+
+pub invariant_of-self : goal.invariant_of-self
+invariant_of-self c =
+    let a = c.self.inside in
+    let ks = a.candidates.items in
+    let x = c.args.candidate in
+    let n = c.push-number.result in
+    let more = is_more n x ks c.push-number.ensures.fresh in
+    sound_from _ a.candidates (ks ++ record { number = n; item = x } ∷ []) _ a.index c.push-number.ensures.items
+    (fit_set n x ks (ks ++ record { number = n; item = x } ∷ []) more (record { some = c.requires.some; ranked = omega arith }) c.self.invariant.fit) c.enter.ensures.laid
+    (c.enter.ensures.filed ks (ks ++ record { number = n; item = x } ∷ []) c.self.invariant.filed (free_item n ks c.push-number.ensures.fresh) more)
+    c.enter.ensures.room c.self.invariant.room
+
+pub returns-in_default : goal.returns-in_default
+returns-in_default c =
+    let a = c.self.inside in
+    let ks = a.candidates.items in
+    let x = c.args.candidate in
+    let none : first_such (is_of x.id x.site) ks ≡ None = sym (c.find.ensures ∙ ap (λ k. first_such (λ t. key_eq (key_of t) k) ks) c.key.ensures) ∙ c.in_default.is in
+    ap (λ (v : Items Candidate). listed_of (values_of v.items) v.room) c.push-number.ensures.items
+    ∙ ap (λ cs. listed_of cs a.candidates.room) (put_new x c.push-number.result ks none)
+    ∙ ap (λ (v : Listed). listed_of (put_in x v.items) v.room) c.self.view_is
+
+pub returns-in_default-copied : goal.returns-in_default-copied
+returns-in_default-copied c =
+    let ks = c.self.inside.candidates.items in
+    let x = c.args.candidate in
+    let here : first_such (is_of x.id x.site) ks ≡ Some c.in-Some.number = sym (c.find.ensures ∙ ap (λ k. first_such (λ t. key_eq (key_of t) k) ks) c.key.ensures) ∙ c.in-Some.is in
+    let it = held x.id x.site c.in-Some.number ks c.stand_apart.ensures.apart c.stand_apart.ensures.keys here in
+    absurd (unless_none _ it.0 (sym (c.copied.ensures ∙ c.get.ensures) ∙ c.in_default-copied.is) it.1)
+
+pub put-requires : goal.put-requires
+put-requires c =
+    let ks = c.self.inside.candidates.items in
+    let x = c.args.candidate in
+    let n = c.in-Some.number in
+    let here : first_such (is_of x.id x.site) ks ≡ Some n = sym (c.find.ensures ∙ ap (λ k. first_such (λ t. key_eq (key_of t) k) ks) c.key.ensures) ∙ c.in-Some.is in
+    let it = held x.id x.site n ks c.stand_apart.ensures.apart c.stand_apart.ensures.keys here in
+    subst (λ (o : Option Candidate). IfSome o (λ t. key_of t ≡ key_of x)) (sym it.1) (same_key x.id x.site n ks c.stand_apart.ensures.apart c.stand_apart.ensures.keys here x refl)
+
+pub enter-requires-2-clause-space : goal.enter-requires-2-clause-space
+enter-requires-2-clause-space c =
+    let ks = c.self.inside.candidates.items in
+    let n = c.in-Some.number in
+    let there = sym (c.copied.ensures ∙ c.get.ensures) ∙ c.in-Some-copied.is in
+    record {
+      candidates = without_number n ks;
+      filed = c.leave.ensures.filed ks (without_number n ks) c.self.invariant.filed there (is_less n ks);
+      fewer = omega (arith, fewer_at n ks (ap is_some there), c.stand_apart.ensures.within, c.leave.ensures.room, c.self.invariant.room);
+    }
+
+pub invariant_of-self-2 : goal.invariant_of-self-2
+invariant_of-self-2 c =
+    let a = c.self.inside in
+    let ks = a.candidates.items in
+    let x = c.args.candidate in
+    let n = c.in-Some.number in
+    let there = sym (c.copied.ensures ∙ c.get.ensures) ∙ c.in-Some-copied.is in
+    let put = is_put n c.in-Some-copied.was x ks there in
+    sound_from _ a.candidates (map (put_at n x) ks) _ a.index c.put.ensures
+    (fit_set n x (without_number n ks) (map (put_at n x) ks) put (record { some = c.requires.some; ranked = omega arith }) (fit_less n ks c.self.invariant.fit)) c.enter-2.ensures.laid
+    (c.enter-2.ensures.filed (without_number n ks) (map (put_at n x) ks) (c.leave.ensures.filed ks (without_number n ks) c.self.invariant.filed there (is_less n ks)) (own_left n ks) put)
+    (c.enter-2.ensures.room ∙ c.leave.ensures.room) c.self.invariant.room
+
+pub returns : goal.returns
+returns c =
+    let a = c.self.inside in
+    let ks = a.candidates.items in
+    let x = c.args.candidate in
+    let n = c.in-Some.number in
+    let here : first_such (is_of x.id x.site) ks ≡ Some n = sym (c.find.ensures ∙ ap (λ k. first_such (λ t. key_eq (key_of t) k) ks) c.key.ensures) ∙ c.in-Some.is in
+    ap (λ (v : Items Candidate). listed_of (values_of v.items) v.room) c.put.ensures
+    ∙ ap (λ cs. listed_of cs a.candidates.room) (put_old x.id x.site n ks c.stand_apart.ensures.apart c.stand_apart.ensures.keys here x refl refl)
+    ∙ ap (λ (v : Listed). listed_of (put_in x v.items) v.room) c.self.view_is

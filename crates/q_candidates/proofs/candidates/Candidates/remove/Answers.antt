@@ -1,0 +1,37 @@
+use Rattle.std.proofs.Common.{◌∙◌, ap, filter, not, sym}
+use Rattle.q_keyed.specs.Numbered.{Items, values_of, without_number}
+use Rattle.q_rounds.proofs.ItemSets.{unless_none}
+use Rattle.q_candidates.specs.Candidates.{is_of, Listed}
+use Rattle.q_candidates.specs.declared.candidate.Candidate.{Candidate}
+use Rattle.q_candidates.proofs.Listing.{held, left_out, none_left_out}
+use Rattle.q_candidates.proofs.Steps.{fit_less, is_less, sound_from}
+use Rattle.q_candidates.proofs.Views.{listed_of}
+use Rattle.q_candidates.proofs.candidates.Candidates.remove.Goals as goal
+
+pub returns-in_default : goal.returns-in_default
+returns-in_default c =
+    let a = c.self.inside in
+    sym c.self.view_is
+    ∙ ap (λ cs. listed_of cs a.candidates.room) (sym (none_left_out c.args.id c.args.site.now a.candidates.items (sym c.find.ensures ∙ c.in_default.is)))
+    ∙ ap (λ (v : Listed). listed_of (filter (λ x. not (is_of c.args.id c.args.site.now x)) v.items) v.room) c.self.view_is
+
+pub returns-in_default-copied : goal.returns-in_default-copied
+returns-in_default-copied c =
+    let a = c.self.inside in
+    let it = held c.args.id c.args.site.now c.in-Some.number a.candidates.items c.stand_apart.ensures.apart c.stand_apart.ensures.keys (sym c.find.ensures ∙ c.in-Some.is) in
+    absurd (unless_none _ it.0 (sym (c.copied.ensures ∙ c.get.ensures) ∙ c.in_default-copied.is) it.1)
+
+pub invariant_of-self : goal.invariant_of-self
+invariant_of-self c =
+    let a = c.self.inside in
+    let n = c.in-Some.number in
+    sound_from _ a.candidates (without_number n a.candidates.items) _ a.index c.remove-candidate.ensures.items (fit_less n a.candidates.items c.self.invariant.fit) c.leave.ensures.laid
+    (c.leave.ensures.filed a.candidates.items (without_number n a.candidates.items) c.self.invariant.filed (sym (c.copied.ensures ∙ c.get.ensures) ∙ c.in-Some-copied.is) (is_less n a.candidates.items))
+    c.leave.ensures.room c.self.invariant.room
+
+pub returns : goal.returns
+returns c =
+    let a = c.self.inside in
+    ap (λ (v : Items Candidate). listed_of (values_of v.items) v.room) c.remove-candidate.ensures.items
+    ∙ ap (λ cs. listed_of cs a.candidates.room) (left_out c.args.id c.args.site.now c.in-Some.number a.candidates.items c.stand_apart.ensures.apart c.stand_apart.ensures.keys (sym c.find.ensures ∙ c.in-Some.is))
+    ∙ ap (λ (v : Listed). listed_of (filter (λ x. not (is_of c.args.id c.args.site.now x)) v.items) v.room) c.self.view_is

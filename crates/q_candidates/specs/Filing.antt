@@ -1,0 +1,76 @@
+-- The lanes of candidates, and where the number of a candidate stands in them.
+use Rattle.std.specs.Option.{is_some}
+use Rattle.std.specs.Prelude.{◌≡◌, ◌≢◌, ◌%◌, ◌*◌, ◌^◌, ◌&&◌, ◌+◌, ◌==◌, ◌⊎◌, Bool, List, Option, option_and_then, option_map, Some, true, ℕ}
+use Rattle.q_keyed.specs.Numbered.{first_such, item_at, Numbered}
+use Rattle.q_model.specs.Sites.{site_eq}
+use Rattle.q_model.specs.Values.{Site}
+use Rattle.q_peers.specs.Buckets.{site_hash}
+use Rattle.q_sorted.specs.declared.entry.Entry.{Entry}
+use Rattle.q_candidates.specs.declared.candidate.Candidate.{Candidate}
+use Rattle.q_candidates.specs.declared.index.Index.{Index}
+use Rattle.q_candidates.specs.declared.lane.Lane.{Lane}
+use Rattle.q_candidates.specs.declared.lane.LaneKey.{LaneKey}
+
+abbrev pub key_of_lane : Lane → LaneKey
+key_of_lane l = record { site = l.site; need = l.need }
+
+abbrev pub lane_eq : LaneKey → LaneKey → Bool
+lane_eq a b = site_eq a.site b.site && (a.need == b.need)
+
+-- a number that is taken from both
+abbrev pub lane_hash : LaneKey → ℕ
+lane_hash k = (site_hash k.site * 31 + k.need) % 2147483647
+
+-- the class of the lanes of a transport and a need; needs that differ by 2^24 share one
+abbrev pub class_for : ℕ → ℕ → ℕ
+class_for transport need = need % 16777216 * 256 + transport
+
+-- the lane of the site and the need
+abbrev pub is_lane : Site → ℕ → Lane → Bool
+is_lane site need l = site_eq l.site site && (l.need == need)
+
+-- its number
+abbrev pub lane_of : Site → ℕ → List (Numbered Lane) → Option ℕ
+lane_of site need lanes = first_such (is_lane site need) lanes
+
+-- by arrival, then by rank
+abbrev pub age_key : Candidate → ℕ
+age_key c = c.arrival * 2 ^ 64 + c.rank
+
+abbrev pub rank_key : Candidate → ℕ
+rank_key c = c.rank
+
+abbrev pub entry_with : (Candidate → ℕ) → ℕ → ℕ → Candidate → Entry
+entry_with key lane number c = record { key = key c; group = lane; item = number }
+
+-- the entry of a candidate in the lane of its site and need
+abbrev pub entry_in : (Candidate → ℕ) → List (Numbered Lane) → ℕ → Candidate → Option Entry
+entry_in key lanes number c =
+    option_map (λ lane. entry_with key lane number c) (lane_of c.site c.need lanes)
+
+-- that of the candidate under a number
+abbrev pub entry_at : (Candidate → ℕ) → List (Numbered Lane) → List (Numbered Candidate) → ℕ → Option Entry
+entry_at key lanes ks number = option_and_then (entry_in key lanes number) (item_at number ks)
+
+-- the entry of a lane among the needs
+abbrev pub need_entry : ℕ → Lane → Entry
+need_entry number l = record { key = l.need; group = l.site.transport; item = number }
+
+abbrev pub need_at : List (Numbered Lane) → ℕ → Option Entry
+need_at lanes number = option_map (need_entry number) (item_at number lanes)
+
+-- under this number stands this one now, or none, and the others stay
+pub record IsChanged (n : ℕ) (o : Option Candidate) (ks new : List (Numbered Candidate)) : Type 0 where
+  pub own : item_at n new ≡ o
+  pub others : (m : ℕ) → m ≢ n → item_at m new ≡ item_at m ks
+
+-- the site and the need may have got a lane, the lanes that there were stay, and so do all entries
+-- of candidates
+pub record HasGrown (site : Site) (need : ℕ) (old new : Index) : Type 0 where
+  pub kept : (s : Site) (d : ℕ) → is_some (lane_of s d old.lanes.items) ≡ true
+      → lane_of s d new.lanes.items ≡ lane_of s d old.lanes.items
+  pub lanes : (n : ℕ) (l : Lane) → item_at n new.lanes.items ≡ Some l
+      → (item_at n old.lanes.items ≡ Some l) ⊎ ((l.site ≡ site) × (l.need ≡ need))
+  pub ages : new.ages.items ≡ old.ages.items
+  pub ranks : new.ranks.items ≡ old.ranks.items
+  pub room : new.lanes.room ≡ old.lanes.room

@@ -1,0 +1,101 @@
+//! The candidate that preempts.
+ghost use Rattle.std.specs.Prelude.{◌≡◌};
+ghost use Rattle.std.specs.Option.{option_copied};
+ghost use Rattle.q_candidates.specs.Candidates.{IsBest};
+ghost use Rattle.q_candidates.specs.Choosing.{better_of, goes_first_at, IsBestOf};
+ghost use Rattle.q_candidates.specs.Sound.{IsSound};
+ghost use Rattle.q_candidates.specs.Walking.{is_wanted};
+
+use crate::candidate::Candidate;
+use crate::candidates::Candidates;
+use crate::index::Index;
+use crate::walking::first_wanted;
+use crate::wanted::Wanted;
+use q_dest::Sites;
+use q_keyed::Keyed;
+use q_model::{Id, Moment};
+
+/// The number of the best candidate that is wanted. Of one need the oldest is the best; those that
+/// came now or later are of one age, and of them the one admitted first is.
+fn best_wanted(
+    candidates: &Keyed<Candidate>,
+    index: &Index,
+    wanted: &Wanted,
+    now: Moment,
+    sites: &Sites,
+) -> Option<u32>
+    requires { IsSound candidates.now index.now }
+    ensures { IsBestOf now (is_wanted sites.now.items wanted.now) candidates.now.items result }
+{
+    candidates.stand_apart();
+    index.lanes.stand_apart();
+    let oldest = first_wanted(&index.ages, candidates, wanted, sites)?;
+    let candidate = candidates.get(oldest.item)?;
+    if candidate.arrival < now {
+        return Some(oldest.item);
+    }
+    let first = first_wanted(&index.ranks, candidates, wanted, sites)?;
+    Some(first.item)
+}
+
+/// Whether the candidate of one number goes before that of another.
+fn goes_first_at(candidates: &Keyed<Candidate>, now: Moment, a: u32, b: u32) -> bool
+    ensures { result ≡ goes_first_at candidates.now.items now a b }
+{
+    match (candidates.get(a), candidates.get(b)) {
+        (Some(a), Some(b)) => a.goes_first(b, now),
+        _ => false,
+    }
+}
+
+/// The number of the one that goes first.
+fn better_of(
+    candidates: &Keyed<Candidate>,
+    now: Moment,
+    a: Option<u32>,
+    b: Option<u32>,
+) -> Option<u32>
+    ensures { result ≡ better_of candidates.now.items now a b }
+{
+    match (a, b) {
+        (Some(a), Some(b)) => Some(if goes_first_at(candidates, now, b, a) {
+            b
+        } else {
+            a
+        }),
+        (Some(a), None) => Some(a),
+        (None, b) => b,
+    }
+}
+
+impl Candidates {
+    /// The best of the candidates of the transport that need so many deliveries at most, are of
+    /// another message than this one and whose sites have space.
+    pub fn best(
+        &self,
+        transport: u8,
+        most: u32,
+        now: Moment,
+        except: Id,
+        sites: &Sites,
+    ) -> Option<&Candidate>
+        ensures { IsBest sites.now.items transport most now except self.now.items
+            (option_copied result) }
+    {
+        self.candidates.stand_apart();
+        self.index.lanes.stand_apart();
+        let mut best = None;
+        let mut at = self.index.next_need(transport, 0, most);
+        while let Some(need) = at {
+            let wanted = Wanted {
+                transport,
+                need,
+                except,
+            };
+            let own = best_wanted(&self.candidates, &self.index, &wanted, now, sites);
+            best = better_of(&self.candidates, now, best, own);
+            at = self.index.next_need(transport, u64::from(need) + 1, most);
+        }
+        self.candidates.get(best?)
+    }
+}

@@ -1,0 +1,118 @@
+//! The candidates.
+ghost use Rattle.std.specs.Prelude.{◌≡◌, ◌≤◌, ◌<◌, ◌-◌, ◌^◌, [], filter, find, IfOk, length, None, not, true};
+ghost use Rattle.std.specs.List.{AllByRecursion};
+ghost use Rattle.std.specs.Option.{option_copied};
+ghost use Rattle.q_candidates.specs.Candidates.{AreApart, is_of, put_in};
+
+use crate::candidate::Candidate;
+use crate::index::Index;
+use q_keyed::Keyed;
+use q_model::{Id, Site};
+use q_rounds::PeerKey;
+use std::alloc::{AllocError, Global};
+use std::marker::Model;
+
+/// Candidates in the order in which they came. A contract sees them as a list.
+#[derive(Debug, Drop)]
+pub struct Candidates {
+    pub(crate) candidates: Keyed<Candidate>,
+    pub(crate) index: Index,
+}
+
+impl Model for Candidates {
+    ghost use Rattle.q_keyed.specs.Numbered.{values_of};
+    ghost use Rattle.q_candidates.specs.Candidates.{Listed};
+    ghost use Rattle.q_candidates.specs.Sound.{IsSound};
+
+    ghost Value = { Listed };
+
+    ghost view = { λ a. record { items = values_of a.candidates.items; room = a.candidates.room } };
+
+    ghost invariant = { λ a. IsSound a.candidates a.index };
+}
+
+impl Candidates {
+    /// No candidate, and room for so many. An error says that memory is wanting.
+    pub fn new(alloc: Global, room: u32) -> Result<Candidates, AllocError>
+        requires some { 1 ≤ room }
+        requires few { room < 2 ^ 30 }
+        ensures { IfOk result (λ made. made ≡ record { items = []; room = room }) }
+    {
+        let candidates = Keyed::new(alloc, room)?;
+        let index = Index::new(alloc, room)?;
+        Ok(Candidates { candidates, index })
+    }
+
+    /// No two candidates are of one message and site, each needs a delivery, and there are no more
+    /// than have room, whatever was called: this does nothing, and is there for callers whose
+    /// proofs want to know it.
+    pub fn stand_apart(&self)
+        ensures apart { AreApart self.now.items }
+        ensures needs { AllByRecursion (λ c. 1 ≤ c.need) self.now.items }
+        ensures within { length self.now.items ≤ self.now.room }
+        ensures few { self.now.room < 2 ^ 30 }
+    {
+        self.candidates.stand_apart();
+    }
+
+    /// How many candidates there are.
+    pub fn len(&self) -> u32
+        ensures { result ≡ length self.now.items }
+    {
+        self.candidates.stand_apart();
+        self.candidates.len() as u32
+    }
+
+    /// How many candidates more have room.
+    pub fn spare(&self) -> u32
+        ensures { result ≡ self.now.room - length self.now.items }
+    {
+        self.candidates.spare()
+    }
+
+    /// The candidate of the message at the site.
+    pub fn find(&self, id: Id, site: &Site) -> Option<&Candidate>
+        ensures { option_copied result ≡ find (is_of id site.now) self.now.items }
+    {
+        self.candidates.stand_apart();
+        let number = self.candidates.find(&PeerKey { id, site: *site })?;
+        self.candidates.get(number)
+    }
+
+    /// Puts a candidate in the place of that of the same message and site, or behind all others.
+    pub fn put(&mut self, candidate: Candidate)
+        requires some { 1 ≤ candidate.need }
+        requires room { find (is_of candidate.id candidate.site) self.old.items ≡ None
+            → length self.old.items < self.old.room }
+        ensures { self.new ≡ record self.old { items = put_in candidate self.old.items } }
+    {
+        self.candidates.stand_apart();
+        let Some(number) = self.candidates.find(&candidate.key()) else {
+            let number = self.candidates.push(candidate);
+            self.index.enter(number, &candidate);
+            return;
+        };
+        let Some(was) = self.candidates.get(number).copied() else {
+            return;
+        };
+        self.index.leave(number, &was);
+        self.candidates.put(number, candidate);
+        self.index.enter(number, &candidate);
+    }
+
+    /// Takes the candidate of the message at the site out, and does nothing where there is none.
+    pub fn remove(&mut self, id: Id, site: &Site)
+        ensures { self.new ≡ record self.old
+            { items = filter (λ c. not (is_of id site.now c)) self.old.items } }
+    {
+        self.candidates.stand_apart();
+        let Some(number) = self.candidates.find(&PeerKey { id, site: *site }) else {
+            return;
+        };
+        let Some(candidate) = self.candidates.get(number).copied() else {
+            return;
+        };
+        self.index.leave(number, &candidate);
+        let _candidate = self.candidates.remove(number);
+    }
+}

@@ -1,0 +1,90 @@
+//! How candidates are found in order.
+ghost use Rattle.std.specs.Prelude.{◌≡◌, ◌<◌, ◌≤◌, ◌*◌, ◌+◌, ◌^◌, [], IfOk};
+ghost use Rattle.q_candidates.specs.Filing.{age_key, entry_with, need_entry, rank_key};
+ghost use Rattle.q_candidates.specs.Sound.{IsFiled, IsLaid};
+
+use crate::candidate::Candidate;
+use crate::lane::Lane;
+use q_heads::Heads;
+use q_keyed::Keyed;
+use q_model::Moment;
+use q_sorted::{Entry, Sorted};
+use std::alloc::{AllocError, Global};
+
+/// The numbers of candidates in lanes, of which each has those of one site and need.
+#[derive(Debug, Drop)]
+pub(crate) struct Index {
+    /// The lanes in which candidates stand, each with a number.
+    pub(crate) lanes: Keyed<Lane>,
+    /// In each lane by arrival, then by rank.
+    pub(crate) ages: Heads,
+    /// In each lane by rank, for those that came after the moment that is now.
+    pub(crate) ranks: Heads,
+    /// The lanes, by transport and then by need.
+    pub(crate) needs: Sorted,
+}
+
+/// As many as there are ranks.
+const RANKS: u128 = 18_446_744_073_709_551_616;
+
+/// One number for both, which grows with the arrival, and at one arrival with the rank.
+fn age_key(arrival: Moment, rank: u64) -> u128
+    ensures { result ≡ arrival * 2 ^ 64 + rank }
+{
+    u128::from(arrival) * RANKS + u128::from(rank)
+}
+
+/// The entry of a candidate in its lane among the ages.
+pub(crate) fn age_entry(lane: u32, number: u32, candidate: &Candidate) -> Entry
+    ensures { result ≡ entry_with age_key lane number candidate.now }
+{
+    Entry {
+        key: age_key(candidate.arrival, candidate.rank),
+        group: lane,
+        item: number,
+    }
+}
+
+/// The entry of a candidate in its lane among the ranks.
+pub(crate) fn rank_entry(lane: u32, number: u32, candidate: &Candidate) -> Entry
+    ensures { result ≡ entry_with rank_key lane number candidate.now }
+{
+    Entry {
+        key: u128::from(candidate.rank),
+        group: lane,
+        item: number,
+    }
+}
+
+/// The entry of a lane among the needs.
+pub(crate) fn need_entry(number: u32, lane: &Lane) -> Entry
+    ensures { result ≡ need_entry number lane.now }
+{
+    Entry {
+        key: u128::from(lane.need),
+        group: u32::from(lane.site.transport),
+        item: number,
+    }
+}
+
+impl Index {
+    /// No candidate, and room for so many.
+    pub(crate) fn new(alloc: Global, room: u32) -> Result<Index, AllocError>
+        requires some { 1 ≤ room }
+        requires few { room < 2 ^ 30 }
+        ensures laid { IfOk result IsLaid }
+        ensures filed { IfOk result (IsFiled []) }
+        ensures room { IfOk result (λ made. made.lanes.room ≡ room) }
+    {
+        let lanes = Keyed::new(alloc, room)?;
+        let ages = Heads::new(alloc, room, room)?;
+        let ranks = Heads::new(alloc, room, room)?;
+        let needs = Sorted::new(alloc, room)?;
+        Ok(Index {
+            lanes,
+            ages,
+            ranks,
+            needs,
+        })
+    }
+}
