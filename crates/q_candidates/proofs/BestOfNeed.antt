@@ -13,7 +13,7 @@ use Rattle.q_candidates.specs.declared.wanted.Wanted.{Wanted}
 use Rattle.q_candidates.specs.Candidates.{key_of}
 use Rattle.q_candidates.specs.Choosing.{IsBestOf, IsFirstOf}
 use Rattle.q_candidates.specs.Filing.{age_key, key_of_lane, lane_eq, rank_key}
-use Rattle.q_candidates.specs.Sound.{IsSound}
+use Rattle.q_candidates.specs.Sound.{IsOrdered}
 use Rattle.q_candidates.specs.Walking.{AreOrdered, is_open, is_wanted, IsFoundBy, IsLeastBy}
 use Rattle.q_candidates.proofs.Better.{first_of_need, older_by_key, rank_by_key}
 use Rattle.q_candidates.proofs.ItemSame.{same_item}
@@ -24,7 +24,7 @@ wanted_need ds w c h =
     let inner = and_parts ((c.site.transport == w.transport) && (c.need == w.need)) (has_space_at ds c.site) outer.0 in
     eqb-true c.need w.need (and_parts (c.site.transport == w.transport) (c.need == w.need) inner.0).1
 
-module _ (v : Items Candidate) (i : Index) (sound : IsSound v i) (lanes_apart : AreApart i.lanes.items) (lane_keys : AreKeysApart lane_eq key_of_lane i.lanes.items) (keys : AreKeysApart key_eq key_of v.items) where
+module _ (v : Items Candidate) (i : Index) (sound : IsOrdered v i) (lanes_apart : AreApart i.lanes.items) (lane_keys : AreKeysApart lane_eq key_of_lane i.lanes.items) (keys : AreKeysApart key_eq key_of v.items) where
   pub by_age : AreOrdered age_key i.lanes.items v.items i.ages
   by_age = record {
     lanes_apart = lanes_apart;

@@ -1,8 +1,8 @@
 -- Which of two goes first.
 use Rattle.std.proofs.Common.{◌≡◌, ◌*◌, ◌+◌, ◌<◌, ◌≤◌, ◌^◌, ap, arith, Bool, false, inl, inr, not, refl, true, ℕ, ◌⊎◌}
-use Rattle.std.proofs.lemmas.Bool.{both_ways, cases_Bool, cases_lt, lt-ltb}
+use Rattle.std.proofs.lemmas.Bool.{both_ways, cases_Bool, cases_lt, lt-ltb, ltb-true}
 use Rattle.std.proofs.lemmas.Bool.Decides.{nat_tests}
-use Rattle.std.proofs.Math.Nat.{le_of_mul-le-mul_left, mul-le-mul_right}
+use Rattle.std.proofs.Math.Nat.{le_of_mul-le-mul_left, mul-le-mul_left, mul-le-mul_right}
 use Rattle.std.specs.Prelude.{◌&&◌, ◌||◌, nat_lt}
 use Rattle.q_candidates.specs.declared.candidate.Candidate.{Candidate}
 use Rattle.q_candidates.specs.Candidates.{age_at, goes_first, is_better}
@@ -83,6 +83,15 @@ module _ (now : ℕ) where
           let more : (weight c + 1) * d.need ≤ weight d * d.need = mul-le-mul_right d.need (omega (arith, less)) in
           inl (lt-ltb (weight c * d.need) (weight d * c.need) (rw same (omega (arith, more, some))))
       step (inr no_less) = inr (rank (omega (arith, older, no_less)))
+
+-- none that is no older and needs as much goes before one that the oldest wouldn't go before
+pub over_first : (now age from : ℕ) (c b : Candidate) → age_at now c ≤ age → from ≤ c.need → nat_lt ((age + 1) * b.need) ((age_at now b + 1) * from) ≡ true → goes_first now c b ≡ false
+over_first now age from c b older low over =
+    let less : (age + 1) * b.need < (age_at now b + 1) * from = ltb-true ((age + 1) * b.need) ((age_at now b + 1) * from) over in
+    let mine : (age_at now c + 1) * b.need ≤ (age + 1) * b.need = mul-le-mul_right b.need (omega (arith, older)) in
+    let its : (age_at now b + 1) * from ≤ (age_at now b + 1) * c.need = mul-le-mul_left (age_at now b + 1) low in
+    from_parts now c b (less_not ((age_at now b + 1) * c.need) ((age_at now c + 1) * b.need) (omega (arith, less, mine, its)))
+    (inl (lt-ltb ((age_at now c + 1) * b.need) ((age_at now b + 1) * c.need) (omega (arith, less, mine, its))))
 
 -- by the keys of ages
 pub older_by_key : (now : ℕ) (c d : Candidate) → c.rank < 2 ^ 64 → d.arrival * 2 ^ 64 + d.rank ≤ c.arrival * 2 ^ 64 + c.rank → d.arrival ≤ c.arrival

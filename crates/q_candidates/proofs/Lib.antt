@@ -14,3 +14,4 @@ pub mod Better
 pub mod ItemSame
 pub mod BestOfNeed
 pub mod SoFar
+pub mod ArrivalLaws

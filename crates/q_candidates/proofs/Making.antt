@@ -21,9 +21,6 @@ use Rattle.q_candidates.specs.Sound.{AreLanes, IsLaid, IsLane}
 use Rattle.q_candidates.proofs.EntryLaws.{some_from}
 use Rattle.q_candidates.proofs.Lanes.{lane_from, lane_parts}
 
-pub index_of : Items Lane → Lanes → Lanes → Entries → Index
-index_of lanes ages ranks needs = record { lanes = lanes; ages = ages; ranks = ranks; needs = needs }
-
 no_item_is : (n : ℕ) (lanes : List (Numbered Lane)) → find (has_number n) lanes ≡ None → is_some (item_at n lanes) ≡ true → ⊥
 no_item_is n lanes fresh there = let x = some_from (item_at n lanes) there in unless_none (item_at n lanes) x.0 (free_item n lanes fresh) x.1
 

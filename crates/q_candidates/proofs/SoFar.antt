@@ -1,8 +1,8 @@
 -- The best candidate of all needs so far.
-use Rattle.std.proofs.Common.{◌≡◌, ◌∙◌, ◌+◌, ◌-◌, ◌<◌, ◌≤◌, ◌^◌, ap, arith, Bool, cond, false, inl, inr, List, None, not, Option, refl, Some, subst, sym, true, ℕ, ◌⊎◌}
+use Rattle.std.proofs.Common.{Bool, List, None, Option, Some, ap, arith, cond, false, inl, inr, not, refl, subst, sym, true, ℕ, ◌*◌, ◌+◌, ◌-◌, ◌<◌, ◌^◌, ◌∙◌, ◌≡◌, ◌≤◌, ◌⊎◌}
 use Rattle.std.proofs.lemmas.Bool.{and_from, and_parts, cases_lt, eq-eqb, eqb-true, le-leb, leb-true}
 use Rattle.std.specs.Option.{option_map_or}
-use Rattle.std.specs.Prelude.{◌==◌, ◌&&◌, find, IfSome, nat_le}
+use Rattle.std.specs.Prelude.{◌==◌, ◌&&◌, find, IfSome, nat_le, nat_lt}
 use Rattle.q_dest.specs.declared.dest.Dest.{Dest}
 use Rattle.q_keyed.proofs.Values.{held_item, item_found}
 use Rattle.q_keyed.specs.Numbered.{AreApart, AreKeysApart, first_such, item_at, Items, Numbered, values_of}
@@ -16,12 +16,12 @@ use Rattle.q_candidates.specs.declared.candidate.Candidate.{Candidate}
 use Rattle.q_candidates.specs.declared.index.Index.{Index}
 use Rattle.q_candidates.specs.declared.lane.Lane.{Lane}
 use Rattle.q_candidates.specs.declared.wanted.Wanted.{Wanted}
-use Rattle.q_candidates.specs.Candidates.{goes_first, IsBest, is_of, key_of, may_preempt}
-use Rattle.q_candidates.specs.Choosing.{better_of, goes_first_at, IsBestOf, IsNextNeed}
+use Rattle.q_candidates.specs.Candidates.{age_at, goes_first, IsBest, is_of, key_of, may_preempt}
+use Rattle.q_candidates.specs.Choosing.{better_of, goes_first_at, is_over, IsBestOf, IsNextHope, IsNextNeed}
 use Rattle.q_candidates.specs.Filing.{is_lane, lane_of}
-use Rattle.q_candidates.specs.Sound.{IsSound}
+use Rattle.q_candidates.specs.Sound.{IsOrdered}
 use Rattle.q_candidates.specs.Walking.{is_open, is_wanted}
-use Rattle.q_candidates.proofs.Better.{first_along, first_back}
+use Rattle.q_candidates.proofs.Better.{first_along, first_back, over_first}
 use Rattle.q_candidates.proofs.EntryLaws.{some_from}
 use Rattle.q_candidates.proofs.ItemSame.{same_item}
 use Rattle.q_candidates.proofs.Keys.{own_found}
@@ -84,15 +84,14 @@ pub record IsSoFar (now : ℕ) (test : Candidate → Bool) (most : ℕ) (ks : Li
 abbrev pub needs_left : Option ℕ → ℕ
 needs_left at = option_map_or (λ d. 2 ^ 32 - d) at 0
 
-left_step : (transport d most : ℕ) (lanes : List (Numbered Lane)) (o : Option ℕ) → d < 2 ^ 32 → IsNextNeed transport (d + 1) most lanes o → needs_left o < 2 ^ 32 - d
-left_step transport d most lanes None low is = omega (arith, low)
-left_step transport d most lanes (Some e) low is = omega (arith, low, is.0)
-
-pub needs_smaller : (transport d most : ℕ) (lanes : List (Numbered Lane)) (at next : Option ℕ) → at ≡ Some d → d < 2 ^ 32 → IsNextNeed transport (d + 1) most lanes next → needs_left next < needs_left at
-needs_smaller transport d most lanes at next here low is =
-    let from = ap needs_left here in
-    let step = left_step transport d most lanes next low is in
-    omega (arith, from, step)
+-- what is over is so by the best so far
+over_tells : (ks : List (Numbered Candidate)) (now age from : ℕ) (best : Option ℕ) → is_over ks now age best from ≡ true → (n : ℕ) × (b : Candidate) × (best ≡ Some n) × (item_at n ks ≡ Some b) × (nat_lt ((age + 1) * b.need) ((age_at now b + 1) * from) ≡ true)
+over_tells ks now age from None h = absurd cc
+over_tells ks now age from (Some n) h = step (item_at n ks) refl h
+  where
+    step : (o : Option Candidate) → item_at n ks ≡ o → option_map_or (λ (b : Candidate). nat_lt ((age + 1) * b.need) ((age_at now b + 1) * from)) o false ≡ true → (m : ℕ) × (b : Candidate) × (Some n ≡ Some m) × (item_at m ks ≡ Some b) × (nat_lt ((age + 1) * b.need) ((age_at now b + 1) * from) ≡ true)
+    step None there k = absurd cc
+    step (Some b) there k = (n, b, refl, there, k)
 
 module _ (now : ℕ) (ks : List (Numbered Candidate)) (fit : AreFit ks) where
   goes_at : (a b : ℕ) (x y : Candidate) → item_at a ks ≡ Some x → item_at b ks ≡ Some y → goes_first_at ks now a b ≡ goes_first now x y
@@ -154,7 +153,7 @@ own_one : (now : ℕ) (wanted test : Candidate → Bool) (ks : List (Numbered Ca
 own_one now wanted test ks None may best = tt
 own_one now wanted test ks (Some n) may best = (best.candidate, best.there, may best.candidate best.passes)
 
-module _ (v : Items Candidate) (i : Index) (sound : IsSound v i) (lanes_apart : AreApart i.lanes.items) (now : ℕ) (ds : List Dest) (transport most : ℕ) (except : Id) where
+module _ (v : Items Candidate) (i : Index) (sound : IsOrdered v i) (lanes_apart : AreApart i.lanes.items) (now : ℕ) (ds : List Dest) (transport most : ℕ) (except : Id) where
   abbrev may : Candidate → Bool
   may c = may_preempt ds transport most except c
 
@@ -182,15 +181,26 @@ module _ (v : Items Candidate) (i : Index) (sound : IsSound v i) (lanes_apart : 
     few = few_step 0 at is;
   }
 
-  module _ (d : ℕ) (best at own next : Option ℕ) (here : at ≡ Some d) (so_far : IsSoFar now may most v.items best at) (is_own : IsBestOf now (is_wanted ds (wanted_with transport d except)) v.items own) (is_next : IsNextNeed transport (d + 1) most i.lanes.items next) where
+  module _ (age : ℕ) (older : (m : ℕ) (c : Candidate) → item_at m v.items ≡ Some c → c.site.transport ≡ transport → age_at now c ≤ age) (d : ℕ) (best at own next : Option ℕ) (here : at ≡ Some d) (so_far : IsSoFar now may most v.items best at) (is_own : IsBestOf now (is_wanted ds (wanted_with transport d except)) v.items own)
+      (is_next : IsNextHope v.items now age transport (d + 1) most i.lanes.items (better_of v.items now best own) next) where
     few : d ≤ most
     few = subst (λ (o : Option ℕ). IfSome o (λ e. e ≤ most)) here so_far.few
 
     own_passes : IfSome own (IsOne may v.items)
     own_passes = own_one now (is_wanted ds (wanted_with transport d except)) may v.items own (λ c h. wanted_may ds transport most except d c few h) is_own
 
+    more_step : (m : ℕ) (c : Candidate) → item_at m v.items ≡ Some c → may c ≡ true → d + 1 ≤ c.need → IsNextHope v.items now age transport (d + 1) most i.lanes.items (better_of v.items now best own) next → IsCovered now v.items (better_of v.items now best own) c ⊎ IsToCome next c
+    more_step m c there passes more (inl is) = inr (to_come m c (d + 1) next there passes more is)
+    more_step m c there passes more (inr over) =
+        let it = over_tells v.items now age (d + 1) (better_of v.items now best own) over.1 in
+        inl (it.0, it.1, it.2, it.3, over_first now age (d + 1) c it.1 (older m c there (may_parts ds transport most except c passes).at) more it.4)
+
+    few_next : IsNextHope v.items now age transport (d + 1) most i.lanes.items (better_of v.items now best own) next → IfSome next (λ e. e ≤ most)
+    few_next (inl is) = few_step (d + 1) next is
+    few_next (inr over) = subst (λ (o : Option ℕ). IfSome o (λ e. e ≤ most)) (sym over.0) tt
+
     need_step : (m : ℕ) (c : Candidate) → item_at m v.items ≡ Some c → may c ≡ true → d ≤ c.need → (d < c.need) ⊎ (c.need ≤ d) → IsCovered now v.items (better_of v.items now best own) c ⊎ IsToCome next c
-    need_step m c there passes low (inl more) = inr (to_come m c (d + 1) next there passes (omega (arith, more)) is_next)
+    need_step m c there passes low (inl more) = more_step m c there passes (omega (arith, more)) is_next
     need_step m c there passes low (inr no_more) =
         let same : c.need ≡ d = omega (arith, low, no_more) in
         let wanted : is_wanted ds (wanted_with transport d except) c ≡ true = subst (λ e. is_wanted ds (wanted_with transport e except) c ≡ true) same (may_wanted ds transport most except c passes) in
@@ -207,7 +217,7 @@ module _ (v : Items Candidate) (i : Index) (sound : IsSound v i) (lanes_apart : 
     so_far_goes = record {
       each = λ m c there passes. each_step m c there passes (so_far.each m c there passes);
       one = one_better now v.items sound.fit may best own so_far.one own_passes;
-      few = few_step (d + 1) next is_next;
+      few = few_next is_next;
     }
 
   -- In the end.

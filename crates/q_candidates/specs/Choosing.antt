@@ -1,11 +1,11 @@
 -- The best candidate of one need, and of all needs so far.
 use Rattle.std.specs.Option.{option_map_or}
-use Rattle.std.specs.Prelude.{◌≡◌, ◌≤◌, Bool, false, if◌then◌else◌, List, None, Option, Some, true, ℕ}
+use Rattle.std.specs.Prelude.{◌≡◌, ◌≤◌, ◌*◌, ◌+◌, ◌⊎◌, Bool, false, if◌then◌else◌, List, nat_lt, None, Option, Some, true, ℕ}
 use Rattle.q_keyed.specs.Numbered.{item_at, Numbered}
 use Rattle.q_sorted.specs.declared.entry.Entry.{Entry}
 use Rattle.q_candidates.specs.declared.candidate.Candidate.{Candidate}
 use Rattle.q_candidates.specs.declared.lane.Lane.{Lane}
-use Rattle.q_candidates.specs.Candidates.{goes_first}
+use Rattle.q_candidates.specs.Candidates.{age_at, goes_first}
 
 -- what goes before all lanes of the transport that have this need or a greater one
 abbrev pub cut_at : ℕ → ℕ → Entry
@@ -17,6 +17,17 @@ IsNextNeed transport from most lanes None = (n : ℕ) (l : Lane) → item_at n l
     → l.site.transport ≡ transport → from ≤ l.need → l.need ≤ most → ⊥
 IsNextNeed transport from most lanes (Some d) = (from ≤ d) × (d ≤ most) × ((n : ℕ) (l : Lane)
     → item_at n lanes ≡ Some l → l.site.transport ≡ transport → from ≤ l.need → d ≤ l.need)
+
+-- no candidate of so great a need and of no greater age goes before the best one so far
+abbrev pub is_over : List (Numbered Candidate) → ℕ → ℕ → Option ℕ → ℕ → Bool
+is_over ks now age None from = false
+is_over ks now age (Some n) from = option_map_or
+    (λ b. nat_lt ((age + 1) * b.need) ((age_at now b + 1) * from)) (item_at n ks) false
+
+-- the next need, or none where the rest is over
+abbrev pub IsNextHope : List (Numbered Candidate) → ℕ → ℕ → ℕ → ℕ → ℕ → List (Numbered Lane) → Option ℕ → Option ℕ → Type 0
+IsNextHope ks now age transport from most lanes best next = IsNextNeed transport from most lanes next
+    ⊎ ((next ≡ None) × (is_over ks now age best from ≡ true))
 
 -- the candidate of the number passes, and none that passes goes first
 pub record IsFirstOf (now : ℕ) (test : Candidate → Bool) (ks : List (Numbered Candidate)) (n : ℕ) : Type 0 where

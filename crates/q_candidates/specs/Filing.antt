@@ -59,6 +59,13 @@ need_entry number l = record { key = l.need; group = l.site.transport; item = nu
 abbrev pub need_at : List (Numbered Lane) → ℕ → Option Entry
 need_at lanes number = option_map (need_entry number) (item_at number lanes)
 
+-- the entry of a candidate among those of its transport, by its arrival
+abbrev pub arrival_entry : ℕ → Candidate → Entry
+arrival_entry number c = record { key = c.arrival; group = c.site.transport; item = number }
+
+abbrev pub arrival_at : List (Numbered Candidate) → ℕ → Option Entry
+arrival_at ks number = option_map (arrival_entry number) (item_at number ks)
+
 -- under this number stands this one now, or none, and the others stay
 pub record IsChanged (n : ℕ) (o : Option Candidate) (ks new : List (Numbered Candidate)) : Type 0 where
   pub own : item_at n new ≡ o

@@ -5,10 +5,11 @@ use Rattle.q_heads.specs.Lanes.{class_of, Lanes}
 use Rattle.q_keyed.specs.Numbered.{item_at, Items, Numbered}
 use Rattle.q_model.specs.Values.{Site}
 use Rattle.q_rounds.specs.Listing.{AreEntries}
+use Rattle.q_sorted.specs.Entries.{Entries}
 use Rattle.q_candidates.specs.declared.candidate.Candidate.{Candidate}
 use Rattle.q_candidates.specs.declared.index.Index.{Index}
 use Rattle.q_candidates.specs.declared.lane.Lane.{Lane}
-use Rattle.q_candidates.specs.Filing.{age_key, class_for, entry_at, lane_of, need_at, rank_key}
+use Rattle.q_candidates.specs.Filing.{age_key, arrival_at, class_for, entry_at, lane_of, need_at, rank_key}
 
 -- a lane of the class of its transport and need
 pub record IsLane (number : ℕ) (l : Lane) (heads : Lanes) : Type 0 where
@@ -57,8 +58,14 @@ pub record IsFit (c : Candidate) : Type 0 where
   pub some : 1 ≤ c.need
   pub ranked : c.rank < 2 ^ 64
 
-pub record IsSound (candidates : Items Candidate) (index : Index) : Type 0 where
+-- candidates and the lanes in which they stand
+pub record IsOrdered (candidates : Items Candidate) (index : Index) : Type 0 where
   pub fit : (n : ℕ) (c : Candidate) → item_at n candidates.items ≡ Some c → IsFit c
   pub laid : IsLaid index
   pub filed : IsFiled candidates.items index
   pub room : index.lanes.room ≡ candidates.room
+
+pub record IsSound (candidates : Items Candidate) (index : Index) (arrivals : Entries) : Type 0 where
+  pub ordered : IsOrdered candidates index
+  pub arrived : AreEntries (arrival_at candidates.items) arrivals.items
+  pub arrival_room : arrivals.room ≡ candidates.room

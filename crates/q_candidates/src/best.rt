@@ -2,11 +2,12 @@
 ghost use Rattle.std.specs.Prelude.{◌≡◌};
 ghost use Rattle.std.specs.Option.{option_copied};
 ghost use Rattle.q_candidates.specs.Candidates.{IsBest};
-ghost use Rattle.q_candidates.specs.Choosing.{better_of, goes_first_at, IsBestOf};
-ghost use Rattle.q_candidates.specs.Sound.{IsSound};
+ghost use Rattle.q_candidates.specs.Choosing.{better_of, goes_first_at, is_over, IsBestOf, IsNextHope};
+ghost use Rattle.q_candidates.specs.Sound.{IsLaid, IsOrdered};
 ghost use Rattle.q_candidates.specs.Walking.{is_wanted};
 
-use crate::candidate::Candidate;
+use crate::arrivals::greatest_age;
+use crate::candidate::{Candidate, weight};
 use crate::candidates::Candidates;
 use crate::index::Index;
 use crate::walking::first_wanted;
@@ -24,7 +25,7 @@ fn best_wanted(
     now: Moment,
     sites: &Sites,
 ) -> Option<u32>
-    requires { IsSound candidates.now index.now }
+    requires { IsOrdered candidates.now index.now }
     ensures { IsBestOf now (is_wanted sites.now.items wanted.now) candidates.now.items result }
 {
     candidates.stand_apart();
@@ -68,6 +69,52 @@ fn better_of(
     }
 }
 
+/// What is looked for beside a need.
+#[derive(Clone, Copy, Debug)]
+struct Reach {
+    transport: u8,
+    most: u32,
+    moment: Moment,
+    /// An age that no candidate of the transport passes.
+    age: u64,
+}
+
+/// Whether no candidate that needs so many deliveries or more goes before the best one so far,
+/// since even the oldest of all would not.
+fn is_over(candidates: &Keyed<Candidate>, best: Option<u32>, reach: &Reach, from: u64) -> bool
+    ensures { result ≡ is_over candidates.now.items reach.now.moment reach.now.age best from }
+{
+    let Some(number) = best else {
+        return false;
+    };
+    match candidates.get(number) {
+        Some(best) => {
+            let own = weight(reach.moment.saturating_sub(best.arrival), from);
+            weight(reach.age, u64::from(best.need)) < own
+        }
+        None => false,
+    }
+}
+
+/// The next need of which a candidate may go before the best one so far.
+fn next_hope(
+    candidates: &Keyed<Candidate>,
+    index: &Index,
+    best: Option<u32>,
+    reach: &Reach,
+    from: u64,
+) -> Option<u32>
+    requires { IsLaid index.now }
+    ensures { IsNextHope candidates.now.items reach.now.moment reach.now.age reach.now.transport
+        from reach.now.most index.now.lanes.items best result }
+{
+    if is_over(candidates, best, reach, from) {
+        None
+    } else {
+        index.next_need(reach.transport, from, reach.most)
+    }
+}
+
 impl Candidates {
     /// The best of the candidates of the transport that need so many deliveries at most, are of
     /// another message than this one and whose sites have space.
@@ -84,6 +131,12 @@ impl Candidates {
     {
         self.candidates.stand_apart();
         self.index.lanes.stand_apart();
+        let reach = Reach {
+            transport,
+            most,
+            moment: now,
+            age: greatest_age(&self.arrivals, &self.candidates, transport, now),
+        };
         let mut best = None;
         let mut at = self.index.next_need(transport, 0, most);
         while let Some(need) = at {
@@ -94,7 +147,13 @@ impl Candidates {
             };
             let own = best_wanted(&self.candidates, &self.index, &wanted, now, sites);
             best = better_of(&self.candidates, now, best, own);
-            at = self.index.next_need(transport, u64::from(need) + 1, most);
+            at = next_hope(
+                &self.candidates,
+                &self.index,
+                best,
+                &reach,
+                u64::from(need) + 1,
+            );
         }
         self.candidates.get(best?)
     }

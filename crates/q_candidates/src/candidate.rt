@@ -19,8 +19,8 @@ pub struct Candidate {
     pub rank: u64,
 }
 
-/// An age and one more, as often as another needs deliveries.
-fn weight(age: u64, need: u32) -> u128
+/// An age and one more, as often as another one needs deliveries.
+pub(crate) fn weight(age: u64, need: u64) -> u128
     ensures { result ≡ (age + 1) * need }
 {
     (u128::from(age) + 1) * u128::from(need)
@@ -41,8 +41,8 @@ impl Candidate {
     fn is_better(&self, other: &Candidate, now: Moment) -> bool
         ensures { result ≡ is_better now self.now other.now }
     {
-        let own = weight(now.saturating_sub(self.arrival), other.need);
-        let its = weight(now.saturating_sub(other.arrival), self.need);
+        let own = weight(now.saturating_sub(self.arrival), u64::from(other.need));
+        let its = weight(now.saturating_sub(other.arrival), u64::from(self.need));
         its < own
     }
 

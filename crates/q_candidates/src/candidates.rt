@@ -4,11 +4,13 @@ ghost use Rattle.std.specs.List.{AllByRecursion};
 ghost use Rattle.std.specs.Option.{option_copied};
 ghost use Rattle.q_candidates.specs.Candidates.{AreApart, is_of, put_in};
 
+use crate::arrivals::arrival_entry;
 use crate::candidate::Candidate;
 use crate::index::Index;
 use q_keyed::Keyed;
 use q_model::{Id, Site};
 use q_rounds::PeerKey;
+use q_sorted::Sorted;
 use std::alloc::{AllocError, Global};
 use std::marker::Model;
 
@@ -17,6 +19,8 @@ use std::marker::Model;
 pub struct Candidates {
     pub(crate) candidates: Keyed<Candidate>,
     pub(crate) index: Index,
+    /// The numbers of candidates, by transport and then by arrival.
+    pub(crate) arrivals: Sorted,
 }
 
 impl Model for Candidates {
@@ -28,7 +32,7 @@ impl Model for Candidates {
 
     ghost view = { λ a. record { items = values_of a.candidates.items; room = a.candidates.room } };
 
-    ghost invariant = { λ a. IsSound a.candidates a.index };
+    ghost invariant = { λ a. IsSound a.candidates a.index a.arrivals };
 }
 
 impl Candidates {
@@ -40,7 +44,12 @@ impl Candidates {
     {
         let candidates = Keyed::new(alloc, room)?;
         let index = Index::new(alloc, room)?;
-        Ok(Candidates { candidates, index })
+        let arrivals = Sorted::new(alloc, room)?;
+        Ok(Candidates {
+            candidates,
+            index,
+            arrivals,
+        })
     }
 
     /// No two candidates are of one message and site, each needs a delivery, and there are no more
@@ -87,17 +96,22 @@ impl Candidates {
         ensures { self.new ≡ record self.old { items = put_in candidate self.old.items } }
     {
         self.candidates.stand_apart();
+        self.arrivals.stand_sorted();
         let Some(number) = self.candidates.find(&candidate.key()) else {
             let number = self.candidates.push(candidate);
             self.index.enter(number, &candidate);
+            self.arrivals.insert(arrival_entry(number, &candidate));
             return;
         };
         let Some(was) = self.candidates.get(number).copied() else {
             return;
         };
         self.index.leave(number, &was);
+        self.arrivals.remove(&arrival_entry(number, &was));
+        self.arrivals.stand_sorted();
         self.candidates.put(number, candidate);
         self.index.enter(number, &candidate);
+        self.arrivals.insert(arrival_entry(number, &candidate));
     }
 
     /// Takes the candidate of the message at the site out, and does nothing where there is none.
@@ -113,6 +127,7 @@ impl Candidates {
             return;
         };
         self.index.leave(number, &candidate);
+        self.arrivals.remove(&arrival_entry(number, &candidate));
         let _candidate = self.candidates.remove(number);
     }
 }

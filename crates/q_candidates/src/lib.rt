@@ -7,16 +7,18 @@
 //! No call walks over all candidates, messages or sites. Candidates stand in lanes, each of one
 //! site and one need, by arrival and then by rank. `best` takes the needs of the transport one
 //! after the other, the least first, and goes along the heads of a need's lanes to the first whose
-//! site has space, which is the oldest. So it passes one head of each need, sites that are full or
-//! dead, and those of the message that is left out. Candidates that came later than the moment that
-//! is now are all of one age; where no older one is left, the lanes are walked by rank. Each other
-//! call takes a few searches.
+//! site has space, which is the oldest. It ends where even the oldest candidate of the transport
+//! would be no better with the next need. So it passes one head of each need, sites that are full
+//! or dead, and those of the message that is left out. Candidates that came later than the moment
+//! that is now are all of one age; where no older one is left, the lanes are walked by rank. Each
+//! other call takes a few searches.
 //!
 //! Room is made once, by `new`; no other call takes memory or can fail. It is an error to put a
 //! candidate that needs no delivery, or one more than have room. It is none to put one whose
 //! message has one at the site, whose place it takes, or to remove one that isn't there.
 #![tactic(auto)]
 
+mod arrivals;
 mod best;
 mod candidate;
 mod candidates;

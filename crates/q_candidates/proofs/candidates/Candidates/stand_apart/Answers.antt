@@ -12,4 +12,4 @@ returns-clause-apart c = subst (λ (v : Listed). AreApart v.items) c.self.view_i
 pub returns-clause-needs : goal.returns-clause-needs
 returns-clause-needs c =
     subst (λ (v : Listed). AllByRecursion (λ (x : Candidate). 1 ≤ x.need) v.items) c.self.view_is
-    (each_of (λ (x : Candidate). 1 ≤ x.need) c.self.inside.candidates.items c.stand_apart.ensures.apart (λ m q h. (c.self.invariant.fit m q h).some))
+    (each_of (λ (x : Candidate). 1 ≤ x.need) c.self.inside.candidates.items c.stand_apart.ensures.apart (λ m q h. (c.self.invariant.ordered.fit m q h).some))
