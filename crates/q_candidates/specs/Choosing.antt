@@ -26,7 +26,8 @@ is_over ks now age (Some n) from = option_map_or
 
 -- the next need, or none where the rest is over
 abbrev pub IsNextHope : List (Numbered Candidate) → ℕ → ℕ → ℕ → ℕ → ℕ → List (Numbered Lane) → Option ℕ → Option ℕ → Type 0
-IsNextHope ks now age transport from most lanes best next = IsNextNeed transport from most lanes next
+IsNextHope ks now age transport from most lanes best next =
+    IsNextNeed transport from most lanes next
     ⊎ ((next ≡ None) × (is_over ks now age best from ≡ true))
 
 -- the candidate of the number passes, and none that passes goes first

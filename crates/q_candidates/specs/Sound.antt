@@ -17,7 +17,8 @@ pub record IsLane (number : ℕ) (l : Lane) (heads : Lanes) : Type 0 where
   pub class : class_of number heads.classes ≡ class_for l.site.transport l.need
 
 abbrev pub AreLanes : List (Numbered Lane) → Lanes → Type 0
-AreLanes lanes heads = (number : ℕ) (l : Lane) → item_at number lanes ≡ Some l → IsLane number l heads
+AreLanes lanes heads = (number : ℕ) (l : Lane) → item_at number lanes ≡ Some l
+    → IsLane number l heads
 
 -- each lane has a class and stands among the needs, and there is room for as many as there are
 -- candidates

@@ -62,7 +62,8 @@ pub record IsLeastBy (key : Candidate → ℕ) (test : Candidate → Bool) (ks :
   pub candidate : Candidate
   pub there : item_at e.item ks ≡ Some candidate
   pub passes : test candidate ≡ true
-  pub least : (n : ℕ) (c : Candidate) → item_at n ks ≡ Some c → test c ≡ true → key candidate ≤ key c
+  pub least : (n : ℕ) (c : Candidate) → item_at n ks ≡ Some c → test c ≡ true
+      → key candidate ≤ key c
 
 -- it is that of one with the least key, or none passes
 abbrev pub IsFoundBy : (Candidate → ℕ) → (Candidate → Bool) → List (Numbered Candidate) → Option Entry → Type 0

@@ -150,7 +150,8 @@ fn fresh_sites(alloc: Global) -> Result<Box<Sites>, AllocError> {
 
 /// Whether there is room for the candidate, or one whose place it takes.
 fn has_room(candidates: &Candidates, candidate: &Candidate) -> bool
-    ensures { result ≡ true → find (is_of candidate.now.id candidate.now.site) candidates.now.items ≡ None
+    ensures { result ≡ true
+        → find (is_of candidate.now.id candidate.now.site) candidates.now.items ≡ None
         → length candidates.now.items < candidates.now.room }
 {
     match candidates.find(candidate.id, &candidate.site) {
