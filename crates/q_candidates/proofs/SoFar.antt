@@ -82,7 +82,7 @@ pub record IsSoFar (now : ℕ) (test : Candidate → Bool) (most : ℕ) (ks : Li
 
 -- how many needs may be left
 abbrev pub needs_left : Option ℕ → ℕ
-needs_left at = option_map_or (λ d. 2 ^ 32 - d) at 0
+needs_left at = option_map_or (λ d. 2 ^ 64 - d) at 0
 
 -- what is over is so by the best so far
 over_tells : (ks : List (Numbered Candidate)) (now age from : ℕ) (best : Option ℕ) → is_over ks now age best from ≡ true → (n : ℕ) × (b : Candidate) × (best ≡ Some n) × (item_at n ks ≡ Some b) × (nat_lt ((age + 1) * b.need) ((age_at now b + 1) * from) ≡ true)

@@ -19,7 +19,7 @@ lane_eq a b = site_eq a.site b.site && (a.need == b.need)
 
 -- a number that is taken from both
 abbrev pub lane_hash : LaneKey → ℕ
-lane_hash k = (site_hash k.site * 31 + k.need) % 2147483647
+lane_hash k = (site_hash k.site * 31 + k.need % 2147483647) % 2147483647
 
 -- the class of the lanes of a transport and a need; needs that differ by 2^24 share one
 abbrev pub class_for : ℕ → ℕ → ℕ

@@ -1,5 +1,5 @@
 //! The candidate that preempts.
-ghost use Rattle.std.specs.Prelude.{◌≡◌};
+ghost use Rattle.std.specs.Prelude.{◌≡◌, ◌+◌};
 ghost use Rattle.std.specs.Option.{option_copied};
 ghost use Rattle.q_candidates.specs.Candidates.{IsBest};
 ghost use Rattle.q_candidates.specs.Choosing.{better_of, goes_first_at, is_over, IsBestOf, IsNextHope};
@@ -73,7 +73,7 @@ fn better_of(
 #[derive(Clone, Copy, Debug)]
 struct Reach {
     transport: u8,
-    most: u32,
+    most: u64,
     moment: Moment,
     /// An age that no candidate of the transport passes.
     age: u64,
@@ -90,24 +90,28 @@ fn is_over(candidates: &Keyed<Candidate>, best: Option<u32>, reach: &Reach, from
     match candidates.get(number) {
         Some(best) => {
             let own = weight(reach.moment.saturating_sub(best.arrival), from);
-            weight(reach.age, u64::from(best.need)) < own
+            weight(reach.age, best.need) < own
         }
         None => false,
     }
 }
 
-/// The next need of which a candidate may go before the best one so far.
+/// The next need behind this one of which a candidate may go before the best one so far.
 fn next_hope(
     candidates: &Keyed<Candidate>,
     index: &Index,
     best: Option<u32>,
     reach: &Reach,
-    from: u64,
-) -> Option<u32>
+    behind: u64,
+) -> Option<u64>
     requires { IsLaid index.now }
     ensures { IsNextHope candidates.now.items reach.now.moment reach.now.age reach.now.transport
-        from reach.now.most index.now.lanes.items best result }
+        (behind + 1) reach.now.most index.now.lanes.items best result }
 {
+    if behind >= reach.most {
+        return None;
+    }
+    let from = behind + 1;
     if is_over(candidates, best, reach, from) {
         None
     } else {
@@ -121,7 +125,7 @@ impl Candidates {
     pub fn best(
         &self,
         transport: u8,
-        most: u32,
+        most: u64,
         now: Moment,
         except: Id,
         sites: &Sites,
@@ -147,13 +151,7 @@ impl Candidates {
             };
             let own = best_wanted(&self.candidates, &self.index, &wanted, now, sites);
             best = better_of(&self.candidates, now, best, own);
-            at = next_hope(
-                &self.candidates,
-                &self.index,
-                best,
-                &reach,
-                u64::from(need) + 1,
-            );
+            at = next_hope(&self.candidates, &self.index, best, &reach, need);
         }
         self.candidates.get(best?)
     }

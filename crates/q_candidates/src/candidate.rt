@@ -13,7 +13,7 @@ pub struct Candidate {
     pub id: Id,
     pub site: Site,
     /// How many deliveries it needs at the transport.
-    pub need: u32,
+    pub need: u64,
     pub arrival: Moment,
     /// Its place in the order of admission.
     pub rank: u64,
@@ -41,8 +41,8 @@ impl Candidate {
     fn is_better(&self, other: &Candidate, now: Moment) -> bool
         ensures { result ≡ is_better now self.now other.now }
     {
-        let own = weight(now.saturating_sub(self.arrival), u64::from(other.need));
-        let its = weight(now.saturating_sub(other.arrival), u64::from(self.need));
+        let own = weight(now.saturating_sub(self.arrival), other.need);
+        let its = weight(now.saturating_sub(other.arrival), self.need);
         its < own
     }
 

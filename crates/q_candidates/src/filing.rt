@@ -15,7 +15,7 @@ use q_model::Site;
 
 impl Index {
     /// The number of the lane of the site and the need, which is made where there is none.
-    fn make_lane(&mut self, site: &Site, need: u32) -> u32
+    fn make_lane(&mut self, site: &Site, need: u64) -> u32
         requires laid { IsLaid self.old }
         requires room { length self.old.lanes.items < self.old.lanes.room }
         requires ages { (e : Entry) → stands e self.old.ages.items ≡ true

@@ -10,28 +10,28 @@ use q_peers::site_hash;
 #[derive(Clone, Copy, Debug)]
 pub(crate) struct Lane {
     pub(crate) site: Site,
-    pub(crate) need: u32,
+    pub(crate) need: u64,
 }
 
 /// What a lane is found by.
 #[derive(Clone, Copy, Debug)]
 pub(crate) struct LaneKey {
     pub(crate) site: Site,
-    pub(crate) need: u32,
+    pub(crate) need: u64,
 }
 
 /// A prime, and the greatest number of 31 bits.
 const MODULUS: u64 = 2_147_483_647;
 
 /// A number that is taken from both.
-fn lane_hash(site: &Site, need: u32) -> u32
+fn lane_hash(site: &Site, need: u64) -> u32
     ensures { result ≡ lane_hash (record { site = site.now; need = need }) }
 {
-    ((u64::from(site_hash(site)) * 31 + u64::from(need)) % MODULUS) as u32
+    ((u64::from(site_hash(site)) * 31 + need % MODULUS) % MODULUS) as u32
 }
 
 /// The number of the lane of the site and the need.
-pub(crate) fn lane_of(lanes: &Keyed<Lane>, site: &Site, need: u32) -> Option<u32>
+pub(crate) fn lane_of(lanes: &Keyed<Lane>, site: &Site, need: u64) -> Option<u32>
     ensures { result ≡ lane_of site.now need lanes.now.items }
 {
     lanes.find(&LaneKey { site: *site, need })
@@ -39,10 +39,10 @@ pub(crate) fn lane_of(lanes: &Keyed<Lane>, site: &Site, need: u32) -> Option<u32
 
 /// The class of the lanes of a transport in which so many deliveries are needed. Needs that differ
 /// by 2^24 share one.
-pub(crate) fn class_for(transport: u8, need: u32) -> u32
+pub(crate) fn class_for(transport: u8, need: u64) -> u32
     ensures { result ≡ class_for transport need }
 {
-    need % 16_777_216 * 256 + u32::from(transport)
+    (need % 16_777_216) as u32 * 256 + u32::from(transport)
 }
 
 impl HasKey for Lane {

@@ -19,7 +19,7 @@ fn cut_at(transport: u8, from: u64) -> Entry
 
 impl Index {
     /// The least need of the transport that is this one or more, and no more than the other.
-    pub(crate) fn next_need(&self, transport: u8, from: u64, most: u32) -> Option<u32>
+    pub(crate) fn next_need(&self, transport: u8, from: u64, most: u64) -> Option<u64>
         requires { IsLaid self.now }
         ensures { IsNextNeed transport from most self.now.lanes.items result }
     {

@@ -11,7 +11,7 @@ use q_model::Id;
 #[derive(Clone, Copy, Debug)]
 pub(crate) struct Wanted {
     pub(crate) transport: u8,
-    pub(crate) need: u32,
+    pub(crate) need: u64,
     pub(crate) except: Id,
 }
 

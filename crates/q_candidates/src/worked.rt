@@ -16,7 +16,7 @@ enum Call {
     /// No call.
     Look,
     /// The message at the site, with its need, its arrival and its rank.
-    Put(u32, u8, u32, Moment, u64),
+    Put(u32, u8, u64, Moment, u64),
     Remove(u32, u8),
     /// Five deliveries begin, which fills a fresh site.
     Fill(u8),
@@ -28,7 +28,7 @@ enum Call {
 
 /// A transport, the most deliveries that are needed, the moment that is now, and the message that
 /// is left out.
-type Query = (u8, u32, Moment, u32);
+type Query = (u8, u64, Moment, u32);
 
 /// The message that preempts, and its site.
 type Best = Option<(u32, u8)>;
@@ -45,7 +45,7 @@ const ANY: Query = (0, 5, 100, 9);
 const EARLY: Query = (0, 5, 30, 9);
 
 /// Calls, and behind each a query and its answer.
-const ROWS: [Row; 41] = [
+const ROWS: [Row; 44] = [
     (Call::Look, ANY, None),
     // 61 / 2
     (Call::Put(1, 0, 2, 40, 1), ANY, Some((1, 0))),
@@ -103,10 +103,18 @@ const ROWS: [Row; 41] = [
     // needs that share a class
     (
         Call::Put(1, 3, 16_777_217, 0, 1),
-        (1, u32::MAX, 100, 9),
+        (1, u64::MAX, 100, 9),
         Some((4, 3)),
     ),
-    (Call::Look, (1, u32::MAX, 100, 4), Some((1, 3))),
+    (Call::Look, (1, u64::MAX, 100, 4), Some((1, 3))),
+    // a need that passes 2^32
+    (
+        Call::Put(1, 3, 4_294_967_297, 0, 1),
+        (1, u64::MAX, 100, 4),
+        Some((1, 3)),
+    ),
+    (Call::Look, (1, 4_294_967_297, 100, 4), Some((1, 3))),
+    (Call::Look, (1, 4_294_967_296, 100, 4), None),
 ];
 
 fn id(serial: u32) -> Id {
@@ -248,7 +256,7 @@ fn best_after_each_call(rt: HostRuntime) -> Result<(), Fail> {
 }
 
 /// The need of the message at the site, where it has a candidate there.
-fn need(candidates: &Candidates, serial: u32, number: u8) -> Option<u32> {
+fn need(candidates: &Candidates, serial: u32, number: u8) -> Option<u64> {
     let found = candidates.find(id(serial), &site(number)?)?;
     Some(found.need)
 }

@@ -17,8 +17,7 @@ loop-at-preserved c =
     subst (λ (o : Option ℕ). IsSoFar c.args.now (may_preempt c.args.sites.now.items c.args.transport c.args.most c.args.except) c.args.most a.candidates.items o c.next_hope-at.result) (sym c.better_of-best.ensures)
     (so_far_goes a.candidates a.index c.self.invariant.ordered c.stand_apart-2.ensures.apart c.args.now c.args.sites.now.items c.args.transport c.args.most c.args.except c.greatest_age.result c.greatest_age.ensures c.in-Some.need c.loop-at.best c.loop-at.at c.best_wanted-own.result c.next_hope-at.result
     c.in-Some.is c.loop-at.invariant c.best_wanted-own.ensures
-    (subst (λ (o : Option ℕ). IsNextHope a.candidates.items c.args.now c.greatest_age.result c.args.transport (c.in-Some.need + 1) c.args.most a.index.lanes.items o c.next_hope-at.result) c.better_of-best.ensures
-    (subst (λ (k : ℕ). IsNextHope a.candidates.items c.args.now c.greatest_age.result c.args.transport (k + 1) c.args.most a.index.lanes.items c.better_of-best.result c.next_hope-at.result) c.from.ensures c.next_hope-at.ensures)))
+    (subst (λ (o : Option ℕ). IsNextHope a.candidates.items c.args.now c.greatest_age.result c.args.transport (c.in-Some.need + 1) c.args.most a.index.lanes.items o c.next_hope-at.result) c.better_of-best.ensures c.next_hope-at.ensures))
 
 pub returns-in_err-best : goal.returns-in_err-best
 returns-in_err-best c =
