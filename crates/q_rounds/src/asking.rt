@@ -1,5 +1,5 @@
 //! The peer that is sent to next, and what waits.
-ghost use Rattle.std.specs.Prelude.{◌≡◌};
+ghost use Rattle.std.specs.Prelude.{◌≡◌, ◌<◌, ◌+◌, ◌^◌};
 ghost use Rattle.std.specs.List.{list_any};
 ghost use Rattle.std.specs.Option.{option_copied};
 ghost use Rattle.q_keyed.specs.Numbered.{values_of};
@@ -35,10 +35,13 @@ impl Rounds {
         self.peers.get(turn.item)
     }
 
-    /// How many rows of the message wait at the transport.
+    /// How many rows of the message wait at the transport: so few that the rows of one peer more
+    /// can be added.
     pub fn rest(&self, id: Id, transport: usize) -> u64
-        ensures { result ≡ rows_left id transport (values_of self.now.items) }
+        ensures value { result ≡ rows_left id transport (values_of self.now.items) }
+        ensures few { result + 2 ^ 32 < 2 ^ 64 }
     {
+        self.peers.stand_apart();
         rows_in(&self.rounds, id, transport)
     }
 
