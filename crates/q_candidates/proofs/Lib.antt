@@ -5,6 +5,7 @@ pub mod Making
 pub mod Entering
 pub mod Leaving
 pub mod Listing
+pub mod Found
 pub mod Steps
 pub mod Views
 pub mod LaneHeads

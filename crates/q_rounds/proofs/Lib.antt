@@ -1,6 +1,7 @@
 pub mod Lookups
 pub mod Entered
 pub mod Fewer
+pub mod FewerKeys
 pub mod Splits
 pub mod Totals
 pub mod RoundSets
