@@ -1,10 +1,8 @@
 -- The walk that moves the entries of one job.
-use Rattle.std.proofs.Common.{◌≡◌, ◌≢◌, ◌∙◌, ◌+◌, ◌<◌, ◌≤◌, ap, arith, Bool, cond, false, inl, inr, length, List, None, Option, option_map, refl, Some, subst, sym, true, ℕ, ◌⊎◌}
-use Rattle.std.proofs.lemmas.Bool.{and_parts, both_ways, cases_eq, cases_lt, eqb-true, not-true, not_from_false}
-use Rattle.std.proofs.lemmas.Bool.Decides.{nat_tests}
-use Rattle.std.specs.Option.{is_some, option_map_or}
-use Rattle.std.specs.Prelude.{◌==◌, ◌&&◌, filter, find, IfSome, nat_le, not, option_and_then}
-use Rattle.q_heads.proofs.Standing.{first_found, found, none_found, not_itself}
+use Rattle.std.proofs.Common.{◌≡◌, ◌≢◌, ◌∙◌, ap, Bool, cond, false, inl, inr, List, None, Option, refl, Some, subst, sym, true, ℕ}
+use Rattle.std.proofs.lemmas.Bool.{and_parts, cases_eq, eqb-true}
+use Rattle.std.specs.Option.{is_some}
+use Rattle.std.specs.Prelude.{◌==◌, find, IfSome, not, option_and_then}
 use Rattle.q_heads.specs.Lanes.{stands}
 use Rattle.q_jobs.specs.Jobs.{Jobs}
 use Rattle.q_keyed.specs.Numbered.{item_at, Numbered}
@@ -16,82 +14,14 @@ use Rattle.q_sorted.specs.Entries.{goes_before, Rises}
 use Rattle.q_turns.specs.declared.lane.Lane.{Lane}
 use Rattle.q_rounds.specs.declared.peer.Peer.{Peer}
 use Rattle.q_rounds.specs.Listing.{AreEntries}
-use Rattle.q_turns.specs.Heading.{head_at, head_in, head_with, lane_of, message_at, message_entry, rank_at, rank_by, ranked_before}
+use Rattle.q_turns.specs.Heading.{head_at, head_in, head_with, is_of_message, lane_of, least_of, message_at, rank_at, rank_by, ranked_before}
 use Rattle.q_turns.specs.Moving.{job_head, moved_head, with_key}
 use Rattle.q_rounds.specs.Rounds.{is_peer_for}
-use Rattle.q_rounds.proofs.Fewer.{fewer_pass}
-use Rattle.q_rounds.proofs.Entered.{alike, cond_same, entered, entry_own, none_does, StayBut}
+use Rattle.q_rounds.proofs.Entered.{alike, cond_same, entered, none_does, StayBut}
 use Rattle.q_turns.proofs.HeadLaws.{at_is, head_made, head_same, head_tells, no_lane}
 use Rattle.q_turns.proofs.LaneLaws.{some_from, unless_none}
 use Rattle.q_turns.proofs.MovingLaws.{move}
-
--- the entry is of the same message as this one
-abbrev pub is_of_message : Entry → Entry → Bool
-is_of_message first e = (e.group == first.group) && (e.key == first.key)
-
--- it is of the message, and of no greater number
-abbrev pub is_upto : Entry → ℕ → Entry → Bool
-is_upto first m e = is_of_message first e && nat_le e.item m
-
--- the peer's entry is to be moved yet
-abbrev pub is_left : Entry → Option Entry → ℕ → Bool
-is_left first at m = option_map_or (is_upto first m) at false
-
-abbrev pub entries_left : List Entry → Option Entry → ℕ
-entries_left items at = option_map_or (λ e. length (filter (goes_before e) items) + 1) at 0
-
--- what is known at each step
-abbrev pub StandsAt : List Entry → Option Entry → Type 0
-StandsAt items at = IfSome at (λ e. stands e items ≡ true)
-
-found_stands : (p : Entry → Bool) (items : List Entry) (o : Option Entry) → find p items ≡ o → StandsAt items o
-found_stands p items None h = tt
-found_stands p items (Some e) h = (found p e items h).0
-
-pub stands_found : (p : Entry → Bool) (items : List Entry) (at : Option Entry) → at ≡ find p items → StandsAt items at
-stands_found p items at is = found_stands p items at (sym is)
-
-along : (a b c : Entry) → goes_before a b ≡ true → goes_before b c ≡ true → goes_before a c ≡ true
-along a b c h k = grind (arith, nat_tests)
-
-left_step : (items : List Entry) (e : Entry) (o : Option Entry) → find (goes_before e) items ≡ o → entries_left items o < length (filter (goes_before e) items) + 1
-left_step items e None h = omega arith
-left_step items e (Some d) h =
-    let it = found (goes_before e) d items h in
-    let fewer = fewer_pass (goes_before e) (goes_before d) d items (λ x after. along e d x it.1 after) it.0 it.1 (not_itself d) in
-    omega (arith, fewer)
-
-pub moves_smaller : (items : List Entry) (e : Entry) (at next : Option Entry) → at ≡ Some e → next ≡ find (goes_before e) items → entries_left items next < entries_left items at
-moves_smaller items e at next here is = subst (λ o. entries_left items next < entries_left items o) (sym here) (left_step items e next (sym is))
-
--- Where an entry stands among those of the message.
-past : (first e d : Entry) (m : ℕ) → is_of_message first e ≡ true → goes_before e d ≡ true → m ≤ e.item → is_upto first m d ≡ false
-past first e d m own after low = grind (arith, nat_tests)
-
-between : (first e d : Entry) (m : ℕ) → is_of_message first e ≡ true → goes_before e d ≡ true → goes_before (record first { item = m }) d ≡ false → is_upto first m d ≡ true
-between first e d m own after high = grind (arith, nat_tests)
-
-at_first : (first e : Entry) (m : ℕ) → first.item ≡ 0 → goes_before e first ≡ false → goes_before (record first { item = m }) e ≡ false → is_upto first m e ≡ true
-at_first first e m least after high = grind (arith, nat_tests)
-
-goes_on : (first e : Entry) (m : ℕ) → is_of_message first e ≡ true → e.item < m → goes_before e (record first { item = m }) ≡ true
-goes_on first e m own more = grind (arith, nat_tests)
-
-not_before_first : (first : Entry) (m : ℕ) → first.item ≡ 0 → goes_before (record first { item = m }) first ≡ false
-not_before_first first m least = grind (arith, nat_tests)
-
-upto_own : (first e : Entry) → is_of_message first e ≡ true → is_upto first e.item e ≡ true
-upto_own first e own = grind (arith, nat_tests)
-
-not_upto : (first e : Entry) (m : ℕ) → m < e.item → is_upto first m e ≡ false
-not_upto first e m low = grind (arith, nat_tests)
-
-is_upto_own : (first e : Entry) (m : ℕ) → is_of_message first e ≡ true → e.item ≤ m → is_upto first m e ≡ true
-is_upto_own first e m own low = grind (arith, nat_tests)
-
--- before all entries of the message
-abbrev pub least_of : Id → Entry
-least_of id = record { key = id.generation; group = id.serial; item = 0 }
+use Rattle.q_turns.proofs.MessageWalk.{begin_step, is_left, left_same, own_left, own_past}
 
 -- which entries stand, where those of the message from this one on are to be moved
 abbrev pub moved_to : Id → ℕ → ℕ → List Jobs → List (Numbered Lane) → List (Numbered Peer) → Option Entry → ℕ → Option Entry
@@ -111,29 +41,12 @@ module _ (id : Id) (t from : ℕ) (lines : List Jobs) (lanes : List (Numbered La
   abbrev moved_so_far : Option Entry → ℕ → Option Entry
   moved_so_far at m = moved_to id t from lines lanes ks at m
 
-  abbrev own : ℕ → Entry
-  own m = record least { item = m }
-
   is_own : (q : Peer) → is_peer_for id t q ≡ true → q.id ≡ id
   is_own q h = id_eq-true q.id id (and_parts (id_eq q.id id) (q.site.transport == t) h).0
-
-  listed_there : (m : ℕ) (q : Peer) → item_at m ks ≡ Some q → is_peer_for id t q ≡ true → stands (own m) items ≡ true
-  listed_there m q there h =
-      entered (message_at ks) items m (own m) listed
-      (ap (option_map (message_entry m)) there ∙ ap (λ (i : Id). Some (record { key = i.generation; group = i.serial; item = m })) (is_own q h)) refl
 
   -- a peer of another job keeps its entry
   other_same : (m : ℕ) (q : Peer) → is_peer_for id t q ≡ false → head_in (ranked_before id t from lines) lanes m q ≡ head_in (rank_by lines) lanes m q
   other_same m q h = head_same (rank_by lines) (ranked_before id t from lines) lanes lanes m q q refl (ap (λ b. cond b (Some from) (rank_by lines q)) h)
-
-  -- The first one.
-  begin_step : (m : ℕ) (q : Peer) (o : Option Entry) → item_at m ks ≡ Some q → is_peer_for id t q ≡ true → find (λ x. not (goes_before x least)) items ≡ o → is_left least o m ≡ true
-  begin_step m q None there h none =
-      absurd (both_ways (not (goes_before (own m) least)) (none_found (λ x. not (goes_before x least)) (own m) items none (listed_there m q there h)) (not_from_false (goes_before (own m) least) (not_before_first least m refl)))
-  begin_step m q (Some e) there h first =
-      let passes = (found (λ x. not (goes_before x least)) e items first).1 in
-      at_first least e m refl (not-true (goes_before e least) passes)
-      (first_found (λ x. not (goes_before x least)) e (own m) items rising first (listed_there m q there h) (not_from_false (goes_before (own m) least) (not_before_first least m refl)))
 
   begins_other : (at : Option Entry) (m : ℕ) (q : Peer) → is_peer_for id t q ≡ false →
       cond (is_left least at m) (head_in (ranked_before id t from lines) lanes m q) (head_in (rank_by lines) lanes m q) ≡ head_in (ranked_before id t from lines) lanes m q
@@ -143,7 +56,7 @@ module _ (id : Id) (t from : ℕ) (lines : List Jobs) (lanes : List (Numbered La
 
   begins : (at : Option Entry) (m : ℕ) (q : Peer) (b : Bool) → at ≡ find (λ x. not (goes_before x least)) items → item_at m ks ≡ Some q → is_peer_for id t q ≡ b →
       cond (is_left least at m) (head_in (ranked_before id t from lines) lanes m q) (head_in (rank_by lines) lanes m q) ≡ head_in (ranked_before id t from lines) lanes m q
-  begins at m q true is there h = ap (λ b. cond b (head_in (ranked_before id t from lines) lanes m q) (head_in (rank_by lines) lanes m q)) (begin_step m q at there h (sym is))
+  begins at m q true is there h = ap (λ b. cond b (head_in (ranked_before id t from lines) lanes m q) (head_in (rank_by lines) lanes m q)) (begin_step id ks items listed rising m q at there (is_own q h) (sym is))
   begins at m q false is there h = begins_other at m q h
 
   begin_at : (at : Option Entry) (m : ℕ) (o : Option Peer) → at ≡ find (λ x. not (goes_before x least)) items → item_at m ks ≡ o →
@@ -162,24 +75,9 @@ module _ (id : Id) (t from : ℕ) (lines : List Jobs) (lanes : List (Numbered La
 
   -- One step.
   module _ (e : Entry) (at next : Option Entry) (here : at ≡ Some e) (stood : stands e items ≡ true) (of : is_of_message least e ≡ true) (is : next ≡ find (goes_before e) items) where
-    next_step : (m : ℕ) (q : Peer) (o : Option Entry) → item_at m ks ≡ Some q → is_peer_for id t q ≡ true → (m < e.item) ⊎ (e.item ≤ m) → m ≢ e.item → find (goes_before e) items ≡ o → is_left least o m ≡ is_upto least m e
-    next_step m q None there h (inl low) other none = sym (not_upto least e m low)
-    next_step m q (Some d) there h (inl low) other first =
-        past least e d m of (found (goes_before e) d items first).1 (omega (arith, low)) ∙ sym (not_upto least e m low)
-    next_step m q None there h (inr high) other none =
-        let more : e.item < m = omega (arith, high, other) in
-        absurd (both_ways (goes_before e (own m)) (none_found (goes_before e) (own m) items none (listed_there m q there h)) (goes_on least e m of more))
-    next_step m q (Some d) there h (inr high) other first =
-        let more : e.item < m = omega (arith, high, other) in
-        between least e d m of (found (goes_before e) d items first).1 (first_found (goes_before e) d (own m) items rising first (listed_there m q there h) (goes_on least e m of more))
-        ∙ sym (is_upto_own least e m of high)
-
-    left_same : (m : ℕ) (q : Peer) → item_at m ks ≡ Some q → is_peer_for id t q ≡ true → m ≢ e.item → is_left least next m ≡ is_left least at m
-    left_same m q there h other = next_step m q next there h (cases_lt m e.item) other (sym is) ∙ ap (λ o. is_left least o m) (sym here)
-
     stay_step : (m : ℕ) (q : Peer) (b : Bool) → item_at m ks ≡ Some q → is_peer_for id t q ≡ b → m ≢ e.item →
         cond (is_left least next m) (head_in (ranked_before id t from lines) lanes m q) (head_in (rank_by lines) lanes m q) ≡ cond (is_left least at m) (head_in (ranked_before id t from lines) lanes m q) (head_in (rank_by lines) lanes m q)
-    stay_step m q true there h other = ap (λ b. cond b (head_in (ranked_before id t from lines) lanes m q) (head_in (rank_by lines) lanes m q)) (left_same m q there h other)
+    stay_step m q true there h other = ap (λ b. cond b (head_in (ranked_before id t from lines) lanes m q) (head_in (rank_by lines) lanes m q)) (left_same id ks items listed rising e at next here stood of is m q there (is_own q h) other)
     stay_step m q false there h other = begins_other next m q h ∙ sym (begins_other at m q h)
 
     stay_at : (m : ℕ) (o : Option Peer) → item_at m ks ≡ o → m ≢ e.item →
@@ -190,15 +88,11 @@ module _ (id : Id) (t from : ℕ) (lines : List Jobs) (lanes : List (Numbered La
     stay : StayBut e.item (moved_so_far at) (moved_so_far next)
     stay m other = stay_at m (item_at m ks) refl other
 
-    own_left_step : (o : Option Entry) → find (goes_before e) items ≡ o → is_left least o e.item ≡ false
-    own_left_step None none = refl
-    own_left_step (Some d) first = past least e d e.item of (found (goes_before e) d items first).1 (omega arith)
-
     was : moved_so_far at e.item ≡ before e.item
-    was = ap (λ b. cond b (before e.item) (now e.item)) (ap (λ o. is_left least o e.item) here ∙ upto_own least e of)
+    was = ap (λ b. cond b (before e.item) (now e.item)) (own_left id ks items listed rising e at next here stood of is)
 
     will : moved_so_far next e.item ≡ now e.item
-    will = ap (λ b. cond b (before e.item) (now e.item)) (own_left_step next (sym is))
+    will = ap (λ b. cond b (before e.item) (now e.item)) (own_past id ks items listed rising e at next here stood of is)
 
     module _ (ranked : is_some (rank_at lines t id) ≡ true) (p : Peer) (there : item_at e.item ks ≡ Some p) where
       head_is : job_head id t lines lanes ks e.item ≡ cond (is_peer_for id t p) (head_in (rank_by lines) lanes e.item p) None
@@ -249,24 +143,6 @@ module _ (id : Id) (t from : ℕ) (lines : List Jobs) (lanes : List (Numbered La
 
       pub moves_stand : (xs : List Entry) → AreEntries (moved_so_far at) xs → IfSome (job_head id t lines lanes ks e.item) (λ d. stands (with_key from d) xs ≡ true)
       moves_stand xs are = subst (λ o. IfSome o (λ d. stands (with_key from d) xs ≡ true)) (sym head_is) (stood_step xs (is_peer_for id t p) (head_in (rank_by lines) lanes e.item p) refl refl are)
-
-    peer_step : (o : Option Peer) → item_at e.item ks ≡ o → option_map (message_entry e.item) o ≡ Some e → (p : Peer) × (item_at e.item ks ≡ Some p)
-    peer_step None there h = absurd cc
-    peer_step (Some p) there h = (p, there)
-
-    -- the entry is that of a peer
-    pub peer_there : (p : Peer) × (item_at e.item ks ≡ Some p)
-    peer_there = peer_step (item_at e.item ks) refl (entry_own (message_at ks) items e listed stood)
-
--- the walk ends behind the last entry of the message
-pub ends_at_none : (id : Id) (at : Option Entry) → at ≡ None → (m : ℕ) → is_left (least_of id) at m ≡ false
-ends_at_none id at none m = ap (λ o. is_left (least_of id) o m) none
-
-pub ends_at_other : (id : Id) (at : Option Entry) (e : Entry) → at ≡ Some e → is_of_message (least_of id) e ≡ false → (m : ℕ) → is_left (least_of id) at m ≡ false
-ends_at_other id at e here other m = ap (λ o. is_left (least_of id) o m) here ∙ ap (λ b. b && nat_le e.item m) other
-
-pub stood_at : (items : List Entry) (at : Option Entry) (e : Entry) → at ≡ Some e → StandsAt items at → stands e items ≡ true
-stood_at items at e here h = subst (StandsAt items) here h
 
 -- the entry that is to be moved
 pub job_head_is : (id : Id) (t : ℕ) (lines : List Jobs) (lanes : List (Numbered Lane)) (ks : List (Numbered Peer)) (n : ℕ) (p : Peer) (d : Entry) → item_at n ks ≡ Some p → is_peer_for id t p ≡ true → head_in (rank_by lines) lanes n p ≡ Some d → job_head id t lines lanes ks n ≡ Some d

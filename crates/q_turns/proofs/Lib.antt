@@ -11,7 +11,10 @@ mod Choosing
 mod RankSets
 mod MovingLaws
 mod TakenOut
+mod MessageWalk
 mod JobMoves
+mod FiledAt
+mod FilingLaws
 mod PlacedAnew
 mod TurnViews
 mod TurnSteps

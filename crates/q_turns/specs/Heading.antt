@@ -1,5 +1,5 @@
 -- The entries of peers: in the lane of a site with the rank of a job, and among those of a message.
-use Rattle.std.specs.Prelude.{◌==◌, Bool, if◌then◌else◌, List, None, Option, option_and_then, option_map, slice_get, Some, ℕ}
+use Rattle.std.specs.Prelude.{◌==◌, ◌&&◌, Bool, if◌then◌else◌, List, None, Option, option_and_then, option_map, slice_get, Some, ℕ}
 use Rattle.q_dest.specs.declared.dest.Dest.{Dest}
 use Rattle.q_jobs.specs.Jobs.{Jobs, rank_of}
 use Rattle.q_keyed.specs.Numbered.{first_such, item_at, Numbered}
@@ -53,6 +53,14 @@ head_at rank lanes peers number =
 -- the entry of a peer among those of its message
 abbrev pub message_entry : ℕ → Peer → Entry
 message_entry number p = record { key = p.id.generation; group = p.id.serial; item = number }
+
+-- what no entry of the message goes before
+abbrev pub least_of : Id → Entry
+least_of id = record { key = id.generation; group = id.serial; item = 0 }
+
+-- both are of messages with the same numbers
+abbrev pub is_of_message : Entry → Entry → Bool
+is_of_message first e = (e.group == first.group) && (e.key == first.key)
 
 abbrev pub message_at : List (Numbered Peer) → ℕ → Option Entry
 message_at peers number = option_map (message_entry number) (item_at number peers)

@@ -3,3 +3,4 @@ pub mod Heading
 pub mod Laning
 pub mod Moving
 pub mod Sound
+pub mod Filing

@@ -1,6 +1,6 @@
 //! The entries of peers.
 ghost use Rattle.std.specs.Prelude.{◌≡◌};
-ghost use Rattle.q_turns.specs.Heading.{head_in, message_entry, rank_at, rank_by, sent_in};
+ghost use Rattle.q_turns.specs.Heading.{head_in, is_of_message, least_of, message_entry, rank_at, rank_by, sent_in};
 ghost use Rattle.q_rounds.specs.Rounds.{is_peer_for};
 
 use crate::lane::Lane;
@@ -46,6 +46,24 @@ pub(crate) fn message_entry(peer: &Peer, number: u32) -> Entry
         group: peer.id.serial,
         item: number,
     }
+}
+
+/// What no entry of the message goes before.
+pub(crate) fn least_of(id: Id) -> Entry
+    ensures { result ≡ least_of id }
+{
+    Entry {
+        key: u128::from(id.generation),
+        group: id.serial,
+        item: 0,
+    }
+}
+
+/// Whether the entry is of a message with these numbers: this one, or its bounce.
+pub(crate) fn is_of_message(entry: &Entry, id: Id) -> bool
+    ensures { result ≡ is_of_message (least_of id) entry.now }
+{
+    entry.group == id.serial && entry.key == u128::from(id.generation)
 }
 
 /// Whether the peer is of the message, at the transport.

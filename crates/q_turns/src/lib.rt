@@ -18,6 +18,7 @@
 #![tactic(auto)]
 
 mod current;
+mod filing;
 mod heading;
 mod lane;
 mod laning;
@@ -28,5 +29,8 @@ mod peers;
 mod turns;
 #[cfg(test)]
 mod worked;
+#[cfg(test)]
+mod worked_filing;
 
+pub use filing::Facts;
 pub use turns::Turns;

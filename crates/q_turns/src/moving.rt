@@ -9,7 +9,7 @@ ghost use Rattle.q_turns.specs.Heading.{head_at, message_at, rank_at, rank_by, r
 ghost use Rattle.q_turns.specs.Moving.{job_head, missing_head, moved_head, with_key};
 ghost use Rattle.q_turns.specs.Sound.{AreLanes};
 
-use crate::heading::{head_of, is_peer_for};
+use crate::heading::{head_of, is_of_message, is_peer_for, least_of};
 use crate::lane::Lane;
 use crate::laning::put_in;
 use q_heads::Heads;
@@ -145,13 +145,6 @@ fn move_one(
     heads.insert(head);
 }
 
-/// Whether the entry is one of the message's.
-fn is_of_message(entry: &Entry, id: Id) -> bool
-    ensures { result ≡ ((entry.now.group == id.serial) && (entry.now.key == id.generation)) }
-{
-    entry.group == id.serial && entry.key == u128::from(id.generation)
-}
-
 /// Moves the entries of the message's peers at the transport from the rank that its job had.
 pub(crate) fn move_job(
     heads: &mut Heads,
@@ -172,12 +165,7 @@ pub(crate) fn move_job(
         peers.now.items) heads.new.items }
 {
     messages.stand_sorted();
-    let first = Entry {
-        key: u128::from(id.generation),
-        group: id.serial,
-        item: 0,
-    };
-    let mut at = messages.first_from(&first);
+    let mut at = messages.first_from(&least_of(id));
     while let Some(entry) = at {
         if !is_of_message(&entry, id) {
             return;

@@ -13,7 +13,7 @@ use std::test::Fail;
 /// A call. Messages and sites are numbered; sites with even numbers are of transport 0, those with
 /// odd ones of transport 1.
 #[derive(Clone, Copy, Debug)]
-enum Call {
+pub(crate) enum Call {
     /// A message joins the line of a transport.
     Join(usize, u32),
     /// Another number of starts.
@@ -41,7 +41,7 @@ type Row = (Call, Lines, Turn);
 const TRANSPORTS: u8 = 2;
 
 /// How many peers have room.
-const ROOM: u32 = 6;
+pub(crate) const ROOM: u32 = 6;
 
 /// Calls, and after each the lines of both transports and whose turn it is.
 const ROWS: [Row; 36] = [
@@ -93,7 +93,7 @@ const ROWS: [Row; 36] = [
 ];
 
 /// Turns with nothing in them, in a box: a test lets them go at each of its ends.
-fn fresh(alloc: Global) -> Result<Box<Turns>, AllocError>
+pub(crate) fn fresh(alloc: Global) -> Result<Box<Turns>, AllocError>
     ensures { IfOk result (λ turns. turns.value.room ≡ ROOM) }
 {
     let turns = Turns::new(alloc, TRANSPORTS, 4, ROOM)?;
@@ -101,12 +101,12 @@ fn fresh(alloc: Global) -> Result<Box<Turns>, AllocError>
 }
 
 /// Sites that nothing goes to.
-fn unused(alloc: Global) -> Result<Box<Sites>, AllocError> {
+pub(crate) fn unused(alloc: Global) -> Result<Box<Sites>, AllocError> {
     let sites = Sites::new(alloc, 4)?;
     Ok(Box::new(alloc, sites)?)
 }
 
-fn id(serial: u32) -> Id {
+pub(crate) fn id(serial: u32) -> Id {
     Id {
         generation: 1,
         serial,
@@ -114,7 +114,7 @@ fn id(serial: u32) -> Id {
     }
 }
 
-fn site(number: u8) -> Option<Site> {
+pub(crate) fn site(number: u8) -> Option<Site> {
     let hop = if number < 2 { "a.example" } else { "b.example" };
     Some(Site {
         transport: number % 2,
@@ -204,7 +204,7 @@ fn fill(sites: &mut Sites, site: &Site) {
 }
 
 /// Makes a call, where it is none in error.
-fn make(turns: &mut Turns, sites: &mut Sites, call: Call) -> Option<()>
+pub(crate) fn make(turns: &mut Turns, sites: &mut Sites, call: Call) -> Option<()>
     requires { turns.old.room ≡ ROOM }
     ensures { turns.new.room ≡ ROOM }
 {

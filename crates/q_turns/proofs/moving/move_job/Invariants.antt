@@ -1,6 +1,7 @@
 use Rattle.std.proofs.Common.{◌≡◌}
 use Rattle.q_rounds.specs.Listing.{AreEntries}
-use Rattle.q_turns.proofs.JobMoves.{entries_left, moved_to, StandsAt}
+use Rattle.q_turns.proofs.JobMoves.{moved_to}
+use Rattle.q_turns.proofs.MessageWalk.{entries_left, StandsAt}
 use Rattle.q_turns.proofs.TakenOut.{with_items}
 use Rattle.q_turns.proofs.moving.move_job.Given as goal
 

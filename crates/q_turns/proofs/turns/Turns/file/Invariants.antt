@@ -1,0 +1,15 @@
+use Rattle.std.proofs.Common.{◌≡◌}
+use Rattle.q_turns.proofs.FilingLaws.{IsFiledTo}
+use Rattle.q_turns.proofs.MessageWalk.{entries_left, StandsAt}
+use Rattle.q_turns.proofs.turns.Turns.file.Given as goal
+
+-- the peers that were passed are filed
+abbrev pub invariant-loop-at : goal.invariant-loop-at
+invariant-loop-at l = record {
+  room : l.candidates.room ≡ l.fn.candidates.room;
+  stood : StandsAt l.self-inside.messages.items l.at;
+  filed : IsFiledTo l.id l.self-inside.peers.items l.self.lines l.facts l.at l.fn.candidates.items l.candidates.items;
+}
+
+abbrev pub decreases-loop-at : goal.decreases-loop-at
+decreases-loop-at l = entries_left l.self-inside.messages.items l.at
