@@ -9,12 +9,19 @@
 //! site that is full. As a job goes before another, its peers move in their lanes; and in the very
 //! rare call that finds no rank left all jobs of a transport are ranked anew, in a walk.
 //!
+//! A message whose job at a transport has begun no delivery may preempt another one there. `file`
+//! brings its candidates up to date in a walk along its own peers: one at each site at which rows
+//! of it wait, which needs all its rows that wait at the transport and its recipients that weren't
+//! read. It is for calls that changed its rows, what was read of it or what its jobs began.
+//!
 //! A job joins its line before a row of its message waits at the transport, and leaves behind the
 //! last one. Room is made once, by `new`; no other call takes memory or can fail. It is an error to
 //! let a job join where it stands already or has no room, or leave while rows of it wait; to let a
 //! row come without a job or without room for its peer; to let two peers be sent to in one
-//! delivery; and to put a job before itself, or before one that isn't there. It is none to ask for,
-//! change or lose what isn't there.
+//! delivery; to put a job before itself, or before one that isn't there; and to file a message
+//! among candidates that have another room, or of which one is at a site at which no row of its
+//! message waits: as the last row there goes, it is to be taken out. It is none to ask for, change,
+//! lose or file what isn't there.
 #![tactic(auto)]
 
 mod current;
