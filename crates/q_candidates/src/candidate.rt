@@ -47,7 +47,7 @@ impl Candidate {
     }
 
     /// Whether it is better than the other, or as good and admitted before it.
-    pub(crate) fn goes_first(&self, other: &Candidate, now: Moment) -> bool
+    pub fn goes_first(&self, other: &Candidate, now: Moment) -> bool
         ensures { result ≡ goes_first now self.now other.now }
     {
         self.is_better(other, now) || !other.is_better(self, now) && self.rank < other.rank

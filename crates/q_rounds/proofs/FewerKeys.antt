@@ -61,7 +61,7 @@ module _ {A B K : Type 0} (eq : K → K → Bool) (is_same : (a b : K) → eq a 
       let here = among (key x) (ap (λ t. t || list_any (λ z. eq (key z) (key x)) xs) (is_own (key x))) in
       let fewer = fewer_left (λ y. eq (other y) (key x)) ys here in
       let rest = no_more xs (filter (λ y. not (eq (other y) (key x))) ys) own.1 (λ k there.
-          still_there k (key x) ys (another k (key x) xs own.0 there) (among k (or_right (eq (key x) k) (list_any (λ z. eq (key z) k) xs) there))) in
+      still_there k (key x) ys (another k (key x) xs own.0 there) (among k (or_right (eq (key x) k) (list_any (λ z. eq (key z) k) xs) there))) in
       omega (arith, fewer, rest)
 
   -- and it is shorter where it lacks one of them

@@ -1,7 +1,7 @@
 pub mod WithLine
 mod LineSets
 mod Having
-mod HavingLines
+pub mod HavingLines
 mod PeerLaws
 mod HeadLaws
 mod Placing

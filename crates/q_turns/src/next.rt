@@ -1,5 +1,5 @@
 //! The peer of a job that is sent to next, and what waits for all of them.
-ghost use Rattle.std.specs.Prelude.{◌≡◌};
+ghost use Rattle.std.specs.Prelude.{◌≡◌, ◌+◌, ◌<◌, ◌^◌};
 ghost use Rattle.std.specs.List.{list_any};
 ghost use Rattle.std.specs.Option.{option_copied};
 ghost use Rattle.q_rounds.specs.Rounds.{is_passed, next_in, rows_left};
@@ -37,7 +37,8 @@ impl Turns {
 
     /// How many rows of the message wait at the transport.
     pub fn rest(&self, id: Id, transport: usize) -> u64
-        ensures { result ≡ rows_left id transport self.now.peers }
+        ensures value { result ≡ rows_left id transport self.now.peers }
+        ensures few { result + 2 ^ 32 < 2 ^ 64 }
     {
         self.peers.rest(id, transport)
     }

@@ -1,0 +1,15 @@
+pub mod Bests
+pub mod Keeping
+pub mod Knowing
+pub mod Leasts
+pub mod LineSames
+pub mod MessageLaws
+pub mod MessageSames
+pub mod Owns
+pub mod PeerSames
+pub mod RankedAnew
+pub mod Sames
+pub mod ScheduleViews
+pub mod Schedules
+pub mod Waiting
+pub mod Winners

@@ -1,0 +1,4 @@
+pub mod Schedule
+pub mod Sound
+pub mod Best
+pub mod Ranking
