@@ -1,0 +1,41 @@
+//! A site and its row.
+use q_keyed::HasKey;
+use q_model::Site;
+use q_peers::site_hash;
+
+/// The row of a site that was begun last, by its place among the rows.
+#[derive(Clone, Copy, Debug)]
+pub struct OpenRow {
+    pub site: Site,
+    pub place: usize,
+}
+
+impl HasKey for OpenRow {
+    ghost use Rattle.q_model.proofs.IdLaws.{site_eq-refl, site_eq-true};
+    ghost use Rattle.q_model.specs.Sites.{site_eq};
+    ghost use Rattle.q_peers.specs.Buckets.{site_hash};
+
+    type Key = Site;
+
+    ghost key_of = { λ r. r.site };
+
+    ghost eq = { site_eq };
+
+    ghost hash = { site_hash };
+
+    fn has_key(&self, key: &Site) -> bool {
+        self.site == *key
+    }
+
+    fn hash(&self) -> u32 {
+        site_hash(&self.site)
+    }
+
+    fn hash_of(key: &Site) -> u32 {
+        site_hash(key)
+    }
+
+    ghost is_same = { site_eq-true };
+
+    ghost is_own = { site_eq-refl };
+}
