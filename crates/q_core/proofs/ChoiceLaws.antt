@@ -1,40 +1,17 @@
 -- Searches for the least, from the end of a list.
-use Rattle.std.proofs.Common.{◌≡◌, ℕ, suc, ◌+◌, ◌-◌, ◌<◌, ◌≤◌, Bool, true, false, cond, List, [], ◌∷◌, length, map, drop, get_or, refl, sym, ap, ◌∙◌, subst, arith, drop-cons, Option, Some, None, option_map}
+use Rattle.std.proofs.Common.{◌≡◌, ℕ, suc, ◌+◌, ◌-◌, ◌<◌, Bool, true, false, cond, List, [], ◌∷◌, map, refl, ap, ◌∙◌, subst, arith, Option, Some, None, option_map}
 use Rattle.std.specs.Option.{option_or}
 use Rattle.std.specs.Prelude.{filter, if◌then◌else◌}
 use Rattle.std.specs.Prelude.{◌&&◌}
 use Rattle.std.specs.List.{list_all}
 use Rattle.q_core.specs.Choosing.{choice_in, choices_from}
-use Rattle.q_core.specs.Lists.{better_of, prefer}
+use Rattle.q_core.specs.Lists.{better_of}
 use Rattle.q_core.specs.declared.decision.Decision.{Decision}
 use Rattle.q_core.specs.declared.state.Core.{Core}
 use Rattle.q_model.specs.Lists.{least}
 
 abbrev least_of : {A : Type 0} → (A → A → Bool) → A → Option A → Option A
 least_of before x o = Some (better_of before x o)
-
-prefer_cons : {A : Type 0} (before : A → A → Bool) (b : Bool) (x : A) (xs : List A) → (if b then Some (better_of before x (least before xs)) else least before xs) ≡ least before (cond b (x ∷ xs) xs)
-prefer_cons before true x xs = refl
-prefer_cons before false x xs = refl
-
--- one step of a search from the end
-pub least_down : {A : Type 0} (before : A → A → Bool) (p : A → Bool) (xs : List A) (i : ℕ) (x : A) (best result : Option A) →
-    0 < i → i ≤ length xs → x ≡ get_or xs (i - 1) x → best ≡ least before (filter p (drop i xs)) → result ≡ prefer p before x best → result ≡ least before (filter p (drop (i - 1) xs))
-least_down before p xs i x best result some within at is step =
-    let next : i ≡ suc (i - 1) = omega arith in
-    let lt : i - 1 < length xs = omega arith in
-    step ∙ ap (prefer p before x) (is ∙ ap (λ n. least before (filter p (drop n xs))) next)
-    ∙ prefer_cons before (p x) x (filter p (drop (suc (i - 1)) xs))
-    ∙ ap (λ ys. least before (filter p ys)) (ap (λ y. y ∷ drop (suc (i - 1)) xs) at ∙ sym (drop-cons xs (i - 1) x lt))
-
--- the search from the end without a test
-pub least_back : {A : Type 0} (before : A → A → Bool) (xs : List A) (i : ℕ) (x : A) (best : Option A) →
-    0 < i → i ≤ length xs → x ≡ get_or xs (i - 1) x → best ≡ least before (drop i xs) → Some (better_of before x best) ≡ least before (drop (i - 1) xs)
-least_back before xs i x best some within at is =
-    let next : i ≡ suc (i - 1) = omega arith in
-    let lt : i - 1 < length xs = omega arith in
-    ap (λ o. Some (better_of before x o)) (is ∙ ap (λ n. least before (drop n xs)) next)
-    ∙ ap (least before) (ap (λ y. y ∷ drop (suc (i - 1)) xs) at ∙ sym (drop-cons xs (i - 1) x lt))
 
 choices_at : (c : Core) (t n : ℕ) → t < n → choices_from c t (n - t) ≡ option_or (choice_in c t) (choices_from c (t + 1) (n - (t + 1)))
 choices_at c t n h = let e : n - t ≡ suc (n - (t + 1)) = omega arith in ap (choices_from c t) e
@@ -96,8 +73,3 @@ all_kept q false x xs h rest = rest
 pub list_all-filter : {A : Type 0} (q p : A → Bool) (xs : List A) → list_all q xs ≡ true → list_all q (filter p xs) ≡ true
 list_all-filter q p [] h = refl
 list_all-filter q p (x ∷ xs) h = let parts = and_parts (q x) (list_all q xs) h in all_kept q (p x) x (filter p xs) parts.0 (list_all-filter q p xs parts.1)
-
--- the search from the end, by what comes behind
-pub least_front : {A : Type 0} (before : A → A → Bool) (p : A → Bool) (x : A) (xs : List A) (best result : Option A) →
-    best ≡ least before (filter p xs) → result ≡ prefer p before x best → result ≡ least before (filter p (x ∷ xs))
-least_front before p x xs best result is step = step ∙ ap (prefer p before x) is ∙ prefer_cons before (p x) x (filter p xs)

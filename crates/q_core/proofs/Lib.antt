@@ -23,6 +23,7 @@ pub mod LookLaws
 pub mod StepLaws
 pub mod NoteLaws
 pub mod TidyLaws
+pub mod BestLaws
 pub mod BookLaws
 pub mod ChangeLaws
 pub mod HeldLaws
@@ -31,6 +32,7 @@ pub mod PlaceLaws
 pub mod FirstLaws
 pub mod LogLaws
 pub mod MarkLaws
+pub mod MessageTies
 pub mod ClearLaws
 pub mod WindowLaws
 pub mod MovedLaws
@@ -68,11 +70,11 @@ pub mod EnterLaws
 pub mod JobLaws
 pub mod PreemptLaws
 pub mod GroupLaws
+pub mod OpenLaws
 pub mod JoinLaws
 pub mod LoadLaws
 pub mod CountedLaws
 pub mod EarlyLaws
-pub mod NeedLaws
 pub mod AtHandLaws
 pub mod TouchedLaws
 pub mod StayLaws

@@ -1,5 +1,5 @@
 -- The messages in memory as a pool keeps them, and as the core's state has them.
-use Rattle.std.proofs.Common.{◌≡◌, ◌∙◌, ◌+◌, ap, arith, drop, get_or, suc, zero, Bool, cond, false, List, [], ◌∷◌, ◌++◌, map, None, Option, option_map, refl, Some, sym, true, ℕ}
+use Rattle.std.proofs.Common.{◌≡◌, ◌∙◌, ◌+◌, ap, arith, Bool, cond, false, List, [], ◌∷◌, ◌++◌, map, None, Option, option_map, refl, Some, sym, true, ℕ}
 use Rattle.std.proofs.lemmas.Grind.{common_steps}
 use Rattle.std.specs.List.{list_any}
 use Rattle.std.specs.Option.{option_map_or}
@@ -19,9 +19,7 @@ use Rattle.q_model.specs.declared.rows.Unsettled.{Unsettled}
 use Rattle.q_model.specs.Ids.{id_eq}
 use Rattle.q_pool.specs.Kept.{counted_at, heads, is_idle, is_of, kept_at, may_read, unread_of, wants_sync}
 use Rattle.q_pool.specs.Pooled.{AreApart}
-use Rattle.q_pool.specs.Ranks.{values_of}
 use Rattle.q_pool.specs.Slots.{changed_at}
-use Rattle.q_register.specs.declared.entry.Entry.{Entry}
 use Rattle.q_pool.specs.declared.kept.Kept.{Kept}
 use Rattle.q_pool.specs.declared.slot.Slot.{Slot}
 
@@ -271,14 +269,3 @@ some_there g name ks xs p x tie found =
     (ap (λ n. not (n == 0)) (tie (name x)) ∙ sym (any_count (λ y. id_eq (name y) (name x)) xs) ∙ find-any p (λ y. id_eq (name y) (name x)) xs x found (id_eq-same (name x)))
 
 -- messages at places, from the end
-
-pub places_none : (places : List (Option (Entry Id Kept))) (i : ℕ) → get_or places i None ≡ None → values_of (drop i places) ≡ values_of (drop (suc i) places)
-places_none [] zero h = refl
-places_none [] (suc i) h = refl
-places_none (o ∷ os) zero h = ap (λ (x : Option (Entry Id Kept)). values_of (x ∷ os)) h
-places_none (o ∷ os) (suc i) h = places_none os i h
-
-pub places_some : (places : List (Option (Entry Id Kept))) (i : ℕ) (e : Entry Id Kept) → get_or places i None ≡ Some e → values_of (drop i places) ≡ e.value ∷ values_of (drop (suc i) places)
-places_some [] i e h = cc
-places_some (o ∷ os) zero e h = ap (λ (x : Option (Entry Id Kept)). values_of (x ∷ os)) h
-places_some (o ∷ os) (suc i) e h = places_some os i e h

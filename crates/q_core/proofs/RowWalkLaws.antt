@@ -160,12 +160,3 @@ narrow_place p q xs i y of place at here =
     let n = narrow p q xs y of here (ap (slice_get xs) (sym e) ∙ at) in
     let within = some_within xs i y at in
     grind (arith, common_steps, e, n, within)
-
-least_step : {X : Type 0} (before : X → X → Bool) (p : X → Bool) (x : X) (xs : List X) (b : Bool) → is_some (least before (filter p xs)) ≡ list_any p xs → is_some (least before (cond b (x ∷ filter p xs) (filter p xs))) ≡ (b || list_any p xs)
-least_step before p x xs true h = refl
-least_step before p x xs false h = h
-
--- there is a least one where one passes
-pub any_least : {X : Type 0} (before : X → X → Bool) (p : X → Bool) (xs : List X) → is_some (least before (filter p xs)) ≡ list_any p xs
-any_least before p [] = refl
-any_least before p (x ∷ xs) = least_step before p x xs (p x) (any_least before p xs)

@@ -6,10 +6,11 @@ use Rattle.std.specs.List.{list_any, remove}
 use Rattle.std.specs.Prelude.{◌&&◌, ◌||◌, ◌==◌, count_by, filter, find, nat_lt, not, slice_get}
 use Rattle.q_core.proofs.CountLaws.{count_without}
 use Rattle.q_core.proofs.Tallies.{keyed_mapped, keyed_moved, tally_comes, tally_dropped, tally_fewer, tally_filtered, tally_first, tally_mapped, tally_more, tally_moved, tally_there}
-use Rattle.q_core.proofs.TiedLaws.{count_landed}
+use Rattle.q_flights.proofs.Rising.{count_left}
+use Rattle.q_flights.specs.Flying.{AreRising}
 use Rattle.q_core.specs.Known.{forgotten, known_records, site_of}
 use Rattle.q_core.specs.Lists.{moved_back}
-use Rattle.q_core.specs.Ties.{AreBusyTied, AreNumbered, AreSitesTied, AreWaitingTied}
+use Rattle.q_core.specs.Ties.{AreBusyTied, AreSitesTied, AreWaitingTied}
 use Rattle.q_dest.specs.declared.dest.Dest.{Dest}
 use Rattle.q_dest.specs.Dests.{AreApart, begun, changed_at, gained, heard, is_at, is_kept, is_remembered, is_unused, landed, left, settled}
 use Rattle.q_dest.proofs.Hearing.{heard_in_site}
@@ -142,15 +143,15 @@ sites_begun rows i row number fs ds at tie =
     }
 
 -- a delivery is over
-pub sites_landed : (rows : List Row) (fs : List Delivery) (starts number : ℕ) (f : Delivery) (ds : List Dest) → AreNumbered starts fs → find (λ (x : Delivery). x.number == number) fs ≡ Some f → AreSitesTied ds rows fs →
+pub sites_landed : (rows : List Row) (fs : List Delivery) (number : ℕ) (f : Delivery) (ds : List Dest) → AreRising fs → find (λ (x : Delivery). x.number == number) fs ≡ Some f → AreSitesTied ds rows fs →
     AreSitesTied (map (changed_at f.row.site landed) ds) rows (filter (λ (x : Delivery). not (x.number == number)) fs)
-sites_landed rows fs starts number f ds numbered at tie =
+sites_landed rows fs number f ds rise at tie =
     let left = filter (λ (x : Delivery). not (x.number == number)) fs in
     let there = tally_there site_eq site_of site_eq-true site_eq-refl (λ d. d.busy) (λ (g : Delivery). g.row.site) ds fs f.row.site (count_by (λ (g : Delivery). site_eq g.row.site f.row.site) left) tie.busy
-    (count_landed (λ (g : Delivery). site_eq g.row.site f.row.site) starts number fs f numbered at ∙ ap (λ b. count_by (λ (g : Delivery). site_eq g.row.site f.row.site) left + cond b 1 0) (site_eq-refl f.row.site)) in
+    (count_left (λ (g : Delivery). site_eq g.row.site f.row.site) number fs f rise at ∙ ap (λ b. count_by (λ (g : Delivery). site_eq g.row.site f.row.site) left + cond b 1 0) (site_eq-refl f.row.site)) in
     record {
       waiting = tally_mapped site_eq site_of site_eq-true site_eq-refl (λ d. d.waiting) (changed_at f.row.site landed) (λ d. stays (is_at f.row.site d) d) (λ d. waits (is_at f.row.site d) d) (λ (r : Row). r.site) ds rows tie.waiting;
-      busy = tally_fewer site_eq site_of site_eq-true site_eq-refl (λ d. d.busy) (λ (g : Delivery). g.row.site) landed (λ d. refl) ds fs f.row.site f there.0 tie.busy refl there.1 left (λ p. count_landed p starts number fs f numbered at) refl;
+      busy = tally_fewer site_eq site_of site_eq-true site_eq-refl (λ d. d.busy) (λ (g : Delivery). g.row.site) landed (λ d. refl) ds fs f.row.site f there.0 tie.busy refl there.1 left (λ p. count_left p number fs f rise at) refl;
     }
   where
     stays : (b : Bool) (d : Dest) → (cond b (landed d) d).known.site ≡ d.known.site

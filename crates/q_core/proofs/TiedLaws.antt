@@ -1,16 +1,17 @@
 -- What holds of a core's parts goes on to hold as rows come, move and go.
-use Rattle.std.proofs.Common.{◌≡◌, ◌∙◌, ◌+◌, ◌-◌, ◌<◌, ◌≤◌, ◌^◌, add-zero, ap, arith, Bool, cond, false, eqb-true, inl, inr, length, List, [], ◌∷◌, ◌++◌, map, None, Option, refl, Some, subst, sym, true, ℕ}
-use Rattle.std.proofs.lemmas.Bool.Decides.{eqb_tells}
+use Rattle.std.proofs.Common.{◌≡◌, ◌∙◌, ◌+◌, ◌-◌, ◌<◌, ◌≤◌, ◌^◌, add-zero, ap, arith, Bool, cond, false, length, List, [], ◌∷◌, ◌++◌, map, None, Option, refl, Some, subst, sym, true, ℕ}
 use Rattle.std.proofs.lemmas.Grind.{common_steps}
 use Rattle.std.specs.List.{remove}
 use Rattle.std.specs.Option.{option_map_or}
-use Rattle.std.specs.Prelude.{◌==◌, count_by, filter, find, not, slice_get}
-use Rattle.q_core.specs.Counted.{IsCounted}
+use Rattle.std.specs.Prelude.{◌==◌, filter, find, not, slice_get}
 use Rattle.q_core.specs.Counting.{counted_as, more, recounted, with_flight, with_row_put_off, with_unsettled, with_waiting, without_flight, without_unsettled}
 use Rattle.q_core.specs.Ties.{AreCounted, AreNamed, AreNumbered, AreTied, count_of, kept_of}
 use Rattle.q_core.proofs.NameLaws.{id_eq-same, id_eq-true}
 use Rattle.q_core.proofs.CountLaws.{count_more, count_within, count_without}
 use Rattle.q_core.proofs.TieLaws.{tie_kept, tie_left, tie_more, tie_set}
+use Rattle.q_core.proofs.ServedLaws.{all_filtered, all_last, all_weaker}
+use Rattle.q_flights.proofs.Rising.{count_left}
+use Rattle.q_flights.specs.Flying.{AreRising, IsAbove}
 use Rattle.q_model.specs.declared.id.Id.{Id}
 use Rattle.q_model.specs.declared.rows.Delivery.{Delivery}
 use Rattle.q_model.specs.declared.rows.Need.TheVariants as needs
@@ -103,88 +104,19 @@ in_memory g name ks xs i x tie at =
 
 -- numbers of deliveries
 
-weaker : (starts n : ℕ) (fs : List Delivery) → starts ≤ n → AreNumbered starts fs → AreNumbered n fs
-weaker starts n [] less h = tt
-weaker starts n (f ∷ fs) less h = (omega (arith, less, h.0), h.1, weaker starts n fs less h.2)
+numbered_more : (starts n : ℕ) (fs : List Delivery) (g : Delivery) → starts < n → g.number ≡ n → AreNumbered starts fs → AreNumbered n (fs ++ g ∷ [])
+numbered_more starts n fs g less is h =
+    all_last (λ (f : Delivery). f.number ≤ n) fs g (all_weaker (λ (f : Delivery). f.number ≤ starts) (λ f. f.number ≤ n) (λ f low. omega (arith, less, low)) fs h) (omega (arith, is))
 
-last_step : (f g x : Delivery) (xs : List Delivery) → (find (λ (y : Delivery). y.number == f.number) xs ≡ None → find (λ (y : Delivery). y.number == f.number) (xs ++ g ∷ []) ≡ None) → (b : Bool) →
-    cond b (Some x) (find (λ (y : Delivery). y.number == f.number) xs) ≡ None → cond b (Some x) (find (λ (y : Delivery). y.number == f.number) (xs ++ g ∷ [])) ≡ None
-last_step f g x xs more true e = cc
-last_step f g x xs more false e = more e
-
-none_last : (f g : Delivery) (fs : List Delivery) → (g.number ≡ f.number → ⊥) → find (λ (x : Delivery). x.number == f.number) fs ≡ None → find (λ (x : Delivery). x.number == f.number) (fs ++ g ∷ []) ≡ None
-none_last f g [] apart h = elim (eqb_tells g.number f.number) [
-  | inl same ↦ absurd (apart same.1)
-  | inr other ↦ ap (λ b. cond b (Some g) None) other.0
-]
-none_last f g (x ∷ xs) apart h = last_step f g x xs (none_last f g xs apart) (x.number == f.number) h
-
-pub numbered_more : (starts n : ℕ) (fs : List Delivery) (g : Delivery) → starts < n → g.number ≡ n → AreNumbered starts fs → AreNumbered n (fs ++ g ∷ [])
-numbered_more starts n [] g less is h = (omega (arith, is), refl, tt)
-numbered_more starts n (f ∷ fs) g less is h = (
-  omega (arith, less, h.0),
-  none_last f g fs (λ same. omega (arith, less, is, same, h.0)) h.1,
-  numbered_more starts n fs g less is h.2,
-)
-
-found_step : (p q : Delivery → Bool) (f : Delivery) (fs : List Delivery) → (find p fs ≡ None → find p (filter q fs) ≡ None) → (a b : Bool) → p f ≡ a → cond a (Some f) (find p fs) ≡ None → find p (cond b (f ∷ filter q fs) (filter q fs)) ≡ None
-found_step p q f fs more true b t e = cc
-found_step p q f fs more false true t e = ap (λ c. cond c (Some f) (find p (filter q fs))) t ∙ more e
-found_step p q f fs more false false t e = more e
-
-find_left : (p q : Delivery → Bool) (fs : List Delivery) → find p fs ≡ None → find p (filter q fs) ≡ None
-find_left p q [] h = refl
-find_left p q (f ∷ fs) h = found_step p q f fs (find_left p q fs) (p f) (q f) refl h
-
-left_step : (starts : ℕ) (f : Delivery) (gs : List Delivery) → f.number ≤ starts → find (λ (x : Delivery). x.number == f.number) gs ≡ None → AreNumbered starts gs → (b : Bool) → AreNumbered starts (cond b (f ∷ gs) gs)
-left_step starts f gs within none h true = (within, none, h)
-left_step starts f gs within none h false = h
-
-pub numbered_left : (starts : ℕ) (q : Delivery → Bool) (fs : List Delivery) → AreNumbered starts fs → AreNumbered starts (filter q fs)
-numbered_left starts q [] h = tt
-numbered_left starts q (f ∷ fs) h = left_step starts f (filter q fs) h.0 (find_left (λ (x : Delivery). x.number == f.number) q fs h.1) (numbered_left starts q fs h.2) (q f)
-
-whole_step : (n : ℕ) (f : Delivery) (fs : List Delivery) → (find (λ (x : Delivery). x.number == n) fs ≡ None → filter (λ (x : Delivery). not (x.number == n)) fs ≡ fs) → (b : Bool) →
-    cond b (Some f) (find (λ (x : Delivery). x.number == n) fs) ≡ None → cond (not b) (f ∷ filter (λ (x : Delivery). not (x.number == n)) fs) (filter (λ (x : Delivery). not (x.number == n)) fs) ≡ f ∷ fs
-whole_step n f fs more true e = cc
-whole_step n f fs more false e = ap (λ (xs : List Delivery). f ∷ xs) (more e)
-
-pub whole : (n : ℕ) (fs : List Delivery) → find (λ (x : Delivery). x.number == n) fs ≡ None → filter (λ (x : Delivery). not (x.number == n)) fs ≡ fs
-whole n [] h = refl
-whole n (f ∷ fs) h = whole_step n f fs (whole n fs) (f.number == n) h
-
--- the delivery of a number is the only one that goes
-first_counted : (p : Delivery → Bool) (x : Delivery) (xs : List Delivery) → count_by p (x ∷ xs) ≡ cond (p x) 1 0 + count_by p xs
-first_counted p x xs = grind (arith, common_steps)
-
-landed_step : (p : Delivery → Bool) (n : ℕ) (f found : Delivery) (fs : List Delivery) → find (λ (x : Delivery). x.number == f.number) fs ≡ None →
-    (find (λ (x : Delivery). x.number == n) fs ≡ Some found → count_by p fs ≡ count_by p (filter (λ (x : Delivery). not (x.number == n)) fs) + cond (p found) 1 0) → (b : Bool) → (f.number == n) ≡ b → cond b (Some f) (find (λ (x : Delivery). x.number == n) fs) ≡ Some found →
-    count_by p (f ∷ fs) ≡ count_by p (cond (not b) (f ∷ filter (λ (x : Delivery). not (x.number == n)) fs) (filter (λ (x : Delivery). not (x.number == n)) fs)) + cond (p found) 1 0
-landed_step p n f found fs none more true t e =
-    let same : f ≡ found = cc in
-    let number : f.number ≡ n = eqb-true f.number n t in
-    let rest = whole n fs (ap (λ m. find (λ (x : Delivery). x.number == m) fs) (sym number) ∙ none) in
-    let a = first_counted p f fs in
-    let b = ap (count_by p) rest in
-    let c = ap {B = ℕ} (λ (x : Delivery). cond (p x) 1 0) same in
-    omega (arith, a, b, c)
-landed_step p n f found fs none more false t e =
-    let a = first_counted p f fs in
-    let b = first_counted p f (filter (λ (x : Delivery). not (x.number == n)) fs) in
-    let c = more e in
-    omega (arith, a, b, c)
-
-pub count_landed : (p : Delivery → Bool) (starts n : ℕ) (fs : List Delivery) (found : Delivery) → AreNumbered starts fs → find (λ (x : Delivery). x.number == n) fs ≡ Some found →
-    count_by p fs ≡ count_by p (filter (λ (x : Delivery). not (x.number == n)) fs) + cond (p found) 1 0
-count_landed p starts n [] found h there = cc
-count_landed p starts n (f ∷ fs) found h there = landed_step p n f found fs h.1 (count_landed p starts n fs found h.2) (f.number == n) refl there
+-- the next number is above all others
+pub numbered_below : (starts n : ℕ) (fs : List Delivery) → starts < n → AreNumbered starts fs → IsAbove n fs
+numbered_below starts n fs less h = all_weaker (λ (f : Delivery). f.number ≤ starts) (λ f. f.number < n) (λ f low. omega (arith, less, low)) fs h
 
 -- the parts together
 
-pub tied_kept : (p : Settings) (m n : Pooled) (rows : List Row) (fs : List Delivery) (us : List Unsettled) (counts : List ℕ) (starts : ℕ) (id : Id) (f : Slot → Slot) → ((s : Slot) → (f s).id ≡ s.id) →
-    n ≡ record m { items = map (kept_at id f) m.items } → AreTied p m rows fs us counts starts → AreTied p n rows fs us counts starts
-tied_kept p m n rows fs us counts starts id f same is h = subst (λ x. AreTied p x rows fs us counts starts) (sym is) (record {
-  flying = h.flying;
+pub tied_kept : (p : Settings) (m n : Pooled) (rows : List Row) (fs : List Delivery) (us : List Unsettled) (starts : ℕ) (id : Id) (f : Slot → Slot) → ((s : Slot) → (f s).id ≡ s.id) →
+    n ≡ record m { items = map (kept_at id f) m.items } → AreTied p m rows fs us starts → AreTied p n rows fs us starts
+tied_kept p m n rows fs us starts id f same is h = subst (λ x. AreTied p x rows fs us starts) (sym is) (record {
   numbers = h.numbers;
   pool = record { room = h.pool.room; sync_limit = h.pool.sync_limit; minimum = h.pool.minimum };
   waiting = tie_kept (λ k. k.waiting) (λ (r : Row). r.id) m.items rows id f same (λ k s. refl) h.waiting;
@@ -192,10 +124,9 @@ tied_kept p m n rows fs us counts starts id f same is h = subst (λ x. AreTied p
   unsettled = tie_kept (λ k. k.unsettled) (λ (u : Unsettled). u.id) m.items us id f same (λ k s. refl) h.unsettled;
 })
 
-pub tied_more : (p : Settings) (m n : Pooled) (rows : List Row) (fs : List Delivery) (us : List Unsettled) (counts : List ℕ) (starts : ℕ) (s : Slot) →
-    n ≡ record m { items = m.items ++ record { slot = s; waiting = 0; flying = 0; unsettled = 0 } ∷ [] } → AreTied p m rows fs us counts starts → AreTied p n rows fs us counts starts
-tied_more p m n rows fs us counts starts s is h = subst (λ x. AreTied p x rows fs us counts starts) (sym is) (record {
-  flying = h.flying;
+pub tied_more : (p : Settings) (m n : Pooled) (rows : List Row) (fs : List Delivery) (us : List Unsettled) (starts : ℕ) (s : Slot) →
+    n ≡ record m { items = m.items ++ record { slot = s; waiting = 0; flying = 0; unsettled = 0 } ∷ [] } → AreTied p m rows fs us starts → AreTied p n rows fs us starts
+tied_more p m n rows fs us starts s is h = subst (λ x. AreTied p x rows fs us starts) (sym is) (record {
   numbers = h.numbers;
   pool = record { room = h.pool.room; sync_limit = h.pool.sync_limit; minimum = h.pool.minimum };
   waiting = tie_more (λ k. k.waiting) (λ (r : Row). r.id) m.items rows _ refl h.waiting;
@@ -203,11 +134,10 @@ tied_more p m n rows fs us counts starts s is h = subst (λ x. AreTied p x rows 
   unsettled = tie_more (λ k. k.unsettled) (λ (u : Unsettled). u.id) m.items us _ refl h.unsettled;
 })
 
-pub tied_left : (p : Settings) (m n : Pooled) (rows : List Row) (fs : List Delivery) (us : List Unsettled) (counts : List ℕ) (starts : ℕ) (id : Id) →
+pub tied_left : (p : Settings) (m n : Pooled) (rows : List Row) (fs : List Delivery) (us : List Unsettled) (starts : ℕ) (id : Id) →
     kept_of (λ k. k.waiting) m.items id ≡ 0 → kept_of (λ k. k.flying) m.items id ≡ 0 → kept_of (λ k. k.unsettled) m.items id ≡ 0 →
-    n ≡ record m { items = filter (λ k. not (is_of id k)) m.items } → AreTied p m rows fs us counts starts → AreTied p n rows fs us counts starts
-tied_left p m n rows fs us counts starts id w f u is h = subst (λ x. AreTied p x rows fs us counts starts) (sym is) (record {
-  flying = h.flying;
+    n ≡ record m { items = filter (λ k. not (is_of id k)) m.items } → AreTied p m rows fs us starts → AreTied p n rows fs us starts
+tied_left p m n rows fs us starts id w f u is h = subst (λ x. AreTied p x rows fs us starts) (sym is) (record {
   numbers = h.numbers;
   pool = record { room = h.pool.room; sync_limit = h.pool.sync_limit; minimum = h.pool.minimum };
   waiting = tie_left (λ k. k.waiting) (λ (r : Row). r.id) m.items rows id h.waiting w;
@@ -216,11 +146,10 @@ tied_left p m n rows fs us counts starts id w f u is h = subst (λ x. AreTied p 
 })
 
 -- rows are read
-pub tied_read : (p : Settings) (m n : Pooled) (rows new : List Row) (fs : List Delivery) (us : List Unsettled) (counts : List ℕ) (starts : ℕ) (id : Id) (k : Kept) (many : ℕ) → find (is_of id) m.items ≡ Some k →
+pub tied_read : (p : Settings) (m n : Pooled) (rows new : List Row) (fs : List Delivery) (us : List Unsettled) (starts : ℕ) (id : Id) (k : Kept) (many : ℕ) → find (is_of id) m.items ≡ Some k →
     many ≡ length new → length (rows ++ new) < 2 ^ 64 → AreNamed (λ (r : Row). r.id) id new →
-    n ≡ record m { items = recounted (with_waiting many) id m.items } → AreTied p m rows fs us counts starts → AreTied p n (rows ++ new) fs us counts starts
-tied_read p m n rows new fs us counts starts id k many there is few named to h = subst (λ x. AreTied p x (rows ++ new) fs us counts starts) (sym to) (record {
-  flying = h.flying;
+    n ≡ record m { items = recounted (with_waiting many) id m.items } → AreTied p m rows fs us starts → AreTied p n (rows ++ new) fs us starts
+tied_read p m n rows new fs us starts id k many there is few named to h = subst (λ x. AreTied p x (rows ++ new) fs us starts) (sym to) (record {
   numbers = h.numbers;
   pool = record { room = h.pool.room; sync_limit = h.pool.sync_limit; minimum = h.pool.minimum };
   waiting = tie_comes (λ k. k.waiting) (λ (r : Row). r.id) m.items rows new id (with_waiting many) k many h.waiting there refl is few named;
@@ -229,15 +158,14 @@ tied_read p m n rows new fs us counts starts id k many there is few named to h =
 })
 
 -- a row is sent
-pub tied_sent : (p : Settings) (m n : Pooled) (rows : List Row) (i : ℕ) (r : Row) (fs : List Delivery) (us : List Unsettled) (counts after : List ℕ) (starts number : ℕ) → slice_get rows i ≡ Some r → starts < number →
-    length (fs ++ record { number = number; row = r } ∷ []) < 2 ^ 64 → IsCounted (fs ++ record { number = number; row = r } ∷ []) after →
-    n ≡ record m { items = recounted with_flight r.id m.items } → AreTied p m rows fs us counts starts → AreTied p n (remove rows i) (fs ++ record { number = number; row = r } ∷ []) us after number
-tied_sent p m n rows i r fs us counts after starts number at less few counted to h =
+pub tied_sent : (p : Settings) (m n : Pooled) (rows : List Row) (i : ℕ) (r : Row) (fs : List Delivery) (us : List Unsettled) (starts number : ℕ) → slice_get rows i ≡ Some r → starts < number →
+    length (fs ++ record { number = number; row = r } ∷ []) < 2 ^ 64 →
+    n ≡ record m { items = recounted with_flight r.id m.items } → AreTied p m rows fs us starts → AreTied p n (remove rows i) (fs ++ record { number = number; row = r } ∷ []) us number
+tied_sent p m n rows i r fs us starts number at less few to h =
     let own = in_memory (λ k. k.waiting) (λ (r : Row). r.id) m.items rows i r h.waiting at in
     let k = own.0 in
     let there = own.1 in
-    subst (λ x. AreTied p x (remove rows i) (fs ++ record { number = number; row = r } ∷ []) us after number) (sym to) (record {
-      flying = counted;
+    subst (λ x. AreTied p x (remove rows i) (fs ++ record { number = number; row = r } ∷ []) us number) (sym to) (record {
       numbers = numbered_more starts number fs (record { number = number; row = r }) less refl h.numbers;
       pool = record { room = h.pool.room; sync_limit = h.pool.sync_limit; minimum = h.pool.minimum };
       waiting = tie_goes (λ k. k.waiting) (λ (r : Row). r.id) m.items rows i r with_flight k h.waiting there at refl;
@@ -246,15 +174,14 @@ tied_sent p m n rows i r fs us counts after starts number at less few counted to
     })
 
 -- a row is put off
-pub tied_put_off : (p : Settings) (m n : Pooled) (rows : List Row) (i : ℕ) (r : Row) (fs : List Delivery) (us new : List Unsettled) (counts : List ℕ) (starts many : ℕ) → slice_get rows i ≡ Some r →
+pub tied_put_off : (p : Settings) (m n : Pooled) (rows : List Row) (i : ℕ) (r : Row) (fs : List Delivery) (us new : List Unsettled) (starts many : ℕ) → slice_get rows i ≡ Some r →
     many ≡ length new → length (us ++ new) < 2 ^ 64 → AreNamed (λ (u : Unsettled). u.id) r.id new →
-    n ≡ record m { items = recounted (with_row_put_off many) r.id m.items } → AreTied p m rows fs us counts starts → AreTied p n (remove rows i) fs (us ++ new) counts starts
-tied_put_off p m n rows i r fs us new counts starts many at is few named to h =
+    n ≡ record m { items = recounted (with_row_put_off many) r.id m.items } → AreTied p m rows fs us starts → AreTied p n (remove rows i) fs (us ++ new) starts
+tied_put_off p m n rows i r fs us new starts many at is few named to h =
     let own = in_memory (λ k. k.waiting) (λ (r : Row). r.id) m.items rows i r h.waiting at in
     let k = own.0 in
     let there = own.1 in
-    subst (λ x. AreTied p x (remove rows i) fs (us ++ new) counts starts) (sym to) (record {
-      flying = h.flying;
+    subst (λ x. AreTied p x (remove rows i) fs (us ++ new) starts) (sym to) (record {
       numbers = h.numbers;
       pool = record { room = h.pool.room; sync_limit = h.pool.sync_limit; minimum = h.pool.minimum };
       waiting = tie_goes (λ k. k.waiting) (λ (r : Row). r.id) m.items rows i r (with_row_put_off many) k h.waiting there at refl;
@@ -263,11 +190,10 @@ tied_put_off p m n rows i r fs us new counts starts many at is few named to h =
     })
 
 -- outcomes come
-pub tied_replied : (p : Settings) (m n : Pooled) (rows : List Row) (fs : List Delivery) (us new : List Unsettled) (counts : List ℕ) (starts : ℕ) (id : Id) (k : Kept) (many : ℕ) → find (is_of id) m.items ≡ Some k →
+pub tied_replied : (p : Settings) (m n : Pooled) (rows : List Row) (fs : List Delivery) (us new : List Unsettled) (starts : ℕ) (id : Id) (k : Kept) (many : ℕ) → find (is_of id) m.items ≡ Some k →
     many ≡ length new → length (us ++ new) < 2 ^ 64 → AreNamed (λ (u : Unsettled). u.id) id new →
-    n ≡ record m { items = recounted (with_unsettled many) id m.items } → AreTied p m rows fs us counts starts → AreTied p n rows fs (us ++ new) counts starts
-tied_replied p m n rows fs us new counts starts id k many there is few named to h = subst (λ x. AreTied p x rows fs (us ++ new) counts starts) (sym to) (record {
-  flying = h.flying;
+    n ≡ record m { items = recounted (with_unsettled many) id m.items } → AreTied p m rows fs us starts → AreTied p n rows fs (us ++ new) starts
+tied_replied p m n rows fs us new starts id k many there is few named to h = subst (λ x. AreTied p x rows fs (us ++ new) starts) (sym to) (record {
   numbers = h.numbers;
   pool = record { room = h.pool.room; sync_limit = h.pool.sync_limit; minimum = h.pool.minimum };
   waiting = tie_stays (λ k. k.waiting) (λ (r : Row). r.id) m.items rows id (with_unsettled many) k h.waiting there refl;
@@ -276,14 +202,13 @@ tied_replied p m n rows fs us new counts starts id k many there is few named to 
 })
 
 -- the first outcome is settled
-pub tied_settled : (p : Settings) (m n : Pooled) (rows : List Row) (fs : List Delivery) (us : List Unsettled) (counts : List ℕ) (starts : ℕ) (i : ℕ) (u : Unsettled) → slice_get us i ≡ Some u →
-    n ≡ record m { items = recounted (without_unsettled 1) u.id m.items } → AreTied p m rows fs us counts starts → AreTied p n rows fs (remove us i) counts starts
-tied_settled p m n rows fs us counts starts i u at to h =
+pub tied_settled : (p : Settings) (m n : Pooled) (rows : List Row) (fs : List Delivery) (us : List Unsettled) (starts : ℕ) (i : ℕ) (u : Unsettled) → slice_get us i ≡ Some u →
+    n ≡ record m { items = recounted (without_unsettled 1) u.id m.items } → AreTied p m rows fs us starts → AreTied p n rows fs (remove us i) starts
+tied_settled p m n rows fs us starts i u at to h =
     let own = in_memory (λ k. k.unsettled) (λ (u : Unsettled). u.id) m.items us i u h.unsettled at in
     let k = own.0 in
     let there = own.1 in
-    subst (λ x. AreTied p x rows fs (remove us i) counts starts) (sym to) (record {
-      flying = h.flying;
+    subst (λ x. AreTied p x rows fs (remove us i) starts) (sym to) (record {
       numbers = h.numbers;
       pool = record { room = h.pool.room; sync_limit = h.pool.sync_limit; minimum = h.pool.minimum };
       waiting = tie_stays (λ k. k.waiting) (λ (r : Row). r.id) m.items rows u.id (without_unsettled 1) k h.waiting there refl;
@@ -296,9 +221,8 @@ logged_same : (y : Id) (us : List Unsettled) → count_of (λ (u : Unsettled). u
 logged_same y [] = refl
 logged_same y (u ∷ us) = named_step (λ (u : Unsettled). u.id) y (record u { need = needs.Mark }) us (id_eq u.id y) refl ∙ sym (named_step (λ (u : Unsettled). u.id) y u us (id_eq u.id y) refl)
 
-pub tied_logged : (p : Settings) (m : Pooled) (rows : List Row) (fs : List Delivery) (us : List Unsettled) (counts : List ℕ) (starts : ℕ) → AreTied p m rows fs us counts starts → AreTied p m rows fs (first_logged us) counts starts
-tied_logged p m rows fs us counts starts h = record {
-  flying = h.flying;
+pub tied_logged : (p : Settings) (m : Pooled) (rows : List Row) (fs : List Delivery) (us : List Unsettled) (starts : ℕ) → AreTied p m rows fs us starts → AreTied p m rows fs (first_logged us) starts
+tied_logged p m rows fs us starts h = record {
   numbers = h.numbers;
   pool = h.pool;
   waiting = h.waiting;
@@ -307,21 +231,20 @@ tied_logged p m rows fs us counts starts h = record {
 }
 
 -- a delivery is over
-pub tied_landed : (p : Settings) (m n : Pooled) (rows : List Row) (fs : List Delivery) (us : List Unsettled) (counts after : List ℕ) (starts number : ℕ) (f : Delivery) → find (λ (x : Delivery). x.number == number) fs ≡ Some f →
-    IsCounted (filter (λ (x : Delivery). not (x.number == number)) fs) after →
-    n ≡ record m { items = recounted without_flight f.row.id m.items } → AreTied p m rows fs us counts starts → AreTied p n rows (filter (λ (x : Delivery). not (x.number == number)) fs) us after starts
-tied_landed p m n rows fs us counts after starts number f at counted to h =
+pub tied_landed : (p : Settings) (m n : Pooled) (rows : List Row) (fs : List Delivery) (us : List Unsettled) (starts number : ℕ) (f : Delivery) → find (λ (x : Delivery). x.number == number) fs ≡ Some f →
+    AreRising fs →
+    n ≡ record m { items = recounted without_flight f.row.id m.items } → AreTied p m rows fs us starts → AreTied p n rows (filter (λ (x : Delivery). not (x.number == number)) fs) us starts
+tied_landed p m n rows fs us starts number f at rise to h =
     let id = f.row.id in
     let left = filter (λ (x : Delivery). not (x.number == number)) fs in
-    let landed = λ (y : Id). count_landed (λ (x : Delivery). id_eq x.row.id y) starts number fs f h.numbers at in
+    let landed = λ (y : Id). count_left (λ (x : Delivery). id_eq x.row.id y) number fs f rise at in
     let out = landed id ∙ ap (λ b. count_of (λ (x : Delivery). x.row.id) id left + cond b 1 0) (id_eq-same id) in
     let own = some_kept (λ k. k.flying) (find (is_of id) m.items) (count_of (λ (x : Delivery). x.row.id) id left) (h.flights id ∙ out) in
     let k = own.0 in
     let there = own.1 in
     let before = here (λ k. k.flying) (λ (x : Delivery). x.row.id) m.items fs id k h.flights there in
-    subst (λ x. AreTied p x rows left us after starts) (sym to) (record {
-      flying = counted;
-      numbers = numbered_left starts (λ (x : Delivery). not (x.number == number)) fs h.numbers;
+    subst (λ x. AreTied p x rows left us starts) (sym to) (record {
+      numbers = all_filtered (λ (x : Delivery). x.number ≤ starts) (λ x. not (x.number == number)) fs h.numbers;
       pool = record { room = h.pool.room; sync_limit = h.pool.sync_limit; minimum = h.pool.minimum };
       waiting = tie_stays (λ k. k.waiting) (λ (r : Row). r.id) m.items rows id without_flight k h.waiting there refl;
       flights = tie_as (λ k. k.flying) (λ (x : Delivery). x.row.id) m.items fs left id without_flight k h.flights there (omega (arith, before, out))
@@ -330,13 +253,12 @@ tied_landed p m n rows fs us counts after starts number f at counted to h =
     })
 
 -- at the beginning there is nothing
-pub tied_new : (p : Settings) (m : Pooled) (rows : List Row) (fs : List Delivery) (us : List Unsettled) (counts : List ℕ) → m ≡ record { items = []; room = p.active_limit; sync_limit = p.mark_sync_limit; minimum = p.recipient_minimum } →
-    rows ≡ [] → fs ≡ [] → us ≡ [] → IsCounted [] counts → AreTied p m rows fs us counts 0
-tied_new p m rows fs us counts is r f u counted =
-    subst (λ x. AreTied p x rows fs us counts 0) (sym is) (subst (λ x. AreTied p (record { items = []; room = p.active_limit; sync_limit = p.mark_sync_limit; minimum = p.recipient_minimum }) x fs us counts 0) (sym r)
-    (subst (λ x. AreTied p (record { items = []; room = p.active_limit; sync_limit = p.mark_sync_limit; minimum = p.recipient_minimum }) [] x us counts 0) (sym f)
-    (subst (λ x. AreTied p (record { items = []; room = p.active_limit; sync_limit = p.mark_sync_limit; minimum = p.recipient_minimum }) [] [] x counts 0) (sym u) (record {
-      flying = counted;
+pub tied_new : (p : Settings) (m : Pooled) (rows : List Row) (fs : List Delivery) (us : List Unsettled) → m ≡ record { items = []; room = p.active_limit; sync_limit = p.mark_sync_limit; minimum = p.recipient_minimum } →
+    rows ≡ [] → fs ≡ [] → us ≡ [] → AreTied p m rows fs us 0
+tied_new p m rows fs us is r f u =
+    subst (λ x. AreTied p x rows fs us 0) (sym is) (subst (λ x. AreTied p (record { items = []; room = p.active_limit; sync_limit = p.mark_sync_limit; minimum = p.recipient_minimum }) x fs us 0) (sym r)
+    (subst (λ x. AreTied p (record { items = []; room = p.active_limit; sync_limit = p.mark_sync_limit; minimum = p.recipient_minimum }) [] x us 0) (sym f)
+    (subst (λ x. AreTied p (record { items = []; room = p.active_limit; sync_limit = p.mark_sync_limit; minimum = p.recipient_minimum }) [] [] x 0) (sym u) (record {
       numbers = tt;
       pool = record { room = refl; sync_limit = refl; minimum = refl };
       waiting = λ id. refl;

@@ -1,6 +1,5 @@
 -- What a transport does next, by what the core holds.
 use Rattle.std.specs.List.{list_any}
-use Rattle.q_core.specs.Lists.{prefer}
 use Rattle.std.specs.Option.{option_map_or, option_or}
 use Rattle.std.specs.Prelude.{◌&&◌, ◌*◌, ◌+◌, ◌-◌, ◌==◌, [], ◌^◌, Bool, count_by, false, filter, find, if◌then◌else◌, List, min, nat_le, nat_lt, None, not, Option, option_and_then, slice_get, Some, suc, zero, ℕ}
 use Rattle.q_model.specs.declared.id.Id.{Id}
@@ -70,11 +69,6 @@ is_better_in c transport a b = nat_lt ((c.clock.seconds - b.arrival + 1) * rest_
 abbrev pub best_in : Core → ℕ → List Job → Job → Option Slot
 best_in c transport behind parent = least (is_better_in c transport)
     (filter (candidate_slot c transport behind parent) c.admitted)
-
--- the better of a message and of the best behind it
-abbrev pub better_slot : Core → ℕ → List Job → Job → Slot → Option Slot → Option Slot
-better_slot c transport behind parent s best =
-    prefer (candidate_slot c transport behind parent) (is_better_in c transport) s best
 
 -- the best candidate preempts; else the current job starts its next row
 abbrev pub preempt_or : Core → ℕ → Job → Option Slot → Option Decision

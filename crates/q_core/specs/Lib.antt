@@ -1,7 +1,7 @@
+pub mod Beginning
 pub mod State
 pub mod ServedRows
 pub mod View
-pub mod Counted
 pub mod Counting
 pub mod Facts
 pub mod Lists
@@ -24,6 +24,7 @@ pub mod Changes
 pub mod Picking
 pub mod Sending
 pub mod Loading
+pub mod Grouping
 pub mod Hearing
 pub mod Answers
 pub mod Looking

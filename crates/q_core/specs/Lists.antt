@@ -11,10 +11,6 @@ better_of before x o = option_map_or (λ y. if before y x then y else x) o x
 abbrev pub sooner_of : {A : Type 0} → (A → A → Bool) → Option A → A → A
 sooner_of before o x = option_map_or (λ b. if before x b then x else b) o x
 
--- an element that passes against the best of those behind it
-abbrev pub prefer : {A : Type 0} → (A → Bool) → (A → A → Bool) → A → Option A → Option A
-prefer passes before x next = if passes x then Some (better_of before x next) else next
-
 -- the first that passes goes to the end
 abbrev pub moved_back : {A : Type 0} → (A → Bool) → List A → List A
 moved_back test xs = option_map_or (λ x. drop_first test xs ++ x ∷ []) (find test xs) xs

@@ -1,6 +1,6 @@
 -- What the core tells of deliveries and of lifetimes.
 use Rattle.std.specs.Option.{option_map_or}
-use Rattle.std.specs.Prelude.{[], ◌∷◌, slice_get, List, Some, None, ◌-◌, ◌==◌, Bool, false, find, if◌then◌else◌, nat_le, Option, ℕ, nat_lt}
+use Rattle.std.specs.Prelude.{[], ◌∷◌, slice_get, List, Some, None, ◌-◌, ◌==◌, Bool, false, find, if◌then◌else◌, nat_le, Option, ℕ}
 use Rattle.q_model.specs.declared.id.Id.{Id}
 use Rattle.q_model.specs.declared.rows.Delivery.{Delivery}
 use Rattle.q_model.specs.Sites.{site_eq}
@@ -17,10 +17,6 @@ pub record Flight : Type 0 where
 -- the delivery of this number
 abbrev pub flight_in : Core → ℕ → Option Delivery
 flight_in c number = find (λ f. f.number == number) c.flights
-
--- the delivery started before another
-abbrev pub started_earlier : Delivery → Delivery → Bool
-started_earlier a b = nat_lt a.number b.number
 
 -- what is told of a delivery
 abbrev pub flight_shown : Delivery → Flight

@@ -1,8 +1,7 @@
 -- What always holds of the parts of a core.
 use Rattle.std.specs.List.{AllByRecursion}
 use Rattle.std.specs.Option.{option_map_or}
-use Rattle.std.specs.Prelude.{◌≡◌, ◌≤◌, ◌==◌, ◌&&◌, ◌||◌, [], Bool, count_by, false, find, List, None, not, true, ℕ, ◌∷◌}
-use Rattle.q_core.specs.Counted.{IsCounted}
+use Rattle.std.specs.Prelude.{◌≡◌, ◌≤◌, ◌&&◌, ◌||◌, [], Bool, count_by, false, find, List, map, not, true, ℕ, ◌∷◌}
 use Rattle.q_core.specs.Known.{site_of}
 use Rattle.q_dest.specs.declared.dest.Dest.{Dest}
 use Rattle.q_dest.specs.Dests.{is_at, is_dead}
@@ -14,9 +13,13 @@ use Rattle.q_model.specs.declared.rows.Unsettled.{Unsettled}
 use Rattle.q_model.specs.Ids.{id_eq}
 use Rattle.q_model.specs.Settings.{Settings}
 use Rattle.q_pool.specs.Pooled.{Pooled}
+use Rattle.q_pool.specs.Kept.{unread_of}
 use Rattle.q_pool.specs.declared.kept.Kept.{Kept}
+use Rattle.q_pool.specs.declared.slot.Slot.{Slot}
 use Rattle.q_rounds.specs.declared.peer.Peer.{Peer}
 use Rattle.q_rounds.specs.Rounds.{is_started, key_eq, key_of}
+use Rattle.q_schedule.specs.declared.admitted.Admitted.{Admitted}
+use Rattle.q_schedule.specs.Schedule.{Scheduling}
 
 module _ {K D : Type 0} (eq : K → K → Bool) (key : D → K) where
   -- what is kept under the key, 0 where nothing is
@@ -47,11 +50,9 @@ kept_of = tally_of id_eq message_of
 abbrev pub AreCounted : {X : Type 0} → (Kept → ℕ) → (X → Id) → List Kept → List X → Type 0
 AreCounted = AreTallied id_eq message_of
 
--- no two deliveries have one number, and each is at most that of the last start
+-- no delivery has a greater number than the last start
 abbrev pub AreNumbered : ℕ → List Delivery → Type 0
-AreNumbered starts [] = Unit {0}
-AreNumbered starts (f ∷ fs) = (f.number ≤ starts) × (find (λ g. g.number == f.number) fs ≡ None)
-    × AreNumbered starts fs
+AreNumbered starts fs = AllByRecursion (λ f. f.number ≤ starts) fs
 
 -- the messages are of these settings
 pub record IsPoolFor (p : Settings) (m : Pooled) : Type 0 where
@@ -60,8 +61,7 @@ pub record IsPoolFor (p : Settings) (m : Pooled) : Type 0 where
   pub minimum : m.minimum ≡ p.recipient_minimum
 
 pub record AreTied (p : Settings) (m : Pooled) (rows : List Row) (fs : List Delivery)
-    (us : List Unsettled) (counts : List ℕ) (starts : ℕ) : Type 0 where
-  pub flying : IsCounted fs counts
+    (us : List Unsettled) (starts : ℕ) : Type 0 where
   pub numbers : AreNumbered starts fs
   pub pool : IsPoolFor p m
   pub waiting : AreCounted (λ k. k.waiting) (λ (r : Row). r.id) m.items rows
@@ -112,3 +112,12 @@ goes_to_dead ds r = option_map_or is_dead (find (is_at r.site) ds) false
 pub record AreSitesTied (ds : List Dest) (rows : List Row) (fs : List Delivery) : Type 0 where
   pub waiting : AreWaitingTied ds rows
   pub busy : AreBusyTied ds fs
+
+-- what the schedule knows of a message
+abbrev pub admitted_of : Slot → Admitted
+admitted_of s = record { id = s.id; arrival = s.arrival; unread = unread_of s }
+
+-- the schedule knows the messages in memory in their order, and has room for as many
+pub record AreMessagesTied (p : Settings) (s : Scheduling) (slots : List Slot) : Type 0 where
+  pub known : s.messages ≡ map admitted_of slots
+  pub room : s.message_room ≡ p.active_limit

@@ -9,16 +9,12 @@ ghost use Rattle.q_core.specs.Tidied.{tidied_served};
 ghost use Rattle.q_model.specs.Next.{start_rule};
 
 use crate::counting::begin_flight;
-use crate::flying::add_flight;
 use crate::rows::take_row;
 use crate::state::Core;
 use crate::touched::touch_message;
 use q_jobs::Job;
 use q_model::{Delivery, Entry, Id, NoMemory, Site};
-use q_turns::Turns;
-
-/// How many deliveries can be counted at a site. No process limit comes near it.
-const MOST_FLIGHTS: usize = 1 << 30;
+use q_schedule::Schedule;
 
 /// The account with one delivery more; a life begins fewer than 2^48.
 fn with_start(job: Job) -> Job
@@ -35,7 +31,7 @@ fn with_start(job: Job) -> Job
 }
 
 /// Counts a delivery that the message starts at the transport.
-fn count_start(turns: &mut Turns, id: Id, transport: u8)
+fn count_start(turns: &mut Schedule, id: Id, transport: u8)
     ensures { turns.new ≡ record turns.old {
       lines = map (started_line id transport)
           (enumerate_from 0 turns.old.lines);
@@ -68,10 +64,12 @@ impl Core {
             (served_now id site number self.old.served)) }
         ensures err { OnErr result (IsUnchanged self.old self.new) }
     {
-        if self.flights.len() >= MOST_FLIGHTS {
+        // It doesn't come up: there is room for as many deliveries as recipients may be in memory,
+        // and each has one at least.
+        if self.flights.spare() == 0 {
             return Err(NoMemory);
         }
-        self.flights.reserve(1)?;
+        self.flights.stand_apart();
         let Some(row) = take_row(&mut self.waiting, id, &site) else {
             return Ok(());
         };
@@ -82,11 +80,7 @@ impl Core {
         self.turns.stand_apart();
         self.turns.lose(row.id, &row.site);
         begin_flight(&mut self.admitted, row.id);
-        add_flight(
-            &mut self.flights,
-            &mut self.flying,
-            Delivery { number, row },
-        );
+        self.flights.push(Delivery { number, row });
         self.starts = number;
         Ok(())
     }

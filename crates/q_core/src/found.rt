@@ -10,6 +10,7 @@ ghost use Rattle.q_model.specs.declared.id.Id.{Id};
 
 use crate::decision::Found;
 use crate::state::{Core, Question};
+use crate::tidy::unread;
 use crate::touched::touch_message;
 use q_model::Id;
 
@@ -21,6 +22,8 @@ impl Core {
     {
         touch_message(&mut self.touched_message, id);
         self.admitted.damage(id);
+        self.admitted.stand_apart();
+        self.turns.read(id, unread(&self.admitted, id));
     }
 
     fn note_found(&mut self, found: Found)

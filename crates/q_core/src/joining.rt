@@ -14,7 +14,7 @@ use q_dest::Sites;
 use q_held::Rows;
 use q_model::{Id, Row, Site};
 use q_params::Params;
-use q_turns::Turns;
+use q_schedule::Schedule;
 
 /// The site of the row at a place.
 fn site_at(rows: &[Row], i: usize) -> &Site
@@ -48,14 +48,14 @@ fn has_row_at(rows: &[Row], at: usize) -> bool
 }
 
 /// Whether the message has one of these rows at the transport, and no job in its line.
-fn joins(turns: &Turns, id: Id, rows: &[Row], at: usize) -> bool
+fn joins(turns: &Schedule, id: Id, rows: &[Row], at: usize) -> bool
     ensures { result ≡ joins_in id rows.now at (line_at at turns.now.lines) }
 {
     has_row_at(rows, at) && turns.job(at, id).is_none()
 }
 
 /// Whether the line has room, where the message joins it.
-fn can_join(turns: &Turns, id: Id, rows: &[Row], at: usize) -> bool
+fn can_join(turns: &Schedule, id: Id, rows: &[Row], at: usize) -> bool
     requires { at < length turns.now.lines }
     ensures { result ≡ can_join id rows.now turns.now.line_room (at, line_at at turns.now.lines) }
 {
@@ -63,7 +63,7 @@ fn can_join(turns: &Turns, id: Id, rows: &[Row], at: usize) -> bool
 }
 
 /// Whether each line has room that the message joins.
-pub(crate) fn can_join_all(turns: &Turns, id: Id, rows: &[Row]) -> bool
+pub(crate) fn can_join_all(turns: &Schedule, id: Id, rows: &[Row]) -> bool
     ensures { result ≡ list_all (can_join id rows.now turns.now.line_room)
         (enumerate_from 0 turns.now.lines) }
 {
@@ -76,7 +76,7 @@ pub(crate) fn can_join_all(turns: &Turns, id: Id, rows: &[Row]) -> bool
 }
 
 /// The message joins the line, where it has come to wait there, and has room.
-fn join(turns: &mut Turns, id: Id, rows: &[Row], at: usize)
+fn join(turns: &mut Schedule, id: Id, rows: &[Row], at: usize)
     requires { at < length turns.old.lines }
     ensures { turns.new ≡ record turns.old {
       lines = with_line at
@@ -89,7 +89,7 @@ fn join(turns: &mut Turns, id: Id, rows: &[Row], at: usize)
 }
 
 /// The message joins the lines in which it has come to wait, where they have room.
-pub(crate) fn join_lines(turns: &mut Turns, id: Id, rows: &[Row])
+pub(crate) fn join_lines(turns: &mut Schedule, id: Id, rows: &[Row])
     ensures { turns.new ≡ record turns.old {
       lines = map
           (joined_within id rows.now turns.old.line_room) (enumerate_from 0 turns.old.lines);
@@ -102,7 +102,7 @@ pub(crate) fn join_lines(turns: &mut Turns, id: Id, rows: &[Row])
 
 /// Counts these rows of the message, of which none waits yet, at their peers. It has a job at the
 /// transport of each that has a line.
-pub(crate) fn count_peers(turns: &mut Turns, id: Id, rows: &[Row], waiting: &Rows)
+pub(crate) fn count_peers(turns: &mut Schedule, id: Id, rows: &[Row], waiting: &Rows)
     requires own { AreRowsOf id rows.now }
     requires jobs { list_all (λ r. may_wait turns.old.lines r.site.transport id) rows.now ≡ true }
     requires tied { ArePeersTied turns.old.peers (rows_of waiting.now.items) }

@@ -21,6 +21,7 @@
 
 mod admission;
 mod applying;
+mod beginning;
 mod choice;
 mod clearing;
 mod clock;
@@ -32,7 +33,6 @@ mod decision;
 mod delivery;
 mod event;
 mod finishing;
-mod flying;
 mod found;
 mod grouping;
 mod heard;
@@ -47,6 +47,7 @@ mod marking;
 mod names;
 mod needs;
 mod next;
+mod paying;
 mod picking;
 mod preempting;
 mod queries;

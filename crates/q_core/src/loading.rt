@@ -12,19 +12,22 @@ use crate::grouping::rows_of;
 use crate::joining::{can_join_all, count_peers, count_rows, join_lines};
 use crate::rows::add_all;
 use crate::state::{Core, Question};
+use crate::tidy::unread;
 use crate::touched::touch_message;
 use q_model::{Batch, Cursor, Entry, Id, NoMemory, Row, Site};
 use std::alloc::Global;
 
 impl Core {
     /// The rows of the recipients that were read, whose sites were named.
-    fn read_rows(&self, alloc: Global, id: Id, taken: &Batch) -> Result<Vec<Row>, NoMemory>
+    fn read_rows(&mut self, alloc: Global, id: Id, taken: &Batch) -> Result<Vec<Row>, NoMemory>
         ensures rows { IfOk result (λ rows. rows.items
-            ≡ rows_in self.now.params.entry_limit id [] taken.now.items self.now.named) }
+            ≡ rows_in self.old.params.entry_limit id [] taken.now.items self.old.named) }
         ensures own { IfOk result (λ rows. AreRowsOf id rows.items) }
+        ensures same { self.new ≡ self.old }
     {
         let limit = self.params.default_destination_recipient_limit;
-        let rows = rows_of(alloc, limit, id, taken, &self.named)?;
+        let open_rows = &mut self.open_rows;
+        let rows = rows_of(alloc, open_rows, limit, id, taken, &self.named)?;
         Ok(rows)
     }
 
@@ -43,6 +46,8 @@ impl Core {
     {
         touch_message(&mut self.touched_message, id);
         self.admitted.read(id, to);
+        self.admitted.stand_apart();
+        self.turns.read(id, unread(&self.admitted, id));
     }
 
     /// Takes the rows of the message in, which is in memory.

@@ -4,11 +4,24 @@ ghost use Rattle.q_core.specs.Agrees.{Follows};
 ghost use Rattle.q_core.specs.Changes.{is_known, is_looked_at};
 ghost use Rattle.q_core.specs.Held.{is_admitted_in};
 ghost use Rattle.q_core.specs.Picking.{IsEntered, found_name, found_slot, from_deferred_in, scan_moved_on, passed_in, picked_in, scanned_in, shown, IsHidden};
+ghost use Rattle.q_core.specs.Ties.{admitted_of};
 
 use crate::decision::Found;
 use crate::state::{Core, Seen};
 use q_model::{DeferredName, Entry, Id, Scan};
 use q_pool::Slot;
+use q_schedule::Admitted;
+
+/// What the schedule is to know of a message.
+fn admitted(slot: &Slot) -> Admitted
+    ensures { result ≡ admitted_of slot.now }
+{
+    Admitted {
+        id: slot.id,
+        arrival: slot.arrival,
+        unread: slot.unread_count(),
+    }
+}
 
 impl Seen {
     /// What the look has shown.
@@ -147,6 +160,7 @@ impl Core {
         requires room { length self.old.admitted < self.old.params.active_limit }
         ensures { self.new ≡ record self.old { admitted = self.old.admitted ++ slot ∷ [] } }
     {
+        self.turns.admit(admitted(&slot));
         self.admitted.push(slot);
     }
 

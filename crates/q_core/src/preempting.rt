@@ -12,7 +12,7 @@ ghost use Rattle.q_model.specs.Next.{start_rule};
 use crate::state::Core;
 use q_jobs::Job;
 use q_model::{Entry, Id};
-use q_turns::Turns;
+use q_schedule::Schedule;
 
 /// The account, charged with the need of a job that preempts this one, which has so much left. It
 /// holds that: it is no more than this one has begun and has left.
@@ -27,7 +27,7 @@ fn with_charge(job: Job, need: u64, left: u64) -> Job
 }
 
 /// Charges the need to the message's job.
-fn charge(turns: &mut Turns, transport: usize, id: Id, need: u64, left: u64)
+fn charge(turns: &mut Schedule, transport: usize, id: Id, need: u64, left: u64)
     ensures { turns.new ≡ record turns.old {
       lines = with_line transport
           (map (changed_job id (with_charge need left))) turns.old.lines;
@@ -41,7 +41,7 @@ fn charge(turns: &mut Turns, transport: usize, id: Id, need: u64, left: u64)
 }
 
 /// The child goes before the parent at the transport, and its need is charged to the parent.
-fn preempt(turns: &mut Turns, child: Id, parent: Id, transport: u8, need: u64, left: u64)
+fn preempt(turns: &mut Schedule, child: Id, parent: Id, transport: u8, need: u64, left: u64)
     requires other { id_eq child parent ≡ false }
     requires parent { has_job turns.old.lines transport parent ≡ true }
     ensures { turns.new ≡ record turns.old {

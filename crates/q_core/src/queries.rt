@@ -4,8 +4,8 @@ ghost use Rattle.std.specs.Option.{option_copied};
 ghost use Rattle.q_core.specs.Agrees.{ForLedgers};
 ghost use Rattle.q_model.specs.Memory.{is_admitted};
 ghost use Rattle.q_core.specs.Held.{is_admitted_in};
-ghost use Rattle.q_core.specs.Lists.{better_of};
-ghost use Rattle.q_core.specs.Queries.{expired_in, flight_in, flight_shown, record_behind, slot_expired_in, skipped_in, started_earlier};
+ghost use Rattle.q_core.specs.Queries.{expired_in, flight_in, flight_shown, record_behind, slot_expired_in, skipped_in};
+ghost use Rattle.q_flights.specs.Flying.{started_earlier};
 ghost use Rattle.q_model.specs.Book.{message_of};
 ghost use Rattle.q_model.specs.Deliveries.{flight_of};
 ghost use Rattle.q_model.specs.Lists.{least};
@@ -37,36 +37,6 @@ impl Model for Flight {
     ghost view = { λ f. record { id = f.id; site = f.site } };
 
     ghost inverse = { λ v. record { id = v.id; site = v.site } };
-}
-
-/// Of two deliveries the one with the smaller number.
-fn smaller<'a>(flight: &'a Delivery, least: Option<&'a Delivery>) -> &'a Delivery
-    ensures { result.now ≡ better_of started_earlier flight.now
-        (option_copied least.entry) }
-{
-    match least {
-        Some(other) => {
-            if other.number < flight.number {
-                other
-            } else {
-                flight
-            }
-        }
-        None => flight,
-    }
-}
-
-/// The delivery with the least number.
-fn first_flight(flights: &[Delivery]) -> Option<&Delivery>
-    ensures { option_copied result ≡ least started_earlier flights.now }
-{
-    let mut first = None;
-    let mut i = flights.len();
-    while i > 0 {
-        i -= 1;
-        first = Some(smaller(&flights[i], first));
-    }
-    first
 }
 
 impl Core {
@@ -119,7 +89,7 @@ impl Core {
     pub(crate) fn delivery(&self, number: u64) -> Option<&Delivery>
         ensures { option_copied result ≡ flight_in self.now number }
     {
-        self.flights.iter().find(|flight| flight.number == number)
+        self.flights.get(number)
     }
 
     /// The delivery of this number, where it is in flight.
@@ -140,7 +110,7 @@ impl Core {
         ensures { result ≡ option_map (λ f. f.number) (least
             started_earlier self.now.flights) }
     {
-        match first_flight(&self.flights) {
+        match self.flights.first() {
             Some(flight) => Some(flight.number),
             None => None,
         }

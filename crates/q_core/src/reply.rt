@@ -9,24 +9,10 @@ ghost use Rattle.q_core.specs.Leaving.{AreAdded, IsSiteHeard, IsLanded, replied_
 
 use crate::counting::{end_flight, gain_unsettled};
 use crate::dead_rows::hold_at;
-use crate::flying::recount;
 use crate::needs::needs;
 use crate::state::Core;
 use q_model::{Delivery, Entry, NoMemory, Outcome, Site, SiteState, Unsettled};
 use std::alloc::Global;
-
-fn is_other(flight: &Delivery, number: u64) -> bool
-    ensures { result ≡ not (flight.now.number == number) }
-{
-    flight.number != number
-}
-
-/// Takes the delivery of this number out of those in flight.
-fn land(flights: &mut Vec<Delivery>, number: u64)
-    ensures { flights.new.items ≡ filter (λ f. not (f.number == number)) flights.old.items }
-{
-    flights.retain(|flight| is_other(flight, number));
-}
 
 impl Core {
     /// What the outcomes of the delivery need.
@@ -89,16 +75,13 @@ impl Core {
         ensures left { (f : DeliveryOf) → flight_in self.old number ≡ Some f
             → self.new.sites ≡ left_sites self.new self.old.sites f.row.site }
     {
-        let Some(delivery) = self.delivery(number) else {
+        self.flights.stand_apart();
+        let Some(delivery) = self.flights.remove(number) else {
             return;
         };
-        let id = delivery.row.id;
-        let site = delivery.row.site;
         self.sites.stand_apart();
-        self.sites.land(&site);
-        land(&mut self.flights, number);
-        end_flight(&mut self.admitted, id);
-        recount(&mut self.flying, &self.flights);
+        self.sites.land(&delivery.row.site);
+        end_flight(&mut self.admitted, delivery.row.id);
     }
 
     /// Takes the reply of the delivery of this number, with an outcome for each recipient.

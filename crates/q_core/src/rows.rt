@@ -12,10 +12,10 @@ ghost use Rattle.q_model.specs.declared.rows.Row.{Row};
 use q_dest::Sites;
 use q_held::Rows;
 use q_model::{Id, Row, Site};
-use q_turns::Turns;
+use q_schedule::Schedule;
 
 /// How many rows of the message wait for the transport.
-pub(crate) fn waiting_for(turns: &Turns, waiting: &Rows, id: Id, transport: usize) -> u64
+pub(crate) fn waiting_for(turns: &Schedule, waiting: &Rows, id: Id, transport: usize) -> u64
     requires { ArePeersTied turns.now.peers (rows_of waiting.now.items) }
     ensures count { result ≡ count_by (is_row_for id transport) (rows_of waiting.now.items) }
     ensures few { result ≤ 2 ^ 30 }
@@ -26,7 +26,7 @@ pub(crate) fn waiting_for(turns: &Turns, waiting: &Rows, id: Id, transport: usiz
 }
 
 /// Whether a row of the message waits for the transport.
-pub(crate) fn waits_for(turns: &Turns, waiting: &Rows, id: Id, transport: usize) -> bool
+pub(crate) fn waits_for(turns: &Schedule, waiting: &Rows, id: Id, transport: usize) -> bool
     requires { ArePeersTied turns.now.peers (rows_of waiting.now.items) }
     ensures { result ≡ waits_for_in (rows_of waiting.now.items) id transport }
 {

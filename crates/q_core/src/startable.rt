@@ -15,7 +15,7 @@ impl Core {
     pub(crate) fn flights_of(&self, transport: u8) -> usize
         ensures { result ≡ flights_at self.now transport }
     {
-        self.flying[usize::from(transport)] as usize
+        self.flights.at(transport)
     }
 
     /// Whether the transport may begin a delivery more.

@@ -1,25 +1,19 @@
 //! The state of the core.
-ghost use Rattle.std.specs.Prelude.{◌≡◌, find, IfOk, true};
+ghost use Rattle.std.specs.Prelude.{◌≡◌, find};
 ghost use Rattle.std.specs.Option.{option_copied};
-ghost use Rattle.q_core.specs.Agrees.{AgreesIfConsistent, AgreesIfOrderly, ForFirst};
-ghost use Rattle.q_core.specs.Changes.{is_looked_at};
-ghost use Rattle.q_core.specs.Deciding.{is_answered};
 ghost use Rattle.q_core.specs.Held.{is_dead_in, slot_in};
-ghost use Rattle.q_params.specs.Ranges.{IsInRange};
 
 use crate::clock::Clock;
 use crate::decision::Found;
-use crate::flying::Flying;
 use crate::touched::Touched;
 use q_dest::Sites;
+use q_flights::Flights;
 use q_held::Rows;
-use q_model::{
-    Delivery, Entry, Id, Mode, Moment, NoMemory, Positions, Request, Scan, Site, Unsettled,
-};
+use q_model::{Entry, Id, Mode, Moment, NoMemory, Positions, Request, Scan, Site, Unsettled};
+use q_open_rows::OpenRows;
 use q_params::Params;
 use q_pool::{Pool, Slot};
-use q_turns::Turns;
-use std::alloc::Global;
+use q_schedule::Schedule;
 use std::marker::Model;
 
 /// What a look has shown, while it holds.
@@ -55,13 +49,11 @@ pub struct Core {
     pub(crate) deferred_turn: bool,
     pub(crate) admitted: Pool,
     pub(crate) waiting: Rows,
-    pub(crate) flights: Vec<Delivery>,
-    /// How many of them are at each transport.
-    pub(crate) flying: Flying,
+    pub(crate) flights: Flights,
     /// Recipients that are waiting, in flight or unsettled.
     pub(crate) in_memory: u64,
     pub(crate) unsettled: Vec<Unsettled>,
-    pub(crate) turns: Turns,
+    pub(crate) turns: Schedule,
     pub(crate) sites: Sites,
     pub(crate) synced: Vec<Id>,
     pub(crate) starts: u64,
@@ -76,6 +68,8 @@ pub struct Core {
     pub(crate) skipped: Positions,
     /// The messages that entries touched since the core was tidied.
     pub(crate) touched_message: Touched<Id>,
+    /// Where the rows of the last load stood that recipients may join.
+    pub(crate) open_rows: OpenRows,
 }
 
 impl Model for Core {
@@ -87,78 +81,22 @@ impl Model for Core {
 
     ghost view = { state_of };
 
-    ghost use Rattle.q_core.specs.Ties.{AreSitesTied, AreTied, AreTurnsTied, goes_to_dead};
+    ghost use Rattle.q_core.specs.Ties.{AreMessagesTied, AreSitesTied, AreTied, AreTurnsTied, goes_to_dead};
     ghost use Rattle.q_core.specs.Touched.{IsTidyBut};
     ghost use Rattle.q_held.specs.Held.{AreHeldBy, rows_of};
     ghost use Rattle.q_pool.specs.Kept.{heads};
 
     ghost invariant = { λ a. AreTied a.params a.admitted (rows_of a.waiting.items)
-        a.flights.items a.unsettled.items a.flying a.starts
+        a.flights.items a.unsettled.items a.starts
         × IsTidyBut a.touched_message (heads a.admitted.items) (rows_of a.waiting.items)
         a.turns.lines
         × AreSitesTied a.sites.items (rows_of a.waiting.items) a.flights.items
         × AreTurnsTied a.turns.peers (rows_of a.waiting.items) a.starts
-        × AreHeldBy (goes_to_dead a.sites.items) a.waiting.items };
+        × AreHeldBy (goes_to_dead a.sites.items) a.waiting.items
+        × AreMessagesTied a.params a.turns (heads a.admitted.items) };
 }
 
 impl Core {
-    /// A core at the beginning of a life, for a table of so many transports. It agrees with the
-    /// ledger of that life on every book that is fit to begin with, and so on every orderly one.
-    pub fn new(alloc: Global, params: Params, transports: u8, mode: Mode) -> Result<Core, NoMemory>
-        requires { IsInRange params }
-        ensures consistent { IfOk result (λ core. ForFirst params transports mode
-            (λ w book l. AgreesIfConsistent w core l)) }
-        ensures orderly { IfOk result (λ core. ForFirst params transports mode
-            (λ w book l. AgreesIfOrderly w core book l)) }
-        ensures answered { IfOk result (λ core. is_answered core.question ≡ true) }
-        ensures looked { IfOk result (λ core. is_looked_at core ≡ true) }
-    {
-        let turns = Turns::new(
-            alloc,
-            transports,
-            params.qmgr_message_active_limit,
-            params.qmgr_message_recipient_limit,
-        )?;
-        let admitted = Pool::new(
-            alloc,
-            params.qmgr_message_active_limit,
-            params.mark_sync_limit,
-            params.qmgr_message_recipient_minimum,
-        )?;
-        let waiting = Rows::new(alloc, params.qmgr_message_recipient_limit)?;
-        let sites = Sites::new(alloc, 2 * params.qmgr_message_recipient_limit)?;
-        Ok(Core {
-            params,
-            transports,
-            mode,
-            clock: Clock::new(0),
-            timed: false,
-            next_run: 0,
-            scan: None,
-            asked: None,
-            ignores: false,
-            deferred_turn: false,
-            admitted,
-            waiting,
-            flights: Vec::new(alloc),
-            flying: [0; 256],
-            in_memory: 0,
-            unsettled: Vec::new(alloc),
-            turns,
-            sites,
-            synced: Vec::new(alloc),
-            starts: 0,
-            active: Seen::Unknown,
-            incoming: Seen::Unknown,
-            deferred: Seen::Unknown,
-            question: Question::Nothing,
-            named: Vec::new(alloc),
-            skips: 0,
-            skipped: Positions::new(alloc),
-            touched_message: Touched::Nothing,
-        })
-    }
-
     /// The message in memory with this id.
     pub(crate) fn slot(&self, id: Id) -> Option<&Slot>
         ensures { option_copied result ≡ slot_in self.now id }

@@ -19,7 +19,7 @@ use q_dest::Sites;
 use q_held::Rows;
 use q_model::Id;
 use q_pool::{Pool, Slot};
-use q_turns::Turns;
+use q_schedule::Schedule;
 
 fn slot(admitted: &Pool, id: Id) -> Option<&Slot>
     ensures { option_copied result ≡ slot_among (heads admitted.now.items) id }
@@ -42,7 +42,7 @@ pub(crate) fn unread(admitted: &Pool, id: Id) -> u32
 
 /// Whether the message has something left at the transport.
 pub(crate) fn stays(
-    turns: &Turns,
+    turns: &Schedule,
     admitted: &Pool,
     waiting: &Rows,
     id: Id,
@@ -55,7 +55,7 @@ pub(crate) fn stays(
 }
 
 /// The message of the first job that has nothing left.
-fn first_to_leave(turns: &Turns, admitted: &Pool, waiting: &Rows, transport: usize) -> Option<Id>
+fn first_to_leave(turns: &Schedule, admitted: &Pool, waiting: &Rows, transport: usize) -> Option<Id>
     requires { ArePeersTied turns.now.peers (rows_of waiting.now.items) }
     ensures { result ≡ option_map (λ j. j.id) (find (leaves_among (heads admitted.now.items)
         (rows_of waiting.now.items) transport) (line_at transport turns.now.lines)) }
@@ -72,7 +72,7 @@ fn first_to_leave(turns: &Turns, admitted: &Pool, waiting: &Rows, transport: usi
 }
 
 /// The message, of which no row waits at the transport, leaves its line.
-pub(crate) fn leave_line(turns: &mut Turns, id: Id, waiting: &Rows, transport: usize)
+pub(crate) fn leave_line(turns: &mut Schedule, id: Id, waiting: &Rows, transport: usize)
     requires there { transport < length turns.old.lines }
     requires tied { ArePeersTied turns.old.peers (rows_of waiting.now.items) }
     requires done { waits_for_in (rows_of waiting.now.items) id transport ≡ false }
@@ -86,7 +86,7 @@ pub(crate) fn leave_line(turns: &mut Turns, id: Id, waiting: &Rows, transport: u
 }
 
 /// Takes the jobs that have nothing left out of the line: one leaves at a time, for the most part.
-fn tidy_line(turns: &mut Turns, admitted: &Pool, waiting: &Rows, transport: usize)
+fn tidy_line(turns: &mut Schedule, admitted: &Pool, waiting: &Rows, transport: usize)
     requires there { transport < length turns.old.lines }
     requires tied { ArePeersTied turns.old.peers (rows_of waiting.now.items) }
     ensures { turns.new ≡ record turns.old {
@@ -100,7 +100,7 @@ fn tidy_line(turns: &mut Turns, admitted: &Pool, waiting: &Rows, transport: usiz
 }
 
 /// Takes the jobs that have nothing left out of the lines.
-pub(crate) fn tidy_lines(turns: &mut Turns, admitted: &Pool, waiting: &Rows)
+pub(crate) fn tidy_lines(turns: &mut Schedule, admitted: &Pool, waiting: &Rows)
     requires { ArePeersTied turns.old.peers (rows_of waiting.now.items) }
     ensures { turns.new ≡ record turns.old {
       lines = map (tidied_line (heads admitted.now.items)

@@ -14,10 +14,10 @@ use crate::touched::Touched;
 use q_held::Rows;
 use q_model::Id;
 use q_pool::Pool;
-use q_turns::Turns;
+use q_schedule::Schedule;
 
 /// Takes the message's job out of the line, where it has nothing left.
-fn tidy_job(turns: &mut Turns, id: Id, admitted: &Pool, waiting: &Rows, transport: usize)
+fn tidy_job(turns: &mut Schedule, id: Id, admitted: &Pool, waiting: &Rows, transport: usize)
     requires there { transport < length turns.old.lines }
     requires tied { ArePeersTied turns.old.peers (rows_of waiting.now.items) }
     requires others { jobs_stay (One id) (heads admitted.now.items) (rows_of waiting.now.items)
@@ -33,7 +33,7 @@ fn tidy_job(turns: &mut Turns, id: Id, admitted: &Pool, waiting: &Rows, transpor
 }
 
 /// Takes the message's jobs out of the lines, where they have nothing left.
-fn tidy_message(turns: &mut Turns, id: Id, admitted: &Pool, waiting: &Rows)
+fn tidy_message(turns: &mut Schedule, id: Id, admitted: &Pool, waiting: &Rows)
     requires tied { ArePeersTied turns.old.peers (rows_of waiting.now.items) }
     requires others { DoJobsStay (One id) (heads admitted.now.items) (rows_of waiting.now.items)
         turns.old.lines }
@@ -49,7 +49,7 @@ fn tidy_message(turns: &mut Turns, id: Id, admitted: &Pool, waiting: &Rows)
 
 /// Takes the jobs that have nothing left out of the lines.
 pub(crate) fn tidy_touched_lines(
-    turns: &mut Turns,
+    turns: &mut Schedule,
     touched: &Touched<Id>,
     admitted: &Pool,
     waiting: &Rows,

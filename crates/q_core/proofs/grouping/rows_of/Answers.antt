@@ -10,8 +10,11 @@ loop-i-preserved c =
     let ts = c.args.taken.now.items in
     let ss = c.args.sites.now in
     let within : i < length ts = omega (arith, c.len-i-end.ensures, c.loop-i-test.true) in
-    c.in_ok-join_at.ensures
-    ∙ ap (λ rs. joined_at c.args.limit c.args.id rs c.position_at.result (option_copied c.site_at.result)) c.loop-i.invariant
-    ∙ ap (joined_at c.args.limit c.args.id (rows_in c.args.limit c.args.id [] (take i ts) ss) c.position_at.result) c.site_at.ensures
-    ∙ sym (rows_more c.args.limit c.args.id i [] ts ss c.position_at.result within c.position_at.ensures)
-    ∙ ap (λ n. rows_in c.args.limit c.args.id [] (take n ts) ss) (sym (add-one i))
+    record {
+      rows = c.in_ok-join_at.ensures.rows
+          ∙ ap (λ rs. joined_at c.args.limit c.args.id rs c.position_at.result (option_copied c.site_at.result)) c.loop-i.invariant.rows
+          ∙ ap (joined_at c.args.limit c.args.id (rows_in c.args.limit c.args.id [] (take i ts) ss) c.position_at.result) c.site_at.ensures
+          ∙ sym (rows_more c.args.limit c.args.id i [] ts ss c.position_at.result within c.position_at.ensures)
+          ∙ ap (λ n. rows_in c.args.limit c.args.id [] (take n ts) ss) (sym (add-one i));
+      places = c.in_ok-join_at.ensures.places;
+    }

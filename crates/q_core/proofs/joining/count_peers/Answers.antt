@@ -14,7 +14,8 @@ use Rattle.q_model.specs.declared.rows.Row.{Row}
 use Rattle.q_held.specs.Held.{rows_of}
 use Rattle.q_rounds.specs.declared.peer.PeerKey.{PeerKey}
 use Rattle.q_rounds.specs.Rounds.{is_peer, key_eq}
-use Rattle.q_turns.specs.Turns.{gained_at, may_wait, Turning}
+use Rattle.q_schedule.specs.Schedule.{Scheduling}
+use Rattle.q_turns.specs.Turns.{gained_at, may_wait}
 use Rattle.q_core.proofs.joining.count_peers.Goals as goal
 
 there_at : (rows : List Row) (i : ℕ) → i < length rows → (r : Row) × (slice_get rows i ≡ Some r)
@@ -34,11 +35,11 @@ loop-i-preserved c =
     let site = c.site_at.ensures r at.1 in
     let own : r.id ≡ c.args.id = named_at (λ (x : Row). x.id) c.args.id rows i r c.requires.own at.1 in
     let is : c.gain.new.self.peers ≡ gained_at r.id r.site ps =
-    ap (λ (x : Turning). x.peers) c.gain.ensures ∙ ap (λ s. gained_at c.args.id s ps) site ∙ ap (λ k. gained_at k r.site ps) (sym own) in
+    ap (λ (x : Scheduling). x.peers) c.gain.ensures ∙ ap (λ s. gained_at c.args.id s ps) site ∙ ap (λ k. gained_at k r.site ps) (sym own) in
     let taken = one_more rows i r at.1 in
     let all : ((ws ++ take i rows) ++ r ∷ []) ≡ ws ++ take (i + 1) rows = append_assoc ws (take i rows) (r ∷ []) ∙ ap (λ xs. ws ++ xs) (sym taken) in (
-      c.gain.ensures ∙ ap (λ (x : Turning). record x { peers = gained_at c.args.id c.site_at.result.now ps }) c.loop-i.invariant.0
-          ∙ ap (λ xs. record c.args.turns.now { peers = xs }) (sym (ap (λ (x : Turning). x.peers) c.gain.ensures)),
+      c.gain.ensures ∙ ap (λ (x : Scheduling). record x { peers = gained_at c.args.id c.site_at.result.now ps }) c.loop-i.invariant.0
+          ∙ ap (λ xs. record c.args.turns.now { peers = xs }) (sym (ap (λ (x : Scheduling). x.peers) c.gain.ensures)),
       subst (λ xs. ArePeersTied c.gain.new.self.peers xs) all (subst (λ xs. ArePeersTied xs ((ws ++ take i rows) ++ r ∷ [])) (sym is) (peers_gained r ps (ws ++ take i rows) c.loop-i.invariant.1 (list_any (is_peer r.id r.site) ps) refl)),
       rw is (omega (arith, one_peer_more r.id r.site ps (list_any (is_peer r.id r.site) ps), c.loop-i.invariant.2)),
       ap served_rows is ∙ served_gained r.id r.site ps (list_any (is_peer r.id r.site) ps) ∙ c.loop-i.invariant.3,
@@ -52,7 +53,7 @@ gain-requires-clause-job c =
     let rows = c.args.rows.now in
     let at = there_at rows i c.loop-i-test.true in
     let site = c.site_at.ensures at.0 at.1 in
-    ap (λ (x : Turning). may_wait x.lines c.site_at.result.now.transport c.args.id) c.loop-i.invariant.0
+    ap (λ (x : Scheduling). may_wait x.lines c.site_at.result.now.transport c.args.id) c.loop-i.invariant.0
     ∙ ap (λ s. may_wait c.args.turns.now.lines s.transport c.args.id) site
     ∙ passes_at (λ (r : Row). may_wait c.args.turns.now.lines r.site.transport c.args.id) rows i at.0 c.requires.jobs at.1
 
@@ -70,7 +71,7 @@ gain-requires-clause-few c =
 
 pub gain-requires-clause-room : goal.gain-requires-clause-room
 gain-requires-clause-room c =
-    let room = ap (λ (x : Turning). x.room) c.loop-i.invariant.0 in
+    let room = ap (λ (x : Scheduling). x.room) c.loop-i.invariant.0 in
     omega (arith, c.loop-i.invariant.2, room, c.loop-i-test.true, c.requires.room)
 
 pub returns-clause-tied : goal.returns-clause-tied

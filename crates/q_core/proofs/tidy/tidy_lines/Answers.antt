@@ -4,7 +4,8 @@ use Rattle.q_core.specs.Tidied.{tidied_line}
 use Rattle.q_pool.specs.Kept.{heads}
 use Rattle.q_held.specs.Held.{rows_of}
 use Rattle.q_turns.proofs.WithLine.{all_below, changed_below, length_below, one_below}
-use Rattle.q_turns.specs.Turns.{Turning, with_line}
+use Rattle.q_schedule.specs.Schedule.{Scheduling}
+use Rattle.q_turns.specs.Turns.{with_line}
 use Rattle.q_core.proofs.tidy.tidy_lines.Goals as goal
 
 pub loop-transport-preserved : goal.loop-transport-preserved
@@ -14,7 +15,7 @@ loop-transport-preserved c =
     let ls = c.args.turns.now.lines in
     let count : i ≡ 0 + i = omega arith in
     c.tidy_line.ensures
-    ∙ ap (λ (x : Turning). record x { lines = with_line i (λ js. f (i, js)) x.lines }) c.loop-transport.invariant
+    ∙ ap (λ (x : Scheduling). record x { lines = with_line i (λ js. f (i, js)) x.lines }) c.loop-transport.invariant
     ∙ ap (λ xs. record c.args.turns.now { lines = xs }) (one_below f 0 i i ls count ∙ ap (λ k. changed_below f 0 k ls) (sym (add-one i)))
 
 pub returns : goal.returns
@@ -26,9 +27,9 @@ returns c =
 pub tidy_line-requires-clause-there : goal.tidy_line-requires-clause-there
 tidy_line-requires-clause-there c =
     let f = tidied_line (heads c.args.admitted.now.items) (rows_of c.args.waiting.now.items) in
-    let same = ap (λ (x : Turning). length x.lines) c.loop-transport.invariant in
+    let same = ap (λ (x : Scheduling). length x.lines) c.loop-transport.invariant in
     omega (arith, same, length_below f 0 c.loop-transport.transport c.args.turns.now.lines, c.transports-transport-end.ensures, c.loop-transport-test.true)
 
 pub tidy_line-requires-clause-tied : goal.tidy_line-requires-clause-tied
 tidy_line-requires-clause-tied c =
-    subst (λ ps. ArePeersTied ps (rows_of c.args.waiting.now.items)) (sym (ap (λ (x : Turning). x.peers) c.loop-transport.invariant)) c.requires
+    subst (λ ps. ArePeersTied ps (rows_of c.args.waiting.now.items)) (sym (ap (λ (x : Scheduling). x.peers) c.loop-transport.invariant)) c.requires

@@ -1,6 +1,7 @@
 use Rattle.std.proofs.Common.{◌≡◌, ◌∙◌, ◌++◌, ◌<◌, ◌^◌, ap, arith, length, Some, subst, sym}
 use Rattle.std.specs.Option.{option_copied}
 use Rattle.std.specs.Prelude.{◌==◌}
+use Rattle.q_core.proofs.MessageTies.{messages_same}
 use Rattle.q_core.proofs.NamedLaws.{needs_named}
 use Rattle.q_core.proofs.PoolTies.{heads_recounted, some_there}
 use Rattle.q_core.proofs.TiedLaws.{tied_replied}
@@ -32,11 +33,12 @@ invariant_of-self-2 c =
     let named : AreNamed (λ (u : Unsettled). u.id) f.row.id c.deref.result.now = subst (AreNamed (λ (u : Unsettled). u.id) f.row.id) (sym needs) (needs_named _ f.row.id f.row.positions c.args.outcomes.now) in
     let few : length (a.unsettled.items ++ c.deref.result.now) < 2 ^ 64 = grind (arith, sym added, c.extend_from_slice.new.self.ok, c.extend_from_slice.new.self.small) in
     let many : c.len-3.result ≡ length c.deref.result.now = c.len-3.ensures ∙ sym c.deref.ensures.len in (
-      rw added (tied_replied a.params a.admitted c.gain_unsettled.new.pool (rows_of a.waiting.items) a.flights.items a.unsettled.items c.deref.result.now a.flying a.starts f.row.id own.0 c.len-3.result own.1 many few named c.gain_unsettled.ensures t),
+      rw added (tied_replied a.params a.admitted c.gain_unsettled.new.pool (rows_of a.waiting.items) a.flights.items a.unsettled.items c.deref.result.now a.starts f.row.id own.0 c.len-3.result own.1 many few named c.gain_unsettled.ensures t),
       rw slots c.self.invariant.1,
       c.self.invariant.2,
       c.self.invariant.3,
       c.self.invariant.4,
+      messages_same a.params a.turns (heads a.admitted.items) c.self.invariant.5 _ slots,
     )
 
 pub returns-clause-busy : goal.returns-clause-busy

@@ -1,6 +1,7 @@
 use Rattle.std.proofs.Common.{◌≡◌, ◌<◌, ◌^◌, ◌∙◌, ◌++◌, [], ap, arith, length, map, refl, rules, subst, sym, true}
 use Rattle.std.proofs.lemmas.List.{length-append, length-map}
 use Rattle.std.specs.List.{enumerate_from, list_all}
+use Rattle.q_core.proofs.MessageTies.{messages_same, messages_stay}
 use Rattle.q_core.proofs.PoolTies.{heads_recounted, present_held}
 use Rattle.q_core.proofs.StillTidyLines.{rows_added}
 use Rattle.q_core.proofs.TiedLaws.{tied_read}
@@ -18,7 +19,8 @@ use Rattle.q_pool.specs.Pooled.{Pooled}
 use Rattle.q_core.proofs.JoinedJobs.{all_may_wait}
 use Rattle.q_core.specs.Loading.{AreRowsOf}
 use Rattle.q_model.specs.declared.rows.Row.{Row}
-use Rattle.q_turns.specs.Turns.{may_wait, Turning}
+use Rattle.q_schedule.specs.Schedule.{Scheduling}
+use Rattle.q_turns.specs.Turns.{may_wait}
 use Rattle.q_held.proofs.Tested.{tested_alike}
 use Rattle.q_held.specs.Held.{HeldRow, rows_of}
 use Rattle.q_core.proofs.state.Core.add_rows.Goals as goal
@@ -34,19 +36,19 @@ count_peers-requires-clause-jobs c =
     let turns : c.join_lines.new.turns ≡ record core.turns { lines = map (joined_line c.args.id rows) (enumerate_from 0 core.turns.lines) } =
     c.join_lines.ensures ∙ ap (λ rs. record core.turns { lines = map (joined_within c.args.id rs core.turns.line_room) (enumerate_from 0 core.turns.lines) }) c.deref-2.ensures.value
     ∙ ap (λ xs. record core.turns { lines = xs }) (joined_over c.args.id rows core.turns.line_room 0 core.turns.lines can) in
-    ap (λ (x : Turning). list_all (λ (r : Row). may_wait x.lines r.site.transport c.args.id) c.deref-3.result.now) turns
+    ap (λ (x : Scheduling). list_all (λ (r : Row). may_wait x.lines r.site.transport c.args.id) c.deref-3.result.now) turns
     ∙ ap (list_all (λ (r : Row). may_wait (map (joined_line c.args.id rows) (enumerate_from 0 core.turns.lines)) r.site.transport c.args.id)) c.deref-3.ensures.value
     ∙ all_may_wait c.args.id rows core.turns.lines
 
 pub count_peers-requires-clause-tied : goal.count_peers-requires-clause-tied
 count_peers-requires-clause-tied c =
-    subst (λ ps. ArePeersTied ps (rows_of c.self.inside.waiting.items)) (sym (ap (λ (x : Turning). x.peers) c.join_lines.ensures)) c.self.invariant.3.counts
+    subst (λ ps. ArePeersTied ps (rows_of c.self.inside.waiting.items)) (sym (ap (λ (x : Scheduling). x.peers) c.join_lines.ensures)) c.self.invariant.3.counts
 
 pub count_peers-requires-clause-room : goal.count_peers-requires-clause-room
 count_peers-requires-clause-room c =
     let core = c.self.inside in
-    let peers = ap (λ (x : Turning). length x.peers) c.join_lines.ensures in
-    let room = ap (λ (x : Turning). x.room) c.join_lines.ensures in
+    let peers = ap (λ (x : Scheduling). length x.peers) c.join_lines.ensures in
+    let room = ap (λ (x : Scheduling). x.room) c.join_lines.ensures in
     let new : length c.deref-3.result.now ≡ length c.args.rows.items = ap length c.deref-3.ensures.value in
     let many : c.len-3.result ≡ length c.args.rows.items = search rules in
     omega (arith, peers, room, new, many, c.spare_peers.ensures, c.stand_apart-3.ensures.within, c.if-spare_peers-len.false)
@@ -63,7 +65,7 @@ invariant_of-self c =
     c.join_lines.ensures ∙ ap (λ rs. record core.turns { lines = map (joined_within c.args.id rs core.turns.line_room) (enumerate_from 0 core.turns.lines) }) c.deref-2.ensures.value
     ∙ ap (λ xs. record core.turns { lines = xs }) (joined_over c.args.id rows core.turns.line_room 0 core.turns.lines can) in
     let lines : c.count_peers.new.turns.lines ≡ map (joined_line c.args.id rows) (enumerate_from 0 core.turns.lines) =
-    ap (λ (x : Turning). x.lines) c.count_peers.ensures.rest ∙ ap (λ (x : Turning). x.lines) turns in
+    ap (λ (x : Scheduling). x.lines) c.count_peers.ensures.rest ∙ ap (λ (x : Scheduling). x.lines) turns in
     let own = present_held (state_of core) core.admitted.items refl c.args.id (ap (λ (s : State). is_admitted_in s c.args.id) c.self.view_is ∙ c.requires.there) in
     let count : c.len-count.result ≡ length rows = search rules in
     let total = length-append (rows_of core.waiting.items) rows in
@@ -75,12 +77,15 @@ invariant_of-self c =
       busy = c.count_rows.ensures.busy fs c.self.invariant.2.busy;
     } in
     let slots : heads c.gain_waiting.new.pool.items ≡ heads core.admitted.items = ap (λ (m : Pooled). heads m.items) c.gain_waiting.ensures ∙ heads_recounted (with_waiting c.len-count.result) c.args.id core.admitted.items in (
-      rw waiting (tied_read core.params core.admitted c.gain_waiting.new.pool (rows_of core.waiting.items) rows fs core.unsettled.items core.flying core.starts c.args.id own.0 c.len-count.result own.1 count fits c.requires.own c.gain_waiting.ensures c.self.invariant.0),
+      rw waiting (tied_read core.params core.admitted c.gain_waiting.new.pool (rows_of core.waiting.items) rows fs core.unsettled.items core.starts c.args.id own.0 c.len-count.result own.1 count fits c.requires.own c.gain_waiting.ensures c.self.invariant.0),
       rw (slots, c.touch_message.ensures, waiting, lines) (rows_added c.args.id rows c.self.invariant.1),
       rw waiting tied,
       rw waiting (subst (λ rs. AreTurnsTied c.count_peers.new.turns.peers (rows_of core.waiting.items ++ rs) core.starts) c.deref-3.ensures.value
-          (c.count_peers.ensures.tied core.starts (subst (λ ps. AreTurnsTied ps (rows_of core.waiting.items) core.starts) (sym (ap (λ (x : Turning). x.peers) c.join_lines.ensures)) c.self.invariant.3))),
+          (c.count_peers.ensures.tied core.starts (subst (λ ps. AreTurnsTied ps (rows_of core.waiting.items) core.starts) (sym (ap (λ (x : Scheduling). x.peers) c.join_lines.ensures)) c.self.invariant.3))),
       c.add_all.ensures.held (tested_alike (goes_to_dead ds) (goes_to_dead c.count_rows.new.sites.items) core.waiting.items (λ r. sym (c.count_rows.ensures.dead r)) c.self.invariant.4),
+      messages_same core.params c.count_peers.new.turns (heads core.admitted.items)
+          (messages_stay core.params core.turns (heads core.admitted.items) c.self.invariant.5 c.count_peers.new.turns
+          (ap (λ (x : Scheduling). x.messages) c.count_peers.ensures.rest ∙ ap (λ (x : Scheduling). x.messages) turns) (ap (λ (x : Scheduling). x.message_room) c.count_peers.ensures.rest ∙ ap (λ (x : Scheduling). x.message_room) turns)) _ slots,
     )
 
 pub returns-clause-ok : goal.returns-clause-ok
@@ -93,10 +98,10 @@ returns-clause-ok c =
     c.join_lines.ensures ∙ ap (λ rs. record core.turns { lines = map (joined_within c.args.id rs core.turns.line_room) (enumerate_from 0 core.turns.lines) }) c.deref-2.ensures.value
     ∙ ap (λ xs. record core.turns { lines = xs }) (joined_over c.args.id rows core.turns.line_room 0 core.turns.lines can) in
     let lines : c.count_peers.new.turns.lines ≡ map (joined_line c.args.id rows) (enumerate_from 0 core.turns.lines) =
-    ap (λ (x : Turning). x.lines) c.count_peers.ensures.rest ∙ ap (λ (x : Turning). x.lines) turns in
+    ap (λ (x : Scheduling). x.lines) c.count_peers.ensures.rest ∙ ap (λ (x : Scheduling). x.lines) turns in
     let known : known_records c.count_rows.new.sites.items ≡ known_records core.sites.items ++ new_sites core.params (known_records core.sites.items) [] rows =
     c.count_rows.ensures.known ∙ ap (λ rs. known_records core.sites.items ++ new_sites core.params (known_records core.sites.items) [] rs) c.deref-4.ensures.value in
-    let served : served_rows c.count_peers.new.turns.peers ≡ served_rows core.turns.peers = c.count_peers.ensures.served ∙ ap (λ (x : Turning). served_rows x.peers) c.join_lines.ensures in
+    let served : served_rows c.count_peers.new.turns.peers ≡ served_rows core.turns.peers = c.count_peers.ensures.served ∙ ap (λ (x : Scheduling). served_rows x.peers) c.join_lines.ensures in
     let slots : heads c.gain_waiting.new.pool.items ≡ heads core.admitted.items = ap (λ (m : Pooled). heads m.items) c.gain_waiting.ensures ∙ heads_recounted (with_waiting c.len-count.result) c.args.id core.admitted.items in
     record {
       rest =

@@ -3,7 +3,7 @@ use Rattle.std.specs.Option.{is_some, option_copied}
 use Rattle.std.specs.Prelude.{nat_lt}
 use Rattle.q_core.proofs.AbleLaws.{able_known}
 use Rattle.q_core.proofs.EarlyLaws.{no_start}
-use Rattle.q_core.proofs.RowWalkLaws.{any_least}
+use Rattle.q_schedule.proofs.Owns.{any_least}
 use Rattle.q_core.specs.Starting.{can_start_in, flights_at}
 use Rattle.q_core.specs.State.{State}
 use Rattle.q_rounds.specs.Rounds.{may_send, next_in, sent_before}

@@ -37,6 +37,7 @@ invariant_of-self c =
       c.hold_at.ensures.held (goes_to_dead ds) (goes_to_dead (map (changed_at site change) ds))
           (λ r. tested_step ds site c.is_dead-was_dead.result r (site_eq r.site site) refl c.is_dead-was_dead.ensures)
           (turned_at site change (λ d. heard_in_site core.params d.busy core.clock.seconds c.args.state d.known) ds dead is) c.self.invariant.4,
+      c.self.invariant.5,
     )
 
 pub returns : goal.returns

@@ -1,10 +1,11 @@
-use Rattle.std.proofs.Common.{◌≡◌, ◌∙◌, ◌==◌, ap, filter, find, List, None, not, refl, Some, subst, sym}
-use Rattle.std.specs.Option.{option_copied}
+use Rattle.std.proofs.Common.{◌≡◌, ◌∙◌, ◌==◌, ap, filter, find, None, not, refl, Some, sym}
+use Rattle.q_core.proofs.MessageTies.{messages_same}
 use Rattle.q_core.proofs.PoolTies.{heads_recounted}
 use Rattle.q_core.proofs.SiteChanges.{sites_landed, sites_settled}
 use Rattle.q_core.proofs.SiteViews.{settled_used}
-use Rattle.q_core.proofs.TiedLaws.{tied_landed, whole}
-use Rattle.q_core.specs.Counted.{IsCounted}
+use Rattle.q_core.proofs.TiedLaws.{tied_landed}
+use Rattle.q_flights.proofs.Rising.{whole}
+use Rattle.q_flights.specs.Flying.{Flying}
 use Rattle.q_core.specs.Counting.{without_flight}
 use Rattle.q_core.specs.Queries.{flight_in}
 use Rattle.q_core.specs.State.{State}
@@ -22,56 +23,68 @@ use Rattle.q_held.proofs.Tested.{tested_alike}
 use Rattle.q_held.specs.Held.{rows_of}
 use Rattle.q_core.proofs.state.Core.land.Goals as goal
 
-pub returns-in_default-clause-landed : goal.returns-in_default-clause-landed
-returns-in_default-clause-landed c = record {
-  rest = refl;
-  flights = sym (whole c.args.number c.args.self.now.flights (sym c.delivery.ensures ∙ ap option_copied c.in_default.is));
-}
-
-pub returns-in_default-clause-left : goal.returns-in_default-clause-left
-returns-in_default-clause-left c = λ f at.
-    let bad : None ≡ Some f = sym (ap option_copied c.in_default.is) ∙ c.delivery.ensures ∙ at in cc
+-- none has the number
 
 pub invariant_of-self : goal.invariant_of-self
 invariant_of-self c =
     let a = c.self.inside in
+    let same : c.remove.new.self.items ≡ a.flights.items =
+    ap (λ (v : Flying). v.items) c.remove.ensures.items ∙ whole c.args.number a.flights.items (sym c.remove.ensures.taken ∙ c.in_default.is) in
+    rw same c.self.invariant
+
+pub returns-in_default-clause-landed : goal.returns-in_default-clause-landed
+returns-in_default-clause-landed c = record {
+  rest = ap (λ (s : State). record s { flights = c.remove.new.self.items; sites = c.args.self.now.sites }) c.self.view_is;
+  flights = ap (λ (v : Flying). v.items) c.remove.ensures.items ∙ ap (λ (s : State). filter (λ (f : Delivery). not (f.number == c.args.number)) s.flights) c.self.view_is;
+}
+
+pub returns-in_default-clause-left : goal.returns-in_default-clause-left
+returns-in_default-clause-left c = λ f at.
+    let bad : None ≡ Some f = sym c.in_default.is ∙ c.remove.ensures.taken ∙ ap (λ (s : State). flight_in s c.args.number) c.self.view_is ∙ at in cc
+
+-- it goes
+
+pub invariant_of-self-2 : goal.invariant_of-self-2
+invariant_of-self-2 c =
+    let a = c.self.inside in
     let rows = rows_of a.waiting.items in
-    let f = c.in-Some.delivery.now in
-    let at : find (λ (x : Delivery). x.number == c.args.number) a.flights.items ≡ Some f = ap (λ (s : State). flight_in s c.args.number) c.self.view_is ∙ sym c.delivery.ensures ∙ ap option_copied c.in-Some.is in
+    let f = c.in-Some.delivery in
+    let at : find (λ (x : Delivery). x.number == c.args.number) a.flights.items ≡ Some f = sym c.remove.ensures.taken ∙ c.in-Some.is in
     let fs = filter (λ (x : Delivery). not (x.number == c.args.number)) a.flights.items in
-    let counted = subst (λ (fs : List Delivery). IsCounted fs c.recount.new.flying) (c.deref.ensures.value ∙ c.land-2.ensures) c.recount.ensures in
+    let left : c.remove.new.self.items ≡ fs = ap (λ (v : Flying). v.items) c.remove.ensures.items in
     let slots : heads c.end_flight.new.pool.items ≡ heads a.admitted.items = ap (λ (m : Pooled). heads m.items) c.end_flight.ensures ∙ heads_recounted without_flight f.row.id a.admitted.items in
     let sites : c.land.new.self.items ≡ filter is_kept (settled f.row.site landed a.sites.items) = ap (λ (x : Dests). x.items) c.land.ensures in (
-      rw c.land-2.ensures (tied_landed a.params a.admitted c.end_flight.new.pool rows a.flights.items a.unsettled.items a.flying c.recount.new.flying a.starts c.args.number f at counted c.end_flight.ensures c.self.invariant.0),
+      rw left (tied_landed a.params a.admitted c.end_flight.new.pool rows a.flights.items a.unsettled.items a.starts c.args.number f at c.stand_apart.ensures.rise c.end_flight.ensures c.self.invariant.0),
       rw slots c.self.invariant.1,
-      rw (sites, c.land-2.ensures) (sites_settled rows fs f.row.site landed (λ d. refl) a.sites.items c.stand_apart.ensures.apart
-          (sites_landed rows a.flights.items a.starts c.args.number f a.sites.items c.self.invariant.0.numbers at c.self.invariant.2)),
+      rw (sites, left) (sites_settled rows fs f.row.site landed (λ d. refl) a.sites.items c.stand_apart-2.ensures.apart
+          (sites_landed rows a.flights.items c.args.number f a.sites.items c.stand_apart.ensures.rise at c.self.invariant.2)),
       c.self.invariant.3,
       rw sites (tested_alike (goes_to_dead a.sites.items) (goes_to_dead (filter is_kept (settled f.row.site landed a.sites.items))) a.waiting.items
-          (λ r. sym (alike_settled f.row.site landed (λ d. refl) a.sites.items c.stand_apart.ensures.apart r)) c.self.invariant.4),
+          (λ r. sym (alike_settled f.row.site landed (λ d. refl) a.sites.items c.stand_apart-2.ensures.apart r)) c.self.invariant.4),
+      messages_same a.params a.turns (heads a.admitted.items) c.self.invariant.5 _ slots,
     )
 
 pub returns-clause-landed : goal.returns-clause-landed
 returns-clause-landed c =
     let a = c.self.inside in
-    let slots : heads c.end_flight.new.pool.items ≡ heads a.admitted.items = ap (λ (m : Pooled). heads m.items) c.end_flight.ensures ∙ heads_recounted without_flight c.in-Some.delivery.now.row.id a.admitted.items in
+    let slots : heads c.end_flight.new.pool.items ≡ heads a.admitted.items = ap (λ (m : Pooled). heads m.items) c.end_flight.ensures ∙ heads_recounted without_flight c.in-Some.delivery.row.id a.admitted.items in
     record {
-      rest = ap (λ ss. record (state_of a) { admitted = ss; flights = c.land-2.new.flights.items; sites = c.args.self.now.sites }) slots ∙ ap (λ (s : State). record s { flights = c.land-2.new.flights.items; sites = c.args.self.now.sites }) c.self.view_is;
-      flights = c.land-2.ensures ∙ ap (λ (s : State). filter (λ (f : Delivery). not (f.number == c.args.number)) s.flights) c.self.view_is;
+      rest = ap (λ ss. record (state_of a) { admitted = ss; flights = c.remove.new.self.items; sites = c.args.self.now.sites }) slots ∙ ap (λ (s : State). record s { flights = c.remove.new.self.items; sites = c.args.self.now.sites }) c.self.view_is;
+      flights = ap (λ (v : Flying). v.items) c.remove.ensures.items ∙ ap (λ (s : State). filter (λ (f : Delivery). not (f.number == c.args.number)) s.flights) c.self.view_is;
     }
 
 pub returns-clause-left : goal.returns-clause-left
 returns-clause-left c = λ g found.
     let a = c.self.inside in
     let rows = rows_of a.waiting.items in
-    let f = c.in-Some.delivery.now in
-    let at : find (λ (x : Delivery). x.number == c.args.number) a.flights.items ≡ Some f = ap (λ (s : State). flight_in s c.args.number) c.self.view_is ∙ sym c.delivery.ensures ∙ ap option_copied c.in-Some.is in
+    let f = c.in-Some.delivery in
+    let at : find (λ (x : Delivery). x.number == c.args.number) a.flights.items ≡ Some f = sym c.remove.ensures.taken ∙ c.in-Some.is in
     let both : Some f ≡ Some g = sym at ∙ ap (λ (s : State). flight_in s c.args.number) c.self.view_is ∙ found in
     let it : f ≡ g = cc in
     let fs = filter (λ (x : Delivery). not (x.number == c.args.number)) a.flights.items in
     ap (λ (x : Dests). known_records x.items) c.land.ensures
-    ∙ settled_used rows fs f.row.site landed (λ d. refl) a.sites.items c.stand_apart.ensures.apart
-    (sites_landed rows a.flights.items a.starts c.args.number f a.sites.items c.self.invariant.0.numbers at c.self.invariant.2)
-    ∙ ap (λ gs. used_in rows gs (moved_back (is_left_in rows gs f.row.site) (known_records a.sites.items))) (sym c.land-2.ensures)
-    ∙ ap (λ (s : State). used_in rows c.land-2.new.flights.items (moved_back (is_left_in rows c.land-2.new.flights.items f.row.site) s.sites)) c.self.view_is
-    ∙ ap (λ (x : Delivery). used_in rows c.land-2.new.flights.items (moved_back (is_left_in rows c.land-2.new.flights.items x.row.site) c.args.self.now.sites)) it
+    ∙ settled_used rows fs f.row.site landed (λ d. refl) a.sites.items c.stand_apart-2.ensures.apart
+    (sites_landed rows a.flights.items c.args.number f a.sites.items c.stand_apart.ensures.rise at c.self.invariant.2)
+    ∙ ap (λ gs. used_in rows gs (moved_back (is_left_in rows gs f.row.site) (known_records a.sites.items))) (sym (ap (λ (v : Flying). v.items) c.remove.ensures.items))
+    ∙ ap (λ (s : State). used_in rows c.remove.new.self.items (moved_back (is_left_in rows c.remove.new.self.items f.row.site) s.sites)) c.self.view_is
+    ∙ ap (λ (x : Delivery). used_in rows c.remove.new.self.items (moved_back (is_left_in rows c.remove.new.self.items x.row.site) c.args.self.now.sites)) it

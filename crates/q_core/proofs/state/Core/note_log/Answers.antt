@@ -1,4 +1,5 @@
 use Rattle.std.proofs.Common.{◌≡◌, ◌∙◌, ap, map, refl}
+use Rattle.q_core.proofs.MessageTies.{messages_kept}
 use Rattle.q_core.proofs.PoolTies.{heads_kept}
 use Rattle.q_core.proofs.StayLaws.{unread_same}
 use Rattle.q_core.proofs.StillTidyLaws.{slots_same}
@@ -15,11 +16,12 @@ invariant_of-self c =
     let a = c.self.inside in
     let slots : heads c.log.new.self.items ≡ map (changed_at c.args.id with_log) (heads a.admitted.items) =
     ap (λ (m : Pooled). heads m.items) c.log.ensures ∙ heads_kept c.args.id with_log a.admitted.items in (
-      tied_kept a.params a.admitted c.log.new.self (rows_of a.waiting.items) a.flights.items a.unsettled.items a.flying a.starts c.args.id with_log (λ s. refl) c.log.ensures c.self.invariant.0,
+      tied_kept a.params a.admitted c.log.new.self (rows_of a.waiting.items) a.flights.items a.unsettled.items a.starts c.args.id with_log (λ s. refl) c.log.ensures c.self.invariant.0,
       rw slots (slots_same (unread_same c.args.id with_log (λ s. refl) (λ s. refl) (heads a.admitted.items)) c.self.invariant.1),
       c.self.invariant.2,
       c.self.invariant.3,
       c.self.invariant.4,
+      messages_kept a.params a.turns (heads a.admitted.items) c.self.invariant.5 c.args.id with_log (λ s. refl) _ slots,
     )
 
 pub returns : goal.returns

@@ -1,4 +1,5 @@
 use Rattle.std.proofs.Common.{◌≡◌, ◌∙◌, ap, map}
+use Rattle.q_core.proofs.MessageTies.{messages_kept, mark_same}
 use Rattle.q_core.proofs.PoolTies.{heads_kept}
 use Rattle.q_core.proofs.StayLaws.{unread_same, mark_id, mark_left}
 use Rattle.q_core.proofs.StillTidyLaws.{slots_same}
@@ -15,11 +16,12 @@ invariant_of-self c =
     let a = c.self.inside in
     let slots : heads c.mark.new.self.items ≡ map (changed_at c.args.id with_slot_mark) (heads a.admitted.items) =
     ap (λ (m : Pooled). heads m.items) c.mark.ensures ∙ heads_kept c.args.id with_slot_mark a.admitted.items in (
-      tied_kept a.params a.admitted c.mark.new.self (rows_of a.waiting.items) a.flights.items a.unsettled.items a.flying a.starts c.args.id with_slot_mark mark_id c.mark.ensures c.self.invariant.0,
+      tied_kept a.params a.admitted c.mark.new.self (rows_of a.waiting.items) a.flights.items a.unsettled.items a.starts c.args.id with_slot_mark mark_id c.mark.ensures c.self.invariant.0,
       rw slots (slots_same (unread_same c.args.id with_slot_mark mark_id mark_left (heads a.admitted.items)) c.self.invariant.1),
       c.self.invariant.2,
       c.self.invariant.3,
       c.self.invariant.4,
+      messages_kept a.params a.turns (heads a.admitted.items) c.self.invariant.5 c.args.id with_slot_mark mark_same _ slots,
     )
 
 pub returns : goal.returns

@@ -38,6 +38,7 @@ invariant_of-self c =
       sites_kept rows fs (map (revived_when_dead p) ds) (dead_apart rows fs ds apart tie p) (dead_tied rows fs ds apart tie p),
       c.self.invariant.3,
       subst (λ es. AreHeldBy (goes_to_dead es) c.hold_dead.new.waiting.items) sites c.hold_dead.ensures.held,
+      c.self.invariant.5,
     )
 
 pub returns-clause-revived : goal.returns-clause-revived

@@ -1,6 +1,7 @@
 use Rattle.std.proofs.Common.{◌≡◌, ◌∙◌, ◌++◌, ◌<◌, ◌^◌, ◌∷◌, [], ap, arith, false, length, List, map, refl, Some, subst, sym, true}
 use Rattle.std.specs.List.{list_any, remove}
 use Rattle.std.specs.Prelude.{find, position, slice_get}
+use Rattle.q_core.proofs.MessageTies.{messages_same, messages_stay}
 use Rattle.q_core.proofs.ListLaws.{drop_first-Some}
 use Rattle.q_core.proofs.RowWalkLaws.{any_place, none_any, same_place}
 use Rattle.q_core.proofs.CountLaws.{count_within}
@@ -16,8 +17,9 @@ use Rattle.q_core.specs.State.{State}
 use Rattle.q_model.specs.declared.rows.Delivery.{Delivery}
 use Rattle.q_model.specs.declared.rows.Row.{Row}
 use Rattle.q_core.proofs.PoolTies.{heads_recounted}
-use Rattle.q_core.proofs.TiedLaws.{tied_sent}
-use Rattle.q_core.specs.Counted.{IsCounted}
+use Rattle.q_core.proofs.TiedLaws.{numbered_below, tied_sent}
+use Rattle.q_flights.specs.Flying.{Flying}
+use Rattle.std.proofs.lemmas.List.{length-append}
 use Rattle.q_core.specs.Counting.{with_flight}
 use Rattle.q_core.specs.View.{state_of}
 use Rattle.q_held.proofs.Tested.{tested_alike}
@@ -29,7 +31,8 @@ use Rattle.q_core.specs.ServedRows.{served_rows}
 use Rattle.q_core.specs.Ties.{AreTurnsTied, goes_to_dead}
 use Rattle.q_core.specs.Tidied.{tidied_served}
 use Rattle.q_rounds.specs.declared.peer.PeerKey.{PeerKey}
-use Rattle.q_turns.specs.Turns.{lost_at, started_at, Turning}
+use Rattle.q_schedule.specs.Schedule.{Scheduling}
+use Rattle.q_turns.specs.Turns.{lost_at, started_at}
 use Rattle.q_core.proofs.state.Core.send.Goals as goal
 
 pub invariant_of-self-2 : goal.invariant_of-self-2
@@ -44,23 +47,24 @@ invariant_of-self-2 c =
     let there : slice_get rows f.0 ≡ Some row = f.2.there ∙ ap (λ (x : Row). Some x) is in
     let left : rows_of c.take_row.new.waiting.items ≡ remove rows f.0 = c.take_row.ensures.rows ∙ sym (drop_first-Some p rows f.0 f.2.place) in
     let slots : heads c.begin_flight.new.pool.items ≡ heads a.admitted.items = ap (λ (m : Pooled). heads m.items) c.begin_flight.ensures ∙ heads_recounted with_flight row.id a.admitted.items in
-    let added : c.add_flight.new.flights.items ≡ a.flights.items ++ record { number = c.args.number; row = row } ∷ [] =
-    c.add_flight.ensures.items ∙ ap (λ (fs : List Delivery). fs ++ record { number = c.args.number; row = row } ∷ []) c.in_ok-reserve.ensures.items in
+    let added : c.push.new.self.items ≡ a.flights.items ++ record { number = c.args.number; row = row } ∷ [] =
+    ap (λ (v : Flying). v.items) c.push.ensures in
     let less = subst (λ (s : State). s.starts < c.args.number) (sym c.self.view_is) c.requires.next in
-    let few : length (a.flights.items ++ record { number = c.args.number; row = row } ∷ []) < 2 ^ 64 = grind (arith, sym added, c.add_flight.new.flights.ok, c.add_flight.new.flights.small) in
+    let few : length (a.flights.items ++ record { number = c.args.number; row = row } ∷ []) < 2 ^ 64 = (let more = length-append a.flights.items (record { number = c.args.number; row = row } ∷ []) in omega (arith, more, c.stand_apart.ensures.within, c.stand_apart.ensures.few)) in
     let sites : c.begin.new.self.items ≡ map (changed_at row.site begun) a.sites.items = ap (λ (x : Dests). x.items) c.begin.ensures in
     let found : find p rows ≡ Some row = f.2.found ∙ ap (λ (x : Row). Some x) is in
-    let again : c.start.new.self.peers ≡ started_at row.id row.site c.args.number a.turns.peers = ap (λ (x : Turning). x.peers) c.start.ensures in
-    let lost : c.lose.new.self.peers ≡ lost_at row.id row.site c.start.new.self.peers = ap (λ (x : Turning). x.peers) c.lose.ensures in
-    let lines : c.lose.new.self.lines ≡ a.turns.lines = ap (λ (x : Turning). x.lines) c.lose.ensures ∙ ap (λ (x : Turning). x.lines) c.start.ensures in
-    let started = subst (λ ps. AreTurnsTied ps rows c.args.number) (sym again) (turns_started a.turns.peers rows a.starts c.args.number row.id row.site less c.self.invariant.3) in
-    let counted = subst (λ (fs : List Delivery). IsCounted fs c.add_flight.new.flying) added c.add_flight.ensures.counted in (
-      rw (left, added) (tied_sent a.params a.admitted c.begin_flight.new.pool rows f.0 row a.flights.items a.unsettled.items a.flying c.add_flight.new.flying a.starts c.args.number there less few counted c.begin_flight.ensures c.self.invariant.0),
+    let again : c.start.new.self.peers ≡ started_at row.id row.site c.args.number a.turns.peers = ap (λ (x : Scheduling). x.peers) c.start.ensures in
+    let lost : c.lose.new.self.peers ≡ lost_at row.id row.site c.start.new.self.peers = ap (λ (x : Scheduling). x.peers) c.lose.ensures in
+    let lines : c.lose.new.self.lines ≡ a.turns.lines = ap (λ (x : Scheduling). x.lines) c.lose.ensures ∙ ap (λ (x : Scheduling). x.lines) c.start.ensures in
+    let started = subst (λ ps. AreTurnsTied ps rows c.args.number) (sym again) (turns_started a.turns.peers rows a.starts c.args.number row.id row.site less c.self.invariant.3) in (
+      rw (left, added) (tied_sent a.params a.admitted c.begin_flight.new.pool rows f.0 row a.flights.items a.unsettled.items a.starts c.args.number there less few c.begin_flight.ensures c.self.invariant.0),
       rw (slots, c.touch_message.ensures, left, lines) (row_gone f.0 row there c.self.invariant.1),
       rw (sites, left, added) (sites_begun rows f.0 row c.args.number a.flights.items a.sites.items there c.self.invariant.2),
-      rw left (rw lost (turns_lost c.start.new.self.peers rows c.args.number f.0 row c.stand_apart-2.ensures.apart started there (first_of rows c.args.id c.args.site f.0 row f.2.place found))),
+      rw left (rw lost (turns_lost c.start.new.self.peers rows c.args.number f.0 row c.stand_apart-3.ensures.apart started there (first_of rows c.args.id c.args.site f.0 row f.2.place found))),
       rw sites (tested_alike (goes_to_dead a.sites.items) (goes_to_dead (map (changed_at row.site begun) a.sites.items)) c.take_row.new.waiting.items (λ r. sym (alike_changed row.site begun (λ d. refl) a.sites.items r))
           (c.take_row.ensures.held (goes_to_dead a.sites.items) c.self.invariant.4)),
+      messages_same a.params c.lose.new.self (heads a.admitted.items)
+          (messages_stay a.params a.turns (heads a.admitted.items) c.self.invariant.5 c.lose.new.self (ap (λ (x : Scheduling). x.messages) c.lose.ensures ∙ ap (λ (x : Scheduling). x.messages) c.start.ensures) (ap (λ (x : Scheduling). x.message_room) c.lose.ensures ∙ ap (λ (x : Scheduling). x.message_room) c.start.ensures)) _ slots,
     )
 
 pub start-requires-clause-own : goal.start-requires-clause-own
@@ -74,7 +78,12 @@ begin-requires c =
     let site = c.in-Some.row.site in
     let tie = c.self.invariant.2.busy site in
     let within = count_within (λ (f : Delivery). site_eq f.row.site site) a.flights.items in
-    omega (arith, tie, within, c.len.ensures, c.if-len-ge-MOST_FLIGHTS.false)
+    omega (arith, tie, within, c.stand_apart.ensures.within, c.stand_apart.ensures.few)
+
+pub push-requires-clause-above : goal.push-requires-clause-above
+push-requires-clause-above c =
+    let a = c.self.inside in
+    numbered_below a.starts c.args.number a.flights.items (subst (λ (s : State). s.starts < c.args.number) (sym c.self.view_is) c.requires.next) c.self.invariant.0.numbers
 
 pub returns-clause-ok : goal.returns-clause-ok
 returns-clause-ok c = λ entry at.
@@ -90,17 +99,17 @@ returns-clause-ok c = λ entry at.
     let e = same_place p rows f.0 entry f.2.place (ap (position p) same ∙ at) in
     let here : slice_get c.args.self.now.waiting entry ≡ Some row = ap (λ ws. slice_get ws entry) (sym same) ∙ ap (slice_get rows) (sym e) ∙ there in
     let slots : heads c.begin_flight.new.pool.items ≡ heads a.admitted.items = ap (λ (m : Pooled). heads m.items) c.begin_flight.ensures ∙ heads_recounted with_flight row.id a.admitted.items in
-    let added : c.add_flight.new.flights.items ≡ a.flights.items ++ record { number = c.args.number; row = row } ∷ [] =
-    c.add_flight.ensures.items ∙ ap (λ (fs : List Delivery). fs ++ record { number = c.args.number; row = row } ∷ []) c.in_ok-reserve.ensures.items in
+    let added : c.push.new.self.items ≡ a.flights.items ++ record { number = c.args.number; row = row } ∷ [] =
+    ap (λ (v : Flying). v.items) c.push.ensures in
     let known : known_records c.begin.new.self.items ≡ known_records a.sites.items = ap (λ (x : Dests). known_records x.items) c.begin.ensures ∙ known_stays row.site begun (λ d. refl) a.sites.items in
     let now = served_now c.args.id c.args.site c.args.number c.args.self.now.served in
-    let lines : c.lose.new.self.lines ≡ a.turns.lines = ap (λ (x : Turning). x.lines) c.lose.ensures ∙ ap (λ (x : Turning). x.lines) c.start.ensures in
+    let lines : c.lose.new.self.lines ≡ a.turns.lines = ap (λ (x : Scheduling). x.lines) c.lose.ensures ∙ ap (λ (x : Scheduling). x.lines) c.start.ensures in
     record {
       rest =
-          ap (λ ls. record (state_of a) { admitted = heads c.begin_flight.new.pool.items; waiting = rows_of c.take_row.new.waiting.items; flights = c.add_flight.new.flights.items; served = now; lines = ls; sites = known_records c.begin.new.self.items; starts = c.args.number }) lines
-          ∙ ap (λ rs. record (state_of a) { admitted = heads c.begin_flight.new.pool.items; waiting = rows_of c.take_row.new.waiting.items; flights = c.add_flight.new.flights.items; served = now; sites = rs; starts = c.args.number }) known
-          ∙ ap (λ ss. record (state_of a) { admitted = ss; waiting = rows_of c.take_row.new.waiting.items; flights = c.add_flight.new.flights.items; served = now; starts = c.args.number }) slots
-          ∙ ap (λ (s : State). record s { waiting = rows_of c.take_row.new.waiting.items; flights = c.add_flight.new.flights.items; served = now; starts = c.args.number }) c.self.view_is;
+          ap (λ ls. record (state_of a) { admitted = heads c.begin_flight.new.pool.items; waiting = rows_of c.take_row.new.waiting.items; flights = c.push.new.self.items; served = now; lines = ls; sites = known_records c.begin.new.self.items; starts = c.args.number }) lines
+          ∙ ap (λ rs. record (state_of a) { admitted = heads c.begin_flight.new.pool.items; waiting = rows_of c.take_row.new.waiting.items; flights = c.push.new.self.items; served = now; sites = rs; starts = c.args.number }) known
+          ∙ ap (λ ss. record (state_of a) { admitted = ss; waiting = rows_of c.take_row.new.waiting.items; flights = c.push.new.self.items; served = now; starts = c.args.number }) slots
+          ∙ ap (λ (s : State). record s { waiting = rows_of c.take_row.new.waiting.items; flights = c.push.new.self.items; served = now; starts = c.args.number }) c.self.view_is;
       waiting = left ∙ ap (λ k. remove rows k) e ∙ ap (λ ws. remove ws entry) same;
       flights = λ r at.
           let both : Some row ≡ Some r = sym here ∙ at in
@@ -127,12 +136,12 @@ returns-clause-served c =
     let ps = a.turns.peers in
     let n = c.args.number in
     let less = subst (λ (s : State). s.starts < n) (sym c.self.view_is) c.requires.next in
-    let begun : c.start.new.self.peers ≡ started_at row.id row.site n ps = ap (λ (x : Turning). x.peers) c.start.ensures in
-    let lost : c.lose.new.self.peers ≡ lost_at row.id row.site c.start.new.self.peers = ap (λ (x : Turning). x.peers) c.lose.ensures in
+    let begun : c.start.new.self.peers ≡ started_at row.id row.site n ps = ap (λ (x : Scheduling). x.peers) c.start.ensures in
+    let lost : c.lose.new.self.peers ≡ lost_at row.id row.site c.start.new.self.peers = ap (λ (x : Scheduling). x.peers) c.lose.ensures in
     let started = subst (λ qs. AreTurnsTied qs rows n) (sym begun) (turns_started ps rows a.starts n row.id row.site less c.self.invariant.3) in
-    let s = c.stand_apart.ensures in
+    let s = c.stand_apart-2.ensures in
     ap served_rows lost
-    ∙ served_lost c.start.new.self.peers rows f.0 row c.stand_apart-2.ensures.apart started.counts there
+    ∙ served_lost c.start.new.self.peers rows f.0 row c.stand_apart-3.ensures.apart started.counts there
     ∙ ap (tidied_served (remove rows f.0))
     (ap served_rows begun
     ∙ rows_started row.id row.site n (omega (arith, less)) ps s.apart (all_before ps a.starts n less c.self.invariant.3.known) (peer_of a.turns.lines ps rows s.apart s.jobs c.self.invariant.3.counts p row found)
@@ -140,8 +149,8 @@ returns-clause-served c =
     ∙ ap (λ (v : State). served_now c.args.id c.args.site n v.served) c.self.view_is)
     ∙ ap (λ ws. tidied_served ws (served_now c.args.id c.args.site n c.args.self.now.served)) (sym left)
 
-pub invariant_of-self-in_default : goal.invariant_of-self-in_default
-invariant_of-self-in_default c =
+pub invariant_of-self : goal.invariant_of-self
+invariant_of-self c =
     let p = is_for c.args.id c.args.site in
     let rows = rows_of c.self.inside.waiting.items in
     let bad : true ≡ false = sym (ap (λ (s : State). list_any p s.waiting) c.self.view_is ∙ c.requires.there) ∙ none_any p rows (sym c.in_default.ensures.taken) in cc

@@ -1,5 +1,6 @@
 use Rattle.std.proofs.Common.{◌≡◌, ◌∙◌, ap, map, sym}
 use Rattle.std.specs.List.{enumerate_from}
+use Rattle.q_core.proofs.MessageTies.{messages_stay}
 use Rattle.q_core.specs.State.{State}
 use Rattle.q_core.proofs.DeadLaws.{held_forgotten}
 use Rattle.q_core.proofs.SiteChanges.{sites_forgotten}
@@ -14,21 +15,22 @@ use Rattle.q_core.specs.UsedSites.{forget_in, used_in}
 use Rattle.q_dest.specs.Dests.{Dests}
 use Rattle.q_pool.specs.Kept.{heads}
 use Rattle.q_held.specs.Held.{rows_of}
-use Rattle.q_turns.specs.Turns.{Turning}
+use Rattle.q_schedule.specs.Schedule.{Scheduling}
 use Rattle.q_core.proofs.state.Core.tidy.Goals as goal
 
 pub invariant_of-self : goal.invariant_of-self
 invariant_of-self c =
     let core = c.self.inside in
     let f = tidied_line (heads core.admitted.items) (rows_of core.waiting.items) in
-    let lines = ap (λ (x : Turning). x.lines) c.tidy_touched_lines.ensures in
+    let lines = ap (λ (x : Scheduling). x.lines) c.tidy_touched_lines.ensures in
     let sites : c.forget_oldest.new.sites.items ≡ forgotten c.record_limit-limit.result core.sites.items = ap (λ (x : Dests). x.items) c.forget_oldest.ensures in
-    rw (lines, ap (λ (x : Turning). x.peers) c.tidy_touched_lines.ensures, sites) (
+    rw (lines, ap (λ (x : Scheduling). x.peers) c.tidy_touched_lines.ensures, sites) (
       c.self.invariant.0,
       now_tidy (heads core.admitted.items) (rows_of core.waiting.items) core.turns.lines,
       sites_forgotten (rows_of core.waiting.items) core.flights.items c.record_limit-limit.result core.sites.items c.stand_apart.ensures.apart c.self.invariant.2,
       c.self.invariant.3,
       held_forgotten c.record_limit-limit.result core.sites.items core.waiting.items c.stand_apart.ensures.apart c.self.invariant.2.waiting c.self.invariant.4,
+      messages_stay core.params core.turns (heads core.admitted.items) c.self.invariant.5 _ (ap (λ (x : Scheduling). x.messages) c.tidy_touched_lines.ensures) (ap (λ (x : Scheduling). x.message_room) c.tidy_touched_lines.ensures),
     )
 
 pub returns : goal.returns
@@ -38,8 +40,8 @@ returns c =
     let fs = core.flights.items in
     let ds = core.sites.items in
     let f = tidied_line (heads core.admitted.items) rows in
-    let lines = ap (λ (x : Turning). x.lines) c.tidy_touched_lines.ensures in
-    let peers = ap (λ (x : Turning). x.peers) c.tidy_touched_lines.ensures in
+    let lines = ap (λ (x : Scheduling). x.lines) c.tidy_touched_lines.ensures in
+    let peers = ap (λ (x : Scheduling). x.peers) c.tidy_touched_lines.ensures in
     let counts = counts_of ds rows fs c.stand_apart.ensures.apart c.self.invariant.2 in
     let whole : used_in rows fs (known_records ds) ≡ known_records ds = used_is rows fs ds counts ∙ ap known_records (kept_whole ds c.stand_apart.ensures.kept) in
     let sites : known_records c.forget_oldest.new.sites.items ≡ forget_in rows fs core.params.recipient_limit (used_in rows fs (known_records ds)) =

@@ -1,6 +1,7 @@
 use Rattle.std.proofs.Common.{◌≡◌, ◌∙◌, ◌++◌, ◌<◌, ◌^◌, ap, arith, false, filter, length, refl, Some, subst, sym, true}
 use Rattle.std.specs.List.{list_any, remove}
 use Rattle.std.specs.Prelude.{find, position, slice_get}
+use Rattle.q_core.proofs.MessageTies.{messages_same, messages_stay}
 use Rattle.q_core.proofs.ListLaws.{drop_first-Some}
 use Rattle.q_core.proofs.RowWalkLaws.{any_place, none_any, same_place}
 use Rattle.q_core.proofs.TurnTies.{first_of, served_lost, turns_lost}
@@ -29,7 +30,7 @@ use Rattle.q_held.specs.Held.{rows_of}
 use Rattle.q_core.proofs.DeadLaws.{alike_settled}
 use Rattle.q_pool.specs.Kept.{heads}
 use Rattle.q_pool.specs.Pooled.{Pooled}
-use Rattle.q_turns.specs.Turns.{Turning}
+use Rattle.q_schedule.specs.Schedule.{Scheduling}
 use Rattle.q_core.proofs.state.Core.unqueue.Goals as goal
 
 pub returns-clause-ok : goal.returns-clause-ok
@@ -51,7 +52,7 @@ returns-clause-ok c = λ entry at.
     record {
       row = ap (λ ws. slice_get ws entry) (sym same) ∙ ap (slice_get rows) (sym e) ∙ there;
       rest =
-          ap (λ (x : Turning). record (state_of a) { admitted = heads c.put_off_row.new.pool.items; waiting = rows_of c.take_row.new.waiting.items; served = c.args.self.now.served; unsettled = c.extend_from_slice.new.self.items; in_memory = c.saturating_sub-self-inside.result; lines = x.lines; sites = c.args.self.now.sites }) c.lose.ensures
+          ap (λ (x : Scheduling). record (state_of a) { admitted = heads c.put_off_row.new.pool.items; waiting = rows_of c.take_row.new.waiting.items; served = c.args.self.now.served; unsettled = c.extend_from_slice.new.self.items; in_memory = c.saturating_sub-self-inside.result; lines = x.lines; sites = c.args.self.now.sites }) c.lose.ensures
           ∙ ap (λ ss. record (state_of a) { admitted = ss; waiting = rows_of c.take_row.new.waiting.items; served = c.args.self.now.served; unsettled = c.extend_from_slice.new.self.items; in_memory = c.saturating_sub-self-inside.result; sites = c.args.self.now.sites }) slots
           ∙ ap (λ (s : State). record s { waiting = rows_of c.take_row.new.waiting.items; served = c.args.self.now.served; unsettled = c.extend_from_slice.new.self.items; in_memory = c.saturating_sub-self-inside.result; sites = c.args.self.now.sites }) c.self.view_is;
       waiting = left ∙ ap (λ k. remove rows k) e ∙ ap (λ ws. remove ws entry) same;
@@ -78,12 +79,14 @@ invariant_of-self-2 c =
     let few : length (a.unsettled.items ++ c.deref.result.now) < 2 ^ 64 = grind (arith, sym added, c.extend_from_slice.new.self.ok, c.extend_from_slice.new.self.small) in
     let sites : c.leave.new.self.items ≡ filter is_kept (settled row.site left_dest a.sites.items) = ap (λ (x : Dests). x.items) c.leave.ensures in
     let many : c.len.result ≡ length c.deref.result.now = c.len.ensures ∙ sym c.deref.ensures.len in (
-      rw (left, added) (tied_put_off a.params a.admitted c.put_off_row.new.pool rows f.0 row a.flights.items a.unsettled.items c.deref.result.now a.flying a.starts c.len.result there many few named c.put_off_row.ensures c.self.invariant.0),
-      rw (slots, c.touch_message.ensures, left, ap (λ (x : Turning). x.lines) c.lose.ensures) (row_gone f.0 row there c.self.invariant.1),
+      rw (left, added) (tied_put_off a.params a.admitted c.put_off_row.new.pool rows f.0 row a.flights.items a.unsettled.items c.deref.result.now a.starts c.len.result there many few named c.put_off_row.ensures c.self.invariant.0),
+      rw (slots, c.touch_message.ensures, left, ap (λ (x : Scheduling). x.lines) c.lose.ensures) (row_gone f.0 row there c.self.invariant.1),
       rw (sites, left) (sites_settled (remove rows f.0) a.flights.items row.site left_dest (λ d. refl) a.sites.items c.stand_apart.ensures.apart (sites_left rows f.0 row a.flights.items a.sites.items there c.self.invariant.2)),
-      rw (ap (λ (x : Turning). x.peers) c.lose.ensures, left) (turns_lost a.turns.peers rows a.starts f.0 row c.stand_apart-2.ensures.apart c.self.invariant.3 there (first_of rows c.args.id c.args.site.now f.0 row f.2.place (f.2.found ∙ ap (λ (x : Row). Some x) is))),
+      rw (ap (λ (x : Scheduling). x.peers) c.lose.ensures, left) (turns_lost a.turns.peers rows a.starts f.0 row c.stand_apart-2.ensures.apart c.self.invariant.3 there (first_of rows c.args.id c.args.site.now f.0 row f.2.place (f.2.found ∙ ap (λ (x : Row). Some x) is))),
       rw sites (tested_alike (goes_to_dead a.sites.items) (goes_to_dead (filter is_kept (settled row.site left_dest a.sites.items))) c.take_row.new.waiting.items
           (λ r. sym (alike_settled row.site left_dest (λ d. refl) a.sites.items c.stand_apart.ensures.apart r)) (c.take_row.ensures.held (goes_to_dead a.sites.items) c.self.invariant.4)),
+      messages_same a.params c.lose.new.self (heads a.admitted.items)
+          (messages_stay a.params a.turns (heads a.admitted.items) c.self.invariant.5 c.lose.new.self (ap (λ (x : Scheduling). x.messages) c.lose.ensures) (ap (λ (x : Scheduling). x.message_room) c.lose.ensures)) _ slots,
     )
 
 pub returns-clause-left : goal.returns-clause-left
@@ -114,7 +117,7 @@ returns-clause-served c =
     let is : f.1 ≡ row = (let both : Some f.1 ≡ Some row = sym f.2.found ∙ sym c.take_row.ensures.taken ∙ c.in-Some.is in cc) in
     let there : slice_get rows f.0 ≡ Some row = f.2.there ∙ ap (λ (x : Row). Some x) is in
     let left : rows_of c.take_row.new.waiting.items ≡ remove rows f.0 = c.take_row.ensures.rows ∙ sym (drop_first-Some p rows f.0 f.2.place) in
-    ap (λ (x : Turning). served_rows x.peers) c.lose.ensures
+    ap (λ (x : Scheduling). served_rows x.peers) c.lose.ensures
     ∙ served_lost a.turns.peers rows f.0 row c.stand_apart-2.ensures.apart c.self.invariant.3.counts there
     ∙ ap (λ ws. tidied_served ws (served_rows a.turns.peers)) (sym left)
     ∙ ap (λ (v : State). tidied_served (rows_of c.take_row.new.waiting.items) v.served) c.self.view_is

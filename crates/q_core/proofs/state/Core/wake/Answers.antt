@@ -38,6 +38,7 @@ invariant_of-self c =
       sites_kept rows fs (map (revived_when_due p c.args.moment) ds) (due_apart rows fs ds apart tie p c.args.moment) (due_tied rows fs ds apart tie p c.args.moment),
       c.self.invariant.3,
       subst (λ es. AreHeldBy (goes_to_dead es) c.hold_dead.new.waiting.items) sites c.hold_dead.ensures.held,
+      c.self.invariant.5,
     )
 
 pub returns-clause-woken : goal.returns-clause-woken

@@ -1,0 +1,15 @@
+use Rattle.std.proofs.Common.{◌∙◌, [], ap}
+use Rattle.q_dest.specs.Dests.{Dests}
+use Rattle.q_model.specs.Settings.{Settings}
+use Rattle.q_schedule.specs.Schedule.{Scheduling}
+use Rattle.q_core.proofs.beginning.registers.Goals as goal
+
+pub returns : goal.returns
+returns c = record {
+  admitted = c.in_ok-admitted.ensures ∙ ap (λ (p : Settings). record { items = []; room = p.active_limit; sync_limit = p.mark_sync_limit; minimum = p.recipient_minimum }) c.params.view_is;
+  lines = ap (λ (x : Scheduling). x.lines) c.in_ok-turns.ensures;
+  peers = ap (λ (x : Scheduling). x.peers) c.in_ok-turns.ensures;
+  messages = ap (λ (x : Scheduling). x.messages) c.in_ok-turns.ensures;
+  message_room = ap (λ (x : Scheduling). x.message_room) c.in_ok-turns.ensures ∙ ap (λ (p : Settings). p.active_limit) c.params.view_is;
+  sites = ap (λ (x : Dests). x.items) c.in_ok-sites.ensures;
+}

@@ -1,0 +1,10 @@
+use Rattle.std.proofs.Common.{ap}
+use Rattle.q_flights.specs.Flying.{Flying}
+use Rattle.q_held.specs.Held.{Held}
+use Rattle.q_core.proofs.beginning.rooms.Goals as goal
+
+pub returns : goal.returns
+returns c = record {
+  waiting = ap (λ (v : Held). v.items) c.in_ok-waiting.ensures;
+  flights = ap (λ (v : Flying). v.items) c.in_ok-flights.ensures;
+}

@@ -1,0 +1,122 @@
+//! A core at the beginning of a life. All room of its parts is made here.
+ghost use Rattle.std.specs.Prelude.{◌≡◌, ◌≤◌, ◌<◌, ◌^◌, IfOk, true};
+ghost use Rattle.q_core.specs.Agrees.{AgreesIfConsistent, AgreesIfOrderly, ForFirst};
+ghost use Rattle.q_core.specs.Beginning.{AreEmpty, AreNew, first_state};
+ghost use Rattle.q_core.specs.Changes.{is_looked_at};
+ghost use Rattle.q_core.specs.Deciding.{is_answered};
+ghost use Rattle.q_params.specs.Ranges.{IsInRange};
+
+use crate::clock::Clock;
+use crate::state::{Core, Question, Seen};
+use crate::touched::Touched;
+use q_dest::Sites;
+use q_flights::Flights;
+use q_held::Rows;
+use q_model::{Mode, NoMemory, Positions};
+use q_open_rows::OpenRows;
+use q_params::Params;
+use q_pool::Pool;
+use q_schedule::Schedule;
+use std::alloc::Global;
+
+/// The sites, the messages, and their schedule.
+type Registers = (Sites, Pool, Schedule);
+
+/// The rows that wait, the deliveries in flight, and the rows that are begun.
+type Rooms = (Rows, Flights, OpenRows);
+
+/// Registers with nothing in them.
+fn registers(alloc: Global, params: &Params, transports: u8) -> Result<Registers, NoMemory>
+    requires { IsInRange params.now }
+    ensures { IfOk result (AreNew params.now transports) }
+{
+    let messages = params.qmgr_message_active_limit;
+    let room = params.qmgr_message_recipient_limit;
+    let sites = Sites::new(alloc, 2 * room)?;
+    let admitted = Pool::new(
+        alloc,
+        messages,
+        params.mark_sync_limit,
+        params.qmgr_message_recipient_minimum,
+    )?;
+    let turns = Schedule::new(alloc, transports, messages, room)?;
+    Ok((sites, admitted, turns))
+}
+
+/// Room for as many rows, deliveries, and sites of a batch, as recipients may be in memory, since
+/// each of these has one.
+fn rooms(alloc: Global, room: u32) -> Result<Rooms, NoMemory>
+    requires some { 1 ≤ room }
+    requires few { room < 2 ^ 30 }
+    ensures { IfOk result AreEmpty }
+{
+    let waiting = Rows::new(alloc, room)?;
+    let flights = Flights::new(alloc, room)?;
+    let open_rows = OpenRows::new(alloc, room)?;
+    Ok((waiting, flights, open_rows))
+}
+
+/// A core in which nothing happened yet.
+fn over(
+    alloc: Global,
+    params: Params,
+    transports: u8,
+    mode: Mode,
+    registers: Registers,
+    rooms: Rooms,
+) -> Core
+    requires registers { AreNew params transports registers }
+    requires rooms { AreEmpty rooms }
+    ensures { result ≡ first_state params transports mode }
+{
+    let (sites, admitted, turns) = registers;
+    let (waiting, flights, open_rows) = rooms;
+    Core {
+        params,
+        transports,
+        mode,
+        clock: Clock::new(0),
+        timed: false,
+        next_run: 0,
+        scan: None,
+        asked: None,
+        ignores: false,
+        deferred_turn: false,
+        admitted,
+        waiting,
+        flights,
+        in_memory: 0,
+        unsettled: Vec::new(alloc),
+        turns,
+        sites,
+        synced: Vec::new(alloc),
+        starts: 0,
+        active: Seen::Unknown,
+        incoming: Seen::Unknown,
+        deferred: Seen::Unknown,
+        question: Question::Nothing,
+        named: Vec::new(alloc),
+        skips: 0,
+        skipped: Positions::new(alloc),
+        touched_message: Touched::Nothing,
+        open_rows,
+    }
+}
+
+impl Core {
+    /// A core at the beginning of a life, for a table of so many transports. It agrees with the
+    /// ledger of that life on every book that is fit to begin with, and so on every orderly one.
+    pub fn new(alloc: Global, params: Params, transports: u8, mode: Mode) -> Result<Core, NoMemory>
+        requires { IsInRange params }
+        ensures consistent { IfOk result (λ core. ForFirst params transports mode
+            (λ w book l. AgreesIfConsistent w core l)) }
+        ensures orderly { IfOk result (λ core. ForFirst params transports mode
+            (λ w book l. AgreesIfOrderly w core book l)) }
+        ensures answered { IfOk result (λ core. is_answered core.question ≡ true) }
+        ensures looked { IfOk result (λ core. is_looked_at core ≡ true) }
+    {
+        let rooms = rooms(alloc, params.qmgr_message_recipient_limit)?;
+        let registers = registers(alloc, &params, transports)?;
+        Ok(over(alloc, params, transports, mode, registers, rooms))
+    }
+}
