@@ -45,7 +45,7 @@ abbrev pub most : ℕ
 most = 64
 
 abbrev pub least : ℕ
-least = 16
+least = 28
 
 -- how many stay in a block that is parted
 abbrev pub half : ℕ
@@ -53,7 +53,7 @@ half = 32
 
 -- how many entries a block has room for: those of a full one, and fewer than the least
 abbrev pub block_room : ℕ
-block_room = 80
+block_room = 92
 
 -- no block has more than the most, the first has so many and each other at least the least
 abbrev pub AreFilled : ℕ → List (List Entry) → Type 0

@@ -9,7 +9,7 @@ use std::alloc::{AllocError, Global};
 use std::marker::Model;
 
 /// How many entries a block has room for.
-const ROOM: usize = 80;
+const ROOM: usize = 92;
 
 /// Entries in order.
 #[derive(Debug, Drop)]

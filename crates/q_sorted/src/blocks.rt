@@ -12,7 +12,7 @@ use std::marker::Model;
 /// How many entries a block has at most.
 const MOST: usize = 64;
 /// How many each but the first has at least.
-const LEAST: usize = 16;
+const LEAST: usize = 28;
 /// How many stay in a block that is parted.
 const HALF: usize = 32;
 

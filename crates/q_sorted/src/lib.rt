@@ -6,12 +6,12 @@
 //!
 //! Entries stand in blocks of at most 64. A look is a search among the blocks, and one in a block.
 //! An entry that comes or goes moves those behind it in its block. A block that comes to have more
-//! is parted in two halves, and one that comes to have fewer than 16 is united with the one before
-//! it. That moves the places of the blocks behind it too, and comes no oftener than once in ten
-//! calls or so. As all blocks but the first have 16 entries or more, there are never more than
+//! is parted in two halves, and one that comes to have fewer than 28 is united with the one before
+//! it. That moves the places of the blocks behind it too, and comes no oftener than once in four
+//! calls or so. As all blocks but the first have 28 entries or more, there are never more than
 //! were made.
 //!
-//! Room is made once, by `new`, below 170 bytes for each entry and some 5000 beside; no other call
+//! Room is made once, by `new`, below 110 bytes for each entry and some 7000 beside; no other call
 //! takes memory or can fail. It is an error to make it without room or for 2^30 entries and more,
 //! and to put an entry where there is no room. It is none to put one that is there, or to take out
 //! one that isn't: then nothing happens.
