@@ -3,6 +3,7 @@ ghost use Rattle.std.specs.Prelude.{◌≡◌, ◌<◌, ◌≤◌, ◌-◌, ◌+
 ghost use Rattle.std.specs.Option.{option_copied};
 ghost use Rattle.q_register.specs.Entries.{AreApart, changed, first_ranked, has_key, lacks_key, no_rank, ranks_within};
 ghost use Rattle.q_register.specs.Places.{entries_of};
+ghost use Rattle.q_register.specs.Sound.{places_for};
 
 use crate::entry::Entry;
 use crate::places::{append, find_in, first_in, first_within_in, put, take_out};
@@ -26,7 +27,7 @@ pub struct Register<K: Eq + Hash, T> {
 }
 
 impl<K: Eq + Hash, T> Model for Register<K, T> {
-    ghost use Rattle.std.specs.Prelude.{◌*◌, length};
+    ghost use Rattle.std.specs.Prelude.{length};
     ghost use Rattle.q_register.specs.Entries.{Entries, entries_code};
     ghost use Rattle.q_register.specs.Places.{entries_of};
     ghost use Rattle.q_register.specs.Sound.{IsSound};
@@ -40,21 +41,31 @@ impl<K: Eq + Hash, T> Model for Register<K, T> {
     ghost invariant = { λ a. IsSound K.eq a.places a.index a.ranks a.kept a.live a.room };
 }
 
+/// How many places there are for so many entries: half as many again, so that entries move together
+/// only now and then.
+fn places_for(room: u32) -> u32
+    requires { room < 2 ^ 31 }
+    ensures { result ≡ places_for room }
+{
+    room + room / 2
+}
+
 impl<K: Eq + Hash + Copy + Drop, T: Copy> Register<K, T> {
     /// The rank of an entry that is never the first, and the greatest.
     pub const UNRANKED: u64 = Least::NONE;
 
-    /// No entry, and room for so many. It takes memory for three times as many entries, for twice
-    /// as many keys in an index, and for ranks, below 128 bytes for each entry that has room.
+    /// No entry, and room for so many. It takes memory for two and a half times as many entries, for
+    /// half as many keys again in an index, and for ranks, below 96 bytes for each entry that has
+    /// room.
     pub fn new(alloc: Global, room: u32) -> Result<Register<K, T>, AllocError>
         requires some { 1 ≤ room }
         requires few { room < 2 ^ 31 }
         ensures { IfOk result (λ made. made ≡ record { items = []; room = room }) }
     {
-        let twice = 2 * room;
-        let places = Vec::with_capacity(alloc, twice as usize)?;
-        let index = IndexMap::with_capacity(alloc, twice as usize)?;
-        let ranks = Least::new(alloc, twice)?;
+        let count = places_for(room);
+        let places = Vec::with_capacity(alloc, count as usize)?;
+        let index = IndexMap::with_capacity(alloc, count as usize)?;
+        let ranks = Least::new(alloc, count)?;
         let kept = Vec::with_capacity(alloc, room as usize)?;
         Ok(Register {
             places,
@@ -129,7 +140,7 @@ impl<K: Eq + Hash + Copy + Drop, T: Copy> Register<K, T> {
             &mut self.index,
             &mut self.ranks,
             &mut self.kept,
-            2 * self.room as usize,
+            places_for(self.room) as usize,
         );
         append(&mut self.places, &mut self.index, &mut self.ranks, entry);
         self.live += 1;

@@ -8,7 +8,7 @@ invariant_of-self g c =
     record {
       placed = c.take_out.ensures.placed;
       few = inv.few;
-      double = c.take_out.ensures.ranks ∙ inv.double;
+      ranked = c.take_out.ensures.ranks ∙ inv.ranked;
       inside = omega (arith, c.take_out.ensures.len, inv.inside);
       count = omega (arith, ap length (ap entries_of c.in_err-taken.ensures.same), inv.count);
       within = inv.within;
@@ -25,7 +25,7 @@ invariant_of-self-2 g c =
     record {
       placed = c.take_out.ensures.placed;
       few = inv.few;
-      double = c.take_out.ensures.ranks ∙ inv.double;
+      ranked = c.take_out.ensures.ranks ∙ inv.ranked;
       inside = omega (arith, c.take_out.ensures.len, inv.inside);
       count = omega (arith, c.in_ok-taken.ensures.fewer, inv.count);
       within = omega (arith, inv.within);
