@@ -1,5 +1,5 @@
 -- A core in which nothing happened yet.
-use Rattle.std.specs.Prelude.{◌≡◌, [], false, None, replicate, ℕ}
+use Rattle.std.specs.Prelude.{◌≡◌, ◌*◌, [], false, max, None, replicate, ℕ}
 use Rattle.q_core.specs.State.{State}
 use Rattle.q_core.specs.declared.state.Question.TheVariants.{Nothing}
 use Rattle.q_core.specs.declared.state.Seen.TheVariants.{Unknown}
@@ -22,10 +22,15 @@ pub record AreNew (p : Settings) (transports : ℕ) (made : Dests × Pooled × S
   pub messages : made.2.messages ≡ []
   pub message_room : made.2.message_room ≡ p.active_limit
 
--- nothing waits, and nothing is in flight
-pub record AreEmpty (made : Held × Flying × Opened) : Type 0 where
+-- how many deliveries can be in flight: as many as there are processes of all transports
+abbrev pub most_flights : Settings → ℕ → ℕ
+most_flights p transports = max 1 (transports * p.process_limit)
+
+-- nothing waits, and nothing is in flight, with room for so many deliveries
+pub record AreEmpty (deliveries : ℕ) (made : Held × Flying × Opened) : Type 0 where
   pub waiting : made.0.items ≡ []
   pub flights : made.1.items ≡ []
+  pub flight_room : made.1.room ≡ deliveries
 
 -- what the core holds then
 abbrev pub first_state : Settings → ℕ → Mode → State

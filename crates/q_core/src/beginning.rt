@@ -1,7 +1,7 @@
 //! A core at the beginning of a life. All room of its parts is made here.
 ghost use Rattle.std.specs.Prelude.{◌≡◌, ◌≤◌, ◌<◌, ◌^◌, IfOk, true};
 ghost use Rattle.q_core.specs.Agrees.{AgreesIfConsistent, AgreesIfOrderly, ForFirst};
-ghost use Rattle.q_core.specs.Beginning.{AreEmpty, AreNew, first_state};
+ghost use Rattle.q_core.specs.Beginning.{AreEmpty, AreNew, first_state, most_flights};
 ghost use Rattle.q_core.specs.Changes.{is_looked_at};
 ghost use Rattle.q_core.specs.Deciding.{is_answered};
 ghost use Rattle.q_params.specs.Ranges.{IsInRange};
@@ -43,15 +43,27 @@ fn registers(alloc: Global, params: &Params, transports: u8) -> Result<Registers
     Ok((sites, admitted, turns))
 }
 
-/// Room for as many rows, deliveries, and sites of a batch, as recipients may be in memory, since
-/// each of these has one.
-fn rooms(alloc: Global, room: u32) -> Result<Rooms, NoMemory>
+/// How many deliveries can be in flight: as many as there are processes of all transports.
+fn most_flights(params: &Params, transports: u8) -> u32
+    requires { IsInRange params.now }
+    ensures result { result ≡ most_flights params.now transports }
+    ensures some { 1 ≤ result }
+    ensures few { result < 2 ^ 30 }
+{
+    (u32::from(transports) * params.default_process_limit).max(1)
+}
+
+/// Room for as many rows, and sites of a batch, as recipients may be in memory, since each of these
+/// has one, and for so many deliveries.
+fn rooms(alloc: Global, room: u32, deliveries: u32) -> Result<Rooms, NoMemory>
     requires some { 1 ≤ room }
     requires few { room < 2 ^ 30 }
-    ensures { IfOk result AreEmpty }
+    requires some_deliveries { 1 ≤ deliveries }
+    requires few_deliveries { deliveries < 2 ^ 30 }
+    ensures { IfOk result (AreEmpty deliveries) }
 {
     let waiting = Rows::new(alloc, room)?;
-    let flights = Flights::new(alloc, room)?;
+    let flights = Flights::new(alloc, deliveries)?;
     let open_rows = OpenRows::new(alloc, room)?;
     Ok((waiting, flights, open_rows))
 }
@@ -66,7 +78,7 @@ fn over(
     rooms: Rooms,
 ) -> Core
     requires registers { AreNew params transports registers }
-    requires rooms { AreEmpty rooms }
+    requires rooms { AreEmpty (most_flights params transports) rooms }
     ensures { result ≡ first_state params transports mode }
 {
     let (sites, admitted, turns) = registers;
@@ -115,7 +127,8 @@ impl Core {
         ensures answered { IfOk result (λ core. is_answered core.question ≡ true) }
         ensures looked { IfOk result (λ core. is_looked_at core ≡ true) }
     {
-        let rooms = rooms(alloc, params.qmgr_message_recipient_limit)?;
+        let deliveries = most_flights(&params, transports);
+        let rooms = rooms(alloc, params.qmgr_message_recipient_limit, deliveries)?;
         let registers = registers(alloc, &params, transports)?;
         Ok(over(alloc, params, transports, mode, registers, rooms))
     }

@@ -64,8 +64,8 @@ impl Core {
             (served_now id site number self.old.served)) }
         ensures err { OnErr result (IsUnchanged self.old self.new) }
     {
-        // It doesn't come up: there is room for as many deliveries as recipients may be in memory,
-        // and each has one at least.
+        // It doesn't come up: there is room for as many deliveries as there are processes of all
+        // transports, and one is begun only where its transport has a process left.
         if self.flights.spare() == 0 {
             return Err(NoMemory);
         }

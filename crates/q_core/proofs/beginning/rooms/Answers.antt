@@ -7,4 +7,5 @@ pub returns : goal.returns
 returns c = record {
   waiting = ap (λ (v : Held). v.items) c.in_ok-waiting.ensures;
   flights = ap (λ (v : Flying). v.items) c.in_ok-flights.ensures;
+  flight_room = ap (λ (v : Flying). v.room) c.in_ok-flights.ensures;
 }
