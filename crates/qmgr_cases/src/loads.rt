@@ -6,7 +6,7 @@ use std::alloc::Global;
 use std::test::Fail;
 
 /// How many mails the load of a test has that runs it twice.
-const MANY: &str = "100";
+const MANY: &str = "2000";
 
 /// Runs a load on a spool of which nothing is asked but to tell the summary.
 fn run_load(alloc: Global, host: &mut SilentHost, mails: &str) -> Result<(), Fail> {
