@@ -80,6 +80,7 @@ begun_ready w l mode usable distinct orderly = record {
     single = all_empty (length w.table.transports);
     fresh = λ id t some gone. absurd cc;
     synced = refl;
+    synced_next = λ id left was. absurd cc;
     messages = omega arith;
     recipients = omega arith;
   };

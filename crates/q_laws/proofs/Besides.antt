@@ -7,6 +7,7 @@ use Rattle.std.specs.Prelude.{◌==◌, nat_le}
 use Rattle.q_laws.proofs.Added.{IsAddable, added_at, added_distinct, added_ids, added_orderly, other_found, still_found}
 use Rattle.q_laws.proofs.Books.{left_from, left_parts, placed_listed}
 use Rattle.q_laws.proofs.Leaving.{well_still}
+use Rattle.q_laws.proofs.NextLeft.{still_next}
 use Rattle.q_laws.proofs.Members.{IsIn, all_append, all_at, all_from, all_weaker, find_in}
 use Rattle.q_laws.proofs.Quiet.{IsQuiet, account_kept, begun_noted, still_come}
 use Rattle.q_laws.proofs.Tidied.{IsReady}
@@ -38,10 +39,21 @@ same_unread l b e i same = on (admitted_of l i) refl
     on None f = refl
     on (Some a) f = ap (λ (o : Option Message). option_map_or (λ m. length m.recipients - a.unread) o 0) (same a (find_in (λ (x : Admitted). id_eq x.id i) a l.admitted f).0)
 
--- the ledger is ready where the messages in memory stay as they are
+-- a leftover of the new book was one of the old
+book_left : (l : Ledger) (b : Book) (e : Entry) → ((i : Id) → IsIn i (ids_at is_active b) → IsIn i (ids_at is_active l.book)) → (i : Id) → is_leftover (with_book l b e) i ≡ true → is_leftover l i ≡ true
+book_left l b e active i left = let parts = left_parts (with_book l b e) i left in left_from l i (active i parts.0) parts.1
+
+-- those that were synced well still are, where a leftover was one and is as it was
+book_well : (l : Ledger) (b : Book) (e : Entry) → ((i : Id) → is_leftover l i ≡ true → is_leftover (with_book l b e) i ≡ true → message_of b i ≡ message_of l.book i) → ((i : Id) → IsIn i (ids_at is_active b) → IsIn i (ids_at is_active l.book)) →
+    list_all (is_synced_well l) l.synced ≡ true → list_all (is_synced_well (with_book l b e)) l.synced ≡ true
+book_well l b e still active h = all_weaker (is_synced_well l) (is_synced_well (with_book l b e)) l.synced (λ i inside well. well_still l (with_book l b e) i (λ left.
+    let old = book_left l b e active i left in
+    (old, still i old left)) well) h
+
+-- the ledger is ready where the messages in memory and the leftovers stay as they are, but for leftovers that go
 pub book_ready : (w : World) (l : Ledger) (b : Book) (e : Entry) → IsConsistent w l → IsQuiet e → IsBookConsistent (with_book l b e) → ((a : Admitted) → IsIn a l.admitted → message_of b a.id ≡ message_of l.book a.id) →
-    list_all (is_synced_well (with_book l b e)) l.synced ≡ true → IsReady w (with_book l b e)
-book_ready w l b e c quiet book same synced =
+    ((i : Id) → is_leftover l i ≡ true → is_leftover (with_book l b e) i ≡ true → message_of b i ≡ message_of l.book i) → ((i : Id) → IsIn i (ids_at is_active b) → IsIn i (ids_at is_active l.book)) → IsReady w (with_book l b e)
+book_ready w l b e c quiet book same still active =
     let m = c.memory in
     let k = with_book l b e in
     record {
@@ -62,19 +74,12 @@ book_ready w l b e c quiet book same synced =
         begun = begun_noted l e m.begun;
         single = m.single;
         fresh = λ i t some gone. account_kept l e i t (quiet i t) (m.fresh i t (ap (λ n. n == 0) (sym (same_unread l b e i same)) ∙ some) gone);
-        synced = synced;
+        synced = book_well l b e still active m.synced;
+        synced_next = still_next l k (book_left l b e active) refl m.synced_next;
         messages = m.messages;
         recipients = m.recipients;
       };
     }
-
--- those that were synced well still are, where a leftover was one and is as it was
-pub book_well : (l : Ledger) (b : Book) (e : Entry) → ((i : Id) → is_leftover l i ≡ true → (is_leftover (with_book l b e) i ≡ true) → message_of b i ≡ message_of l.book i) → ((i : Id) → IsIn i (ids_at is_active b) → IsIn i (ids_at is_active l.book)) →
-    list_all (is_synced_well l) l.synced ≡ true → list_all (is_synced_well (with_book l b e)) l.synced ≡ true
-book_well l b e same active h = all_weaker (is_synced_well l) (is_synced_well (with_book l b e)) l.synced (λ i inside well. well_still l (with_book l b e) i (λ left.
-    let parts = left_parts (with_book l b e) i left in
-    let old = left_from l i (active i parts.0) parts.1 in
-    (old, same i old left)) well) h
 
 -- a message in memory, or a leftover, has a file
 admitted_found : (w : World) (l : Ledger) (a : Admitted) → IsConsistent w l → IsIn a l.admitted → (m : Message) × (message_of l.book a.id ≡ Some m)
@@ -101,10 +106,11 @@ pub add_ready : (w : World) (l : Ledger) (x : Message) (e : Entry) → IsConsist
 add_ready w l x e c quiet a firm come out =
     book_ready w l (add_message l.book x) e c quiet (add_book l x e c.book a firm come)
     (λ b inside. let one = admitted_found w l b c inside in still_found l.book x b.id one.0 one.1 ∙ sym one.1)
-    (book_well l (add_message l.book x) e (λ i old left. other_found l.book x i (apart i old (id_eq x.id i) refl)) (λ i inside. elim (added_at is_active l.book x i inside) [
+    (λ i old left. other_found l.book x i (apart i old (id_eq x.id i) refl))
+    (λ i inside. elim (added_at is_active l.book x i inside) [
       | inl old ↦ old
       | inr new ↦ let bad : false ≡ true = sym out ∙ new in absurd cc
-    ]) c.memory.synced)
+    ])
   where
     apart : (i : Id) → is_leftover l i ≡ true → (t : Bool) → id_eq x.id i ≡ t → t ≡ false
     apart i old false k = refl

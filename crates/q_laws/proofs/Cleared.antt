@@ -37,7 +37,7 @@ use Rattle.q_model.specs.declared.id.Id.{Id}
 use Rattle.q_model.specs.declared.rows.Admitted.{Admitted}
 use Rattle.q_model.specs.declared.entry.Entry.TheVariants as entries
 use Rattle.q_model.specs.declared.rows.Place.TheVariants as places
-use Rattle.q_laws.proofs.Besides.{book_ready, book_well, with_book}
+use Rattle.q_laws.proofs.Besides.{book_ready, with_book}
 
 -- ---- back
 
@@ -56,13 +56,14 @@ back_ready w l id (Some m) c left there may =
     book_ready w l b e c (λ i k. record { admit = refl; start = refl; charge = refl })
     (record { distinct = book.distinct; orderly = book.orderly; firm = book.firm; come = book.come })
     (λ a inside. other_moved l.book id a.id (move_to places.Incoming) (λ x. refl) (apart a inside out (id_eq a.id id) refl))
-    (book_well l b e (λ i old new. elim (moved_at is_active l.book id i places.Incoming m c.book.distinct there (left_parts (with_book l b e) i new).0) [
+    (λ i old new. elim (moved_at is_active l.book id i places.Incoming m c.book.distinct there (left_parts (with_book l b e) i new).0) [
       | inl was ↦ other_moved l.book id i (move_to places.Incoming) (λ x. refl) was.1
       | inr moved ↦ let bad : false ≡ true = moved.1 in absurd cc
-    ]) (λ i inside. elim (moved_at is_active l.book id i places.Incoming m c.book.distinct there inside) [
+    ])
+    (λ i inside. elim (moved_at is_active l.book id i places.Incoming m c.book.distinct there inside) [
       | inl was ↦ was.0
       | inr moved ↦ let bad : false ≡ true = moved.1 in absurd cc
-    ]) c.memory.synced)
+    ])
   where
     apart : (a : Admitted) → IsIn a l.admitted → is_admitted l id ≡ false → (t : Bool) → id_eq a.id id ≡ t → t ≡ false
     apart a inside out false k = refl
@@ -88,7 +89,7 @@ corrupt_ready w l id c gone =
       firm = c.book.firm;
       come = ap (list_all (has_come (noted e l))) same ∙ all_weaker (has_come l) (has_come (noted e l)) (all_ids l.book) (λ i inside h. still_come l e i h) c.book.come;
     })
-    (λ a inside. refl) (book_well l b e (λ i old new. refl) (λ i inside. shifted_at is_active l.book id i places.Corrupt refl inside) c.memory.synced)
+    (λ a inside. refl) (λ i old new. refl) (λ i inside. shifted_at is_active l.book id i places.Corrupt refl inside)
 
 turned : (w : World) (l : Ledger) (b : Book) (e : Entry) (p : Pick) → IsReady w (with_book l b e) → IsReady w (noted e (record (passed p l) { book = b }))
 turned w l b e (from_incoming id) h = otherwise_ready w (with_book l b e) l.now l.timed l.next_run l.scan l.asked l.ignores true l.served l.sites h

@@ -14,7 +14,7 @@ use Rattle.q_model.specs.Bounces.{may_bounce}
 use Rattle.q_model.specs.Ids.{id_eq}
 use Rattle.q_model.specs.Leaving.{may_defer, may_remove}
 use Rattle.q_model.specs.Ledger.{Ledger}
-use Rattle.q_model.specs.Leftovers.{is_leftover}
+use Rattle.q_model.specs.Leftovers.{is_leftover, next_leftover}
 use Rattle.q_model.specs.Lists.{first_of, has_none}
 use Rattle.q_model.specs.Logs.{needs_log, why_eq}
 use Rattle.q_model.specs.Marking.{marks_first, marks_leftover, needs_mark}
@@ -42,7 +42,7 @@ use Rattle.q_model.specs.declared.rows.Need.TheVariants as needs
 -- what a decision says beside that it is allowed
 abbrev pub Says : Ledger → Entry → Type 0
 Says l (entries.Mark id position) = (marks_first l id position ≡ true) ⊎ ((l.unsettled ≡ []) × (marks_leftover l id position ≡ true))
-Says l (entries.Sync id) = (is_admitted l id ≡ true) ⊎ ((m : Message) × (message_of l.book id ≡ Some m) × (unmarked_logged m ≡ []))
+Says l (entries.Sync id) = (is_admitted l id ≡ true) ⊎ ((m : Message) × (message_of l.book id ≡ Some m) × (unmarked_logged m ≡ []) × (next_leftover l ≡ Some id))
 Says l (entries.Start number id site positions) = IsIn id (line_of l site.transport)
 Says l _ = Unit {0}
 

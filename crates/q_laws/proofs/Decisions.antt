@@ -22,7 +22,7 @@ use Rattle.q_model.specs.Choice.{choice, next_row, start_of}
 use Rattle.q_model.specs.Ids.{id_before, id_eq}
 use Rattle.q_model.specs.Leaving.{may_back, may_corrupt, may_remove}
 use Rattle.q_model.specs.Ledger.{Ledger}
-use Rattle.q_model.specs.Leftovers.{is_leftover, leftovers, was_synced}
+use Rattle.q_model.specs.Leftovers.{is_leftover, leftovers, next_leftover, was_synced}
 use Rattle.q_model.specs.Lists.{first_of, first_some, has_none, least}
 use Rattle.q_model.specs.Loads.{may_load, may_read}
 use Rattle.q_model.specs.Marking.{is_unmarked_at, marks_first, marks_leftover}
@@ -85,8 +85,8 @@ pub either : {A : Type 0} (o q : Option A) (x : A) → option_or o q ≡ Some x 
 either None q x h = inr (refl, h)
 either (Some y) q x h = inl h
 
-cleared : (w : World) (l : Ledger) (m : Message) (e : Entry) → IsConsistent w l → l.unsettled ≡ [] → is_leftover l m.id ≡ true → message_of l.book m.id ≡ Some m → clear_leftover w l m ≡ Some e → Decided w l e
-cleared w l m e c none left there h =
+cleared : (w : World) (l : Ledger) (m : Message) (e : Entry) → IsConsistent w l → l.unsettled ≡ [] → is_leftover l m.id ≡ true → next_leftover l ≡ Some m.id → message_of l.book m.id ≡ Some m → clear_leftover w l m ≡ Some e → Decided w l e
+cleared w l m e c none left next there h =
     elim (either (mark_logged m) (first_of (clearings w l m.id)) e h) [
       | inl mark ↦ mark_decided w l m.id m e (slice_get (unmarked_logged m) 0) none left there refl mark
       | inr other ↦
@@ -94,23 +94,23 @@ cleared w l m e c none left there h =
           let may : option_map_or (λ (x : Message). is_active x.place && (is_leftover l m.id || not (has_none (written_marks x)))) (message_of l.book m.id) false ≡ true =
           ap (λ (o : Option Message). option_map_or (λ (x : Message). is_active x.place && (is_leftover l m.id || not (has_none (written_marks x)))) o false) there
           ∙ and_from (is_active m.place) (is_leftover l m.id || not (has_none (written_marks m))) (left_active l c.book.distinct m.id m left there) (or_left (is_leftover l m.id) (not (has_none (written_marks m))) left) in
-          subst (Decided w l) one.3 (clear_decided w l m.id one.0 (may, inr (m, there, none_unmarked m (unmarked_logged m) other.0)) one.1 one.2)
+          subst (Decided w l) one.3 (clear_decided w l m.id one.0 (may, inr (m, there, none_unmarked m (unmarked_logged m) other.0, next)) one.1 one.2)
     ]
 
 corrupt_decided : (w : World) (l : Ledger) (id : Id) (c : Bool × Entry) → IsIn c ((may_corrupt w l id, entries.Corrupt id) ∷ []) → c.0 ≡ true → Decided w l c.1
 corrupt_decided w l id c (inl e) h = subst (λ (x : Bool × Entry). x.0 ≡ true → Decided w l x.1) e (λ k. (k, tt)) h
 corrupt_decided w l id c (inr e) h = absurd e
 
-left_decided : (w : World) (l : Ledger) (id : Id) (e : Entry) (o : Option Message) → IsConsistent w l → l.unsettled ≡ [] → is_leftover l id ≡ true → message_of l.book id ≡ o →
+left_decided : (w : World) (l : Ledger) (id : Id) (e : Entry) (o : Option Message) → IsConsistent w l → l.unsettled ≡ [] → is_leftover l id ≡ true → next_leftover l ≡ Some id → message_of l.book id ≡ o →
     option_map_or (λ m. clear_leftover w l m) o (first_of ((may_corrupt w l id, entries.Corrupt id) ∷ [])) ≡ Some e → Decided w l e
-left_decided w l id e None c none left there h = let one = chosen ((may_corrupt w l id, entries.Corrupt id) ∷ []) e h in subst (Decided w l) one.3 (corrupt_decided w l id one.0 one.1 one.2)
-left_decided w l id e (Some m) c none left there h =
+left_decided w l id e None c none left next there h = let one = chosen ((may_corrupt w l id, entries.Corrupt id) ∷ []) e h in subst (Decided w l) one.3 (corrupt_decided w l id one.0 one.1 one.2)
+left_decided w l id e (Some m) c none left next there h =
     let same : m.id ≡ id = (message_in l.book id m there).1 in
-    cleared w l m e c none (ap (is_leftover l) same ∙ left) (ap (message_of l.book) same ∙ there) h
+    cleared w l m e c none (ap (is_leftover l) same ∙ left) (next ∙ ap Some (sym same)) (ap (message_of l.book) same ∙ there) h
 
 leftover_decided : (w : World) (l : Ledger) (e : Entry) (o : Option Id) → IsConsistent w l → l.unsettled ≡ [] → least id_before (leftovers l) ≡ o → option_and_then (λ id. leftover_decision w l id) o ≡ Some e → Decided w l e
 leftover_decided w l e None c none f h = absurd cc
-leftover_decided w l e (Some id) c none f h = left_decided w l id e (message_of l.book id) c none (in_listed id (leftovers l) (least_in id_before id (leftovers l) f)) refl h
+leftover_decided w l e (Some id) c none f h = left_decided w l id e (message_of l.book id) c none (in_listed id (leftovers l) (least_in id_before id (leftovers l) f)) f refl h
 
 -- ---- what is taken next
 

@@ -11,6 +11,7 @@ use Rattle.q_laws.proofs.Books.{left_from, left_parts, message_in}
 use Rattle.q_laws.proofs.Distinct.{id_eq-sym, distinct_join, id_cases, id_other, id_same}
 use Rattle.q_laws.proofs.InPlace.{changed_same, changed_name, change_book, changed}
 use Rattle.q_laws.proofs.Leaving.{HasNoRows, absent_rows, well_still}
+use Rattle.q_laws.proofs.NextLeft.{still_next}
 use Rattle.q_laws.proofs.Members.{in_unmap, in_left, in_right, none_at, find_none_from, IsIn, all_append, all_at, all_weaker, any_from, any_in, find_in}
 use Rattle.q_laws.proofs.Moved.{keeps_move, move_to, moved_at, other_moved}
 use Rattle.q_laws.proofs.Places.{none_of, got_in}
@@ -20,7 +21,7 @@ use Rattle.q_laws.proofs.Synced.{admitted_active, mine_or_not}
 use Rattle.q_laws.specs.Consistency.{IsHeld, are_once, flight_positions, held_positions, logged_of, unsettled_positions, IsBookConsistent, IsConsistent, is_present, is_synced_well, is_within}
 use Rattle.q_model.proofs.IdLaws.{id_eq-refl, id_eq-true}
 use Rattle.q_model.specs.Admissions.{delivers, may_admit, cause_gone, has_room}
-use Rattle.q_model.specs.Book.{Book, all_ids, ids_at, message_of, stands}
+use Rattle.q_model.specs.Book.{Book, all_ids, message_of, stands}
 use Rattle.q_model.specs.BookChanges.{move_message}
 use Rattle.q_model.specs.Ids.{are_distinct, cause_of, id_eq}
 use Rattle.q_model.specs.Ledger.{Ledger}
@@ -168,21 +169,22 @@ enter_held w l id m c p a x here there = elim (id_cases a.id id) [
       record { read = h.read; once = h.once; unmarked = h.unmarked; logged = h.logged }
 ]
 
-enter_well : (w : World) (l : Ledger) (id : Id) (m : Message) → IsConsistent w l → MayEnter w l id m → list_all (is_synced_well (entered l id)) l.synced ≡ true
-enter_well w l id m c p = all_weaker (is_synced_well l) (is_synced_well (entered l id)) l.synced (λ i inside well. well_still l (entered l id) i (λ left. still i (left_parts (entered l id) i left)) well) c.memory.synced
+-- a leftover was one before, and is as it was
+enter_before : (w : World) (l : Ledger) (id : Id) (m : Message) → IsConsistent w l → MayEnter w l id m → (i : Id) → is_leftover (entered l id) i ≡ true → (is_leftover l i ≡ true) × (message_of (move_message l.book id places.Active) i ≡ message_of l.book i)
+enter_before w l id m c p i left = elim (moved_at is_active l.book id i places.Active m c.book.distinct p.there (left_parts (entered l id) i left).0) [
+  | inl old ↦ (left_from l i old.0 (outside (is_admitted l i) refl), other_moved l.book id i (move_to places.Active) (λ x. refl) old.1)
+  | inr moved ↦
+      let adm : is_admitted (entered l id) i ≡ true = any_from (λ (a : Admitted). id_eq a.id i) (new_admitted id) (l.admitted ++ new_admitted id ∷ []) (in_right (new_admitted id) l.admitted (new_admitted id ∷ []) (inl refl)) (id_same id i (sym moved.0)) in
+      let bad : false ≡ true = sym (ap not adm) ∙ (left_parts (entered l id) i left).1 in
+      absurd cc
+]
   where
-    still : (i : Id) → IsIn i (ids_at is_active (move_message l.book id places.Active)) × (not (is_admitted (entered l id) i) ≡ true) → (is_leftover l i ≡ true) × (message_of (move_message l.book id places.Active) i ≡ message_of l.book i)
-    still i parts = elim (moved_at is_active l.book id i places.Active m c.book.distinct p.there parts.0) [
-      | inl old ↦ (left_from l i old.0 (outside (is_admitted l i) refl), other_moved l.book id i (move_to places.Active) (λ x. refl) old.1)
-      | inr moved ↦
-          let adm : is_admitted (entered l id) i ≡ true = any_from (λ (a : Admitted). id_eq a.id i) (new_admitted id) (l.admitted ++ new_admitted id ∷ []) (in_right (new_admitted id) l.admitted (new_admitted id ∷ []) (inl refl)) (id_same id i (sym moved.0)) in
-          let bad : false ≡ true = sym (ap not adm) ∙ parts.1 in
-          absurd cc
-    ]
-      where
-        outside : (t : Bool) → is_admitted l i ≡ t → not t ≡ true
-        outside false e = refl
-        outside true e = let bad : false ≡ true = sym (ap not (still_admitted l id i e)) ∙ parts.1 in cc
+    outside : (t : Bool) → is_admitted l i ≡ t → not t ≡ true
+    outside false e = refl
+    outside true e = let bad : false ≡ true = sym (ap not (still_admitted l id i e)) ∙ (left_parts (entered l id) i left).1 in cc
+
+enter_well : (w : World) (l : Ledger) (id : Id) (m : Message) → IsConsistent w l → MayEnter w l id m → list_all (is_synced_well (entered l id)) l.synced ≡ true
+enter_well w l id m c p = all_weaker (is_synced_well l) (is_synced_well (entered l id)) l.synced (λ i inside well. well_still l (entered l id) i (enter_before w l id m c p i) well) c.memory.synced
 
 enter_ready : (w : World) (l : Ledger) (id : Id) (m : Message) → IsConsistent w l → MayEnter w l id m → IsReady w (entered l id)
 enter_ready w l id m c p =
@@ -216,6 +218,7 @@ enter_ready w l id m c p =
           | inr not ↦ account_kept l e i t (record { admit = id_eq-sym i id not; start = refl; charge = refl }) (h.fresh i t (ap (λ n. n == 0) (sym (other_unread l id i not)) ∙ some) gone)
         ];
         synced = enter_well w l id m c p;
+        synced_next = still_next l k (λ i left. (enter_before w l id m c p i left).0) refl h.synced_next;
         messages = (let n = length-append l.admitted (new_admitted id ∷ []) in let room : length l.admitted < w.settings.active_limit = p.room in omega (arith, n, room));
         recipients = h.recipients;
       };

@@ -33,7 +33,7 @@ use Rattle.q_model.specs.declared.entry.Entry.TheVariants as entries
 use Rattle.q_model.specs.declared.rows.Place.TheVariants as places
 use Rattle.std.proofs.lemmas.Option.{same_Some}
 use Rattle.q_laws.proofs.Mapped.{KeepsOrder}
-use Rattle.q_laws.proofs.Leaving.{HasNoRows, absent_rows, idle_admitted, idle_rows, leave_ready, left_ledger, left_well, tidied_rows}
+use Rattle.q_laws.proofs.Leaving.{HasNoRows, absent_rows, idle_admitted, idle_rows, leave_ready, left_ledger, tidied_rows}
 
 quiet_defer : (id : Id) (t : ℕ) → IsQuiet (entries.Defer id t)
 quiet_defer id t i k = record { admit = refl; start = refl; charge = refl }
@@ -68,10 +68,10 @@ defer_ready w l id t (Some m) c idle there may =
     (λ x inside firm. mine_or_not id (move_to place) x (λ y. has_firm_failures y ≡ true) (λ k. firm) (λ k. firm)) in
     leave_ready w l id (move_message l.book id place) e c (quiet_defer id t)
     (record { distinct = book.distinct; orderly = book.orderly; firm = book.firm; come = book.come }) none same
-    (left_well l id (move_message l.book id place) e (λ i k. elim (moved_at is_active l.book id i place m c.book.distinct there k) [
+    (λ i k. elim (moved_at is_active l.book id i place m c.book.distinct there k) [
       | inl old ↦ old
       | inr moved ↦ let bad : false ≡ true = moved.1 in absurd cc
-    ]) same c.memory.synced)
+    ])
 
 -- a message is deferred
 pub defer_consistent : (w : World) (l : Ledger) (id : Id) (t : ℕ) → IsConsistent w l → may_defer w l id t ≡ true → IsConsistent w (after w l (entries.Defer id t))
@@ -108,7 +108,7 @@ remove_ready w l id (Some m) c there may =
     let one = and_parts (is_active m.place) (is_at_rest l id) two.0 in
     let same : (i : Id) → id_eq i id ≡ false → message_of (remove_message l.book id) i ≡ message_of l.book i = λ i other. other_left l.book id i c.book.distinct other in
     leave_ready w l id (remove_message l.book id) e c (λ i k. record { admit = refl; start = refl; charge = refl }) (remove_book l id m c.book there) (rest_rows w l id c one.1) same
-    (left_well l id (remove_message l.book id) e (λ i k. removed_at is_active l.book id i m c.book.distinct there k) same c.memory.synced)
+    (λ i k. removed_at is_active l.book id i m c.book.distinct there k)
 
 -- a message is removed
 pub remove_consistent : (w : World) (l : Ledger) (id : Id) → IsConsistent w l → may_remove l id ≡ true → IsConsistent w (after w l (entries.Remove id))

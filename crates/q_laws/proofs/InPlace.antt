@@ -15,10 +15,10 @@ use Rattle.q_laws.specs.Consistency.{IsBookConsistent, IsConsistent, IsHeld, has
 use Rattle.q_model.specs.Book.{Book, Damaged, all_ids, ids_at, message_of}
 use Rattle.q_model.specs.BookChanges.{change_message}
 use Rattle.q_model.specs.Finishing.{is_clean}
-use Rattle.q_model.specs.Ids.{are_distinct, id_eq}
+use Rattle.q_model.specs.Ids.{are_distinct, id_before, id_eq}
 use Rattle.q_model.specs.Ledger.{Ledger}
-use Rattle.q_model.specs.Leftovers.{is_leftover}
-use Rattle.q_model.specs.Lists.{has_none}
+use Rattle.q_model.specs.Leftovers.{is_leftover, next_leftover}
+use Rattle.q_model.specs.Lists.{has_none, least}
 use Rattle.q_model.specs.Memory.{admitted_of, is_admitted, unread_count, unread_of}
 use Rattle.q_model.specs.Message.{Message, unmarked_logged}
 use Rattle.q_model.specs.Orderly.{has_firm_failures, is_sealed, is_sound}
@@ -89,6 +89,9 @@ changed_ledger l id f us ss e = record l { book = change_message l.book id f; un
 
 pub left_change : (l : Ledger) (id : Id) (f : Message → Message) (us : List Unsettled) (ss : List Id) (e : Entry) → KeepsShape f → (i : Id) → is_leftover (changed_ledger l id f us ss e) i ≡ is_leftover l i
 left_change l id f us ss e s i = ap (λ (is : List Id). list_any (id_eq i) (filter (λ x. not (is_admitted l x)) is)) (ids_at_change is_active l.book id f s)
+
+next_change : (l : Ledger) (id : Id) (f : Message → Message) (us : List Unsettled) (ss : List Id) (e : Entry) → KeepsShape f → next_leftover (changed_ledger l id f us ss e) ≡ next_leftover l
+next_change l id f us ss e s = ap (λ (is : List Id). least id_before (filter (λ x. not (is_admitted l x)) is)) (ids_at_change is_active l.book id f s)
 
 well_from : (n x y : Bool) → (x ≡ true → y ≡ true) → (n || x) ≡ true → (n || y) ≡ true
 well_from true x y h e = refl
@@ -183,8 +186,8 @@ pub change_ready : (w : World) (l : Ledger) (id : Id) (f : Message → Message) 
     ((m : Message) → IsIn m l.book.messages → has_firm_failures m ≡ true → has_firm_failures (changed id f m) ≡ true) → IsQuiet e →
     list_all (λ (u : Unsettled). is_admitted l u.id) us ≡ true → length us ≤ length l.unsettled →
     ((a : Admitted) (m : Message) → admitted_of l a.id ≡ Some a → message_of l.book a.id ≡ Some m → IsHeld (changed_ledger l id f us ss e) a (changed id f m)) →
-    list_all (is_synced_well (changed_ledger l id f us ss e)) ss ≡ true → IsReady w (changed_ledger l id f us ss e)
-change_ready w l id f us ss e c s o firm q theirs fewer held synced =
+    list_all (is_synced_well (changed_ledger l id f us ss e)) ss ≡ true → ((i : Id) → is_leftover l i ≡ true → list_any (id_eq i) ss ≡ true → next_leftover l ≡ Some i) → IsReady w (changed_ledger l id f us ss e)
+change_ready w l id f us ss e c s o firm q theirs fewer held synced next =
     let m = c.memory in
     let k = changed_ledger l id f us ss e in
     record {
@@ -206,6 +209,7 @@ change_ready w l id f us ss e c s o firm q theirs fewer held synced =
         single = m.single;
         fresh = λ i t some gone. account_kept l e i t (q i t) (m.fresh i t (sym (ap (λ n. n == 0) (unread_change l id f us ss e s i)) ∙ some) gone);
         synced = synced;
+        synced_next = λ i left was. next_change l id f us ss e s ∙ next i (sym (left_change l id f us ss e s i) ∙ left) was;
         messages = m.messages;
         recipients = le_trans (omega (arith, fewer)) m.recipients;
       };

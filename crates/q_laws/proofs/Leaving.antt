@@ -7,6 +7,7 @@ use Rattle.std.specs.Prelude.{◌==◌, ◌&&◌, ◌||◌, nat_le, slice_get}
 use Rattle.q_laws.proofs.Books.{left_from, left_parts, message_in}
 use Rattle.q_laws.proofs.Distinct.{distinct_named, id_eq-sym}
 use Rattle.q_laws.proofs.First.{other_logged}
+use Rattle.q_laws.proofs.NextLeft.{still_next}
 use Rattle.q_laws.proofs.Members.{IsIn, all_at, all_from, all_weaker, any_from, any_in, find_in, find_none_from, in_filter, in_filtered, none_at, none_from}
 use Rattle.q_laws.proofs.Places.{got_in}
 use Rattle.q_laws.proofs.Quiet.{IsQuiet, account_kept, begun_noted}
@@ -105,9 +106,22 @@ left_unread l id b e same i some = which (id_eq i id) refl
         let bad : true ≡ false = sym (ap (λ n. n == 0) none) ∙ some in
         absurd cc
 
+-- a leftover that stays was one before
+left_before : (l : Ledger) (id : Id) (b : Book) (e : Entry) → ((i : Id) → IsIn i (ids_at is_active b) → IsIn i (ids_at is_active l.book) × (id_eq i id ≡ false)) → (i : Id) → is_leftover (left_ledger l id b e) i ≡ true → (is_leftover l i ≡ true) × (id_eq i id ≡ false)
+left_before l id b e active i left = let two = active i (left_parts (left_ledger l id b e) i left).0 in (left_from l i two.0 (out (is_admitted l i) refl two.1), two.1)
+  where
+    out : (t : Bool) → is_admitted l i ≡ t → id_eq i id ≡ false → not t ≡ true
+    out false adm other = refl
+    out true adm other = let bad : false ≡ true = sym (ap not (any_without id i l.admitted other adm)) ∙ (left_parts (left_ledger l id b e) i left).1 in cc
+
+-- those that were synced well still are
+left_well : (l : Ledger) (id : Id) (b : Book) (e : Entry) → ((i : Id) → IsIn i (ids_at is_active b) → IsIn i (ids_at is_active l.book) × (id_eq i id ≡ false)) → ((i : Id) → id_eq i id ≡ false → message_of b i ≡ message_of l.book i) →
+    list_all (is_synced_well l) l.synced ≡ true → list_all (is_synced_well (left_ledger l id b e)) l.synced ≡ true
+left_well l id b e active same h = all_weaker (is_synced_well l) (is_synced_well (left_ledger l id b e)) l.synced (λ i inside well. well_still l (left_ledger l id b e) i (λ left. let two = left_before l id b e active i left in (two.0, same i two.1)) well) h
+
 pub leave_ready : (w : World) (l : Ledger) (id : Id) (b : Book) (e : Entry) → IsConsistent w l → IsQuiet e → IsBookConsistent (left_ledger l id b e) → HasNoRows l id →
-    ((i : Id) → id_eq i id ≡ false → message_of b i ≡ message_of l.book i) → list_all (is_synced_well (left_ledger l id b e)) l.synced ≡ true → IsReady w (left_ledger l id b e)
-leave_ready w l id b e c quiet book none same synced =
+    ((i : Id) → id_eq i id ≡ false → message_of b i ≡ message_of l.book i) → ((i : Id) → IsIn i (ids_at is_active b) → IsIn i (ids_at is_active l.book) × (id_eq i id ≡ false)) → IsReady w (left_ledger l id b e)
+leave_ready w l id b e c quiet book none same active =
     let m = c.memory in
     let k = left_ledger l id b e in
     record {
@@ -134,7 +148,8 @@ leave_ready w l id b e c quiet book none same synced =
         begun = begun_noted l e m.begun;
         single = m.single;
         fresh = λ i t some gone. account_kept l e i t (quiet i t) (m.fresh i t (left_unread l id b e same i some) gone);
-        synced = synced;
+        synced = left_well l id b e active same m.synced;
+        synced_next = still_next l k (λ i left. (left_before l id b e active i left).0) refl m.synced_next;
         messages = le_trans (fewer_without id l.admitted) m.messages;
         recipients = m.recipients;
       };
@@ -172,17 +187,3 @@ tidied_rows w l id m c adm there none =
     on : (o : Option Unsettled) → slice_get l.unsettled 0 ≡ o → logged_of m o ≡ []
     on None e = refl
     on (Some u) e = other_logged m u (ap (id_eq u.id) (message_in l.book id m there).1 ∙ none_at (λ (x : Unsettled). id_eq x.id id) u l.unsettled none (got_in u l.unsettled 0 e))
-
--- those that were synced well still are
-pub left_well : (l : Ledger) (id : Id) (b : Book) (e : Entry) → ((i : Id) → IsIn i (ids_at is_active b) → IsIn i (ids_at is_active l.book) × (id_eq i id ≡ false)) → ((i : Id) → id_eq i id ≡ false → message_of b i ≡ message_of l.book i) →
-    list_all (is_synced_well l) l.synced ≡ true → list_all (is_synced_well (left_ledger l id b e)) l.synced ≡ true
-left_well l id b e active same h = all_weaker (is_synced_well l) (is_synced_well (left_ledger l id b e)) l.synced (λ i inside well. well_still l (left_ledger l id b e) i (λ left. still i (left_parts (left_ledger l id b e) i left)) well) h
-  where
-    still : (i : Id) → IsIn i (ids_at is_active b) × (not (is_admitted (left_ledger l id b e) i) ≡ true) → (is_leftover l i ≡ true) × (message_of b i ≡ message_of l.book i)
-    still i parts =
-        let two = active i parts.0 in
-        (left_from l i two.0 (out (is_admitted l i) refl two.1), same i two.1)
-      where
-        out : (t : Bool) → is_admitted l i ≡ t → id_eq i id ≡ false → not t ≡ true
-        out false adm other = refl
-        out true adm other = let bad : false ≡ true = sym (ap not (any_without id i l.admitted other adm)) ∙ parts.1 in cc

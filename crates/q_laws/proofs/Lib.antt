@@ -1,6 +1,7 @@
 pub mod Members
 pub mod Distinct
 pub mod Tidied
+pub mod NextLeft
 pub mod Mapped
 pub mod Places
 pub mod Messages
@@ -38,7 +39,11 @@ pub mod Kept
 pub mod Lawful
 pub mod Runs
 pub mod SiteLists
+pub mod SiteCounts
+pub mod TidiedSites
 pub mod Sites
+pub mod DeadSites
+pub mod UsedSites
 pub mod SiteEntries
 pub mod Living
 pub mod Standing

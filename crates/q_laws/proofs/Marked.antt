@@ -116,7 +116,8 @@ marked_ready w l id p c first =
     (and_parts (is_admitted l u.id) (list_all (λ (x : Unsettled). is_admitted l x.id) one.1) (sym (ap (list_all (λ (x : Unsettled). is_admitted l x.id)) one.2) ∙ c.memory.unsettled)).1
     (let n : length l.unsettled ≡ suc (length one.1) = ap length one.2 in omega (arith, n))
     (λ b x here there. mark_held l id p u one.1 b x one.2 one.3 one.4 one.5 (message_in l.book b.id x there).1 (c.memory.held b x here there))
-    (well_kept l id (with_mark p) one.1 l.synced (entries.Mark id p) (mark_shape p) adm c.memory.synced))
+    (well_kept l id (with_mark p) one.1 l.synced (entries.Mark id p) (mark_shape p) adm c.memory.synced)
+    c.memory.synced_next)
 
 -- ---- the mark of a leftover
 
@@ -148,6 +149,7 @@ left_on w l id p (Some m) c there left may =
       | inl same ↦ absurd (not_synced l id m p left there half (subst (λ j. is_synced_well l j ≡ true) same.0 well))
       | inr other ↦ well_other l id (with_mark p) l.unsettled l.synced (entries.Mark id p) (mark_shape p) i other well
     ]) c.memory.synced)
+    c.memory.synced_next
   where
     another : (a : Admitted) (x : Message) → x.id ≡ a.id → admitted_of l a.id ≡ Some a → (b : Bool) → id_eq x.id id ≡ b → b ≡ false
     another a x name here false e = refl

@@ -198,6 +198,7 @@ preempt_ready w l child parent transport need c p =
             let out = was_gone i t gone in
             account_kept l e i t (charged_other l child parent transport need p.inside i t out) (m.fresh i t some out);
         synced = m.synced;
+        synced_next = λ id left was. m.synced_next id left was;
         messages = m.messages;
         recipients = m.recipients;
       };

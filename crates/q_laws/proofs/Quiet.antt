@@ -99,6 +99,7 @@ quiet_ready w l e q c =
         single = m.single;
         fresh = λ id t some gone. account_kept l e id t (q id t) (m.fresh id t some gone);
         synced = m.synced;
+        synced_next = λ id left was. m.synced_next id left was;
         messages = m.messages;
         recipients = m.recipients;
       };
@@ -129,6 +130,7 @@ otherwise_ready w l now timed next_run scan asked ignores turn served sites h =
         single = m.single;
         fresh = λ id t some gone. m.fresh id t some gone;
         synced = m.synced;
+        synced_next = λ id left was. m.synced_next id left was;
         messages = m.messages;
         recipients = m.recipients;
       };

@@ -15,6 +15,7 @@ use Rattle.q_laws.proofs.Places.{got_numbered}
 use Rattle.q_laws.proofs.Quiet.{account_kept, begun_noted, book_noted}
 use Rattle.q_laws.proofs.RowCounts.{row_lengths}
 use Rattle.q_laws.proofs.Tidied.{IsReady, after_consistent}
+use Rattle.q_laws.proofs.NextLeft.{still_next}
 use Rattle.q_laws.specs.Consistency.{IsConsistent, IsHeld, is_filled, is_present, is_synced_well, is_within}
 use Rattle.q_model.proofs.IdLaws.{id_eq-true}
 use Rattle.q_model.specs.Batches.{load_positions, load_rows}
@@ -22,6 +23,7 @@ use Rattle.q_model.specs.Book.{ids_at, message_of}
 use Rattle.q_model.specs.Finishing.{is_clean}
 use Rattle.q_model.specs.Ids.{are_distinct, id_eq}
 use Rattle.q_model.specs.Ledger.{Ledger}
+use Rattle.q_model.specs.Leftovers.{leftovers}
 use Rattle.q_model.specs.Lists.{has_none}
 use Rattle.q_model.specs.Loads.{join_lines, joins, loaded, may_load, with_records}
 use Rattle.q_model.specs.Memory.{admitted_of, in_memory, is_admitted, unread_count, unread_of}
@@ -143,6 +145,7 @@ load_ready w l id from to sites c load =
     let b = book_noted l e c.book in
     let m = c.memory in
     let adm : (i : Id) → is_admitted k i ≡ is_admitted l i = λ i. any_read id i to l.admitted in
+    let left : leftovers k ≡ leftovers l = filter_same (λ x. not (is_admitted k x)) (λ x. not (is_admitted l x)) (λ x. ap not (adm x)) (ids_at is_active l.book) in
     let name : load.message.id ≡ id = (message_in l.book id load.message load.there).1 in
     record {
       usable = c.usable;
@@ -169,7 +172,8 @@ load_ready w l id from to sites c load =
         fresh = λ i t some gone. account_kept l e i t (record { admit = refl; start = refl; charge = refl })
             (m.fresh i t (not_zero (unread_of k i) (unread_of l i) (less_unread w l id from to rows sites e load i) some) (was_gone id rows l.lines i t gone));
         synced = all_weaker (is_synced_well l) (is_synced_well k) l.synced (λ i inside h.
-            ap (λ (is : List Id). not (list_any (id_eq i) is) || option_map_or (λ x. is_clean x && has_none (unmarked_logged x)) (message_of l.book i) true) (filter_same (λ x. not (is_admitted k x)) (λ x. not (is_admitted l x)) (λ x. ap not (adm x)) (ids_at is_active l.book)) ∙ h) m.synced;
+            ap (λ (is : List Id). not (list_any (id_eq i) is) || option_map_or (λ x. is_clean x && has_none (unmarked_logged x)) (message_of l.book i) true) left ∙ h) m.synced;
+        synced_next = still_next l k (λ i h. ap (list_any (id_eq i)) (sym left) ∙ h) refl m.synced_next;
         messages = (let n = length-map l.admitted (read_to id to) in omega (arith, n, m.messages));
         recipients = (
             let n : row_lengths (l.waiting ++ rows) ≡ row_lengths l.waiting + row_lengths rows = sum_by-append (λ (r : Row). length r.positions) l.waiting rows in

@@ -63,6 +63,7 @@ rows_ready w l ws fs us sv ss e c waiting filled flights unsettled held numbers 
         single = m.single;
         fresh = λ id t some gone. account_kept l e id t (accounts id t some gone) (m.fresh id t some gone);
         synced = m.synced;
+        synced_next = λ id left was. m.synced_next id left was;
         messages = m.messages;
         recipients = le_trans fewer m.recipients;
       };

@@ -1,22 +1,14 @@
 -- Lists of site records in which no site has two, and deliveries counted by site.
-use Rattle.std.proofs.Common.{◌≡◌, ℕ, ◌+◌, ◌≤◌, Bool, true, false, cond, not, List, [], ◌∷◌, ◌++◌, map, filter, length, count_by, inl, inr, refl, sym, ap, ◌∙◌, subst, arith, if◌then◌else◌}
+use Rattle.std.proofs.Common.{◌≡◌, ℕ, ◌+◌, ◌≤◌, Bool, true, false, cond, not, List, [], ◌∷◌, ◌++◌, map, filter, count_by, inl, inr, refl, sym, ap, ◌∙◌, subst, arith, if◌then◌else◌}
 use Rattle.std.proofs.lemmas.Bool.{and_from, and_parts, not-true, not_from_false}
 use Rattle.std.proofs.lemmas.List.Sums.{sum_by-append, sum_by-cons}
-use Rattle.std.specs.List.{list_all, list_any}
-use Rattle.std.specs.Prelude.{◌&&◌, nat_lt}
-use Rattle.q_laws.proofs.Members.{IsIn, all_append, all_at, all_filtered, all_from, in_dropped, in_either, in_filtered, in_unmap, none_at, none_from}
-use Rattle.q_laws.proofs.Tidied.{tidy_scan_is}
-use Rattle.q_laws.specs.SitesConsistency.{IsSitesConsistent, are_apart, is_window}
+use Rattle.std.specs.List.{list_any}
+use Rattle.q_laws.proofs.Members.{IsIn, in_dropped, in_either, in_filtered, in_unmap, none_at, none_from}
+use Rattle.q_laws.specs.SitesConsistency.{are_apart}
 use Rattle.q_model.proofs.IdLaws.{site_eq-refl, site_eq-true}
 use Rattle.q_model.specs.Sites.{site_eq}
-use Rattle.q_model.specs.Ledger.{Ledger}
 use Rattle.q_model.specs.Lists.{drop_first}
-use Rattle.q_model.specs.Settings.{World}
-use Rattle.q_model.specs.SiteRecords.{is_alive}
-use Rattle.q_model.specs.Step.{after, change, noted, tidied}
-use Rattle.q_model.specs.UnusedSites.{is_kept_dead, is_unused, tidied_sites}
 use Rattle.q_model.specs.Values.{Site, SiteRecord}
-use Rattle.q_model.specs.declared.entry.Entry.{Entry}
 use Rattle.q_model.specs.declared.rows.Delivery.{Delivery}
 
 -- ---- records apart
@@ -50,7 +42,7 @@ dropped_apart : (r : SiteRecord) (few rs : List SiteRecord) (b : Bool) → ((s :
 dropped_apart r few rs true h k g = g
 dropped_apart r few rs false h k g = apart_cons r few h k
 
-apart_dropped : (p : SiteRecord → Bool) (rs : List SiteRecord) → are_apart rs ≡ true → are_apart (drop_first p rs) ≡ true
+pub apart_dropped : (p : SiteRecord → Bool) (rs : List SiteRecord) → are_apart rs ≡ true → are_apart (drop_first p rs) ≡ true
 apart_dropped p [] h = refl
 apart_dropped p (r ∷ rs) h = let two = apart_tail r rs h in dropped_apart r (drop_first p rs) rs (p r) (λ s inside. two.0 s (in_dropped p s rs inside)) (apart_dropped p rs two.1) two.1
 
@@ -64,7 +56,7 @@ apart_join (r ∷ rs) ss h k across =
     ]) (apart_join rs ss two.1 k (λ x s inside. across x s (inr inside)))
 
 -- of two records of a site there is only one
-same_record : (r s : SiteRecord) (rs : List SiteRecord) → are_apart rs ≡ true → IsIn r rs → IsIn s rs → s.site ≡ r.site → r ≡ s
+pub same_record : (r s : SiteRecord) (rs : List SiteRecord) → are_apart rs ≡ true → IsIn r rs → IsIn s rs → s.site ≡ r.site → r ≡ s
 same_record r s [] h a b e = absurd a
 same_record r s (x ∷ xs) h (inl a) (inl b) e = sym a ∙ b
 same_record r s (x ∷ xs) h (inl a) (inr b) e = absurd ((apart_tail x xs h).0 s b (e ∙ ap (λ (y : SiteRecord). y.site) (sym a)))
@@ -80,60 +72,12 @@ apart_map f keeps (r ∷ rs) h =
     let one = in_unmap f s rs inside in
     two.0 one.0 one.1 (sym (keeps one.0) ∙ ap (λ (y : SiteRecord). y.site) one.2 ∙ same ∙ keeps r)) (apart_map f keeps rs two.1)
 
--- ---- records are tidied
-
-forgotten : (w : World) (l : Ledger) (rs : List SiteRecord) (P : List SiteRecord → Type 0) → P rs → P (drop_first (is_kept_dead l) rs) → (b : Bool) → P (if b then drop_first (is_kept_dead l) rs else rs)
-forgotten w l rs P h k true = k
-forgotten w l rs P h k false = h
-
-both_ways : (b : Bool) → not b ≡ true → b ≡ true → ⊥
-both_ways true h k = absurd cc
-both_ways false h k = absurd cc
-
-tidied_apart : (w : World) (before l : Ledger) → are_apart l.sites ≡ true → are_apart (tidied_sites w before l) ≡ true
-tidied_apart w before l h =
-    let newly : SiteRecord → Bool = λ r. is_unused l r && not (is_unused before r) in
-    let older : SiteRecord → Bool = λ r. not (newly r) in
-    let ordered = filter older l.sites ++ filter newly l.sites in
-    let used = filter (λ r. not (is_unused l r && is_alive r.health)) ordered in
-    let first : are_apart ordered ≡ true = apart_join (filter older l.sites) (filter newly l.sites) (apart_filter older l.sites h) (apart_filter newly l.sites h) (λ r s a b same.
-    let x = in_filtered older r l.sites a in
-    let y = in_filtered newly s l.sites b in
-    both_ways (newly r) x.1 (subst (λ z. newly z ≡ true) (sym (same_record r s l.sites h x.0 y.0 same)) y.1)) in
-    let second : are_apart used ≡ true = apart_filter (λ r. not (is_unused l r && is_alive r.health)) ordered first in
-    forgotten w l used (λ rs. are_apart rs ≡ true) second (apart_dropped (is_kept_dead l) used second) (nat_lt w.settings.recipient_limit (length (filter (is_kept_dead l) used)))
-
-tidied_windows : (w : World) (before l : Ledger) → list_all (is_window w) l.sites ≡ true → list_all (is_window w) (tidied_sites w before l) ≡ true
-tidied_windows w before l h =
-    let newly : SiteRecord → Bool = λ r. is_unused l r && not (is_unused before r) in
-    let older : SiteRecord → Bool = λ r. not (newly r) in
-    let ordered = filter older l.sites ++ filter newly l.sites in
-    let used = filter (λ r. not (is_unused l r && is_alive r.health)) ordered in
-    let all = all_filtered (is_window w) (λ r. not (is_unused l r && is_alive r.health)) ordered (all_append (is_window w) (filter older l.sites) (filter newly l.sites) (all_filtered (is_window w) older l.sites h) (all_filtered (is_window w) newly l.sites h)) in
-    forgotten w l used (λ rs. list_all (is_window w) rs ≡ true) all
-    (all_from (is_window w) (drop_first (is_kept_dead l) used) (λ r inside. all_at (is_window w) r used all (in_dropped (is_kept_dead l) r used inside)))
-    (nat_lt w.settings.recipient_limit (length (filter (is_kept_dead l) used)))
-
-sites_tidied : (w : World) (before l : Ledger) → IsSitesConsistent w l → IsSitesConsistent w (tidied w before l)
-sites_tidied w before l h =
-    let scan = tidy_scan_is l in
-    subst (λ k. IsSitesConsistent w (record k {
-      lines = (tidied w before l).lines;
-      served = (tidied w before l).served;
-      sites = tidied_sites w before l;
-    })) (sym scan.2) (record { settings = h.settings; apart = tidied_apart w before l h.apart; windows = tidied_windows w before l h.windows; busy = h.busy })
-
--- after an entry: what it changes has to fit together
-pub sites_after : (w : World) (l : Ledger) (e : Entry) → IsSitesConsistent w (change w l e) → IsSitesConsistent w (after w l e)
-unfolding after
-sites_after w l e h = sites_tidied w l (noted e (change w l e)) (record { settings = h.settings; apart = h.apart; windows = h.windows; busy = h.busy })
-
 -- ---- deliveries by site
 
 abbrev pub busy_in : List Delivery → Site → ℕ
 busy_in fs site = count_by (λ (f : Delivery). site_eq f.row.site site) fs
 
-busy_cons : (site : Site) (f : Delivery) (fs : List Delivery) → busy_in (f ∷ fs) site ≡ cond (site_eq f.row.site site) 1 0 + busy_in fs site
+pub busy_cons : (site : Site) (f : Delivery) (fs : List Delivery) → busy_in (f ∷ fs) site ≡ cond (site_eq f.row.site site) 1 0 + busy_in fs site
 busy_cons site f fs = sum_by-cons (λ (x : Delivery). cond (site_eq x.row.site site) 1 0) f fs
 
 pub busy_more : (site : Site) (fs : List Delivery) (f : Delivery) → busy_in (fs ++ f ∷ []) site ≡ busy_in fs site + cond (site_eq f.row.site site) 1 0

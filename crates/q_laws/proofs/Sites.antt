@@ -6,7 +6,9 @@ use Rattle.std.specs.Option.{option_map_or}
 use Rattle.std.specs.Prelude.{◌&&◌, ◌*◌, ◌==◌, nat_le, nat_lt}
 use Rattle.q_laws.proofs.Delivered.{this_row}
 use Rattle.q_laws.proofs.Members.{IsIn, all_append, all_at, all_from, any_in, find_in, in_unmap, none_at}
+use Rattle.q_laws.proofs.SiteCounts.{tally}
 use Rattle.q_laws.proofs.SiteLists.{apart_join, apart_map, busy_in, busy_more}
+use Rattle.q_laws.proofs.TidiedSites.{IsSitesReady}
 use Rattle.q_laws.specs.SitesConsistency.{IsOpen, IsSitesConsistent, are_apart, is_window}
 use Rattle.q_model.proofs.IdLaws.{site_eq-refl, site_eq-true}
 use Rattle.q_model.specs.Deliveries.{busy, flights_of}
@@ -22,6 +24,7 @@ use Rattle.q_model.specs.Startable.{is_startable}
 use Rattle.q_model.specs.Starts.{is_row, may_start}
 use Rattle.q_model.specs.declared.id.Id.{Id}
 use Rattle.q_model.specs.Step.{may}
+use Rattle.q_model.specs.UnusedSites.{is_kept_dead}
 use Rattle.q_model.specs.Values.{Site, SiteRecord}
 use Rattle.q_model.specs.Windows.{after_down, after_state, after_up, down_alive, grown, more_cohorts, narrowed, revived, up_alive}
 use Rattle.q_model.specs.declared.outcome.SiteState.{SiteState}
@@ -158,9 +161,9 @@ good_map w f rs k h = record {
 pub good_of : {w : World} {l : Ledger} → IsSitesConsistent w l → AreGood w l.sites
 good_of h = record { apart = h.apart; windows = h.windows }
 
--- the ledger with records that are good, and with no more deliveries
-pub good_sites : (w : World) (l k : Ledger) → IsSitesConsistent w l → AreGood w k.sites → ((site : Site) → busy k site ≤ w.settings.concurrency_limit) → IsSitesConsistent w k
-good_sites w l k h g busy = record { settings = h.settings; apart = g.apart; windows = g.windows; busy = busy }
+-- the ledger with records that are good, no more deliveries, and at most one more dead site unused
+pub good_sites : (w : World) (l k : Ledger) → IsSitesConsistent w l → AreGood w k.sites → ((site : Site) → busy k site ≤ w.settings.concurrency_limit) → tally (is_kept_dead k) k.sites ≤ w.settings.recipient_limit + 1 → IsSitesReady w k
+good_sites w l k h g busy few = record { settings = h.settings; apart = g.apart; windows = g.windows; busy = busy; few = few }
 
 -- ---- reply
 

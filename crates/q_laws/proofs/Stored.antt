@@ -89,4 +89,5 @@ log_consistent w l id f c may =
     (λ i t. record { admit = refl; start = refl; charge = refl })
     (same_owners l l.unsettled c.memory.unsettled) (let n : length (first_logged l.unsettled) ≡ length l.unsettled = same_length l.unsettled in omega (arith, n))
     (λ a x here there. log_held l id f u one.1 a x one.2 one.3 one.4 one.5 (message_in l.book a.id x there).1 (c.memory.held a x here there))
-    (well_kept l id (with_failure f) (first_logged l.unsettled) l.synced (entries.Log id f) (log_shape f) adm c.memory.synced))
+    (well_kept l id (with_failure f) (first_logged l.unsettled) l.synced (entries.Log id f) (log_shape f) adm c.memory.synced)
+    c.memory.synced_next)

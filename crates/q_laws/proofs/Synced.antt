@@ -1,7 +1,7 @@
 -- What fits together still does as the marks of a message are synced.
 use Rattle.std.proofs.Common.{◌≡◌, Bool, true, false, not, List, [], ◌∷◌, length, Option, Some, None, option_map, inl, inr, refl, sym, ap, ◌∙◌, subst, if◌then◌else◌, le_refl}
-use Rattle.std.proofs.lemmas.Bool.{and_from, and_parts, or_right}
-use Rattle.std.specs.List.{list_all}
+use Rattle.std.proofs.lemmas.Bool.{and_from, and_parts, or_cases, or_right}
+use Rattle.std.specs.List.{list_all, list_any}
 use Rattle.std.specs.Option.{option_map_or}
 use Rattle.std.specs.Prelude.{◌&&◌, ◌||◌}
 use Rattle.q_laws.proofs.Books.{message_in}
@@ -14,14 +14,14 @@ use Rattle.q_laws.proofs.Members.{all_at, all_weaker, any_in}
 use Rattle.q_laws.proofs.Messages.{sealed_sync, unmarked_sync, written_sync}
 use Rattle.q_laws.proofs.Tidied.{IsReady, after_consistent}
 use Rattle.q_laws.proofs.Unmarked.{bare_sync}
-use Rattle.q_laws.specs.Consistency.{IsConsistent, IsHeld, held_positions, is_present, is_synced_well}
+use Rattle.q_laws.specs.Consistency.{IsConsistent, IsHeld, IsSyncedNext, held_positions, is_present, is_synced_well}
 use Rattle.q_model.proofs.IdLaws.{id_eq-true}
 use Rattle.q_model.specs.Book.{message_of}
 use Rattle.q_model.specs.BookChanges.{change_message}
 use Rattle.q_model.specs.Finishing.{is_clean}
 use Rattle.q_model.specs.Ids.{id_eq}
 use Rattle.q_model.specs.Ledger.{Ledger}
-use Rattle.q_model.specs.Leftovers.{is_leftover}
+use Rattle.q_model.specs.Leftovers.{is_leftover, next_leftover}
 use Rattle.q_model.specs.Lists.{has_none}
 use Rattle.q_model.specs.Marking.{is_unmarked_at}
 use Rattle.q_model.specs.Memory.{admitted_of, is_admitted}
@@ -95,6 +95,15 @@ sync_well w l id us ss c (inr one) b e =
     more true mine rest = and_from (is_synced_well (changed_ledger l id sync_all us ss (entries.Sync id)) id) (list_all (is_synced_well (changed_ledger l id sync_all us ss (entries.Sync id))) l.synced) mine rest
     more false mine rest = rest
 
+-- who was synced already is the next leftover, and so is who is synced now
+sync_next : (l : Ledger) (id i : Id) → ((j : Id) → IsSyncedNext l j) → Says l (entries.Sync id) → (b : Bool) → is_leftover l id ≡ b → is_leftover l i ≡ true → list_any (id_eq i) (if b then id ∷ l.synced else l.synced) ≡ true → next_leftover l ≡ Some i
+sync_next l id i h says false e left was = h i left was
+sync_next l id i h (inl adm) true e left was = let bad : true ≡ false = sym e ∙ admitted_not_left l id adm in absurd cc
+sync_next l id i h (inr one) true e left was = elim (or_cases (id_eq i id) (list_any (id_eq i) l.synced) was) [
+  | inl same ↦ one.3 ∙ ap Some (sym (id_eq-true i id same))
+  | inr old ↦ h i left old
+]
+
 sync_held : (l : Ledger) (id : Id) (ss : List Id) (e : Entry) (a : Admitted) (m : Message) → IsHeld l a m → IsHeld (changed_ledger l id sync_all l.unsettled ss e) a (changed id sync_all m)
 sync_held l id ss e a m h = mine_or_not id sync_all m (λ x. IsHeld (changed_ledger l id sync_all l.unsettled ss e) a x)
     (λ same. record {
@@ -114,6 +123,7 @@ sync_on w l id (Some m) there c says may =
     (λ i t. record { admit = refl; start = refl; charge = refl })
     c.memory.unsettled (le_refl (length l.unsettled)) (λ a x mine here. sync_held l id (synced_ids l id) (entries.Sync id) a x (c.memory.held a x mine here))
     (sync_well w l id l.unsettled (synced_ids l id) c says (is_leftover l id) refl)
+    (λ i left was. sync_next l id i c.memory.synced_next says (is_leftover l id) refl left was)
 
 -- the marks of a message are synced
 pub sync_consistent : (w : World) (l : Ledger) (id : Id) → IsConsistent w l → may_sync l id ≡ true → Says l (entries.Sync id) → IsConsistent w (after w l (entries.Sync id))

@@ -6,7 +6,7 @@ use Rattle.std.specs.Option.{option_map_or}
 use Rattle.std.specs.Prelude.{◌==◌, ◌&&◌, nat_le, slice_get}
 use Rattle.q_laws.proofs.Distinct.{distinct_filter, gone_listed}
 use Rattle.q_laws.proofs.Members.{IsIn, all_from, in_filter, in_filtered, none_from}
-use Rattle.q_laws.specs.Consistency.{IsBookConsistent, IsConsistent, IsFresh, IsHeld, IsUsable, are_once, is_filled, is_present, is_synced_well, is_within}
+use Rattle.q_laws.specs.Consistency.{IsBookConsistent, IsConsistent, IsFresh, IsHeld, IsSyncedNext, IsUsable, are_once, is_filled, is_present, is_synced_well, is_within}
 use Rattle.q_model.proofs.IdLaws.{id_eq-true}
 use Rattle.q_model.specs.Book.{message_of}
 use Rattle.q_model.specs.Ids.{are_distinct, id_eq}
@@ -43,6 +43,7 @@ pub record IsMemoryReady (w : World) (l : Ledger) : Type 0 where
   pub single : list_all are_distinct l.lines ≡ true
   pub fresh : (id : Id) (transport : ℕ) → IsFresh l id transport
   pub synced : list_all (is_synced_well l) l.synced ≡ true
+  pub synced_next : (id : Id) → IsSyncedNext l id
   pub messages : length l.admitted ≤ w.settings.active_limit
   pub recipients : in_memory l ≤ w.settings.recipient_limit
 
@@ -133,6 +134,7 @@ ready_tidied w l s q served sites h =
         lines = numbered_stay l 0 l.lines;
         fresh = λ id t some gone. m.fresh id t some (still_gone l id t some gone);
         synced = m.synced;
+        synced_next = λ id left was. m.synced_next id left was;
         messages = m.messages;
         recipients = m.recipients;
       };

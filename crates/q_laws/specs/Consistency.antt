@@ -13,7 +13,7 @@ use Rattle.q_model.specs.Book.{all_ids, message_of}
 use Rattle.q_model.specs.Finishing.{is_clean}
 use Rattle.q_model.specs.Ids.{are_distinct, id_eq}
 use Rattle.q_model.specs.Ledger.{Ledger}
-use Rattle.q_model.specs.Leftovers.{is_leftover}
+use Rattle.q_model.specs.Leftovers.{is_leftover, next_leftover, was_synced}
 use Rattle.q_model.specs.Lists.{has_none}
 use Rattle.q_model.specs.Marking.{is_unmarked_at, needs_mark}
 use Rattle.q_model.specs.Memory.{admitted_of, in_memory, is_admitted, unread_of}
@@ -90,6 +90,10 @@ abbrev pub is_synced_well : Ledger → Id → Bool
 is_synced_well l id = not (is_leftover l id)
     || option_map_or (λ m. is_clean m && has_none (unmarked_logged m)) (message_of l.book id) true
 
+-- a leftover that was synced in this life is the next to be cleared
+abbrev pub IsSyncedNext : Ledger → Id → Type 0
+IsSyncedNext l id = is_leftover l id ≡ true → was_synced l id ≡ true → next_leftover l ≡ Some id
+
 -- an id that has something unread and isn't in the line has no account there
 abbrev pub IsFresh : Ledger → Id → ℕ → Type 0
 IsFresh l id transport = (unread_of l id == 0) ≡ false
@@ -102,6 +106,7 @@ is_filled r = nat_lt 0 (length r.positions)
 
 -- Messages in memory stand in active, once each; recipients in memory are theirs. Both are within their
 -- limits. No row that waits is empty. Deliveries have numbers of their own. No line has an id twice.
+-- Only the next leftover may have been synced.
 pub record IsMemoryConsistent (w : World) (l : Ledger) : Type 0 where
   pub admitted : are_distinct (map (λ a. a.id) l.admitted) ≡ true
   pub present : list_all (is_present l) l.admitted ≡ true
@@ -118,6 +123,7 @@ pub record IsMemoryConsistent (w : World) (l : Ledger) : Type 0 where
   pub lines : list_all (λ (line : ℕ × List Id). list_all (stays l line.0) line.1) (enumerate_from 0 l.lines) ≡ true
   pub fresh : (id : Id) (transport : ℕ) → IsFresh l id transport
   pub synced : list_all (is_synced_well l) l.synced ≡ true
+  pub synced_next : (id : Id) → IsSyncedNext l id
   pub messages : length l.admitted ≤ w.settings.active_limit
   pub recipients : in_memory l ≤ w.settings.recipient_limit
 

@@ -1,10 +1,12 @@
 -- What fits together of sites in the ledger of a life.
 use Rattle.std.specs.List.{list_all, list_any}
-use Rattle.std.specs.Prelude.{◌&&◌, ◌≡◌, ◌≤◌, [], Bool, List, nat_le, not, true, ◌∷◌}
+use Rattle.std.specs.Prelude.{◌&&◌, ◌≡◌, ◌≤◌, [], Bool, filter, length, List, nat_le, not, true, ◌∷◌}
 use Rattle.q_model.specs.Deliveries.{busy}
 use Rattle.q_model.specs.Sites.{site_eq}
 use Rattle.q_model.specs.Ledger.{Ledger}
 use Rattle.q_model.specs.Settings.{World}
+use Rattle.q_model.specs.SiteRecords.{is_alive}
+use Rattle.q_model.specs.UnusedSites.{is_kept_dead, is_unused}
 use Rattle.q_model.specs.Values.{Site, SiteRecord}
 
 -- windows may be open
@@ -21,9 +23,17 @@ abbrev pub are_apart : List SiteRecord → Bool
 are_apart [] = true
 are_apart (r ∷ rs) = not (list_any (λ s. site_eq s.site r.site) rs) && are_apart rs
 
--- Each site has one record, and no more deliveries in flight than the limit.
+-- a record that stays: something waits for its site or is under way to it, or it is dead
+abbrev pub is_kept : Ledger → SiteRecord → Bool
+is_kept l r = not (is_unused l r && is_alive r.health)
+
+-- Each site has one record, and no more deliveries in flight than the limit. A record is of a site
+-- that is used, or dead; no more dead sites that aren't used are remembered than recipients may be in
+-- memory.
 pub record IsSitesConsistent (w : World) (l : Ledger) : Type 0 where
   pub settings : IsOpen w
   pub apart : are_apart l.sites ≡ true
   pub windows : list_all (is_window w) l.sites ≡ true
   pub busy : (site : Site) → busy l site ≤ w.settings.concurrency_limit
+  pub kept : list_all (is_kept l) l.sites ≡ true
+  pub few : length (filter (is_kept_dead l) l.sites) ≤ w.settings.recipient_limit
