@@ -52,6 +52,16 @@ fn opening_refusal(error: OpenError) -> EngineError
     }
 }
 
+/// Puts a value in a box. Nothing comes where memory is wanting.
+fn boxed<T: Drop>(alloc: Global, value: T) -> Option<Box<T>>
+    ensures { IfSome result (λ made. made.value ≡ value) }
+{
+    match Box::new(alloc, value) {
+        Ok(made) => Some(made),
+        Err(_) => None,
+    }
+}
+
 /// The core of a life that begins, in a box. Nothing comes where memory is wanting.
 fn first_core(alloc: Global, params: Params, transports: u8, mode: Mode) -> Option<Box<Core>>
     requires { IsInRange params }
@@ -63,10 +73,8 @@ fn first_core(alloc: Global, params: Params, transports: u8, mode: Mode) -> Opti
     let Ok(core) = Core::new(alloc, params, transports, mode) else {
         return None;
     };
-    match Box::new(alloc, core) {
-        Ok(core) => Some(core),
-        Err(_) => None,
-    }
+    let made = boxed(alloc, core)?;
+    Some(made)
 }
 
 /// Tells the first line of a life on a spool that was opened.

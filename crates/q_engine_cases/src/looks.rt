@@ -19,6 +19,20 @@ fn spool(alloc: Global) -> Result<SilentHost, Fail> {
     Ok(host)
 }
 
+/// Puts a value in a box.
+fn boxed<T: Drop>(alloc: Global, value: T) -> Result<Box<T>, Fail> {
+    match Box::new(alloc, value) {
+        Ok(made) => Ok(made),
+        Err(_) => Err(Fail::from("no memory for a box")),
+    }
+}
+
+/// The core of a first life, in a box, so that no test lets its parts go.
+fn first_core(alloc: Global) -> Result<Box<Core>, Fail> {
+    let core = Core::new(alloc, Params::defaults(), 1, Mode::Deliver)?;
+    boxed(alloc, core)
+}
+
 /// The message of this serial was found, with its file.
 fn is_found(rt: &impl Abort, found: Found, serial: u32, at: Moment) {
     match found {
@@ -47,7 +61,7 @@ fn files_are_found(rt: HostRuntime) -> Result<(), Fail> {
     let alloc = rt.alloc();
     let mut host = spool(alloc)?;
     is_found(&rt, look_incoming(alloc, &mut host)?, 1, 0);
-    let core = Core::new(alloc, Params::defaults(), 1, Mode::Deliver)?;
+    let core = first_core(alloc)?;
     is_found(&rt, look_active(alloc, &mut host, &core)?, 2, 0);
     is_found(&rt, look_deferred(alloc, &mut host, None, 1300)?, 3, 1300);
     Ok(())
