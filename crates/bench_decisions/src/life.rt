@@ -85,7 +85,7 @@ impl Life {
         if !self.core.may_name() {
             return None;
         }
-        self.core.sited(&site).ok()?;
+        self.core.sited(&site);
         take_recipient(&mut self.batch, position)
     }
 
@@ -138,7 +138,7 @@ impl Life {
         if !self.core.is_answered() {
             return None;
         }
-        match self.core.next_decision(alloc).ok()? {
+        match self.core.next_decision() {
             Some(decision) => {
                 self.answer(alloc, decision)?;
                 Some(true)
@@ -158,20 +158,21 @@ impl Life {
     }
 
     /// Takes the event.
-    fn take_event(&mut self, alloc: Global, heard: Heard<'_>) -> Option<()>
+    fn take_event(&mut self, heard: Heard<'_>) -> Option<()>
         requires { IsInTime heard }
     {
         if !self.core.is_answered() || !self.core.is_looked_at() {
             return None;
         }
-        self.core.event(alloc, heard).ok()
+        self.core.event(heard);
+        Some(())
     }
 
     /// Takes the event and the decisions that follow.
     fn hear(&mut self, alloc: Global, heard: Heard<'_>) -> Option<()>
         requires { IsInTime heard }
     {
-        self.take_event(alloc, heard)?;
+        self.take_event(heard)?;
         self.decide(alloc)?.then_some(())
     }
 
@@ -204,7 +205,7 @@ impl Life {
             site: self.scenario.site_state(),
             outcomes: &outcomes,
         };
-        self.take_event(alloc, reply)
+        self.take_event(reply)
     }
 
     /// A delivery ends, and a message comes in the place of the one that is gone.

@@ -66,7 +66,7 @@ active_one l id m distinct x inside true e =
     ∙ sym (ap (λ z. z && not (is_admitted l x.id)) (ap (λ (y : Message). is_active y.place) same ∙ m.out))
 
 -- the same messages are left by an earlier life
-coming_left : (l : Ledger) (id : Id) → IsComing l id → are_distinct (all_ids l.book) ≡ true → leftovers (admitting l id) ≡ leftovers l
+pub coming_left : (l : Ledger) (id : Id) → IsComing l id → are_distinct (all_ids l.book) ≡ true → leftovers (admitting l id) ≡ leftovers l
 coming_left l id m distinct =
     placed_joined is_active (λ i. not (is_admitted (admitting l id) i)) (λ i. not (is_admitted l i)) l.book (move_message l.book id places.Active) refl
     (placed_mapped is_active (λ i. not (is_admitted (admitting l id) i)) (λ i. not (is_admitted l i)) (changed id (move_to places.Active)) (changed_name id (move_to places.Active) (λ x. refl)) l.book.messages

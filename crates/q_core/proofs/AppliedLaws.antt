@@ -224,6 +224,10 @@ skip_is c id s entry n ps p h for =
     let first : row_for c id s ≡ Some k.row = ap (λ i. row_for c i s) (sym k.name) ∙ ap (row_for c k.row.id) (sym k.at_site) ∙ first_at_site c k.row found in
     k.there ∙ sym first ∙ for
 
+pub none_counted : {A : Type 0} (xs : List A) → (length xs == 0) ≡ has_none xs
+none_counted [] = refl
+none_counted (x ∷ xs) = grind arith
+
 pub no_items : {A : Type 0} (xs : List A) → has_none xs ≡ true → xs ≡ []
 no_items [] h = refl
 no_items (x ∷ xs) h = cc

@@ -4,6 +4,7 @@ use Rattle.std.proofs.lemmas.Bool.{and_parts}
 use Rattle.q_core.proofs.DueLaws.{is_deferred}
 use Rattle.q_core.proofs.AddedLaws.{added_left, added_same, added_still}
 use Rattle.q_core.proofs.ChangeLaws.{seen_same}
+use Rattle.q_core.proofs.SyncedLaws.{all_left}
 use Rattle.q_core.proofs.QueueLaws.{IsSameOf, active_same, files_law, slots_same, with_files}
 use Rattle.q_core.proofs.RestLaws.{admitted_active}
 use Rattle.q_core.proofs.SameLaws.{not_bool}
@@ -40,7 +41,7 @@ arrive_next {w = w} {c = c} {l = l} sender to content r k =
     let slots : c.admitted ≡ map (slot_of next) l.admitted = h.admitted ∙ slots_same l b l.admitted l.admitted (λ a inside. same a.id (placed_listed is_active l.book a.id (admitted_active k a inside))) in
     let active : IsSeen c.active (found_active next) = seen_same c.active (found_active next) (found_active l) (active_same l b l.admitted (added_left l x refl) (λ i inside.
     same i (placed_listed is_active l.book i (in_filtered (λ j. not (is_admitted l j)) i (ids_at is_active l.book) inside).0))) h.active in
-    files_law b l.admitted r refl slots active tt (added_still c.deferred l x refl (λ i inside. same i (placed_listed is_deferred l.book i inside)) r.seen)
+    files_law b l.admitted r refl (all_left l next (added_left l x refl)) slots active tt (added_still c.deferred l x refl (λ i inside. same i (placed_listed is_deferred l.book i inside)) r.seen)
 
 pub arrive_law : {w : World} {c : Core} {l : Ledger} (id : Id) (sender : Option (List ℕ)) (to : List (List ℕ)) (content : List ℕ) → HoldsRaw w c l → IsConsistent w l → may_arrive l id ≡ true → HoldsRaw w (record c { incoming = Unknown }) (after_arrive l id sender to content)
 arrive_law {w = w} {c = c} {l = l} id sender to content r k may =

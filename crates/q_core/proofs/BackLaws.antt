@@ -5,6 +5,7 @@ use Rattle.std.specs.Option.{option_map_or}
 use Rattle.std.specs.Prelude.{◌&&◌}
 use Rattle.q_core.proofs.DueLaws.{active_has_none, deferred_or_active, due_joined, due_listed, due_mapped, due_name, one_queue, is_deferred}
 use Rattle.q_core.proofs.HeldLaws.{IsThere}
+use Rattle.q_core.proofs.SyncedLaws.{fewer_left, moved_fewer}
 use Rattle.q_core.proofs.QueueLaws.{IsSameOf, files_law, slots_same, still_same, with_files}
 use Rattle.q_core.proofs.RestLaws.{admitted_active}
 use Rattle.q_core.proofs.SameLaws.{moved_same, no_bounce_of, not_bool}
@@ -71,7 +72,7 @@ back_law {w = w} {c = c} {l = l} id r k may =
     let slots : c.admitted ≡ map (slot_of (with_files l b l.admitted)) l.admitted = h.admitted ∙ slots_same l b l.admitted l.admitted (λ a inside.
     same a.id (placed_listed is_active l.book a.id (admitted_active k a inside)) (none_at (λ (x : Admitted). id_eq x.id id) a l.admitted both.1 inside)) in
     let names = moved_names l.book id places.Incoming t.message k.book.distinct t.there (active_has_none t.message t.message.place t.active) refl in
-    files_law b l.admitted r refl slots tt tt (still_same c.deferred l b l.admitted names (λ n inside. same n.id (placed_listed is_deferred l.book n.id (due_listed l.book n inside)) (not_bool (id_eq n.id id) (λ e. apart t n inside (id_eq-true n.id id e)))) r.seen)
+    files_law b l.admitted r refl (fewer_left l b (moved_fewer l.book id places.Incoming refl)) slots tt tt (still_same c.deferred l b l.admitted names (λ n inside. same n.id (placed_listed is_deferred l.book n.id (due_listed l.book n inside)) (not_bool (id_eq n.id id) (λ e. apart t n inside (id_eq-true n.id id e)))) r.seen)
   where
     apart : IsThere l id → (n : DeferredName) → IsIn n (deferred_names l.book) → n.id ≡ id → ⊥
     apart t n inside e =

@@ -1,7 +1,8 @@
 -- A new core agrees with the ledger in which a life has begun.
 use Rattle.std.proofs.Common.{◌≡◌, ◌≤◌, ℕ, zero, suc, ◌+◌, arith, Bool, true, false, List, [], ◌∷◌, length, map, replicate, refl, sym, ap, ◌∙◌, None}
 use Rattle.std.specs.Prelude.{if◌then◌else◌, nat_lt}
-use Rattle.std.specs.List.{enumerate_from}
+use Rattle.std.specs.List.{enumerate_from, list_any}
+use Rattle.q_model.specs.Ids.{id_eq}
 use Rattle.q_core.proofs.ListLaws.{length-numbered}
 use Rattle.q_core.specs.Agrees.{Matches, jobs_of}
 use Rattle.q_jobs.specs.declared.job.Job.{Job}
@@ -82,7 +83,7 @@ begin_law w mode book c t settings given count e = record {
     unsettled = e.unsettled;
     lines = e.lines ∙ ap (λ n. replicate n []) count ∙ sym (lines_begin (begun w mode book) (raw w mode book) 0 (length w.table.transports));
     sites = e.sites ∙ no_sites (nat_lt w.settings.recipient_limit 0);
-    synced = e.synced;
+    synced = λ id left. ap (list_any (id_eq id)) e.synced;
     starts = refl;
     active = tt;
     incoming = tt;

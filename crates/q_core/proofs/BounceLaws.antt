@@ -7,6 +7,7 @@ use Rattle.std.specs.Prelude.{◌&&◌, is_none, if◌then◌else◌}
 use Rattle.q_core.proofs.AddedLaws.{added_left, added_same, added_still}
 use Rattle.q_core.proofs.ChangeLaws.{seen_same}
 use Rattle.q_core.proofs.DueLaws.{deferred_or_active, one_queue, is_deferred}
+use Rattle.q_core.proofs.SyncedLaws.{all_left}
 use Rattle.q_core.proofs.QueueLaws.{IsSameOf, files_law, slot_same, slots_same, with_files}
 use Rattle.q_core.proofs.RestLaws.{admitted_active, rest_active}
 use Rattle.q_core.proofs.SameLaws.{not_bool}
@@ -130,7 +131,7 @@ bounce_law {w = w} {c = c} {d = d} {l = l} id r k adm may p =
     let next : Ledger = with_files l b l.admitted in
     let slots : d.admitted ≡ map (slot_of next) l.admitted = p.admitted ∙ ap (map (changed_at id with_bounce)) h.admitted ∙ bounced_slots l id m l.admitted (admitted_active k) in
     let active : IsSeen c.active (found_active next) = seen_same c.active (found_active next) (found_active l) (rest_active l id b l.admitted adm (bounced_listed l id m) (added_left l (bounce_message l.now m.message) refl)) h.active in
-    let raw : HoldsRaw w (record c { admitted = d.admitted; incoming = Unknown }) next = files_law b l.admitted r refl slots active tt (bounced_still c.deferred l k id m r.seen) in
+    let raw : HoldsRaw w (record c { admitted = d.admitted; incoming = Unknown }) next = files_law b l.admitted r refl (all_left l next (added_left l (bounce_message l.now m.message) refl)) slots active tt (bounced_still c.deferred l k id m r.seen) in
     subst (λ x. HoldsRaw w d x) (sym (bounced_is l id m)) (subst (λ x. HoldsRaw w x next) (sym p.rest) raw)
 
 -- of a message that an earlier life left
@@ -141,7 +142,7 @@ bounce_left_law {w = w} {c = c} {l = l} id r k gone may =
     let b = add_message l.book (bounce_message l.now m.message) in
     let next : Ledger = with_files l b l.admitted in
     let slots : c.admitted ≡ map (slot_of next) l.admitted = h.admitted ∙ slots_same l b l.admitted l.admitted (λ a inside. bounced_listed l id m a.id (admitted_active k a inside) (none_at (λ (x : Admitted). id_eq x.id id) a l.admitted gone inside)) in
-    let raw : HoldsRaw w (record c { active = Unknown; incoming = Unknown }) next = files_law b l.admitted r refl slots tt tt (bounced_still c.deferred l k id m r.seen) in
+    let raw : HoldsRaw w (record c { active = Unknown; incoming = Unknown }) next = files_law b l.admitted r refl (all_left l next (added_left l (bounce_message l.now m.message) refl)) slots tt tt (bounced_still c.deferred l k id m r.seen) in
     subst (λ x. HoldsRaw w (record c { active = Unknown; incoming = Unknown }) x) (sym (bounced_is l id m)) raw
 
 -- no row moves

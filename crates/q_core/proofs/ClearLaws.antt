@@ -6,9 +6,10 @@ use Rattle.q_core.proofs.ChangeLaws.{changed_ledger}
 use Rattle.q_core.proofs.HeldLaws.{apart_law}
 use Rattle.q_core.proofs.MarkLaws.{keeps_mark}
 use Rattle.q_core.proofs.MarksLaws.{keeps_sync}
-use Rattle.q_core.proofs.NameLaws.{and_true_parts}
+use Rattle.q_core.proofs.NameLaws.{and_true_parts, id_eq-same}
+use Rattle.q_core.proofs.SyncedLaws.{leftovers_changed}
 use Rattle.q_core.proofs.StepLaws.{HoldsRaw, IsStillSeen}
-use Rattle.q_core.specs.Agrees.{AgreesButScan}
+use Rattle.q_core.specs.Agrees.{AgreesButScan, AreSyncedAlike}
 use Rattle.q_core.specs.Changes.{IsNoted}
 use Rattle.q_core.specs.declared.state.Core.{Core}
 use Rattle.q_core.specs.declared.state.Seen.{Seen}
@@ -18,7 +19,8 @@ use Rattle.q_laws.specs.Consistency.{IsConsistent}
 use Rattle.q_model.specs.Book.{message_of}
 use Rattle.q_model.specs.Ids.{id_eq}
 use Rattle.q_model.specs.Ledger.{Ledger}
-use Rattle.q_model.specs.Leftovers.{is_leftover}
+use Rattle.q_model.specs.Leftovers.{is_leftover, next_leftover, was_synced}
+use Rattle.std.specs.List.{list_any}
 use Rattle.q_model.specs.Lists.{has_none}
 use Rattle.q_model.specs.Marking.{after_mark, is_unmarked_at, marks_first, marks_leftover, needs_mark}
 use Rattle.q_model.specs.Marking.{with_mark as marked_at}
@@ -84,8 +86,16 @@ still_noted : (seen : Seen) (l : Ledger) (ids : List Id) → IsStillSeen seen l 
 still_noted Unknown l ids h = tt
 still_noted (Known found) l ids h = h
 
-synced_law : {w : World} {c d : Core} {l : Ledger} (id : Id) → HoldsRaw w (record c { active = Unknown }) l → IsNoted c d id → HoldsRaw w d (record l { synced = id ∷ l.synced })
-synced_law {w = w} {c = c} {d = d} {l = l} id r n =
+-- no other leftover was synced, so it is enough to know this one
+synced_one : (l : Ledger) (id : Id) → ((i : Id) → is_leftover l i ≡ true → id_eq i id ≡ false → was_synced l i ≡ false) → AreSyncedAlike (id ∷ []) (record l { synced = id ∷ l.synced })
+synced_one l id others = λ i left. one i left (id_eq i id) refl
+  where
+    one : (i : Id) → is_leftover l i ≡ true → (t : Bool) → id_eq i id ≡ t → list_any (id_eq i) (id ∷ []) ≡ list_any (id_eq i) (id ∷ l.synced)
+    one i left true e = ap (λ b. b || false) e ∙ sym (ap (λ b. b || was_synced l i) e)
+    one i left false e = ap (λ b. b || false) e ∙ sym (ap (λ b. b || was_synced l i) e ∙ others i left e)
+
+synced_law : {w : World} {c d : Core} {l : Ledger} (id : Id) → ((i : Id) → is_leftover l i ≡ true → id_eq i id ≡ false → was_synced l i ≡ false) → HoldsRaw w (record c { active = Unknown }) l → IsNoted c d id → HoldsRaw w d (record l { synced = id ∷ l.synced })
+synced_law {w = w} {c = c} {d = d} {l = l} id others r n =
     let h = r.parts in
     let next : Ledger = record l { synced = id ∷ l.synced } in
     let kept : AgreesButScan w (record c { synced = d.synced; active = Unknown }) next = record {
@@ -106,7 +116,7 @@ synced_law {w = w} {c = c} {d = d} {l = l} id r n =
       unsettled = h.unsettled;
       lines = h.lines;
       sites = h.sites;
-      synced = n.synced ∙ ap (λ (ids : List Id). id ∷ ids) h.synced;
+      synced = subst (λ (ids : List Id). AreSyncedAlike ids next) (sym n.synced) (synced_one l id others);
       starts = h.starts;
       active = tt;
       incoming = h.incoming;
@@ -115,10 +125,22 @@ synced_law {w = w} {c = c} {d = d} {l = l} id r n =
     subst (λ x. HoldsRaw w x next) (sym n.rest) raw
 
 -- the marks of a leftover are synced
-pub sync_left_law : {w : World} {c d : Core} {l : Ledger} (id : Id) → HoldsRaw w c l → IsConsistent w l → is_admitted l id ≡ false → may_sync l id ≡ true → IsNoted c d id → HoldsRaw w d (after_sync l id)
-sync_left_law {w = w} {c = c} {d = d} {l = l} id r k apart h n =
+pub sync_left_law : {w : World} {c d : Core} {l : Ledger} (id : Id) → HoldsRaw w c l → IsConsistent w l → is_admitted l id ≡ false → may_sync l id ≡ true → next_leftover l ≡ Some id → IsNoted c d id → HoldsRaw w d (after_sync l id)
+sync_left_law {w = w} {c = c} {d = d} {l = l} id r k apart h first n =
     let found = synced_left {l = l} id apart h in
     let m = found.0 in
     let known = found.1 in
     let raw = apart_law id sync_all m r (record { keeps = keeps_sync; there = known.there; active = known.active; distinct = k.book.distinct }) apart in
-    subst (λ b. HoldsRaw w d (record (changed_ledger l id sync_all) { synced = if b then id ∷ l.synced else l.synced })) (sym known.left) (synced_law id raw n)
+    subst (λ b. HoldsRaw w d (record (changed_ledger l id sync_all) { synced = if b then id ∷ l.synced else l.synced })) (sym known.left) (synced_law id others raw n)
+  where
+    -- it would be the next, as this one is
+    unsynced : (i : Id) → id_eq i id ≡ false → (t : Bool) → was_synced l i ≡ t → is_leftover l i ≡ true → t ≡ false
+    unsynced i other false e left = refl
+    unsynced i other true e left =
+        let both : Some i ≡ Some id = sym (k.memory.synced_next i left e) ∙ first in
+        let same : i ≡ id = cc in
+        sym (ap (λ j. id_eq j id) same ∙ id_eq-same id) ∙ other
+
+    others : (i : Id) → is_leftover (changed_ledger l id sync_all) i ≡ true → id_eq i id ≡ false → was_synced l i ≡ false
+    others i left other =
+        unsynced i other (was_synced l i) refl (sym (ap (list_any (id_eq i)) (leftovers_changed l id sync_all keeps_sync)) ∙ left)

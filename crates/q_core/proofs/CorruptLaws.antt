@@ -6,6 +6,7 @@ use Rattle.std.specs.Option.{option_map_or}
 use Rattle.std.specs.Prelude.{◌&&◌, ◌||◌, if◌then◌else◌}
 use Rattle.q_core.proofs.HeldLaws.{is_there}
 use Rattle.q_core.proofs.ListLaws.{find-map, find-same, list_any-map, list_any-same}
+use Rattle.q_core.proofs.SyncedLaws.{fewer_left, shifted_fewer}
 use Rattle.q_core.proofs.QueueLaws.{IsSameOf, files_law, slots_same, with_files}
 use Rattle.q_core.proofs.RestLaws.{admitted_active}
 use Rattle.q_core.proofs.SameLaws.{listed_stands, not_bool}
@@ -119,7 +120,7 @@ corrupt_law {w = w} {c = c} {l = l} id r k out gone =
     let b = move_damaged l.book id places.Corrupt in
     let slots : c.admitted ≡ map (slot_of (with_files l b l.admitted)) l.admitted = h.admitted ∙ slots_same l b l.admitted l.admitted (λ a inside.
     shifted_same l.book id places.Corrupt gone a.id (placed_listed is_active l.book a.id (admitted_active k a inside)) (none_at (λ (x : Admitted). id_eq x.id id) a l.admitted out inside)) in
-    files_law b l.admitted r refl slots tt tt tt
+    files_law b l.admitted r refl (fewer_left l b (shifted_fewer l.book id places.Corrupt refl)) slots tt tt tt
 
 -- the look at active has shown the file
 shown_on : (l : Ledger) (id : Id) (o : Option Id) → shows_damaged (Known (option_map_or (λ k. found_at l 0 k) o Nothing)) id ≡ true → option_map_or (λ k. id_eq k id) o false ≡ true

@@ -5,6 +5,7 @@ use Rattle.std.specs.Prelude.{◌&&◌}
 use Rattle.q_core.proofs.ChangeLaws.{seen_same}
 use Rattle.q_core.proofs.HeldLaws.{is_there}
 use Rattle.q_core.proofs.PlacedLaws.{damaged_at, placed_all, placed_joined, placed_mapped}
+use Rattle.q_core.proofs.SyncedLaws.{all_left}
 use Rattle.q_core.proofs.QueueLaws.{IsSameOf, files_law, incoming_same, with_files}
 use Rattle.q_core.proofs.RestLaws.{rest_active, rest_slots, still_admitted}
 use Rattle.q_core.proofs.SameLaws.{moved_same, no_bounce_of, not_bool}
@@ -105,7 +106,7 @@ defer_law {w = w} {c = c} {d = d} {l = l} id due r k may p =
     let active : IsSeen c.active (found_active next) = seen_same c.active (found_active next) (found_active l) (rest_active l id b rows adm listed (moved_left k id place refl adm)) h.active in
     let incoming : IsSeen c.incoming (found_incoming next) = seen_same c.incoming (found_incoming next) (found_incoming l) (incoming_same l b rows (moved_out l.book id place t.message k.book.distinct t.there out refl)
     (λ i inside. apart i (placed_listed is_incoming l.book i inside) (not_bool (id_eq i id) (λ e. never t.message i inside (id_eq-true i id e) out t.there)))) h.incoming in
-    let raw : HoldsRaw w (record c { admitted = d.admitted; deferred = Unknown }) next = files_law b rows r refl slots active incoming tt in
+    let raw : HoldsRaw w (record c { admitted = d.admitted; deferred = Unknown }) next = files_law b rows r refl (all_left l next (moved_left k id place refl adm)) slots active incoming tt in
     subst (λ x. HoldsRaw w x next) (sym p.rest) raw
   where
     never : (m : Message) (i : Id) → IsIn i (ids_at is_incoming l.book) → i ≡ id → is_incoming m.place ≡ false → message_of l.book id ≡ Some m → ⊥

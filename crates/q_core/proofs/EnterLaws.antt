@@ -5,7 +5,7 @@ use Rattle.std.proofs.lemmas.List.{length-map}
 use Rattle.std.specs.Option.{option_map_or}
 use Rattle.std.specs.Prelude.{◌&&◌, nat_le, nat_lt, option_and_then}
 use Rattle.q_core.proofs.AgreesLaws.{same_admitted}
-use Rattle.q_core.proofs.AdmitLaws.{IsComing, admitting, coming_active, coming_same, newcomer}
+use Rattle.q_core.proofs.AdmitLaws.{IsComing, admitting, coming_active, coming_left, coming_same, newcomer}
 use Rattle.q_core.proofs.BackLaws.{moved_names}
 use Rattle.q_core.proofs.ChangeLaws.{seen_same}
 use Rattle.q_core.proofs.CorruptLaws.{picked_rows}
@@ -14,6 +14,7 @@ use Rattle.q_core.proofs.DueLaws.{deferred_or_incoming, due_listed, one_queue, i
 use Rattle.q_core.proofs.HeldLaws.{is_there}
 use Rattle.q_core.proofs.NewcomerLaws.{coming_slots}
 use Rattle.q_core.proofs.NoteAdmitLaws.{in_no_line, note_admit}
+use Rattle.q_core.proofs.SyncedLaws.{all_left}
 use Rattle.q_core.proofs.QueueLaws.{IsSameOf, files_law, incoming_same, still_same}
 use Rattle.q_core.proofs.SameLaws.{not_bool}
 use Rattle.q_core.proofs.StepLaws.{HasRowsOf, HoldsRaw}
@@ -123,7 +124,7 @@ enter_case {w = w} {c = c} {l = l} d id false name r k m from same slots =
     let due = due_listed l.book n h in
     coming_same l id m n.id (placed_listed is_deferred l.book n.id due) (not_bool (id_eq n.id id) (λ e. one_queue is_deferred is_incoming deferred_or_incoming l.book k.book.distinct n.id due (subst (λ i. IsIn i (ids_at is_incoming l.book)) (sym (id_eq-true n.id id e)) inside))) in
     note_admit id (in_no_line k id m.absent)
-    (files_law {d = passed_in false name (record c { admitted = d.admitted })} book rows turned refl slots active tt (still_same c.deferred (record l { deferred_turn = true }) book rows names other turned.seen))
+    (files_law {d = passed_in false name (record c { admitted = d.admitted })} book rows turned refl (all_left l (admitting l id) (coming_left l id m k.book.distinct)) slots active tt (still_same c.deferred (record l { deferred_turn = true }) book rows names other turned.seen))
 enter_case {w = w} {c = c} {l = l} d id true name r k m from same slots =
     let book = move_message l.book id places.Active in
     let rows = l.admitted ++ newcomer id ∷ [] in
@@ -136,7 +137,7 @@ enter_case {w = w} {c = c} {l = l} d id true name r k m from same slots =
     coming_same l id m i (placed_listed is_incoming l.book i h) (not_bool (id_eq i id) (λ e. one_queue is_deferred is_incoming deferred_or_incoming l.book k.book.distinct id inside (subst (λ j. IsIn j (ids_at is_incoming l.book)) (id_eq-true i id e) h))) in
     let incoming : IsSeen c.incoming (found_incoming (admitting l id)) = seen_same c.incoming (found_incoming (admitting l id)) (found_incoming l) (incoming_same l book rows (moved_out l.book id places.Active m.message k.book.distinct m.there away refl) other) r.parts.incoming in
     note_admit id (in_no_line k id m.absent)
-    (files_law {d = passed_in true name (record c { admitted = d.admitted })} book rows turned refl slots active incoming tt)
+    (files_law {d = passed_in true name (record c { admitted = d.admitted })} book rows turned refl (all_left l (admitting l id) (coming_left l id m k.book.distinct)) slots active incoming tt)
 
 pub admit_law : {w : World} {c d : Core} {l : Ledger} (id : Id) → HoldsRaw w c l → IsConsistent w l → IsTrue (is_looked_at c) → is_known c.incoming ≡ true → may_admit w l id ≡ true → IsEntered c d (picked_in c) →
     HoldsRaw w (passed_in (from_deferred_in c) (found_name (picked_in c)) d) (noted (entries.Admit id) (after_admit l id))

@@ -5,6 +5,7 @@ use Rattle.std.specs.Option.{option_map_or}
 use Rattle.std.specs.Prelude.{◌||◌}
 use Rattle.q_core.proofs.ChangeLaws.{IsBookChange, active_changed, changed_ledger, incoming_changed, seen_same, slots_apart, slots_changed, still_changed}
 use Rattle.q_core.proofs.NameLaws.{and_true_parts, id_eq-true}
+use Rattle.q_core.proofs.SyncedLaws.{all_left, leftovers_changed, synced_fewer}
 use Rattle.q_core.proofs.StepLaws.{HoldsRaw, IsStillSeen}
 use Rattle.q_core.specs.Agrees.{AgreesButScan, found_active, found_incoming, slot_from}
 use Rattle.q_core.specs.Changes.{IsSlotChange, IsUnsettledChange}
@@ -74,7 +75,7 @@ slot_law {w = w} {c = c} {d = d} {l = l} id f m g r k adm same s =
       unsettled = h.unsettled;
       lines = h.lines;
       sites = h.sites;
-      synced = h.synced;
+      synced = synced_fewer c.synced l next (all_left l next (leftovers_changed l id f k.keeps)) refl h.synced;
       starts = h.starts;
       active = (seen_same c.active (found_active next) (found_active l) (active_changed l id f m k adm) h.active);
       incoming = (seen_same c.incoming (found_incoming next) (found_incoming l) (incoming_changed l id f m k) h.incoming);
@@ -106,7 +107,7 @@ apart_law {w = w} {c = c} {l = l} id f m r k gone =
       unsettled = h.unsettled;
       lines = h.lines;
       sites = h.sites;
-      synced = h.synced;
+      synced = synced_fewer c.synced l next (all_left l next (leftovers_changed l id f k.keeps)) refl h.synced;
       starts = h.starts;
       active = tt;
       incoming = (seen_same c.incoming (found_incoming next) (found_incoming l) (incoming_changed l id f m k) h.incoming);

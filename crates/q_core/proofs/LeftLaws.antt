@@ -240,7 +240,7 @@ left_whole {w = w} {c = c} {l = l} h k id m e left =
     let name : m.id ≡ id = id_eq-true m.id id (find-passes (λ x. id_eq x.id id) l.book.messages m e) in
     let rule : leftover_decision w l id ≡ option_or (mark_of id (unmarked_logged m)) (clear_tests l id) =
     ap (decision_on w l id) e ∙ ap (λ i. option_or (mark_of i (unmarked_logged m)) (clear_tests l i)) name in
-    subst (λ (xs : List Id). IsRule c (Some (clear_in (list_any (id_eq id) xs) id (file_of l id m))) (leftover_decision w l id)) (sym h.synced)
+    subst (λ b. IsRule c (Some (clear_in b id (file_of l id m))) (leftover_decision w l id)) (sym (h.synced id left))
     (subst (λ o. IsRule c (Some (clear_in (was_synced l id) id (file_of l id m))) o) (sym rule)
     (left_list h k id m e name left (unmarked_logged m) refl))
 

@@ -32,6 +32,7 @@ pub mod PlaceLaws
 pub mod FirstLaws
 pub mod LogLaws
 pub mod MarkLaws
+pub mod MarkedFirst
 pub mod MessageTies
 pub mod ClearLaws
 pub mod WindowLaws
@@ -42,6 +43,7 @@ pub mod NeedsLaws
 pub mod DroppedLaws
 pub mod RowsLaws
 pub mod SkipLaws
+pub mod SpaceLaws
 pub mod FlightLaws
 pub mod ReplyLaws
 pub mod ChosenLaws
@@ -105,3 +107,7 @@ pub mod TurnTies
 pub mod RowTurns
 pub mod ServedChanges
 pub mod NextRows
+pub mod ProcessLaws
+pub mod ProcessDecisions
+pub mod ReadRooms
+pub mod SyncedLaws

@@ -13,6 +13,7 @@ use Rattle.q_core.proofs.NameLaws.{id_eq-true}
 use Rattle.q_core.proofs.NoteLaws.{IsQuiet, note_law}
 use Rattle.q_core.proofs.SiteLaws.{tidy_used_law}
 use Rattle.q_core.proofs.StepLaws.{HoldsRaw, IsStillSeen, raw_law}
+use Rattle.q_core.proofs.SyncedLaws.{all_left, synced_fewer}
 use Rattle.q_core.specs.Agrees.{Agrees, AgreesButScan, Matches, found_active, found_at, jobs_of, slot_of}
 use Rattle.q_core.specs.Changes.{IsTidied, is_looked_at}
 use Rattle.q_core.specs.UsedSites.{busy_in, is_unused_in, waits_at_in}
@@ -31,6 +32,7 @@ use Rattle.q_model.specs.Batches.{load_positions, load_rows, rows_from}
 use Rattle.q_model.specs.Book.{ids_at, message_of}
 use Rattle.q_model.specs.Sites.{site_eq}
 use Rattle.q_model.specs.Ids.{id_before, id_eq}
+use Rattle.q_model.specs.Leftovers.{leftovers}
 use Rattle.q_model.specs.Ledger.{Ledger}
 use Rattle.q_model.specs.Lists.{least}
 use Rattle.q_model.specs.Loads.{after_load, join_lines, joins, loaded, may_load}
@@ -61,10 +63,13 @@ load_is w l id from to m e =
     ∙ ap (λ (k : Ledger). record k { admitted = map (read_to id to) l.admitted; waiting = l.waiting ++ load_rows w m from to; lines = join_lines id (load_rows w m from to) l.lines }) (with_records_is w (load_rows w m from to) l)
 
 -- the same leftovers
+leftovers_read : (w : World) (l : Ledger) (id : Id) (to : ℕ) (rows : List Row) → leftovers (over w l id to rows) ≡ leftovers l
+leftovers_read w l id to rows =
+    filter-same (λ x. not (is_admitted (over w l id to rows) x)) (λ x. not (is_admitted l x)) (λ x. ap not (any_read id x to l.admitted)) (ids_at is_active l.book)
+
 active_same : (w : World) (l : Ledger) (id : Id) (to : ℕ) (rows : List Row) → found_active (over w l id to rows) ≡ found_active l
 active_same w l id to rows =
-    ap (λ ids. option_map_or (λ i. found_at l 0 i) (least id_before ids) founds.Nothing)
-    (filter-same (λ x. not (is_admitted (over w l id to rows) x)) (λ x. not (is_admitted l x)) (λ x. ap not (any_read id x to l.admitted)) (ids_at is_active l.book))
+    ap (λ ids. option_map_or (λ i. found_at l 0 i) (least id_before ids) founds.Nothing) (leftovers_read w l id to rows)
 
 still_loaded : (seen : Seen) (w : World) (l : Ledger) (id : Id) (to : ℕ) (rows : List Row) → IsStillSeen seen l → IsStillSeen seen (over w l id to rows)
 still_loaded Unknown w l id to rows h = tt
@@ -131,7 +136,7 @@ load_raw {w = w} {c = c} {d = d} {l = l} r k id from to m ts e may read change =
       unsettled = h.unsettled;
       lines = lines;
       sites = sites;
-      synced = h.synced;
+      synced = synced_fewer c.synced l next (all_left l next (leftovers_read w l id to rows)) refl h.synced;
       starts = h.starts;
       active = seen_same c.active (found_active next) (found_active l) (active_same w l id to rows) h.active;
       incoming = h.incoming;

@@ -4,6 +4,7 @@ use Rattle.std.specs.Option.{option_map_or}
 use Rattle.std.specs.Prelude.{filter, option_and_then}
 use Rattle.q_core.proofs.StepLaws.{HoldsRaw, IsStillSeen}
 use Rattle.q_core.proofs.PickLaws.{found_on, next_of}
+use Rattle.q_core.proofs.SyncedLaws.{synced_fewer}
 use Rattle.q_core.specs.Agrees.{AgreesButScan, IsSeen, file_of, found_active, found_at, found_incoming, found_next, slot_from, slot_of}
 use Rattle.q_core.specs.Scanning.{scan_after}
 use Rattle.q_core.specs.declared.decision.Found.{Found}
@@ -119,9 +120,9 @@ still_same (Known found) l b rows e h k = (k.0 ∙ sym (same_scanned l b rows e 
 
 -- slots and what looks have shown are those of the new book
 pub files_law : {w : World} {c d : Core} {l : Ledger} (b : Book) (rows : List Admitted) → HoldsRaw w c l → d ≡ record c { admitted = d.admitted; active = d.active; incoming = d.incoming; deferred = d.deferred } →
-    d.admitted ≡ map (slot_of (with_files l b rows)) rows → IsSeen d.active (found_active (with_files l b rows)) → IsSeen d.incoming (found_incoming (with_files l b rows)) → IsStillSeen d.deferred (with_files l b rows) →
+    ((i : Id) → IsIn i (leftovers (with_files l b rows)) → IsIn i (leftovers l)) → d.admitted ≡ map (slot_of (with_files l b rows)) rows → IsSeen d.active (found_active (with_files l b rows)) → IsSeen d.incoming (found_incoming (with_files l b rows)) → IsStillSeen d.deferred (with_files l b rows) →
     HoldsRaw w d (with_files l b rows)
-files_law {w = w} {c = c} {d = d} {l = l} b rows r rest slots active incoming deferred =
+files_law {w = w} {c = c} {d = d} {l = l} b rows r rest fewer slots active incoming deferred =
     let h = r.parts in
     let next : Ledger = with_files l b rows in
     let changed : Core = record c { admitted = d.admitted; active = d.active; incoming = d.incoming; deferred = d.deferred } in
@@ -143,7 +144,7 @@ files_law {w = w} {c = c} {d = d} {l = l} b rows r rest slots active incoming de
       unsettled = h.unsettled;
       lines = h.lines;
       sites = h.sites;
-      synced = h.synced;
+      synced = synced_fewer c.synced l next fewer refl h.synced;
       starts = h.starts;
       active = active;
       incoming = incoming;

@@ -8,6 +8,7 @@ use Rattle.q_core.proofs.ChangeLaws.{seen_same}
 use Rattle.q_core.proofs.DueLaws.{active_has_none, deferred_or_active, deferred_or_incoming, due_joined, due_kept, due_listed, due_name, one_queue, is_deferred}
 use Rattle.q_core.proofs.HeldLaws.{IsThere}
 use Rattle.q_core.proofs.PlacedLaws.{damaged_at, placed_joined, placed_kept}
+use Rattle.q_core.proofs.SyncedLaws.{all_left, fewer_left, removed_fewer}
 use Rattle.q_core.proofs.QueueLaws.{IsSameOf, files_law, slots_same, still_same, with_files}
 use Rattle.q_core.proofs.RestLaws.{admitted_active, rest_active, rest_slots, still_admitted}
 use Rattle.q_core.proofs.SameLaws.{no_bounce_of, not_bool, paired_incoming}
@@ -154,7 +155,7 @@ remove_law {w = w} {c = c} {d = d} {l = l} id r k adm may p =
     let m = removable l id may in
     let slots : d.admitted ≡ map (slot_of next) rows = p.admitted ∙ rest_slots k id b (removed_active l k id m) c.admitted h.admitted in
     let active : IsSeen c.active (found_active next) = seen_same c.active (found_active next) (found_active l) (rest_active l id b rows adm (removed_active l k id m) (removed_left k id m adm)) h.active in
-    let raw : HoldsRaw w (record c { admitted = d.admitted; incoming = Unknown }) next = files_law b rows r refl slots active tt (removed_still c.deferred l k id m rows r.seen) in
+    let raw : HoldsRaw w (record c { admitted = d.admitted; incoming = Unknown }) next = files_law b rows r refl (all_left l next (removed_left k id m adm)) slots active tt (removed_still c.deferred l k id m rows r.seen) in
     subst (λ x. HoldsRaw w x next) (sym p.rest) raw
 
 without_none : (id : Id) (xs : List Admitted) → list_any (λ (a : Admitted). id_eq a.id id) xs ≡ false → without id xs ≡ xs
@@ -172,5 +173,5 @@ remove_left_law {w = w} {c = c} {l = l} id r k gone may =
     let m = removable l id may in
     let other : (a : Admitted) → IsIn a l.admitted → id_eq a.id id ≡ false = λ a inside. none_at (λ (x : Admitted). id_eq x.id id) a l.admitted gone inside in
     let slots : c.admitted ≡ map (slot_of (with_files l b l.admitted)) l.admitted = h.admitted ∙ slots_same l b l.admitted l.admitted (λ a inside. removed_active l k id m a.id (admitted_active k a inside) (other a inside)) in
-    let raw : HoldsRaw w (record c { active = Unknown; incoming = Unknown }) (with_files l b l.admitted) = files_law b l.admitted r refl slots tt tt (removed_still c.deferred l k id m l.admitted r.seen) in
+    let raw : HoldsRaw w (record c { active = Unknown; incoming = Unknown }) (with_files l b l.admitted) = files_law b l.admitted r refl (fewer_left l b (removed_fewer l.book id)) slots tt tt (removed_still c.deferred l k id m l.admitted r.seen) in
     subst (λ xs. HoldsRaw w (record c { active = Unknown; incoming = Unknown }) (with_files l b xs)) (sym (without_none id l.admitted gone)) raw

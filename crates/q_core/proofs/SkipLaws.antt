@@ -1,5 +1,6 @@
 -- A row whose site is dead is put off.
 use Rattle.std.proofs.Common.{◌≡◌, ℕ, ◌+◌, ◌-◌, ◌≤◌, Bool, true, List, ◌++◌, length, length-append, refl, sym, ap, ◌∙◌, subst, arith, Some, sum_by, replicate, IsTrue}
+use Rattle.std.proofs.Math.Bool.{and-true}
 use Rattle.std.specs.List.{remove}
 use Rattle.std.specs.Prelude.{◌&&◌, ◌==◌, find, not, slice_get}
 use Rattle.q_core.specs.Rules.{next_skip_number}
@@ -9,12 +10,15 @@ use Rattle.q_core.proofs.NeedsLaws.{needs_few}
 use Rattle.q_core.proofs.NoteLaws.{IsQuiet, note_law}
 use Rattle.q_core.proofs.RowsLaws.{needs_law, rows_law, with_outcomes_is, stands}
 use Rattle.q_core.proofs.SiteLaws.{LeavesFrom, tidy_left_law}
+use Rattle.q_core.proofs.SpaceLaws.{row_has_space}
 use Rattle.q_core.proofs.StepLaws.{HoldsRaw, raw_law}
 use Rattle.q_core.specs.Agrees.{Agrees, Matches}
 use Rattle.q_core.specs.Changes.{HasLeftSite, IsTidied, is_looked_at}
 use Rattle.q_core.specs.UsedSites.{busy_in}
-use Rattle.q_core.specs.Held.{is_dead_in}
-use Rattle.q_core.specs.Leaving.{IsFirstDead, IsUnqueued, put_off_in}
+use Rattle.q_core.specs.Held.{have_space, is_dead_in}
+use Rattle.q_core.specs.Leaving.{fails_in, IsFirstDead, IsUnqueued, put_off_in}
+use Rattle.q_core.specs.Needs.{needs_put_off}
+use Rattle.q_core.specs.Queries.{expired_in}
 use Rattle.q_core.specs.declared.state.Core.{Core}
 use Rattle.q_model.proofs.IdLaws.{site_eq-refl}
 use Rattle.q_model.specs.Book.{message_of}
@@ -63,11 +67,12 @@ skipped w l r m = record l {
 }
 
 -- the row waits no more, and its recipients are put off
-skip_raw : {w : World} {c d : Core} {l : Ledger} {entry : ℕ} → HoldsRaw w c l → (r : Row) (m : Message) → is_admitted l r.id ≡ true → message_of l.book r.id ≡ Some m → IsFirstDead c entry → is_dead_in c r.site ≡ true →
+skip_raw : {w : World} {c d : Core} {l : Ledger} {entry : ℕ} → HoldsRaw w c l → (r : Row) (m : Message) → is_admitted l r.id ≡ true → message_of l.book r.id ≡ Some m → IsFirstDead c entry → is_dead_in c r.site ≡ true → have_space c r.positions ≡ true →
     IsUnqueued c d entry r → HoldsRaw w d (skipped w l r m)
-skip_raw {w = w} {c = c} {d = d} {l = l} {entry = entry} h r m there e first dead u =
+skip_raw {w = w} {c = c} {d = d} {l = l} {entry = entry} h r m there e first dead space u =
     let os : List Outcome = replicate (length r.positions) (outcomes.Later 0) in
-    let needs : put_off_in c r ≡ needs_of w l.now m r.positions os = needs_law h.parts r.id m there e r.positions os in
+    let fails : fails_in c r ≡ expired_in c r.id = ap (λ b. expired_in c r.id && b) space ∙ and-true (expired_in c r.id) in
+    let needs : put_off_in c r ≡ needs_of w l.now m r.positions os = ap (λ b. needs_put_off b r.id r.positions) fails ∙ needs_law h.parts r.id m there e r.positions os in
     let dropped = dropped_same h r first u.row dead in
     let ws : List Row = drop_first (is_row r.id r.site r.positions) l.waiting in
     let us : List Unsettled = l.unsettled ++ needs_of w l.now m r.positions os in
@@ -107,7 +112,7 @@ skip_law {w = w} {c = c} {u = u} {mid = mid} {d = d} {l = l} {entry = entry} a l
     let m = stands l r.id there k.memory.present in
     let e : Entry = entries.Skip r.id r.site r.positions in
     let quiet : IsQuiet e = record { no_admit = λ id. refl; no_start_of = λ id t. refl; no_charge = λ id t. refl; no_start = refl } in
-    let over = skip_raw raw r m.0 there m.1 first (find-passes p l.waiting r found) un in
+    let over = skip_raw raw r m.0 there m.1 first (find-passes p l.waiting r found) (row_has_space a p r found) un in
     let done : Matches w d (tidied w l (noted e (skipped w l r m.0))) = tidy_left_law r.site l (skip_leaves w r m.0 p found) a.sites.apart (note_law e quiet over) left s in
     subst (λ z. Matches w d (tidied w l (noted e z))) (sym (with_outcomes_is w r.id r.positions (replicate (length r.positions) (outcomes.Later 0)) (unqueued l r.id r.site r.positions) m.0 m.1)) done
 

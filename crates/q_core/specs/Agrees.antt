@@ -4,12 +4,11 @@ use Rattle.q_model.specs.declared.entry.Entry.{Entry}
 use Rattle.q_model.specs.declared.entry.Entry.TheVariants as entries
 use Rattle.q_model.specs.declared.event.Mode.{Mode}
 use Rattle.q_model.specs.Book.{Book, all_ids, message_of}
-use Rattle.q_model.specs.Ids.{are_distinct}
 use Rattle.q_model.specs.Ledger.{Ledger}
 use Rattle.q_model.specs.Orderly.{is_orderly}
 use Rattle.q_model.specs.Settings.{Settings, World}
 use Rattle.q_model.specs.Step.{after, allowed, may}
-use Rattle.std.specs.List.{enumerate_from}
+use Rattle.std.specs.List.{enumerate_from, list_any}
 use Rattle.std.specs.Option.{option_map_or}
 use Rattle.std.specs.Prelude.{◌≡◌, ◌≤◌, Bool, count_by, false, is_none, length, List, map, not, Option, slice_get, Some, true, ℕ}
 use Rattle.q_model.specs.declared.id.Id.{Id}
@@ -20,7 +19,8 @@ use Rattle.q_model.specs.declared.rows.Scan.{Scan}
 use Rattle.q_model.specs.Accounts.{charged, starts_of}
 use Rattle.q_model.specs.Admissions.{cause_gone}
 use Rattle.q_model.specs.Finishing.{has_bounce}
-use Rattle.q_model.specs.Leftovers.{next_leftover}
+use Rattle.q_model.specs.Ids.{are_distinct, id_eq}
+use Rattle.q_model.specs.Leftovers.{is_leftover, next_leftover, was_synced}
 use Rattle.q_model.specs.Lists.{has_none}
 use Rattle.q_model.specs.Marks.{is_marked}
 use Rattle.q_model.specs.Memory.{in_memory}
@@ -127,6 +127,11 @@ pub record IsScan (c : Core) (l : Ledger) : Type 0 where
   pub goes_on : scan_after l.book l.now c.scan c.asked ≡ (l.scan, l.asked)
   pub seen : IsSeenScan c.deferred c.scan c.asked l
 
+-- Of each message that an earlier life left the core knows whether it was synced in this one. It
+-- forgets the others.
+abbrev pub AreSyncedAlike : List Id → Ledger → Type 0
+AreSyncedAlike ids l = (id : Id) → is_leftover l id ≡ true → list_any (id_eq id) ids ≡ was_synced l id
+
 -- all but the scan
 pub record AgreesButScan (w : World) (c : Core) (l : Ledger) : Type 0 where
   pub settings : c.params ≡ w.settings
@@ -146,7 +151,7 @@ pub record AgreesButScan (w : World) (c : Core) (l : Ledger) : Type 0 where
   pub unsettled : c.unsettled ≡ l.unsettled
   pub lines : c.lines ≡ map (jobs_of l) (enumerate_from 0 l.lines)
   pub sites : c.sites ≡ l.sites
-  pub synced : c.synced ≡ l.synced
+  pub synced : AreSyncedAlike c.synced l
   pub starts : c.starts ≡ starts l
   pub active : IsSeen c.active (found_active l)
   pub incoming : IsSeen c.incoming (found_incoming l)

@@ -1,5 +1,6 @@
 -- A core in which nothing happened yet.
-use Rattle.std.specs.Prelude.{◌≡◌, ◌*◌, [], false, max, None, replicate, ℕ}
+use Rattle.std.specs.Prelude.{◌≡◌, ◌≤◌, [], false, None, replicate, Vec, vec_capacity, ℕ}
+use Rattle.std.specs.declared.alloc.Global.{Global}
 use Rattle.q_core.specs.State.{State}
 use Rattle.q_core.specs.declared.state.Question.TheVariants.{Nothing}
 use Rattle.q_core.specs.declared.state.Seen.TheVariants.{Unknown}
@@ -7,9 +8,12 @@ use Rattle.q_dest.specs.Dests.{Dests}
 use Rattle.q_flights.specs.Flying.{Flying}
 use Rattle.q_held.specs.Held.{Held}
 use Rattle.q_model.specs.declared.event.Mode.{Mode}
+use Rattle.q_model.specs.declared.rows.Unsettled.{Unsettled}
 use Rattle.q_model.specs.Settings.{Settings}
+use Rattle.q_model.specs.Values.{Site}
 use Rattle.q_open_rows.specs.Opened.{Opened}
 use Rattle.q_pool.specs.Pooled.{Pooled}
+use Rattle.q_queue.specs.Queued.{Queued}
 use Rattle.q_schedule.specs.Schedule.{Scheduling}
 
 -- nothing is in the registers, and messages have the room that the settings say
@@ -22,15 +26,16 @@ pub record AreNew (p : Settings) (transports : ℕ) (made : Dests × Pooled × S
   pub messages : made.2.messages ≡ []
   pub message_room : made.2.message_room ≡ p.active_limit
 
--- how many deliveries can be in flight: as many as there are processes of all transports
-abbrev pub most_flights : Settings → ℕ → ℕ
-most_flights p transports = max 1 (transports * p.process_limit)
-
--- nothing waits, and nothing is in flight, with room for so many deliveries
-pub record AreEmpty (deliveries : ℕ) (made : Held × Flying × Opened) : Type 0 where
+-- nothing waits, nothing is in flight, no site is named and no outcome is to be settled, with room for
+-- so many recipients and deliveries
+pub record AreEmpty (recipients deliveries : ℕ)
+    (made : Held × Flying × Opened × Vec Site Global × Queued Unsettled) : Type 0 where
   pub waiting : made.0.items ≡ []
   pub flights : made.1.items ≡ []
   pub flight_room : made.1.room ≡ deliveries
+  pub named : made.3.items ≡ []
+  pub name_room : recipients ≤ vec_capacity made.3
+  pub unsettled : made.4 ≡ record { items = []; room = recipients }
 
 -- what the core holds then
 abbrev pub first_state : Settings → ℕ → Mode → State

@@ -1,7 +1,7 @@
 -- How the core changes.
 use Rattle.std.specs.List.{enumerate_from}
 use Rattle.std.specs.Option.{option_map_or}
-use Rattle.std.specs.Prelude.{◌+◌, ◌≡◌, ◌∷◌, Bool, filter, List, false, if◌then◌else◌, is_none, map, nat_le, None, not, Option, Some, true, ◌||◌, ℕ}
+use Rattle.std.specs.Prelude.{◌+◌, ◌≡◌, ◌∷◌, [], Bool, filter, List, false, if◌then◌else◌, is_none, map, nat_le, None, not, Option, Some, true, ◌||◌, ℕ}
 use Rattle.q_model.specs.declared.id.Id.{Id}
 use Rattle.q_model.specs.declared.rows.Request.{Request}
 use Rattle.q_model.specs.declared.rows.Unsettled.{Unsettled}
@@ -155,7 +155,7 @@ pub record IsUnchanged (old new : Core) : Type 0 where
 -- the message was synced in this life, and active is to be looked at anew
 pub record IsNoted (old new : Core) (id : Id) : Type 0 where
   pub rest : new ≡ record old { synced = new.synced; active = Unknown }
-  pub synced : new.synced ≡ id ∷ old.synced
+  pub synced : new.synced ≡ id ∷ []
 
 -- the slots of all others
 abbrev pub slots_without : Id → List Slot → List Slot

@@ -1,7 +1,7 @@
 -- What the core says of messages and sites.
 use Rattle.std.specs.List.{list_any}
 use Rattle.std.specs.Option.{option_map_or}
-use Rattle.std.specs.Prelude.{◌&&◌, ◌+◌, ◌-◌, ◌==◌, Bool, false, find, if◌then◌else◌, max, min, nat_le, nat_lt, None, not, Option, Some, ◌||◌, ℕ}
+use Rattle.std.specs.Prelude.{◌&&◌, ◌+◌, ◌-◌, ◌==◌, Bool, false, find, if◌then◌else◌, length, List, max, min, nat_le, nat_lt, None, not, Option, Some, ◌||◌, ℕ}
 use Rattle.q_model.specs.declared.id.Id.{Id}
 use Rattle.q_model.specs.Sites.{site_eq}
 use Rattle.q_model.specs.Ids.{id_eq}
@@ -79,6 +79,10 @@ finish_in c s = if nat_lt 0 s.marks then None
 -- how many more recipients may be in memory
 abbrev pub free_in : Core → ℕ
 free_in c = c.params.recipient_limit - c.in_memory
+
+-- outcomes of so many recipients have space beside those that are to be settled
+abbrev pub have_space : Core → List ℕ → Bool
+have_space c positions = nat_le (length c.unsettled + length positions) c.params.recipient_limit
 
 -- recipients of it are to be read
 abbrev pub may_read_in : Core → Slot → Bool

@@ -7,7 +7,7 @@ use Rattle.q_model.specs.Step.{after}
 use Rattle.q_model.specs.declared.entry.Entry.TheVariants as entries
 use Rattle.q_model.specs.declared.id.Id.{Id}
 use Rattle.std.specs.List.{remove}
-use Rattle.std.specs.Prelude.{◌++◌, ◌-◌, ◌==◌, ◌≡◌, filter, if◌then◌else◌, length, List, map, None, not, Option, position, slice_get, Some, ℕ}
+use Rattle.std.specs.Prelude.{◌&&◌, ◌++◌, ◌-◌, ◌==◌, ◌≡◌, Bool, false, filter, if◌then◌else◌, length, List, map, None, not, Option, position, slice_get, Some, ℕ}
 use Rattle.q_model.specs.declared.outcome.Outcome.{Outcome}
 use Rattle.q_model.specs.declared.outcome.SiteState.{SiteState}
 use Rattle.q_model.specs.declared.rows.Delivery.{Delivery}
@@ -15,7 +15,7 @@ use Rattle.q_model.specs.declared.rows.Row.{Row}
 use Rattle.q_model.specs.declared.rows.Unsettled.{Unsettled}
 use Rattle.q_model.specs.Values.{Site, SiteRecord}
 use Rattle.q_core.specs.UsedSites.{busy_in}
-use Rattle.q_core.specs.Held.{is_dead_in}
+use Rattle.q_core.specs.Held.{have_space, is_dead_in}
 use Rattle.q_core.specs.Needs.{needs_in, needs_put_off}
 use Rattle.q_core.specs.Queries.{expired_in, flight_in}
 use Rattle.q_dest.specs.Windows.{heard_in}
@@ -27,9 +27,13 @@ use Rattle.q_core.specs.declared.state.Core.{Core}
 abbrev pub IsFirstDead : Core → ℕ → Type 0
 IsFirstDead c entry = position (λ r. is_dead_in c r.site) c.waiting ≡ Some entry
 
+-- the recipients of a row fail where they are put off: its message is too old, and there is space
+abbrev pub fails_in : Core → Row → Bool
+fails_in c r = expired_in c r.id && have_space c r.positions
+
 -- what the recipients of a row need that are put off without a code
 abbrev pub put_off_in : Core → Row → List Unsettled
-put_off_in c r = needs_put_off (expired_in c r.id) r.id r.positions
+put_off_in c r = needs_put_off (fails_in c r) r.id r.positions
 
 -- the row at this place waits no more, and what its recipients need is added
 pub record IsUnqueued (old new : Core) (entry : ℕ) (r : Row) : Type 0 where
@@ -58,9 +62,10 @@ pub record IsReplied (old new : Core) (f : Delivery) (outcomes : List Outcome)
       (length f.row.positions - length (replied_in old f outcomes))
 
 -- the same by the number of the delivery, with its site; without a site no such delivery is in
--- flight
+-- flight, or there is no space for its outcomes
 abbrev pub AreAdded : Core → Core → ℕ → List Outcome → Option Site → Type 0
-AreAdded old new number outcomes None = flight_in old number ≡ None
+AreAdded old new number outcomes None = (f : Delivery) → flight_in old number ≡ Some f →
+    have_space old f.row.positions ≡ false
 AreAdded old new number outcomes (Some site) = (f : Delivery) → flight_in old number ≡ Some f →
     IsReplied old new f outcomes site
 

@@ -31,3 +31,4 @@ pub mod Looking
 pub mod Touched
 pub mod RowWalks
 pub mod Known
+pub mod Rooms

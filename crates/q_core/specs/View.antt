@@ -1,4 +1,5 @@
 -- The state that a contract sees, by the core's fields.
+use Rattle.std.specs.Prelude.{option_to_list}
 use Rattle.q_core.specs.Known.{known_records}
 use Rattle.q_core.specs.ServedRows.{served_rows}
 use Rattle.q_core.specs.State.{State}
@@ -26,7 +27,7 @@ state_of a = record {
   unsettled = a.unsettled.items;
   lines = a.turns.lines;
   sites = known_records a.sites.items;
-  synced = a.synced.items;
+  synced = option_to_list a.synced;
   starts = a.starts;
   active = a.active;
   incoming = a.incoming;

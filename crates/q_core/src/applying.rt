@@ -1,24 +1,20 @@
 //! The core takes a decision over: it becomes what the ledger is after the decision's entry. What
 //! concerns a message in memory and one that an earlier life left is told apart here.
-ghost use Rattle.std.specs.Prelude.{◌≡◌, IsTrue, OnErr, OnOk, Some};
-ghost use Rattle.q_core.specs.Changes.{IsUnchanged, is_looked_at};
+ghost use Rattle.std.specs.Prelude.{◌≡◌, IsTrue, Some};
+ghost use Rattle.q_core.specs.Changes.{is_looked_at};
 ghost use Rattle.q_core.specs.Deciding.{Applies, decide_in};
 ghost use Rattle.q_core.specs.Leaving.{IsSkipNoted};
 ghost use Rattle.q_model.specs.Lists.{has_none};
 
 use crate::decision::Decision;
 use crate::state::{Core, Seen};
-use q_model::{Failure, Id, Moment, NoMemory, Place, Site};
-use std::alloc::Global;
+use q_model::{Failure, Id, Moment, Place, Site};
 
 impl Core {
     fn has_no_outcomes(&self) -> bool
         ensures { result ≡ has_none self.now.unsettled }
     {
-        match self.unsettled.as_slice() {
-            [] => true,
-            [_, ..] => false,
-        }
+        self.unsettled.is_empty()
     }
 
     pub(crate) fn apply_log(&mut self, id: Id, failure: Failure)
@@ -42,38 +38,28 @@ impl Core {
         }
     }
 
-    pub(crate) fn apply_sync(&mut self, id: Id) -> Result<(), NoMemory>
+    pub(crate) fn apply_sync(&mut self, id: Id)
         requires seen { IsTrue (is_looked_at self.old) }
         requires decided { decide_in self.old ≡ Some (Decision.Sync id) }
-        ensures ok { OnOk result (Applies self.old (Decision.Sync id) self.new) }
-        ensures err { OnErr result (IsUnchanged self.old self.new) }
+        ensures { Applies self.old (Decision.Sync id) self.new }
     {
         if self.has_slot(id) {
             self.sync(id);
-            return Ok(());
+        } else {
+            self.sync_left(id);
         }
-        self.sync_left(id)?;
-        Ok(())
     }
 
-    pub(crate) fn apply_skip(
-        &mut self,
-        alloc: Global,
-        id: Id,
-        site: Site,
-        entry: u32,
-    ) -> Result<(), NoMemory>
+    pub(crate) fn apply_skip(&mut self, id: Id, site: Site, entry: u32)
         requires seen { IsTrue (is_looked_at self.old) }
         requires decided { decide_in self.old ≡ Some (Decision.Skip id site entry) }
-        ensures ok { OnOk result (Applies self.old (Decision.Skip id site entry) self.new) }
-        ensures noted { OnOk result (IsSkipNoted self.old id site entry self.new) }
-        ensures err { OnErr result (IsUnchanged self.old self.new) }
+        ensures applied { Applies self.old (Decision.Skip id site entry) self.new }
+        ensures noted { IsSkipNoted self.old id site entry self.new }
     {
         if !self.has_row_for(id, &site) {
-            return Ok(());
+            return;
         }
-        self.skip(alloc, id, &site)?;
-        Ok(())
+        self.skip(id, &site);
     }
 
     pub(crate) fn apply_defer(&mut self, id: Id, due: Moment)
@@ -140,14 +126,12 @@ impl Core {
         self.admit();
     }
 
-    pub(crate) fn apply_start(&mut self, number: u64, id: Id, site: Site) -> Result<(), NoMemory>
+    pub(crate) fn apply_start(&mut self, number: u64, id: Id, site: Site)
         requires seen { IsTrue (is_looked_at self.old) }
         requires decided { decide_in self.old ≡ Some (Decision.Start number id site) }
-        ensures ok { OnOk result (Applies self.old (Decision.Start number id site) self.new) }
-        ensures err { OnErr result (IsUnchanged self.old self.new) }
+        ensures { Applies self.old (Decision.Start number id site) self.new }
     {
-        self.start_delivery(number, id, site)?;
-        Ok(())
+        self.start_delivery(number, id, site);
     }
 
     pub(crate) fn apply_preempt(&mut self, child: Id, parent: Id, transport: u8, need: u32)

@@ -1,9 +1,10 @@
 //! A core at the beginning of a life. All room of its parts is made here.
 ghost use Rattle.std.specs.Prelude.{◌≡◌, ◌≤◌, ◌<◌, ◌^◌, IfOk, true};
 ghost use Rattle.q_core.specs.Agrees.{AgreesIfConsistent, AgreesIfOrderly, ForFirst};
-ghost use Rattle.q_core.specs.Beginning.{AreEmpty, AreNew, first_state, most_flights};
+ghost use Rattle.q_core.specs.Beginning.{AreEmpty, AreNew, first_state};
 ghost use Rattle.q_core.specs.Changes.{is_looked_at};
 ghost use Rattle.q_core.specs.Deciding.{is_answered};
+ghost use Rattle.q_core.specs.Rooms.{most_flights};
 ghost use Rattle.q_params.specs.Ranges.{IsInRange};
 
 use crate::clock::Clock;
@@ -12,18 +13,20 @@ use crate::touched::Touched;
 use q_dest::Sites;
 use q_flights::Flights;
 use q_held::Rows;
-use q_model::{Mode, NoMemory, Positions};
+use q_model::{Mode, NoMemory, Positions, Site, Unsettled};
 use q_open_rows::OpenRows;
 use q_params::Params;
 use q_pool::Pool;
+use q_queue::Queue;
 use q_schedule::Schedule;
 use std::alloc::Global;
 
 /// The sites, the messages, and their schedule.
 type Registers = (Sites, Pool, Schedule);
 
-/// The rows that wait, the deliveries in flight, and the rows that are begun.
-type Rooms = (Rows, Flights, OpenRows);
+/// The rows that wait, the deliveries in flight, the rows that are begun, the sites that are named,
+/// and the outcomes that are to be settled.
+type Rooms = (Rows, Flights, OpenRows, Vec<Site>, Queue<Unsettled>);
 
 /// Registers with nothing in them.
 fn registers(alloc: Global, params: &Params, transports: u8) -> Result<Registers, NoMemory>
@@ -53,19 +56,21 @@ fn most_flights(params: &Params, transports: u8) -> u32
     (u32::from(transports) * params.default_process_limit).max(1)
 }
 
-/// Room for as many rows, and sites of a batch, as recipients may be in memory, since each of these
-/// has one, and for so many deliveries.
+/// Room for as many rows, rows and sites of a batch, and outcomes, as recipients may be in memory,
+/// since each of these has one, and for so many deliveries.
 fn rooms(alloc: Global, room: u32, deliveries: u32) -> Result<Rooms, NoMemory>
     requires some { 1 ≤ room }
     requires few { room < 2 ^ 30 }
     requires some_deliveries { 1 ≤ deliveries }
     requires few_deliveries { deliveries < 2 ^ 30 }
-    ensures { IfOk result (AreEmpty deliveries) }
+    ensures { IfOk result (AreEmpty room deliveries) }
 {
     let waiting = Rows::new(alloc, room)?;
     let flights = Flights::new(alloc, deliveries)?;
     let open_rows = OpenRows::new(alloc, room)?;
-    Ok((waiting, flights, open_rows))
+    let named = Vec::with_capacity(alloc, room as usize)?;
+    let unsettled = Queue::new(alloc, room)?;
+    Ok((waiting, flights, open_rows, named, unsettled))
 }
 
 /// A core in which nothing happened yet.
@@ -78,11 +83,11 @@ fn over(
     rooms: Rooms,
 ) -> Core
     requires registers { AreNew params transports registers }
-    requires rooms { AreEmpty (most_flights params transports) rooms }
+    requires rooms { AreEmpty params.recipient_limit (most_flights params transports) rooms }
     ensures { result ≡ first_state params transports mode }
 {
     let (sites, admitted, turns) = registers;
-    let (waiting, flights, open_rows) = rooms;
+    let (waiting, flights, open_rows, named, unsettled) = rooms;
     Core {
         params,
         transports,
@@ -98,16 +103,16 @@ fn over(
         waiting,
         flights,
         in_memory: 0,
-        unsettled: Vec::new(alloc),
+        unsettled,
         turns,
         sites,
-        synced: Vec::new(alloc),
+        synced: None,
         starts: 0,
         active: Seen::Unknown,
         incoming: Seen::Unknown,
         deferred: Seen::Unknown,
         question: Question::Nothing,
-        named: Vec::new(alloc),
+        named,
         skips: 0,
         skipped: Positions::new(alloc),
         touched_message: Touched::Nothing,

@@ -1,12 +1,12 @@
 //! Messages that an earlier life left in active: a failure is marked, and marks are synced.
-ghost use Rattle.std.specs.Prelude.{◌≡◌, IsTrue, OnErr, OnOk, [], false};
-ghost use Rattle.q_core.specs.Agrees.{ForLedgers, Follows, MarksLeftovers};
+ghost use Rattle.std.specs.Prelude.{◌≡◌, IsTrue, [], false};
+ghost use Rattle.q_core.specs.Agrees.{ForLedgers, FollowsRule, MarksLeftovers};
 ghost use Rattle.q_core.specs.Held.{is_admitted_in};
-ghost use Rattle.q_core.specs.Changes.{IsUnchanged, IsNoted, is_looked_at};
+ghost use Rattle.q_core.specs.Changes.{IsNoted, is_looked_at};
+ghost use Rattle.q_model.specs.Next.{next};
 
 use crate::state::{Core, Seen};
-use q_model::{Entry, Id, NoMemory};
-use std::alloc::Global;
+use q_model::{Entry, Id};
 
 impl Core {
     /// Active is to be looked at anew.
@@ -26,25 +26,21 @@ impl Core {
         self.tidy();
     }
 
-    /// The message counts as synced in this life.
-    fn note_synced(&mut self, id: Id) -> Result<(), NoMemory>
-        ensures ok { OnOk result (IsNoted self.old self.new id) }
-        ensures err { OnErr result (IsUnchanged self.old self.new) }
+    /// The message counts as synced in this life, in place of the one before, which is gone.
+    fn note_synced(&mut self, id: Id)
+        ensures { IsNoted self.old self.new id }
     {
-        self.synced.insert(0, id)?;
+        self.synced = Some(id);
         self.active = Seen::Unknown;
-        Ok(())
     }
 
     /// The marks of a message of an earlier life are synced.
-    pub(crate) fn sync_left(&mut self, id: Id) -> Result<(), NoMemory>
+    pub(crate) fn sync_left(&mut self, id: Id)
         requires { IsTrue (is_looked_at self.old) }
-        ensures ok { OnOk result (is_admitted_in self.old id ≡ false
-            → Follows self.old self.new (Entry.Sync id)) }
-        ensures err { OnErr result (IsUnchanged self.old self.new) }
+        ensures { is_admitted_in self.old id ≡ false
+            → FollowsRule self.old self.new next (Entry.Sync id) }
     {
-        self.note_synced(id)?;
+        self.note_synced(id);
         self.tidy();
-        Ok(())
     }
 }

@@ -1,10 +1,11 @@
 //! A delivery starts.
-ghost use Rattle.std.specs.Prelude.{◌≡◌, ◌<◌, IsTrue, List, map, OnErr, OnOk, true, ℕ};
+ghost use Rattle.std.specs.Prelude.{◌≡◌, ◌<◌, IsTrue, List, map, true, ℕ};
 ghost use Rattle.std.specs.List.{enumerate_from, list_any};
 ghost use Rattle.q_core.specs.Agrees.{FollowsRule};
 ghost use Rattle.q_core.specs.Lists.{AtFirst};
 ghost use Rattle.q_core.specs.Sending.{started_line, with_start, is_for, IsStarted, IsSent, served_now};
-ghost use Rattle.q_core.specs.Changes.{IsUnchanged, is_looked_at, with_served};
+ghost use Rattle.q_core.specs.Changes.{is_looked_at, with_served};
+ghost use Rattle.q_core.specs.Rooms.{HasProcess};
 ghost use Rattle.q_core.specs.Tidied.{tidied_served};
 ghost use Rattle.q_model.specs.Next.{start_rule};
 
@@ -13,7 +14,7 @@ use crate::rows::take_row;
 use crate::state::Core;
 use crate::touched::touch_message;
 use q_jobs::Job;
-use q_model::{Delivery, Entry, Id, NoMemory, Site};
+use q_model::{Delivery, Entry, Id, Site};
 use q_schedule::Schedule;
 
 /// The account with one delivery more; a life begins fewer than 2^48.
@@ -54,24 +55,19 @@ impl Core {
     }
 
     /// Sends the message's first row for the site.
-    fn send(&mut self, number: u64, id: Id, site: Site) -> Result<(), NoMemory>
+    fn send(&mut self, number: u64, id: Id, site: Site)
         requires there { list_any (is_for id site) self.old.waiting ≡ true }
         requires next { self.old.starts < number }
-        ensures ok { OnOk result (AtFirst (is_for id site) self.old.waiting
+        requires process { HasProcess self.old site.transport }
+        ensures sent { AtFirst (is_for id site) self.old.waiting
             (IsSent self.old (with_served (served_now id site number self.old.served) self.new)
-            number id site)) }
-        ensures served { OnOk result (self.new.served ≡ tidied_served self.new.waiting
-            (served_now id site number self.old.served)) }
-        ensures err { OnErr result (IsUnchanged self.old self.new) }
+            number id site) }
+        ensures served { self.new.served ≡ tidied_served self.new.waiting
+            (served_now id site number self.old.served) }
     {
-        // It doesn't come up: there is room for as many deliveries as there are processes of all
-        // transports, and one is begun only where its transport has a process left.
-        if self.flights.spare() == 0 {
-            return Err(NoMemory);
-        }
         self.flights.stand_apart();
         let Some(row) = take_row(&mut self.waiting, id, &site) else {
-            return Ok(());
+            return;
         };
         touch_message(&mut self.touched_message, row.id);
         self.sites.begin(&row.site);
@@ -82,7 +78,6 @@ impl Core {
         begin_flight(&mut self.admitted, row.id);
         self.flights.push(Delivery { number, row });
         self.starts = number;
-        Ok(())
     }
 
     /// Counts the delivery to the site in the account of its job.
@@ -93,21 +88,20 @@ impl Core {
     }
 
     /// Starts the delivery of this number: of the row of the message that is next for the site.
-    pub(crate) fn start_delivery(&mut self, number: u64, id: Id, site: Site) -> Result<(), NoMemory>
+    pub(crate) fn start_delivery(&mut self, number: u64, id: Id, site: Site)
         requires seen { IsTrue (is_looked_at self.old) }
-        ensures ok { OnOk result ((ps : List ℕ)
-            → FollowsRule self.old self.new start_rule (Entry.Start number id site ps)) }
-        ensures err { OnErr result (IsUnchanged self.old self.new) }
+        requires process { HasProcess self.old site.transport }
+        ensures { (ps : List ℕ)
+            → FollowsRule self.old self.new start_rule (Entry.Start number id site ps) }
     {
         if !self.has_row_for(id, &site) {
-            return Ok(());
+            return;
         }
         if number <= self.starts {
-            return Ok(());
+            return;
         }
-        self.send(number, id, site)?;
+        self.send(number, id, site);
         self.count_start(id, &site);
         self.tidy();
-        Ok(())
     }
 }

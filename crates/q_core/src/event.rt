@@ -1,14 +1,13 @@
 //! Events: what comes to the core from outside.
-ghost use Rattle.std.specs.Prelude.{◌≡◌, IsTrue, OnErr, OnOk, true};
+ghost use Rattle.std.specs.Prelude.{◌≡◌, IsTrue, true};
 ghost use Rattle.q_core.specs.Agrees.{ForLedgers, FollowsAllowed};
-ghost use Rattle.q_core.specs.Changes.{IsUnchanged, is_looked_at};
+ghost use Rattle.q_core.specs.Changes.{is_looked_at};
 ghost use Rattle.q_core.specs.Deciding.{is_answered};
 ghost use Rattle.q_core.specs.Hearing.{Hears, IsHeard, IsInTime};
 ghost use Rattle.q_model.specs.declared.entry.Entry.{Entry};
 
 use crate::state::{Core, Question, Seen};
-use q_model::{Id, Moment, NoMemory, Outcomes, SiteState, Trigger};
-use std::alloc::Global;
+use q_model::{Id, Moment, Outcomes, SiteState, Trigger};
 
 /// What comes from outside, without its texts.
 #[derive(Clone, Copy, Debug)]
@@ -32,12 +31,10 @@ pub enum Heard<'a> {
 }
 
 impl Core {
-    fn hear(&mut self, alloc: Global, heard: Heard<'_>) -> Result<(), NoMemory>
+    fn hear(&mut self, heard: Heard<'_>)
         requires time { IsInTime heard }
         requires seen { IsTrue (is_looked_at self.old) }
-        ensures ok { OnOk result ((e : Entry) → IsHeard heard.entry e
-            → FollowsAllowed self.old self.new e) }
-        ensures err { OnErr result (IsUnchanged self.old self.new) }
+        ensures { (e : Entry) → IsHeard heard.entry e → FollowsAllowed self.old self.new e }
     {
         match heard {
             Heard::At { moment } => self.hear_at(moment),
@@ -46,30 +43,27 @@ impl Core {
                 number,
                 site,
                 outcomes,
-            } => self.hear_reply(alloc, number, site, outcomes.as_slice())?,
+            } => self.hear_reply(number, site, outcomes.as_slice()),
             Heard::Trigger { kind } => self.hear_trigger(kind),
         }
-        Ok(())
     }
 
     /// Hears an event. The decisions that follow are those that `next_decision` then gives; nothing
-    /// is asked behind it. After want of memory the core is as it was.
+    /// is asked behind it.
     ///
     /// It is an error to call it with a moment beyond 999,990,000,000, while a look or a read waits
     /// for its answer, and while a scan's next name wasn't looked at. A ledger allows an `At` that
     /// isn't before its clock, and after the first `At` of a life a `Mail` with the next id, a
     /// `Reply` of a delivery in flight with an outcome for each of its recipients, which are delays
     /// where the site is down, and each `Trigger`.
-    pub fn event(&mut self, alloc: Global, heard: Heard<'_>) -> Result<(), NoMemory>
+    pub fn event(&mut self, heard: Heard<'_>)
         requires time { IsInTime heard }
         requires answered { is_answered self.old.question ≡ true }
         requires seen { IsTrue (is_looked_at self.old) }
-        ensures ok { OnOk result (ForLedgers self.old (λ w l. Hears w l heard.entry self.new)) }
+        ensures exact { ForLedgers self.old (λ w l. Hears w l heard.entry self.new) }
         ensures answered { is_answered self.new.question ≡ true }
-        ensures err { OnErr result (self.new ≡ self.old) }
     {
-        self.hear(alloc, heard)?;
+        self.hear(heard);
         self.question = Question::Nothing;
-        Ok(())
     }
 }

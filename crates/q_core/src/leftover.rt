@@ -8,10 +8,14 @@ use crate::state::{Core, Seen};
 use q_model::{Id, Place};
 
 impl Core {
+    /// No other message that an earlier life left was synced, since one goes before the next is.
     fn is_synced(&self, id: Id) -> bool
         ensures { result ≡ is_synced_in self.now id }
     {
-        self.synced.iter().any(|other| same_id(id, *other))
+        match self.synced {
+            Some(other) => same_id(id, other),
+            None => false,
+        }
     }
 
     /// Its failures are marked, its marks are synced once, and it goes back where something is

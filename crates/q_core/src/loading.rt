@@ -117,16 +117,11 @@ impl Core {
 
     /// Notes the site of the next recipient that was read. It is an error to call it where no read
     /// waits for its answer, or for more recipients than the read's `max`.
-    pub fn sited(&mut self, site: &Site) -> Result<(), NoMemory>
-        requires fewer { may_name self.old ≡ true }
-        ensures ok { OnOk result (self.new ≡ record self.old {
-          named = self.old.named ++ site.now ∷
-              [];
-        }) }
-        ensures err { OnErr result (self.new ≡ self.old) }
+    pub fn sited(&mut self, site: &Site)
+        requires { may_name self.old ≡ true }
+        ensures { self.new ≡ record self.old { named = self.old.named ++ site.now ∷ [] } }
     {
-        self.named.push(*site)?;
-        Ok(())
+        self.named.push_reserved(*site);
     }
 
     fn load(&mut self, alloc: Global, id: Id, to: u32, taken: &Batch) -> Result<(), NoMemory>

@@ -9,7 +9,7 @@ ghost use Rattle.q_model.specs.declared.outcome.Failure.{Failure};
 
 use crate::counting::lose_unsettled;
 use crate::state::{Core, Seen};
-use q_model::{Entry, Id, Need};
+use q_model::{Entry, Id, Need, Unsettled};
 
 impl Core {
     fn note_log(&mut self, id: Id)
@@ -23,8 +23,12 @@ impl Core {
         ensures change { IsUnsettledChange self.old self.new (first_logged self.old.unsettled) }
         ensures memory { self.new.in_memory ≡ self.old.in_memory }
     {
-        if let [first, ..] = self.unsettled.as_mut_slice() {
-            first.need = Need::Mark;
+        if let Some(first) = self.unsettled.first() {
+            let wanted = Unsettled {
+                need: Need::Mark,
+                ..*first
+            };
+            self.unsettled.set_first(wanted);
         }
     }
 
@@ -51,7 +55,9 @@ impl Core {
         ensures change { IsUnsettledChange self.old self.new (drop 1 self.old.unsettled) }
         ensures memory { self.new.in_memory ≡ self.old.in_memory - 1 }
     {
-        let first = self.unsettled.remove(0);
+        let Some(first) = self.unsettled.pop() else {
+            unreachable!()
+        };
         lose_unsettled(&mut self.admitted, first.id, 1);
         self.in_memory = self.in_memory.saturating_sub(1);
     }

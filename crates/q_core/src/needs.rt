@@ -1,10 +1,10 @@
 //! What the outcomes of recipients need before they are settled.
-ghost use Rattle.std.specs.Prelude.{◌≡◌, ◌++◌, IfOk, OnOk, slice_get};
+ghost use Rattle.std.specs.Prelude.{◌≡◌, ◌≤◌, ◌<◌, ◌+◌, ◌++◌, IsTrue, length, slice_get, true};
 ghost use Rattle.std.specs.Option.{option_copied};
 ghost use Rattle.q_core.specs.Needs.{need_at, need_in, needs_in, needs_put_off};
 
-use q_model::{Id, Need, NoMemory, Outcome, Unsettled, Why};
-use std::alloc::Global;
+use q_model::{Id, Need, Outcome, Unsettled, Why};
+use q_queue::Queue;
 
 /// A mark, or a failure's record and then a mark. A delay needs nothing unless the message is
 /// too old.
@@ -31,22 +31,24 @@ fn need(expired: bool, outcome: Outcome) -> Option<Need>
 }
 
 fn add_need(
-    needs: &mut Vec<Unsettled>,
+    unsettled: &mut Queue<Unsettled>,
     id: Id,
     expired: bool,
     position: u32,
     outcome: Option<&Outcome>,
-) -> Result<(), NoMemory>
-    ensures { OnOk result (needs.new.items ≡ needs.old.items ++ need_at expired id position
-        (option_copied outcome.entry)) }
+)
+    requires { length unsettled.old.items < unsettled.old.room }
+    ensures { unsettled.new ≡ record unsettled.old {
+      items = unsettled.old.items
+          ++ need_at expired id position (option_copied outcome.entry);
+    } }
 {
     let Some(outcome) = outcome else {
-        return Ok(());
+        return;
     };
     if let Some(need) = need(expired, *outcome) {
-        needs.push(Unsettled { id, position, need })?;
+        unsettled.push(Unsettled { id, position, need });
     }
-    Ok(())
 }
 
 fn outcome_at(outcomes: &[Outcome], i: usize) -> Option<&Outcome>
@@ -55,38 +57,67 @@ fn outcome_at(outcomes: &[Outcome], i: usize) -> Option<&Outcome>
     outcomes.get(i)
 }
 
-/// What these outcomes of a message's recipients need, in their order.
-pub(crate) fn needs(
-    alloc: Global,
+/// Adds what these outcomes of a message's recipients need, in their order.
+pub(crate) fn add_needs(
+    unsettled: &mut Queue<Unsettled>,
     id: Id,
     expired: bool,
     positions: &[u32],
     outcomes: &[Outcome],
-) -> Result<Vec<Unsettled>, NoMemory>
-    ensures { IfOk result (λ needs. needs.items ≡ needs_in expired id positions.now outcomes.now) }
+)
+    requires { length unsettled.old.items + length positions.now ≤ unsettled.old.room }
+    ensures { unsettled.new ≡ record unsettled.old {
+      items = unsettled.old.items
+          ++ needs_in expired id positions.now outcomes.now;
+    } }
 {
-    let mut needs = Vec::new(alloc);
     for i in 0..positions.len() {
         add_need(
-            &mut needs,
+            unsettled,
             id,
             expired,
             positions[i],
             outcome_at(outcomes, i),
-        )?;
+        );
     }
-    Ok(needs)
 }
 
-/// What a message's recipients need that are put off without a code.
-pub(crate) fn put_off(
-    alloc: Global,
+/// Adds what recipients need that are put off without a code and whose message is too old: their
+/// failures are logged.
+fn add_failures(unsettled: &mut Queue<Unsettled>, id: Id, positions: &[u32])
+    requires { length unsettled.old.items + length positions.now ≤ unsettled.old.room }
+    ensures { unsettled.new ≡ record unsettled.old {
+      items = unsettled.old.items
+          ++ needs_put_off true id positions.now;
+    } }
+{
+    for i in 0..positions.len() {
+        unsettled.push(Unsettled {
+            id,
+            position: positions[i],
+            need: Need::Log {
+                why: Why::Expired,
+                code: 0,
+            },
+        });
+    }
+}
+
+/// Adds what a message's recipients need that are put off without a code.
+pub(crate) fn add_put_off(
+    unsettled: &mut Queue<Unsettled>,
     id: Id,
     expired: bool,
     positions: &[u32],
-) -> Result<Vec<Unsettled>, NoMemory>
-    ensures { IfOk result (λ needs. needs.items ≡ needs_put_off expired id positions.now) }
+)
+    requires { IsTrue expired
+        → length unsettled.old.items + length positions.now ≤ unsettled.old.room }
+    ensures { unsettled.new ≡ record unsettled.old {
+      items = unsettled.old.items
+          ++ needs_put_off expired id positions.now;
+    } }
 {
-    let outcomes = vec![in alloc; Outcome::Later(0); positions.len()]?;
-    needs(alloc, id, expired, positions, &outcomes)
+    if expired {
+        add_failures(unsettled, id, positions);
+    }
 }

@@ -1,57 +1,81 @@
 //! A delivery in flight ends.
-ghost use Rattle.std.specs.Prelude.{◌≡◌, ◌≤◌, ◌==◌, filter, IfOk, IfSome, IsTrue, not, OnErr, OnOk, Some};
+ghost use Rattle.std.specs.Prelude.{◌≡◌, ◌≤◌, ◌+◌, ◌++◌, ◌==◌, filter, find, IfSome, IsTrue, length, not, Some};
 ghost use Rattle.q_core.specs.Agrees.{FollowsAllowed};
-ghost use Rattle.q_core.specs.Changes.{IsUnchanged, is_looked_at, left_sites, with_sites};
+ghost use Rattle.q_core.specs.Changes.{is_looked_at, left_sites, with_sites};
+ghost use Rattle.q_core.specs.Needs.{needs_in};
 ghost use Rattle.q_core.specs.Queries.{flight_in};
 ghost use Rattle.q_core.specs.UsedSites.{busy_in};
+ghost use Rattle.q_flights.specs.Flying.{has_number};
 ghost use Rattle.q_model.specs.declared.rows.Delivery.{Delivery as DeliveryOf};
-ghost use Rattle.q_core.specs.Leaving.{AreAdded, IsSiteHeard, IsLanded, replied_in};
+ghost use Rattle.q_core.specs.Leaving.{AreAdded, IsSiteHeard, IsLanded};
 
 use crate::counting::{end_flight, gain_unsettled};
 use crate::dead_rows::hold_at;
-use crate::needs::needs;
+use crate::needs::add_needs;
 use crate::state::Core;
-use q_model::{Delivery, Entry, NoMemory, Outcome, Site, SiteState, Unsettled};
-use std::alloc::Global;
+use q_flights::Flights;
+use q_model::{Entry, Outcome, Site, SiteState, Unsettled};
+use q_queue::Queue;
+
+/// Adds what the outcomes of the delivery of this number need.
+fn add_needs_of(
+    unsettled: &mut Queue<Unsettled>,
+    flights: &Flights,
+    number: u64,
+    expired: bool,
+    outcomes: &[Outcome],
+)
+    requires { (f : DeliveryOf) → find (has_number number) flights.now.items ≡ Some f
+        → length unsettled.old.items + length f.row.positions ≤ unsettled.old.room }
+    ensures { (f : DeliveryOf) → find (has_number number) flights.now.items ≡ Some f
+        → unsettled.new ≡ record unsettled.old {
+          items = unsettled.old.items
+              ++ needs_in expired f.row.id f.row.positions outcomes.now;
+        } }
+{
+    if let Some(delivery) = flights.get(number) {
+        let row = &delivery.row;
+        add_needs(
+            unsettled,
+            row.id,
+            expired,
+            row.positions.as_slice(),
+            outcomes,
+        );
+    }
+}
 
 impl Core {
-    /// What the outcomes of the delivery need.
-    fn outcome_needs(
-        &self,
-        alloc: Global,
-        delivery: &Delivery,
-        outcomes: &[Outcome],
-    ) -> Result<Vec<Unsettled>, NoMemory>
-        ensures { IfOk result (λ needs. needs.items
-            ≡ replied_in self.now delivery.now outcomes.now) }
-    {
-        let row = &delivery.row;
-        let expired = self.id_expired(row.id);
-        needs(alloc, row.id, expired, row.positions.as_slice(), outcomes)
-    }
-
-    /// Adds what the outcomes of the delivery of this number need, and gives its site.
-    fn add_outcomes(
-        &mut self,
-        alloc: Global,
-        number: u64,
-        outcomes: &[Outcome],
-    ) -> Result<Option<Site>, NoMemory>
-        ensures ok { IfOk result (λ site. AreAdded self.old self.new number outcomes.now site) }
-        ensures busy { IfOk result (λ o. IfSome o (λ site. 1 ≤ busy_in self.new.flights site)) }
-        ensures err { OnErr result (IsUnchanged self.old self.new) }
+    /// Adds what the outcomes of the delivery of this number need, and gives its site. Nothing is
+    /// done where they have no space, which is so in no ledger.
+    fn add_outcomes(&mut self, number: u64, outcomes: &[Outcome]) -> Option<Site>
+        ensures added { AreAdded self.old self.new number outcomes.now result }
+        ensures busy { IfSome result (λ site. 1 ≤ busy_in self.new.flights site) }
     {
         let Some(delivery) = self.delivery(number) else {
-            return Ok(None);
+            return None;
         };
-        let site = delivery.row.site;
-        let needs = self.outcome_needs(alloc, delivery, outcomes)?;
-        let done = delivery.row.positions.len().saturating_sub(needs.len());
-        let id = delivery.row.id;
-        self.unsettled.extend_from_slice(&needs)?;
-        gain_unsettled(&mut self.admitted, id, needs.len() as u64);
+        let row = &delivery.row;
+        if !self.has_space(row.positions.as_slice()) {
+            return None;
+        }
+        let (id, site) = (row.id, row.site);
+        let recipients = row.positions.len();
+        let expired = self.id_expired(id);
+        let before = self.unsettled.len();
+        add_needs_of(
+            &mut self.unsettled,
+            &self.flights,
+            number,
+            expired,
+            outcomes,
+        );
+        self.unsettled.stand_within();
+        let needs = self.unsettled.len().saturating_sub(before);
+        let done = recipients.saturating_sub(needs);
+        gain_unsettled(&mut self.admitted, id, needs as u64);
         self.in_memory = self.in_memory.saturating_sub(done as u64);
-        Ok(Some(site))
+        Some(site)
     }
 
     /// Lets the site hear of a delivery that is still in flight. Its rows are held back where it
@@ -85,24 +109,15 @@ impl Core {
     }
 
     /// Takes the reply of the delivery of this number, with an outcome for each recipient.
-    pub(crate) fn hear_reply(
-        &mut self,
-        alloc: Global,
-        number: u64,
-        state: SiteState,
-        outcomes: &[Outcome],
-    ) -> Result<(), NoMemory>
+    pub(crate) fn hear_reply(&mut self, number: u64, state: SiteState, outcomes: &[Outcome])
         requires seen { IsTrue (is_looked_at self.old) }
-        ensures ok { OnOk result (FollowsAllowed self.old self.new
-            (Entry.Reply number state outcomes.now)) }
-        ensures err { OnErr result (IsUnchanged self.old self.new) }
+        ensures { FollowsAllowed self.old self.new (Entry.Reply number state outcomes.now) }
     {
-        let Some(site) = self.add_outcomes(alloc, number, outcomes)? else {
-            return Ok(());
+        let Some(site) = self.add_outcomes(number, outcomes) else {
+            return;
         };
         self.hear_site(&site, state);
         self.land(number);
         self.tidy();
-        Ok(())
     }
 }

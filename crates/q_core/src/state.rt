@@ -13,6 +13,7 @@ use q_model::{Entry, Id, Mode, Moment, NoMemory, Positions, Request, Scan, Site,
 use q_open_rows::OpenRows;
 use q_params::Params;
 use q_pool::{Pool, Slot};
+use q_queue::Queue;
 use q_schedule::Schedule;
 use std::marker::Model;
 
@@ -52,10 +53,11 @@ pub struct Core {
     pub(crate) flights: Flights,
     /// Recipients that are waiting, in flight or unsettled.
     pub(crate) in_memory: u64,
-    pub(crate) unsettled: Vec<Unsettled>,
+    pub(crate) unsettled: Queue<Unsettled>,
     pub(crate) turns: Schedule,
     pub(crate) sites: Sites,
-    pub(crate) synced: Vec<Id>,
+    /// The message of an earlier life that was synced last.
+    pub(crate) synced: Option<Id>,
     pub(crate) starts: u64,
     pub(crate) active: Seen,
     pub(crate) incoming: Seen,
@@ -81,6 +83,7 @@ impl Model for Core {
 
     ghost view = { state_of };
 
+    ghost use Rattle.q_core.specs.Rooms.{HaveRoom};
     ghost use Rattle.q_core.specs.Ties.{AreMessagesTied, AreSitesTied, AreTied, AreTurnsTied, goes_to_dead};
     ghost use Rattle.q_core.specs.Touched.{IsTidyBut};
     ghost use Rattle.q_held.specs.Held.{AreHeldBy, rows_of};
@@ -93,7 +96,8 @@ impl Model for Core {
         × AreSitesTied a.sites.items (rows_of a.waiting.items) a.flights.items
         × AreTurnsTied a.turns.peers (rows_of a.waiting.items) a.starts
         × AreHeldBy (goes_to_dead a.sites.items) a.waiting.items
-        × AreMessagesTied a.params a.turns (heads a.admitted.items) };
+        × AreMessagesTied a.params a.turns (heads a.admitted.items)
+        × HaveRoom a.params a.transports a.flights a.question a.named a.unsettled };
 }
 
 impl Core {

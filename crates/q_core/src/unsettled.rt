@@ -1,7 +1,7 @@
 //! Outcomes that aren't on disk yet, and rows that can't be sent.
 ghost use Rattle.std.specs.Option.{option_copied};
 ghost use Rattle.std.specs.Prelude.{◌≡◌, find};
-ghost use Rattle.q_core.specs.Held.{is_dead_in};
+ghost use Rattle.q_core.specs.Held.{have_space, is_dead_in};
 ghost use Rattle.q_core.specs.Rules.{decision_of, first_need_in, next_skip_in, next_skip_number};
 
 use crate::decision::Decision;
@@ -36,6 +36,16 @@ impl Core {
             Some(row) => Some(needed(row)),
             None => None,
         }
+    }
+
+    /// Whether outcomes of so many recipients have space beside those that are to be settled. Those
+    /// of recipients in memory have it, as long as these are within their limit.
+    pub(crate) fn has_space(&self, recipients: &[u32]) -> bool
+        ensures { result ≡ have_space self.now recipients.now }
+    {
+        self.unsettled.stand_within();
+        let spare = self.unsettled.spare() as usize;
+        recipients.len() <= spare
     }
 
     /// The first waiting row whose site is dead.

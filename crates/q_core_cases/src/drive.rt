@@ -89,7 +89,7 @@ impl Driver {
     }
 
     /// Hears an event, where that is allowed.
-    fn hear(&mut self, alloc: Global, heard: Heard<'_>) -> Result<(), Stop> {
+    fn hear(&mut self, heard: Heard<'_>) -> Result<(), Stop> {
         let late = match heard {
             Heard::At { moment } => moment > 999_990_000_000,
             _ => false,
@@ -97,7 +97,7 @@ impl Driver {
         if late || !self.core.is_looked_at() || !self.core.is_answered() {
             return Err(Stop::Wrong);
         }
-        self.core.event(alloc, heard)?;
+        self.core.event(heard);
         Ok(())
     }
 
@@ -114,7 +114,7 @@ impl Driver {
     }
 
     fn at(&mut self, alloc: Global, moment: Moment) -> Result<(), Stop> {
-        self.hear(alloc, Heard::At { moment })?;
+        self.hear(Heard::At { moment })?;
         self.run(alloc)
     }
 
@@ -135,7 +135,7 @@ impl Driver {
             in_memory: false,
         };
         self.mail.add(message)?;
-        self.hear(alloc, Heard::Mail { id })?;
+        self.hear(Heard::Mail { id })?;
         self.run(alloc)
     }
 
@@ -172,7 +172,7 @@ impl Driver {
             site,
             outcomes: &outcomes,
         };
-        self.hear(alloc, heard)?;
+        self.hear(heard)?;
         self.run(alloc)
     }
 
@@ -194,7 +194,7 @@ impl Driver {
     }
 
     fn trigger(&mut self, alloc: Global, kind: Trigger) -> Result<(), Stop> {
-        self.hear(alloc, Heard::Trigger { kind })?;
+        self.hear(Heard::Trigger { kind })?;
         self.run(alloc)
     }
 

@@ -36,7 +36,7 @@ impl Driver {
         if !self.core.is_answered() {
             return Err(Stop::Wrong);
         }
-        let Some(decision) = self.core.next_decision(alloc)? else {
+        let Some(decision) = self.core.next_decision() else {
             return Ok(false);
         };
         self.carry_out(alloc, decision)?;
@@ -232,7 +232,7 @@ impl Driver {
             if !self.core.may_name() {
                 return Err(Stop::Wrong);
             }
-            self.core.sited(&site)?;
+            self.core.sited(&site);
             if taken.len() >= taken.room() as usize {
                 return Err(Stop::Wrong);
             }

@@ -80,7 +80,7 @@ fn a_fresh_core_only_looks(rt: HostRuntime) {
 }
 
 /// Hears an event, where that is allowed.
-fn hears(core: &mut Core, alloc: Global, heard: Heard<'_>) -> bool {
+fn hears(core: &mut Core, heard: Heard<'_>) -> bool {
     let late = match heard {
         Heard::At { moment } => moment > 999_990_000_000,
         _ => false,
@@ -88,31 +88,29 @@ fn hears(core: &mut Core, alloc: Global, heard: Heard<'_>) -> bool {
     if late || !core.is_answered() || !core.is_looked_at() {
         return false;
     }
-    core.event(alloc, heard).is_ok()
+    core.event(heard);
+    true
 }
 
-fn at(core: &mut Core, alloc: Global, moment: Moment) -> bool {
-    hears(core, alloc, Heard::At { moment })
+fn at(core: &mut Core, moment: Moment) -> bool {
+    hears(core, Heard::At { moment })
 }
 
-fn trigger(core: &mut Core, alloc: Global, kind: Trigger) -> bool {
-    hears(core, alloc, Heard::Trigger { kind })
+fn trigger(core: &mut Core, kind: Trigger) -> bool {
+    hears(core, Heard::Trigger { kind })
 }
 
 /// Takes the next decision, and gives its name.
-fn decides(core: &mut Core, alloc: Global) -> Option<u64> {
+fn decides(core: &mut Core) -> Option<u64> {
     if !core.is_answered() {
         return None;
     }
-    match core.next_decision(alloc) {
-        Ok(decision) => Some(shown(decision)),
-        Err(_) => None,
-    }
+    Some(shown(core.next_decision()))
 }
 
 /// Answers the look that is wanted next.
-fn finds(core: &mut Core, alloc: Global, found: Found) -> bool {
-    if decides(core, alloc).is_none() || !core.is_looking() {
+fn finds(core: &mut Core, found: Found) -> bool {
+    if decides(core).is_none() || !core.is_looking() {
         return false;
     }
     core.found(found);
@@ -126,16 +124,16 @@ fn looks_lead_to_an_admission(rt: HostRuntime) {
         assert!(rt; false);
         return;
     };
-    assert!(rt; at(&mut core, alloc, 1_000) && shown(core.decision()) == 1_000);
-    assert!(rt; finds(&mut core, alloc, Found::Nothing) && shown(core.decision()) == 1);
-    assert!(rt; finds(&mut core, alloc, Found::Nothing) && shown(core.decision()) == 2);
-    assert!(rt; finds(&mut core, alloc, message(7)) && shown(core.decision()) == 107);
-    assert!(rt; trigger(&mut core, alloc, Trigger::A) && trigger(&mut core, alloc, Trigger::D));
+    assert!(rt; at(&mut core, 1_000) && shown(core.decision()) == 1_000);
+    assert!(rt; finds(&mut core, Found::Nothing) && shown(core.decision()) == 1);
+    assert!(rt; finds(&mut core, Found::Nothing) && shown(core.decision()) == 2);
+    assert!(rt; finds(&mut core, message(7)) && shown(core.decision()) == 107);
+    assert!(rt; trigger(&mut core, Trigger::A) && trigger(&mut core, Trigger::D));
     assert!(rt; shown(core.decision()) == 999_999_999_999);
-    assert!(rt; finds(&mut core, alloc, Found::Nothing));
-    assert!(rt; trigger(&mut core, alloc, Trigger::F) && at(&mut core, alloc, 1_299));
+    assert!(rt; finds(&mut core, Found::Nothing));
+    assert!(rt; trigger(&mut core, Trigger::F) && at(&mut core, 1_299));
     assert!(rt; shown(core.decision()) == 107);
-    assert!(rt; at(&mut core, alloc, 1_300) && shown(core.decision()) == 1_300);
+    assert!(rt; at(&mut core, 1_300) && shown(core.decision()) == 1_300);
 }
 
 /// Whether the message is in active and goes to corrupt next.
@@ -171,11 +169,11 @@ fn a_message_that_cannot_be_read_goes_to_corrupt(rt: HostRuntime) {
         assert!(rt; false);
         return;
     };
-    assert!(rt; at(&mut core, alloc, 1_000) && finds(&mut core, alloc, Found::Nothing));
-    assert!(rt; finds(&mut core, alloc, Found::Nothing) && finds(&mut core, alloc, message(7)));
-    assert!(rt; decides(&mut core, alloc) == Some(107));
-    assert!(rt; finds(&mut core, alloc, Found::Nothing));
-    assert!(rt; decides(&mut core, alloc) == Some(3) && reads_no_record(&mut core, 7));
-    assert!(rt; goes_to_corrupt(&core, 7) && decides(&mut core, alloc) == Some(3));
+    assert!(rt; at(&mut core, 1_000) && finds(&mut core, Found::Nothing));
+    assert!(rt; finds(&mut core, Found::Nothing) && finds(&mut core, message(7)));
+    assert!(rt; decides(&mut core) == Some(107));
+    assert!(rt; finds(&mut core, Found::Nothing));
+    assert!(rt; decides(&mut core) == Some(3) && reads_no_record(&mut core, 7));
+    assert!(rt; goes_to_corrupt(&core, 7) && decides(&mut core) == Some(3));
     assert!(rt; shown(core.decision()) == 1);
 }

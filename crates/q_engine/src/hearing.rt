@@ -39,7 +39,7 @@ impl Engine {
         ensures cause { HostCause (H.faults host.old) (H.faults host.new) result }
     {
         let latest = later(self.core.now(), moment);
-        self.core.event(alloc, Heard::At { moment: latest })?;
+        self.core.event(Heard::At { moment: latest });
         tell(alloc, host, &self.table, &Entry::At { moment: latest })
     }
 
@@ -59,7 +59,7 @@ impl Engine {
             (StopsHearing (events.Trigger kind) self.old error)) }
         ensures cause { HostCause (H.faults host.old) (H.faults host.new) result }
     {
-        self.core.event(alloc, Heard::Trigger { kind })?;
+        self.core.event(Heard::Trigger { kind });
         tell(alloc, host, &self.table, &Entry::Trigger { kind })
     }
 }

@@ -37,7 +37,7 @@ impl Engine {
             }
             let recipient = taken.get(i);
             let site = self.table.route(&recipient.address);
-            self.core.sited(&site)?;
+            self.core.sited(&site);
         }
         Ok(())
     }

@@ -86,7 +86,7 @@ impl Engine {
         ensures cause { DiskCause (H.faults host.old) (H.faults host.new) result }
     {
         for _ in 0..LOOKS {
-            let Some(decision) = self.core.next_decision(alloc)? else {
+            let Some(decision) = self.core.next_decision() else {
                 return Ok(None);
             };
             if !self.core.is_looking() {

@@ -81,7 +81,7 @@ impl Engine {
             bounce: false,
         };
         let head = head_of(&sender, self.core.now());
-        self.core.event(alloc, Heard::Mail { id })?;
+        self.core.event(Heard::Mail { id });
         self.arrivals += 1;
         store(alloc, host, id, &head, &to, content.as_slice())?;
         tell(

@@ -85,14 +85,11 @@ impl Engine {
             return Err(HostError::NoMemory);
         };
         let positions = copied(alloc, positions)?;
-        self.core.event(
-            alloc,
-            Heard::Reply {
-                number,
-                site,
-                outcomes: &outcomes,
-            },
-        )?;
+        self.core.event(Heard::Reply {
+            number,
+            site,
+            outcomes: &outcomes,
+        });
         self.note_reply(alloc, host, flight.id, positions.as_slice(), &outcomes)?;
         tell(
             alloc,

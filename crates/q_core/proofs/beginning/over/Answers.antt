@@ -1,5 +1,6 @@
 use Rattle.std.proofs.Common.{◌≡◌, [], ap, refl, subst, sym}
 use Rattle.q_core.proofs.MessageTies.{messages_new}
+use Rattle.q_core.proofs.ProcessLaws.{processes_new}
 use Rattle.q_core.proofs.SiteChanges.{sites_new}
 use Rattle.q_core.proofs.StillTidyLines.{new_tidy}
 use Rattle.q_core.proofs.TiedLaws.{tied_new}
@@ -9,7 +10,9 @@ use Rattle.q_core.specs.ServedRows.{served_rows}
 use Rattle.q_core.specs.Ties.{goes_to_dead}
 use Rattle.q_held.specs.Held.{AreHeldBy, rows_of}
 use Rattle.q_pool.specs.Kept.{heads}
+use Rattle.q_model.specs.declared.rows.Unsettled.{Unsettled}
 use Rattle.q_pool.specs.Pooled.{Pooled}
+use Rattle.q_queue.specs.Queued.{Queued}
 use Rattle.q_core.proofs.beginning.over.Goals as goal
 
 pub invariant_of-result : goal.invariant_of-result
@@ -19,13 +22,20 @@ invariant_of-result c =
     let turns = c.args.registers.2 in
     let sites = c.args.registers.0 in
     let rows : rows_of c.args.rooms.0.items ≡ [] = ap rows_of e.waiting in
+    let outcomes : c.args.rooms.4.items ≡ [] = ap (λ (q : Queued Unsettled). q.items) e.unsettled in
     let slots : heads c.args.registers.1.items ≡ [] = ap (λ (m : Pooled). heads m.items) r.admitted in (
-      tied_new c.args.params c.args.registers.1 (rows_of c.args.rooms.0.items) c.args.rooms.1.items c.new-2.result.items r.admitted rows e.flights c.new-2.ensures.items,
+      tied_new c.args.params c.args.registers.1 (rows_of c.args.rooms.0.items) c.args.rooms.1.items c.args.rooms.4.items r.admitted rows e.flights outcomes,
       rw (slots, rows, r.lines) (new_tidy c.args.transports),
       sites_new sites.items (rows_of c.args.rooms.0.items) c.args.rooms.1.items r.sites rows e.flights,
       turns_new turns.peers (rows_of c.args.rooms.0.items) r.peers rows,
       subst (AreHeldBy (goes_to_dead sites.items)) (sym e.waiting) tt,
       messages_new c.args.params turns (heads c.args.registers.1.items) r.messages slots r.message_room,
+      record {
+        deliveries = processes_new c.args.params c.args.transports c.args.rooms.1 e.flights e.flight_room;
+        asked = tt;
+        names = e.name_room;
+        outcomes = ap (λ (q : Queued Unsettled). q.room) e.unsettled;
+      },
     )
 
 pub returns : goal.returns
@@ -33,7 +43,8 @@ returns c =
     let r = c.requires.registers in
     let e = c.requires.rooms in
     let rows : rows_of c.args.rooms.0.items ≡ [] = ap rows_of e.waiting in
+    let outcomes : c.args.rooms.4.items ≡ [] = ap (λ (q : Queued Unsettled). q.items) e.unsettled in
     let slots : heads c.args.registers.1.items ≡ [] = ap (λ (m : Pooled). heads m.items) r.admitted in
     let served : served_rows c.args.registers.2.peers ≡ [] = ap served_rows r.peers in
     let known : known_records c.args.registers.0.items ≡ [] = ap known_records r.sites in
-    rw (c.new.ensures, slots, rows, e.flights, served, c.new-2.ensures.items, r.lines, known, c.new-3.ensures.items, c.new-4.ensures.items, c.new-5.ensures) refl
+    rw (c.new.ensures, slots, rows, e.flights, served, outcomes, r.lines, known, e.named, c.new-2.ensures) refl

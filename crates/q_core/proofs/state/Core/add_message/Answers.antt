@@ -51,6 +51,7 @@ invariant_of-self c =
       rw (ap (λ (x : Scheduling). x.peers) c.admit.ensures) c.self.invariant.3,
       c.self.invariant.4,
       messages_more a.params a.turns (heads a.admitted.items) c.self.invariant.5 c.args.slot c.admit.new.self _ (c.admit.ensures ∙ ap (λ m. record a.turns { messages = a.turns.messages ++ m ∷ [] }) c.admitted.ensures) slots,
+      c.self.invariant.6,
     )
 
 pub returns : goal.returns

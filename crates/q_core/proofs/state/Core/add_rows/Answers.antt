@@ -86,6 +86,7 @@ invariant_of-self c =
       messages_same core.params c.count_peers.new.turns (heads core.admitted.items)
           (messages_stay core.params core.turns (heads core.admitted.items) c.self.invariant.5 c.count_peers.new.turns
           (ap (λ (x : Scheduling). x.messages) c.count_peers.ensures.rest ∙ ap (λ (x : Scheduling). x.messages) turns) (ap (λ (x : Scheduling). x.message_room) c.count_peers.ensures.rest ∙ ap (λ (x : Scheduling). x.message_room) turns)) _ slots,
+      c.self.invariant.6,
     )
 
 pub returns-clause-ok : goal.returns-clause-ok

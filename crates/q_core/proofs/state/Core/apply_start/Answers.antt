@@ -2,10 +2,11 @@ use Rattle.std.proofs.Common.{ap, ◌∙◌, inl, refl, Some}
 use Rattle.q_model.specs.declared.entry.Entry.TheVariants as entries
 use Rattle.q_core.specs.declared.decision.Decision.TheVariants as decisions
 use Rattle.q_core.proofs.LastRuleLaws.{next_is_start}
+use Rattle.q_core.proofs.ProcessDecisions.{decided_process}
 use Rattle.q_core.proofs.state.Core.apply_start.Goals as goal
 
-pub returns-clause-ok : goal.returns-clause-ok
-returns-clause-ok c = λ w l a.
+pub returns : goal.returns
+returns c = λ w l a.
     let number = c.args.number in
     let id = c.args.id in
     let site = c.args.site in
@@ -16,5 +17,8 @@ returns-clause-ok c = λ w l a.
       entries.Start number id site positions,
       (positions, refl),
       k.0 ∙ starts,
-      c.in_ok-start_delivery.ensures.ok positions w l a starts,
+      c.start_delivery.ensures positions w l a starts,
     )
+
+pub start_delivery-requires-clause-process : goal.start_delivery-requires-clause-process
+start_delivery-requires-clause-process c = decided_process c.args.self.now c.args.number c.args.id c.args.site c.requires.decided

@@ -1,7 +1,8 @@
-use Rattle.std.proofs.Common.{◌≡◌, ◌∙◌, ap, sym, subst, Option, None, Some}
+use Rattle.std.proofs.Common.{◌≡◌, ◌∙◌, ap, false, sym, subst, Option, None, Some, true}
 use Rattle.q_model.specs.Step.{after}
 use Rattle.q_model.specs.Values.{Site}
 use Rattle.q_core.proofs.ReplyLaws.{reply_in_flight, reply_law}
+use Rattle.q_core.proofs.SpaceLaws.{flight_has_space}
 use Rattle.q_core.specs.Leaving.{AreAdded}
 use Rattle.q_core.proofs.UsedLaws.{has_left, tidied_left}
 use Rattle.q_core.specs.Changes.{left_sites}
@@ -9,20 +10,19 @@ use Rattle.q_core.specs.Queries.{flight_in}
 use Rattle.q_core.specs.declared.state.Core.{Core}
 use Rattle.q_core.proofs.state.Core.hear_reply.Goals as goal
 
-none_found : {X : Type 0} (o : Option X) (x : X) → o ≡ None → o ≡ Some x → ⊥
-none_found o x h e = let bad : None ≡ Some x = sym h ∙ e in cc
-
-pub returns-in_default-clause-ok : goal.returns-in_default-clause-ok
-returns-in_default-clause-ok c = λ w l a may.
+pub returns-in_default : goal.returns-in_default
+returns-in_default c = λ w l a may.
     let f = reply_in_flight a c.args.number c.args.state c.args.outcomes.now may in
-    absurd (none_found _ f.0 (subst (λ (o : Option Site). AreAdded c.args.self.now c.add_outcomes.new.self c.args.number c.args.outcomes.now o) c.in_default.is c.in_ok-site.ensures.ok) f.1)
+    let none : AreAdded c.args.self.now c.add_outcomes.new.self c.args.number c.args.outcomes.now None =
+    subst (λ (o : Option Site). AreAdded c.args.self.now c.add_outcomes.new.self c.args.number c.args.outcomes.now o) c.in_default.is c.add_outcomes.ensures.added in
+    let bad : true ≡ false = sym (flight_has_space a c.args.number f.0 f.1) ∙ none f.0 f.1 in cc
 
-pub returns-clause-ok : goal.returns-clause-ok
+pub returns : goal.returns
 unfolding after
-returns-clause-ok c = λ w l a may.
+returns c = λ w l a may.
     let f = reply_in_flight a c.args.number c.args.state c.args.outcomes.now may in
     let added : AreAdded c.args.self.now c.add_outcomes.new.self c.args.number c.args.outcomes.now (Some c.in-Some.site) =
-    subst (λ (o : Option Site). AreAdded c.args.self.now c.add_outcomes.new.self c.args.number c.args.outcomes.now o) c.in-Some.is c.in_ok-site.ensures.ok in
+    subst (λ (o : Option Site). AreAdded c.args.self.now c.add_outcomes.new.self c.args.number c.args.outcomes.now o) c.in-Some.is c.add_outcomes.ensures.added in
     let replied = added f.0 f.1 in
     let v = c.hear_site.new.self in
     let y = c.land.new.self in

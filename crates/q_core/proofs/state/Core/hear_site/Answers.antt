@@ -38,6 +38,7 @@ invariant_of-self c =
           (λ r. tested_step ds site c.is_dead-was_dead.result r (site_eq r.site site) refl c.is_dead-was_dead.ensures)
           (turned_at site change (λ d. heard_in_site core.params d.busy core.clock.seconds c.args.state d.known) ds dead is) c.self.invariant.4,
       c.self.invariant.5,
+      c.self.invariant.6,
     )
 
 pub returns : goal.returns

@@ -1,6 +1,7 @@
-use Rattle.std.proofs.Common.{◌≡◌, ◌∙◌, ◌==◌, ap, filter, find, None, not, refl, Some, sym}
+use Rattle.std.proofs.Common.{◌≡◌, ◌∙◌, ◌==◌, ap, filter, find, List, None, not, refl, Some, sym}
 use Rattle.q_core.proofs.MessageTies.{messages_same}
 use Rattle.q_core.proofs.PoolTies.{heads_recounted}
+use Rattle.q_core.proofs.ProcessLaws.{processes_left}
 use Rattle.q_core.proofs.SiteChanges.{sites_landed, sites_settled}
 use Rattle.q_core.proofs.SiteViews.{settled_used}
 use Rattle.q_core.proofs.TiedLaws.{tied_landed}
@@ -28,8 +29,8 @@ use Rattle.q_core.proofs.state.Core.land.Goals as goal
 pub invariant_of-self : goal.invariant_of-self
 invariant_of-self c =
     let a = c.self.inside in
-    let same : c.remove.new.self.items ≡ a.flights.items =
-    ap (λ (v : Flying). v.items) c.remove.ensures.items ∙ whole c.args.number a.flights.items (sym c.remove.ensures.taken ∙ c.in_default.is) in
+    let same : c.remove.new.self ≡ a.flights =
+    c.remove.ensures.items ∙ ap (λ (fs : List Delivery). record a.flights { items = fs }) (whole c.args.number a.flights.items (sym c.remove.ensures.taken ∙ c.in_default.is)) in
     rw same c.self.invariant
 
 pub returns-in_default-clause-landed : goal.returns-in_default-clause-landed
@@ -62,6 +63,12 @@ invariant_of-self-2 c =
       rw sites (tested_alike (goes_to_dead a.sites.items) (goes_to_dead (filter is_kept (settled f.row.site landed a.sites.items))) a.waiting.items
           (λ r. sym (alike_settled f.row.site landed (λ d. refl) a.sites.items c.stand_apart-2.ensures.apart r)) c.self.invariant.4),
       messages_same a.params a.turns (heads a.admitted.items) c.self.invariant.5 _ slots,
+      rw c.remove.ensures.items (record {
+        deliveries = processes_left a.params a.transports a.flights (λ (x : Delivery). not (x.number == c.args.number)) c.self.invariant.6.deliveries;
+        asked = c.self.invariant.6.asked;
+        names = c.self.invariant.6.names;
+        outcomes = c.self.invariant.6.outcomes;
+      }),
     )
 
 pub returns-clause-landed : goal.returns-clause-landed

@@ -4,15 +4,16 @@ use Rattle.q_core.specs.Looking.{is_unseen, looks_left}
 use Rattle.q_core.specs.declared.state.Core.{Core}
 use Rattle.q_core.proofs.AskLaws.{asking_applied, decided_law, quiet_law, same_unseen}
 use Rattle.q_core.proofs.PlacedDecisions.{placed_law}
+use Rattle.q_core.proofs.ReadRooms.{decided_asks, other_asks}
 use Rattle.q_core.proofs.StartedLaws.{started_law}
 use Rattle.q_core.proofs.AskedLaws.{look_unseen}
 use Rattle.q_core.proofs.state.Core.next_decision.Goals as goal
 
-pub returns-in_default-clause-ok : goal.returns-in_default-clause-ok
-returns-in_default-clause-ok c = λ w l a. quiet_law a (sym c.decide.ensures ∙ c.in_default.is)
+pub returns-in_default-clause-exact : goal.returns-in_default-clause-exact
+returns-in_default-clause-exact c = λ w l a. quiet_law a (sym c.decide.ensures ∙ c.in_default.is)
 
-pub returns-then-is_asking-clause-ok : goal.returns-then-is_asking-clause-ok
-returns-then-is_asking-clause-ok c = λ w l a.
+pub returns-then-is_asking-clause-exact : goal.returns-then-is_asking-clause-exact
+returns-then-is_asking-clause-exact c = λ w l a.
     let d = c.in-Some.decision in
     decided_law d a (asking_applied a d (sym c.is_asking.ensures ∙ c.if-is_asking.true) (sym c.decide.ensures ∙ c.in-Some.is)) c.ask.ensures.rest
 
@@ -25,8 +26,8 @@ returns-then-is_asking-clause-unseen c = λ looks.
 pub returns-then-is_asking-clause-looks : goal.returns-then-is_asking-clause-looks
 returns-then-is_asking-clause-looks c = λ looks. ap looks_left c.ask.ensures.rest
 
-pub returns-clause-ok : goal.returns-clause-ok
-returns-clause-ok c = λ w l a. decided_law c.in-Some.decision a (c.in_ok-apply.ensures.ok w l a) c.ask-2.ensures.rest
+pub returns-clause-exact : goal.returns-clause-exact
+returns-clause-exact c = λ w l a. decided_law c.in-Some.decision a (c.apply.ensures.applied w l a) c.ask-2.ensures.rest
 
 pub returns-then-is_asking-clause-started : goal.returns-then-is_asking-clause-started
 returns-then-is_asking-clause-started c = λ w l a.
@@ -34,10 +35,13 @@ returns-then-is_asking-clause-started c = λ w l a.
     started_law d a (asking_applied a d (sym c.is_asking.ensures ∙ c.if-is_asking.true) (sym c.decide.ensures ∙ c.in-Some.is)) c.ask.ensures.rest
 
 pub returns-clause-started : goal.returns-clause-started
-returns-clause-started c = λ w l a. started_law c.in-Some.decision a (c.in_ok-apply.ensures.ok w l a) c.ask-2.ensures.rest
+returns-clause-started c = λ w l a. started_law c.in-Some.decision a (c.apply.ensures.applied w l a) c.ask-2.ensures.rest
 
 pub returns-then-is_asking-clause-placed : goal.returns-then-is_asking-clause-placed
 returns-then-is_asking-clause-placed c = λ w l a. subst (IsPlaced l) (sym c.decide.ensures ∙ c.in-Some.is) (placed_law a)
 
 pub returns-clause-placed : goal.returns-clause-placed
 returns-clause-placed c = λ w l a. subst (IsPlaced l) (sym c.decide.ensures ∙ c.in-Some.is) (placed_law a)
+
+pub ask-requires : goal.ask-requires
+ask-requires c = decided_asks c.args.self.now c.in-Some.decision (sym c.decide.ensures ∙ c.in-Some.is)

@@ -25,6 +25,7 @@ invariant_of-self c =
       rw (ap (λ (x : Scheduling). x.peers) c.read-2.ensures) c.self.invariant.3,
       c.self.invariant.4,
       messages_read a.params a.turns (heads a.admitted.items) c.self.invariant.5 c.args.id (read_up c.args.to) (λ s. refl) (λ s. refl) _ c.unread.result c.unread.ensures c.read-2.new.self c.read-2.ensures slots (slots_found _ c.stand_apart.ensures.apart),
+      c.self.invariant.6,
     )
 
 pub returns : goal.returns

@@ -5,6 +5,10 @@ use Rattle.q_core.proofs.MessageTies.{messages_same, messages_stay}
 use Rattle.q_core.proofs.ListLaws.{drop_first-Some}
 use Rattle.q_core.proofs.RowWalkLaws.{any_place, none_any, same_place}
 use Rattle.q_core.proofs.CountLaws.{count_within}
+use Rattle.q_core.proofs.ProcessLaws.{has_flight_room, processes_begun}
+use Rattle.q_core.specs.Rooms.{HasProcess}
+use Rattle.q_model.specs.Values.{Site}
+use Rattle.q_model.specs.declared.id.Id.{Id}
 use Rattle.q_core.proofs.ServedLaws.{rows_started}
 use Rattle.q_core.proofs.TurnTies.{all_before, first_of, name_found, none_has, peer_of, served_lost, turns_lost, turns_started}
 use Rattle.q_core.proofs.SiteChanges.{known_stays, sites_begun}
@@ -35,6 +39,10 @@ use Rattle.q_schedule.specs.Schedule.{Scheduling}
 use Rattle.q_turns.specs.Turns.{lost_at, started_at}
 use Rattle.q_core.proofs.state.Core.send.Goals as goal
 
+-- the row that goes has the transport that was asked for
+process_at : (s : State) (rows : List Row) (id : Id) (site : Site) (row : Row) → find (is_for id site) rows ≡ Some row → HasProcess s site.transport → HasProcess s row.site.transport
+process_at s rows id site row found h = subst (λ (k : PeerKey). HasProcess s k.site.transport) (sym (name_found rows id site row found)) h
+
 pub invariant_of-self-2 : goal.invariant_of-self-2
 invariant_of-self-2 c =
     let a = c.self.inside in
@@ -53,6 +61,7 @@ invariant_of-self-2 c =
     let few : length (a.flights.items ++ record { number = c.args.number; row = row } ∷ []) < 2 ^ 64 = (let more = length-append a.flights.items (record { number = c.args.number; row = row } ∷ []) in omega (arith, more, c.stand_apart.ensures.within, c.stand_apart.ensures.few)) in
     let sites : c.begin.new.self.items ≡ map (changed_at row.site begun) a.sites.items = ap (λ (x : Dests). x.items) c.begin.ensures in
     let found : find p rows ≡ Some row = f.2.found ∙ ap (λ (x : Row). Some x) is in
+    let process = process_at (state_of a) rows c.args.id c.args.site row found (subst (λ (s : State). HasProcess s c.args.site.transport) (sym c.self.view_is) c.requires.process) in
     let again : c.start.new.self.peers ≡ started_at row.id row.site c.args.number a.turns.peers = ap (λ (x : Scheduling). x.peers) c.start.ensures in
     let lost : c.lose.new.self.peers ≡ lost_at row.id row.site c.start.new.self.peers = ap (λ (x : Scheduling). x.peers) c.lose.ensures in
     let lines : c.lose.new.self.lines ≡ a.turns.lines = ap (λ (x : Scheduling). x.lines) c.lose.ensures ∙ ap (λ (x : Scheduling). x.lines) c.start.ensures in
@@ -65,7 +74,19 @@ invariant_of-self-2 c =
           (c.take_row.ensures.held (goes_to_dead a.sites.items) c.self.invariant.4)),
       messages_same a.params c.lose.new.self (heads a.admitted.items)
           (messages_stay a.params a.turns (heads a.admitted.items) c.self.invariant.5 c.lose.new.self (ap (λ (x : Scheduling). x.messages) c.lose.ensures ∙ ap (λ (x : Scheduling). x.messages) c.start.ensures) (ap (λ (x : Scheduling). x.message_room) c.lose.ensures ∙ ap (λ (x : Scheduling). x.message_room) c.start.ensures)) _ slots,
+      rw c.push.ensures (record {
+        deliveries = processes_begun a.params a.transports a.flights (record { number = c.args.number; row = row }) c.self.invariant.6.deliveries process.0 process.1;
+        asked = c.self.invariant.6.asked;
+        names = c.self.invariant.6.names;
+        outcomes = c.self.invariant.6.outcomes;
+      }),
     )
+
+pub push-requires-clause-room : goal.push-requires-clause-room
+push-requires-clause-room c =
+    let a = c.self.inside in
+    let process = subst (λ (s : State). HasProcess s c.args.site.transport) (sym c.self.view_is) c.requires.process in
+    has_flight_room a.params a.transports c.args.site.transport a.flights c.self.invariant.6.deliveries process.0 process.1
 
 pub start-requires-clause-own : goal.start-requires-clause-own
 start-requires-clause-own c =
@@ -85,8 +106,8 @@ push-requires-clause-above c =
     let a = c.self.inside in
     numbered_below a.starts c.args.number a.flights.items (subst (λ (s : State). s.starts < c.args.number) (sym c.self.view_is) c.requires.next) c.self.invariant.0.numbers
 
-pub returns-clause-ok : goal.returns-clause-ok
-returns-clause-ok c = λ entry at.
+pub returns-clause-sent : goal.returns-clause-sent
+returns-clause-sent c = λ entry at.
     let a = c.self.inside in
     let p = is_for c.args.id c.args.site in
     let rows = rows_of a.waiting.items in
@@ -155,8 +176,8 @@ invariant_of-self c =
     let rows = rows_of c.self.inside.waiting.items in
     let bad : true ≡ false = sym (ap (λ (s : State). list_any p s.waiting) c.self.view_is ∙ c.requires.there) ∙ none_any p rows (sym c.in_default.ensures.taken) in cc
 
-pub returns-in_default-clause-ok : goal.returns-in_default-clause-ok
-returns-in_default-clause-ok c = λ entry at.
+pub returns-in_default-clause-sent : goal.returns-in_default-clause-sent
+returns-in_default-clause-sent c = λ entry at.
     let p = is_for c.args.id c.args.site in
     let rows = rows_of c.self.inside.waiting.items in
     let bad : true ≡ false = sym (ap (λ (s : State). list_any p s.waiting) c.self.view_is ∙ c.requires.there) ∙ none_any p rows (sym c.in_default.ensures.taken) in cc

@@ -9,17 +9,17 @@ use Rattle.q_core.proofs.ServedChanges.{left_before, tidied_before}
 use Rattle.q_core.specs.Changes.{with_served, with_sites}
 use Rattle.q_core.proofs.state.Core.skip.Goals as goal
 
-pub returns-clause-ok : goal.returns-clause-ok
+pub returns-clause-skipped : goal.returns-clause-skipped
 unfolding after
-returns-clause-ok c = λ entry place first id site positions there w l a.
+returns-clause-skipped c = λ entry place first id site positions there w l a.
     let r : Row = c.in-Some.row in
-    let un = (rw c.in-Some.is at c.in_ok-row.ensures.ok) entry place in
-    let left = (rw c.in-Some.is at c.in_ok-row.ensures.left) in
+    let un = (rw c.in-Some.is at c.unqueue.ensures.row) entry place in
+    let left = (rw c.in-Some.is at c.unqueue.ensures.left) in
     let u = c.unqueue.new.self in
     let st = c.args.self.now.sites in
     let sv = c.args.self.now.served in
     let mid = with_sites (moved u c.tidy.new.self st r.site left) u in
-    let gone = (rw c.in-Some.is at c.in_ok-row.ensures.served) in
+    let gone = (rw c.in-Some.is at c.unqueue.ensures.served) in
     let k : Row = record { id = id; site = site; positions = positions } in
     let both : Some r ≡ Some k = sym un.row ∙ there in
     let same : r ≡ k = cc in
@@ -28,13 +28,13 @@ returns-clause-ok c = λ entry place first id site positions there w l a.
 pub returns-clause-noted : goal.returns-clause-noted
 returns-clause-noted c = λ entry place r there.
     let row : Row = c.in-Some.row in
-    let un = (rw c.in-Some.is at c.in_ok-row.ensures.ok) entry place in
-    let left = (rw c.in-Some.is at c.in_ok-row.ensures.left) in
+    let un = (rw c.in-Some.is at c.unqueue.ensures.row) entry place in
+    let left = (rw c.in-Some.is at c.unqueue.ensures.left) in
     let u = c.unqueue.new.self in
     let st = c.args.self.now.sites in
     let sv = c.args.self.now.served in
     let mid = with_sites (moved u c.tidy.new.self st row.site left) u in
-    let gone = (rw c.in-Some.is at c.in_ok-row.ensures.served) in
+    let gone = (rw c.in-Some.is at c.unqueue.ensures.served) in
     let both : Some row ≡ Some r = sym un.row ∙ there in
     let same : row ≡ r = cc in
     record {

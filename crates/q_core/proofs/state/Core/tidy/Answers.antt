@@ -31,6 +31,7 @@ invariant_of-self c =
       c.self.invariant.3,
       held_forgotten c.record_limit-limit.result core.sites.items core.waiting.items c.stand_apart.ensures.apart c.self.invariant.2.waiting c.self.invariant.4,
       messages_stay core.params core.turns (heads core.admitted.items) c.self.invariant.5 _ (ap (λ (x : Scheduling). x.messages) c.tidy_touched_lines.ensures) (ap (λ (x : Scheduling). x.message_room) c.tidy_touched_lines.ensures),
+      c.self.invariant.6,
     )
 
 pub returns : goal.returns

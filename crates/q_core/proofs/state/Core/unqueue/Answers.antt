@@ -1,4 +1,5 @@
-use Rattle.std.proofs.Common.{◌≡◌, ◌∙◌, ◌++◌, ◌<◌, ◌^◌, ap, arith, false, filter, length, refl, Some, subst, sym, true}
+use Rattle.std.proofs.Common.{◌≡◌, ◌∙◌, ℕ, ◌+◌, ◌≤◌, ◌++◌, ◌<◌, ◌^◌, ap, arith, false, filter, length, length-append, List, refl, Some, subst, sym, true}
+use Rattle.std.proofs.lemmas.Bool.{and_parts}
 use Rattle.std.specs.List.{list_any, remove}
 use Rattle.std.specs.Prelude.{find, position, slice_get}
 use Rattle.q_core.proofs.MessageTies.{messages_same, messages_stay}
@@ -9,10 +10,14 @@ use Rattle.q_core.proofs.SiteChanges.{sites_left, sites_settled}
 use Rattle.q_core.proofs.SiteViews.{settled_used}
 use Rattle.q_core.proofs.StillTidyLaws.{row_gone}
 use Rattle.q_core.specs.Known.{known_records}
+use Rattle.q_core.proofs.SpaceLaws.{made_space}
+use Rattle.q_core.specs.Held.{have_space}
 use Rattle.q_core.specs.Lists.{moved_back}
+use Rattle.q_core.specs.Queries.{expired_in}
 use Rattle.q_core.specs.UsedSites.{is_left_in, used_in}
 use Rattle.q_dest.specs.Dests.{Dests, is_kept, left as left_dest, settled}
 use Rattle.q_core.specs.Leaving.{put_off_in}
+use Rattle.q_core.specs.Needs.{needs_put_off}
 use Rattle.q_core.specs.Sending.{is_for, row_for}
 use Rattle.q_core.specs.ServedRows.{served_rows}
 use Rattle.q_core.specs.State.{State}
@@ -30,11 +35,12 @@ use Rattle.q_held.specs.Held.{rows_of}
 use Rattle.q_core.proofs.DeadLaws.{alike_settled}
 use Rattle.q_pool.specs.Kept.{heads}
 use Rattle.q_pool.specs.Pooled.{Pooled}
+use Rattle.q_queue.specs.Queued.{Queued}
 use Rattle.q_schedule.specs.Schedule.{Scheduling}
 use Rattle.q_core.proofs.state.Core.unqueue.Goals as goal
 
-pub returns-clause-ok : goal.returns-clause-ok
-returns-clause-ok c = λ entry at.
+pub returns-clause-row : goal.returns-clause-row
+returns-clause-row c = λ entry at.
     let a = c.self.inside in
     let p = is_for c.args.id c.args.site.now in
     let rows = rows_of a.waiting.items in
@@ -45,19 +51,23 @@ returns-clause-ok c = λ entry at.
     let there : slice_get rows f.0 ≡ Some row = f.2.there ∙ ap (λ (x : Row). Some x) is in
     let left : rows_of c.take_row.new.waiting.items ≡ remove rows f.0 = c.take_row.ensures.rows ∙ sym (drop_first-Some p rows f.0 f.2.place) in
     let for : row_for c.args.self.now c.args.id c.args.site.now ≡ Some row = ap (find p) (sym same) ∙ f.2.found ∙ ap (λ (x : Row). Some x) is in
-    let needs : c.in_ok-needs.needs.items ≡ put_off_in c.args.self.now row = c.in_ok-needs.ensures row for in
-    let added : c.extend_from_slice.new.self.items ≡ a.unsettled.items ++ c.deref.result.now = c.in_ok-extend_from_slice.ensures.items in
-    let slots : heads c.put_off_row.new.pool.items ≡ heads a.admitted.items = ap (λ (m : Pooled). heads m.items) c.put_off_row.ensures ∙ heads_recounted (with_row_put_off c.len.result) row.id a.admitted.items in
+    let new : List Unsettled = put_off_in c.args.self.now row in
+    let added : c.add_put_off.new.unsettled ≡ record a.unsettled { items = a.unsettled.items ++ new } = c.add_put_off.ensures ∙ ap (λ (ps : List ℕ). record a.unsettled { items = a.unsettled.items ++ needs_put_off c.fails-fails.result row.id ps }) c.as_slice.ensures ∙ ap (λ b. record a.unsettled { items = a.unsettled.items ++ needs_put_off b row.id row.positions }) (c.fails-fails.ensures row for) in
+    let items : c.add_put_off.new.unsettled.items ≡ a.unsettled.items ++ new = ap (λ (q : Queued Unsettled). q.items) added in
+    let long = length-append a.unsettled.items new in
+    let sum = ap (λ (xs : List Unsettled). length xs) items in
+    let count : c.saturating_sub-needs.result ≡ length new = omega (arith, sum, long, c.saturating_sub-needs.ensures, c.len.ensures, c.len-before.ensures) in
+    let slots : heads c.put_off_row.new.pool.items ≡ heads a.admitted.items = ap (λ (m : Pooled). heads m.items) c.put_off_row.ensures ∙ heads_recounted (with_row_put_off c.saturating_sub-needs.result) row.id a.admitted.items in
     let e = same_place p rows f.0 entry f.2.place (ap (position p) same ∙ at) in
     record {
       row = ap (λ ws. slice_get ws entry) (sym same) ∙ ap (slice_get rows) (sym e) ∙ there;
       rest =
-          ap (λ (x : Scheduling). record (state_of a) { admitted = heads c.put_off_row.new.pool.items; waiting = rows_of c.take_row.new.waiting.items; served = c.args.self.now.served; unsettled = c.extend_from_slice.new.self.items; in_memory = c.saturating_sub-self-inside.result; lines = x.lines; sites = c.args.self.now.sites }) c.lose.ensures
-          ∙ ap (λ ss. record (state_of a) { admitted = ss; waiting = rows_of c.take_row.new.waiting.items; served = c.args.self.now.served; unsettled = c.extend_from_slice.new.self.items; in_memory = c.saturating_sub-self-inside.result; sites = c.args.self.now.sites }) slots
-          ∙ ap (λ (s : State). record s { waiting = rows_of c.take_row.new.waiting.items; served = c.args.self.now.served; unsettled = c.extend_from_slice.new.self.items; in_memory = c.saturating_sub-self-inside.result; sites = c.args.self.now.sites }) c.self.view_is;
+          ap (λ (x : Scheduling). record (state_of a) { admitted = heads c.put_off_row.new.pool.items; waiting = rows_of c.take_row.new.waiting.items; served = c.args.self.now.served; unsettled = c.add_put_off.new.unsettled.items; in_memory = c.saturating_sub-self-inside.result; lines = x.lines; sites = c.args.self.now.sites }) c.lose.ensures
+          ∙ ap (λ ss. record (state_of a) { admitted = ss; waiting = rows_of c.take_row.new.waiting.items; served = c.args.self.now.served; unsettled = c.add_put_off.new.unsettled.items; in_memory = c.saturating_sub-self-inside.result; sites = c.args.self.now.sites }) slots
+          ∙ ap (λ (s : State). record s { waiting = rows_of c.take_row.new.waiting.items; served = c.args.self.now.served; unsettled = c.add_put_off.new.unsettled.items; in_memory = c.saturating_sub-self-inside.result; sites = c.args.self.now.sites }) c.self.view_is;
       waiting = left ∙ ap (λ k. remove rows k) e ∙ ap (λ ws. remove ws entry) same;
-      unsettled = added ∙ ap (λ us. us ++ c.deref.result.now) (ap (λ (s : State). s.unsettled) c.self.view_is) ∙ ap (λ us. c.args.self.now.unsettled ++ us) (c.deref.ensures.value ∙ needs);
-      memory = let few = ap length needs in let memory = ap (λ (s : State). s.in_memory) c.self.view_is in grind (arith, few, memory, c.saturating_sub-self-inside.ensures, c.saturating_sub-done.ensures, c.len-2.ensures, c.len-3.ensures);
+      unsettled = items ∙ ap (λ us. us ++ new) (ap (λ (s : State). s.unsettled) c.self.view_is);
+      memory = let memory = ap (λ (s : State). s.in_memory) c.self.view_is in grind (arith, count, memory, c.saturating_sub-self-inside.ensures, c.saturating_sub-done.ensures, c.len-2.ensures);
     }
 
 pub invariant_of-self-2 : goal.invariant_of-self-2
@@ -72,14 +82,17 @@ invariant_of-self-2 c =
     let there : slice_get rows f.0 ≡ Some row = f.2.there ∙ ap (λ (x : Row). Some x) is in
     let left : rows_of c.take_row.new.waiting.items ≡ remove rows f.0 = c.take_row.ensures.rows ∙ sym (drop_first-Some p rows f.0 f.2.place) in
     let for : row_for c.args.self.now c.args.id c.args.site.now ≡ Some row = ap (find p) (sym same) ∙ f.2.found ∙ ap (λ (x : Row). Some x) is in
-    let needs : c.in_ok-needs.needs.items ≡ put_off_in c.args.self.now row = c.in_ok-needs.ensures row for in
-    let added : c.extend_from_slice.new.self.items ≡ a.unsettled.items ++ c.deref.result.now = c.in_ok-extend_from_slice.ensures.items in
-    let slots : heads c.put_off_row.new.pool.items ≡ heads a.admitted.items = ap (λ (m : Pooled). heads m.items) c.put_off_row.ensures ∙ heads_recounted (with_row_put_off c.len.result) row.id a.admitted.items in
-    let named : AreNamed (λ (u : Unsettled). u.id) row.id c.deref.result.now = subst (AreNamed (λ (u : Unsettled). u.id) row.id) (sym (c.deref.ensures.value ∙ needs)) (needs_named _ row.id row.positions _) in
-    let few : length (a.unsettled.items ++ c.deref.result.now) < 2 ^ 64 = grind (arith, sym added, c.extend_from_slice.new.self.ok, c.extend_from_slice.new.self.small) in
-    let sites : c.leave.new.self.items ≡ filter is_kept (settled row.site left_dest a.sites.items) = ap (λ (x : Dests). x.items) c.leave.ensures in
-    let many : c.len.result ≡ length c.deref.result.now = c.len.ensures ∙ sym c.deref.ensures.len in (
-      rw (left, added) (tied_put_off a.params a.admitted c.put_off_row.new.pool rows f.0 row a.flights.items a.unsettled.items c.deref.result.now a.starts c.len.result there many few named c.put_off_row.ensures c.self.invariant.0),
+    let new : List Unsettled = put_off_in c.args.self.now row in
+    let added : c.add_put_off.new.unsettled ≡ record a.unsettled { items = a.unsettled.items ++ new } = c.add_put_off.ensures ∙ ap (λ (ps : List ℕ). record a.unsettled { items = a.unsettled.items ++ needs_put_off c.fails-fails.result row.id ps }) c.as_slice.ensures ∙ ap (λ b. record a.unsettled { items = a.unsettled.items ++ needs_put_off b row.id row.positions }) (c.fails-fails.ensures row for) in
+    let items : c.add_put_off.new.unsettled.items ≡ a.unsettled.items ++ new = ap (λ (q : Queued Unsettled). q.items) added in
+    let long = length-append a.unsettled.items new in
+    let sum = ap (λ (xs : List Unsettled). length xs) items in
+    let count : c.saturating_sub-needs.result ≡ length new = omega (arith, sum, long, c.saturating_sub-needs.ensures, c.len.ensures, c.len-before.ensures) in
+    let slots : heads c.put_off_row.new.pool.items ≡ heads a.admitted.items = ap (λ (m : Pooled). heads m.items) c.put_off_row.ensures ∙ heads_recounted (with_row_put_off c.saturating_sub-needs.result) row.id a.admitted.items in
+    let named : AreNamed (λ (u : Unsettled). u.id) row.id new = needs_named _ row.id row.positions _ in
+    let few : length (a.unsettled.items ++ new) < 2 ^ 64 = omega (arith, sum, c.stand_within.ensures.within, c.stand_within.ensures.few) in
+    let sites : c.leave.new.self.items ≡ filter is_kept (settled row.site left_dest a.sites.items) = ap (λ (x : Dests). x.items) c.leave.ensures in (
+      rw (left, items) (tied_put_off a.params a.admitted c.put_off_row.new.pool rows f.0 row a.flights.items a.unsettled.items new a.starts c.saturating_sub-needs.result there count few named c.put_off_row.ensures c.self.invariant.0),
       rw (slots, c.touch_message.ensures, left, ap (λ (x : Scheduling). x.lines) c.lose.ensures) (row_gone f.0 row there c.self.invariant.1),
       rw (sites, left) (sites_settled (remove rows f.0) a.flights.items row.site left_dest (λ d. refl) a.sites.items c.stand_apart.ensures.apart (sites_left rows f.0 row a.flights.items a.sites.items there c.self.invariant.2)),
       rw (ap (λ (x : Scheduling). x.peers) c.lose.ensures, left) (turns_lost a.turns.peers rows a.starts f.0 row c.stand_apart-2.ensures.apart c.self.invariant.3 there (first_of rows c.args.id c.args.site.now f.0 row f.2.place (f.2.found ∙ ap (λ (x : Row). Some x) is))),
@@ -87,6 +100,12 @@ invariant_of-self-2 c =
           (λ r. sym (alike_settled row.site left_dest (λ d. refl) a.sites.items c.stand_apart.ensures.apart r)) (c.take_row.ensures.held (goes_to_dead a.sites.items) c.self.invariant.4)),
       messages_same a.params c.lose.new.self (heads a.admitted.items)
           (messages_stay a.params a.turns (heads a.admitted.items) c.self.invariant.5 c.lose.new.self (ap (λ (x : Scheduling). x.messages) c.lose.ensures) (ap (λ (x : Scheduling). x.message_room) c.lose.ensures)) _ slots,
+      record {
+        deliveries = c.self.invariant.6.deliveries;
+        asked = c.self.invariant.6.asked;
+        names = c.self.invariant.6.names;
+        outcomes = ap (λ (q : Queued Unsettled). q.room) added ∙ c.self.invariant.6.outcomes;
+      },
     )
 
 pub returns-clause-left : goal.returns-clause-left
@@ -122,8 +141,8 @@ returns-clause-served c =
     ∙ ap (λ ws. tidied_served ws (served_rows a.turns.peers)) (sym left)
     ∙ ap (λ (v : State). tidied_served (rows_of c.take_row.new.waiting.items) v.served) c.self.view_is
 
-pub invariant_of-self-in_default : goal.invariant_of-self-in_default
-invariant_of-self-in_default c =
+pub invariant_of-self : goal.invariant_of-self
+invariant_of-self c =
     let p = is_for c.args.id c.args.site.now in
     let rows = rows_of c.self.inside.waiting.items in
     let bad : true ≡ false = sym (ap (λ (s : State). list_any p s.waiting) c.self.view_is ∙ c.requires.there) ∙ none_any p rows (sym c.in_default.ensures.taken) in cc
@@ -133,3 +152,15 @@ returns-in_default-clause-some c =
     let p = is_for c.args.id c.args.site.now in
     let rows = rows_of c.self.inside.waiting.items in
     let bad : true ≡ false = sym (ap (λ (s : State). list_any p s.waiting) c.self.view_is ∙ c.requires.there) ∙ none_any p rows (sym c.in_default.ensures.taken) in cc
+
+-- there is space for its outcomes
+pub add_put_off-requires : goal.add_put_off-requires
+add_put_off-requires c = λ fails.
+    let a = c.self.inside in
+    let p = is_for c.args.id c.args.site.now in
+    let rows = rows_of a.waiting.items in
+    let row = c.in-Some.row in
+    let for : row_for c.args.self.now c.args.id c.args.site.now ≡ Some row = ap (find p) (sym (ap (λ (s : State). s.waiting) c.self.view_is)) ∙ sym c.take_row.ensures.taken ∙ c.in-Some.is in
+    let both = and_parts (expired_in c.args.self.now row.id) (have_space c.args.self.now row.positions) (sym (c.fails-fails.ensures row for) ∙ fails) in
+    subst (λ (ps : List ℕ). length a.unsettled.items + length ps ≤ a.unsettled.room) (sym c.as_slice.ensures)
+    (made_space (state_of a) a.unsettled row.positions refl c.self.invariant.6.outcomes (ap (λ (s : State). have_space s row.positions) c.self.view_is ∙ both.1))

@@ -39,6 +39,7 @@ invariant_of-self c =
       c.self.invariant.3,
       subst (λ es. AreHeldBy (goes_to_dead es) c.hold_dead.new.waiting.items) sites c.hold_dead.ensures.held,
       c.self.invariant.5,
+      c.self.invariant.6,
     )
 
 pub returns-clause-woken : goal.returns-clause-woken

@@ -17,10 +17,6 @@ use Rattle.q_engine.specs.Stands.{with_core}
 use Rattle.q_engine.proofs.Boxed.{lent_agrees}
 use Rattle.q_engine.proofs.engine.Engine.hear_mail.Goals as goal
 
-pub returns-in_err-event-clause-err : goal.returns-in_err-event-clause-err
-returns-in_err-event-clause-err g c error is t w l h =
-    not_done w l (entries.Arrive (next_id l) c.args.sender c.args.to c.args.content) c.args.self.now (g.H.Host.view c.args.host.now) h error (record { only = g.met.H.Host.only_now c.args.host.now; told = g.met.H.Host.told_stays c.args.host.now })
-
 pub returns-in_err-store-clause-err : goal.returns-in_err-store-clause-err
 returns-in_err-store-clause-err g c error is t w l h =
     let engine = c.args.self.now in
@@ -44,7 +40,7 @@ returns-clause-ok g c = on_ok c.tell.result (λ told t w l h.
     let k = (change w l e).book in
     let adds = mail_adds w l engine v h c.args.sender c.args.to c.args.content c.now.result (c.now.ensures.ledger w l (lent_agrees w l _ _ c.deref.ensures h.core)) (omega arith) c.requires.serial in
     let takes = c.in_ok-store.ensures.ok t l.book k h.host (adds_as v.files i (record { sender = c.args.sender; arrival = c.now.result }) c.head_of-head.result c.args.to c.args.content c.as_slice.result.now l.book k c.head_of-head.ensures c.as_slice.ensures adds) in
-    let core = c.in_ok-event.ensures.ok w l (lent_agrees w l _ _ c.deref_mut.ensures.value h.core) e (c.args.sender, c.args.to, c.args.content, refl) (mail_allowed w l engine v h c.args.sender c.args.to c.args.content c.requires.timed) in
+    let core = c.event.ensures.exact w l (lent_agrees w l _ _ c.deref_mut.ensures.value h.core) e (c.args.sender, c.args.to, c.args.content, refl) (mail_allowed w l engine v h c.args.sender c.args.to c.args.content c.requires.timed) in
     let left : Engine = record (with_core c.event.new.self engine) { arrivals = engine.arrivals + 1 } in
     subst (λ (j : Id). WasDone w l (entries.Arrive j c.args.sender c.args.to c.args.content) left v x) (mail_next w l engine v h)
     (done w l e engine v h left k x refl refl (λ id. refl) core (counts_arrival w l e engine c.event.new.self (engine.arrivals + 1) refl refl refl refl h.counts) refl

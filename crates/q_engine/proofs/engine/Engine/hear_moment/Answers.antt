@@ -13,10 +13,6 @@ use Rattle.q_engine.specs.Stands.{with_core}
 use Rattle.q_engine.proofs.Boxed.{lent_agrees}
 use Rattle.q_engine.proofs.engine.Engine.hear_moment.Goals as goal
 
-pub returns-in_err-event-clause-err : goal.returns-in_err-event-clause-err
-returns-in_err-event-clause-err g c error is t w l h =
-    not_done w l (entries.At (max l.now c.args.moment)) c.args.self.now (g.H.Host.view c.args.host.now) h error (record { only = g.met.H.Host.only_now c.args.host.now; told = g.met.H.Host.told_stays c.args.host.now })
-
 pub returns-clause-ok : goal.returns-clause-ok
 returns-clause-ok g c = on_ok c.tell.result (λ told t w l h.
     let v = g.H.Host.view c.args.host.now in
@@ -27,7 +23,7 @@ returns-clause-ok g c = on_ok c.tell.result (λ told t w l h.
     let latest : c.later-latest.result ≡ n = c.later-latest.ensures ∙ ap (λ (m : ℕ). max m c.args.moment) (c.now.ensures.ledger w l (lent_agrees w l _ _ c.deref.ensures h.core)) in
     let later : nat_le l.now n ≡ true = le-leb l.now n (omega arith) in
     let does = subst (λ (m : ℕ). DoesEntry (table_of engine.table) (entries.At m) l.book l.book v x) latest (told t l.book h.host) in
-    let core = c.in_ok-event.ensures.ok w l (lent_agrees w l _ _ c.deref_mut.ensures.value h.core) e (ap (λ (m : ℕ). entries.At m) (sym latest)) (allowed_by w l e h.core.living later) in
+    let core = c.event.ensures.exact w l (lent_agrees w l _ _ c.deref_mut.ensures.value h.core) e (ap (λ (m : ℕ). entries.At m) (sym latest)) (allowed_by w l e h.core.living later) in
     done w l e engine v h (with_core c.event.new.self engine) l.book x refl refl (λ id. refl) core
     (counts_stay w l e (with_core c.event.new.self engine) refl refl refl (counts_core engine c.event.new.self l h.counts)) (moment_book w l n) does (plain_notes w l e v x refl (files_keep v x (c.tell.ensures.files t)))) c.tell.ensures.ok
 

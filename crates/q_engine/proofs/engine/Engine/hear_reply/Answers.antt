@@ -17,10 +17,6 @@ use Rattle.q_engine.specs.Stands.{with_core}
 use Rattle.q_engine.proofs.Boxed.{lent_agrees}
 use Rattle.q_engine.proofs.engine.Engine.hear_reply.Goals as goal
 
-pub returns-in_err-event-clause-err : goal.returns-in_err-event-clause-err
-returns-in_err-event-clause-err g c error is t w l h =
-    not_done w l (entries.Reply c.args.number c.args.site c.args.outcomes) c.args.self.now (g.H.Host.view c.args.host.now) h error (record { only = g.met.H.Host.only_now c.args.host.now; told = g.met.H.Host.told_stays c.args.host.now })
-
 pub returns-clause-ok : goal.returns-clause-ok
 returns-clause-ok g c = on_ok c.tell.result (λ told t w l h.
     let number = c.args.number in
@@ -34,7 +30,7 @@ returns-clause-ok g c = on_ok c.tell.result (λ told t w l h.
     let flight = c.in-Some.flight in
     let ps = c.in_ok-positions.positions in
     let takes = c.in_ok-note_reply.ensures.book t l.book h.host in
-    let core = c.in_ok-event.ensures.ok w l (lent_agrees w l _ _ c.deref_mut.ensures.value h.core) e refl (allowed_by w l e h.core.living (c.requires.fits w l h.core h.counts)) in
+    let core = c.event.ensures.exact w l (lent_agrees w l _ _ c.deref_mut.ensures.value h.core) e refl (allowed_by w l e h.core.living (c.requires.fits w l h.core h.counts)) in
     let shown = c.in-Some.ensures w l (lent_agrees w l _ _ c.deref.ensures h.core) in
     let listed = ap (λ (p : List ℕ). Some p) c.in_ok-positions.ensures ∙ c.in-Some-entry_positions.ensures w l (lent_agrees w l _ _ c.deref-2.ensures h.core) in
     let fits = reply_lengths w l number state os engine v m x h flight ps shown listed (c.requires.fits w l h.core h.counts) in

@@ -11,30 +11,30 @@ use Rattle.q_engine.proofs.engine.Engine.next_entry.Goals as goal
 
 pub returns-in_default-clause-quiet : goal.returns-in_default-clause-quiet
 returns-in_default-clause-quiet g c same timed =
-    let asked = subst (λ (k : Core). AsksOnly k c.in_ok-decision.field-0 c.next_decision.new.self) c.deref_mut.ensures.value c.in_ok-decision.ensures.asked in
+    let asked = subst (λ (k : Core). AsksOnly k c.next_decision.result c.next_decision.new.self) c.deref_mut.ensures.value c.next_decision.ensures.asked in
     let unchanged = subst (λ (o : Option Decision). AsksOnly c.loop.self.core.value o c.next_decision.new.self) c.in_default.is asked in
-    c.in_ok-decision.ensures.quiet c.in_default.is (ap (λ (x : Core). x.timed) c.deref_mut.ensures.value ∙ ap (λ (x : Core). x.timed) (sym unchanged) ∙ timed)
+    c.next_decision.ensures.quiet c.in_default.is (ap (λ (x : Core). x.timed) c.deref_mut.ensures.value ∙ ap (λ (x : Core). x.timed) (sym unchanged) ∙ timed)
 
 pub returns-then-not-is_looking-clause-ok : goal.returns-then-not-is_looking-clause-ok
 returns-then-not-is_looking-clause-ok g c t w l h =
     let so_far = c.loop.invariant.stands t w l h in
     let v = g.H.Host.view c.loop.host in
-    let e = c.in_ok-decision.ensures in
+    let e = c.next_decision.ensures in
     let d = c.in-Some.decision in
     let agrees = lent_agrees w l _ _ c.deref_mut.ensures.value (so_far.0).core in
-    let a = answers_some w l v c.loop.self c.in_ok-decision.field-0 d c.next_decision.new.self c.in-Some.is
-    (answers_lent w l v c.loop.self c.deref_mut.result.now c.in_ok-decision.field-0 c.next_decision.new.self c.deref_mut.ensures.value so_far.0 (e.ok w l agrees) (e.placed w l agrees) (e.started w l agrees) e.skipped e.asked) in
+    let a = answers_some w l v c.loop.self c.next_decision.result d c.next_decision.new.self c.in-Some.is
+    (answers_lent w l v c.loop.self c.deref_mut.result.now c.next_decision.result c.next_decision.new.self c.deref_mut.ensures.value so_far.0 (e.exact w l agrees) (e.placed w l agrees) (e.started w l agrees) e.skipped e.asked) in
     (next_found w l v c.loop.self d c.next_decision.new.self a (ap is_look (ap question_for (sym c.in-Some.is) ∙ sym e.question) ∙ sym (ap (λ (k : Core). is_look k.question) c.deref.ensures) ∙ sym c.is_looking.ensures ∙ c.if-not-is_looking.true), so_far.1)
 
 pub returns-in_err-answer-clause-err : goal.returns-in_err-answer-clause-err
-returns-in_err-answer-clause-err g c = always_err c.from_residual-in_err-answer.result (λ t w l h.
+returns-in_err-answer-clause-err g c = always_err c.from_residual.result (λ t w l h.
     let so_far = c.loop.invariant.stands t w l h in
     let v = g.H.Host.view c.loop.host in
-    let e = c.in_ok-decision.ensures in
+    let e = c.next_decision.ensures in
     let d = c.in-Some.decision in
     let agrees = lent_agrees w l _ _ c.deref_mut.ensures.value (so_far.0).core in
-    let a = answers_some w l v c.loop.self c.in_ok-decision.field-0 d c.next_decision.new.self c.in-Some.is
-    (answers_lent w l v c.loop.self c.deref_mut.result.now c.in_ok-decision.field-0 c.next_decision.new.self c.deref_mut.ensures.value so_far.0 (e.ok w l agrees) (e.placed w l agrees) (e.started w l agrees) e.skipped e.asked) in
+    let a = answers_some w l v c.loop.self c.next_decision.result d c.next_decision.new.self c.in-Some.is
+    (answers_lent w l v c.loop.self c.deref_mut.result.now c.next_decision.result c.next_decision.new.self c.deref_mut.ensures.value so_far.0 (e.exact w l agrees) (e.placed w l agrees) (e.started w l agrees) e.skipped e.asked) in
     let look = look_found w l v c.loop.self d c.next_decision.new.self a (ap is_look (ap question_for (sym c.in-Some.is) ∙ sym e.question) ∙ sym (ap (λ (k : Core). is_look k.question) c.deref.ensures) ∙ sym c.is_looking.ensures ∙ c.if-not-is_looking.false) in
     reads_then l.book _ _ _ so_far.1 (c.in_err-answer.ensures.err t w l look.1))
 
@@ -45,11 +45,11 @@ loop-preserved g c = record {
   stands = λ t w l h.
       let so_far = c.loop.invariant.stands t w l h in
       let v = g.H.Host.view c.loop.host in
-      let e = c.in_ok-decision.ensures in
+      let e = c.next_decision.ensures in
       let d = c.in-Some.decision in
       let agrees = lent_agrees w l _ _ c.deref_mut.ensures.value (so_far.0).core in
-      let a = answers_some w l v c.loop.self c.in_ok-decision.field-0 d c.next_decision.new.self c.in-Some.is
-      (answers_lent w l v c.loop.self c.deref_mut.result.now c.in_ok-decision.field-0 c.next_decision.new.self c.deref_mut.ensures.value so_far.0 (e.ok w l agrees) (e.placed w l agrees) (e.started w l agrees) e.skipped e.asked) in
+      let a = answers_some w l v c.loop.self c.next_decision.result d c.next_decision.new.self c.in-Some.is
+      (answers_lent w l v c.loop.self c.deref_mut.result.now c.next_decision.result c.next_decision.new.self c.deref_mut.ensures.value so_far.0 (e.exact w l agrees) (e.placed w l agrees) (e.started w l agrees) e.skipped e.asked) in
       let look = look_found w l v c.loop.self d c.next_decision.new.self a (ap is_look (ap question_for (sym c.in-Some.is) ∙ sym e.question) ∙ sym (ap (λ (k : Core). is_look k.question) c.deref.ensures) ∙ sym c.is_looking.ensures ∙ c.if-not-is_looking.false) in
       let one = c.in_ok-answer.ensures.ok t w l look.1 look.0 in
       (one.0, reads_then l.book _ _ _ so_far.1 one.1);

@@ -1,0 +1,46 @@
+-- The room that is made at the beginning suffices.
+use Rattle.std.specs.List.{AllByRecursion}
+use Rattle.std.specs.Prelude.{◌≡◌, ◌<◌, ◌≤◌, ◌*◌, count_by, max, Vec, vec_capacity, ℕ}
+use Rattle.std.specs.declared.alloc.Global.{Global}
+use Rattle.q_core.specs.Starting.{flights_at}
+use Rattle.q_core.specs.declared.state.Core.{Core}
+use Rattle.q_core.specs.declared.state.Question.{Question}
+use Rattle.q_core.specs.declared.state.Question.TheVariants.{Active, Deferred, Incoming, Nothing, Recipients}
+use Rattle.q_flights.specs.Flying.{Flying, is_at}
+use Rattle.q_model.specs.declared.rows.Unsettled.{Unsettled}
+use Rattle.q_model.specs.Settings.{Settings}
+use Rattle.q_model.specs.Values.{Site}
+use Rattle.q_queue.specs.Queued.{Queued}
+
+-- the transport is one of the core's, and has a process left
+abbrev pub HasProcess : Core → ℕ → Type 0
+HasProcess c transport = (transport < c.transports)
+    × (flights_at c transport < c.params.process_limit)
+
+-- how many deliveries can be in flight: as many as there are processes of all transports
+abbrev pub most_flights : Settings → ℕ → ℕ
+most_flights p transports = max 1 (transports * p.process_limit)
+
+-- deliveries are at transports that there are, no more at each than it has processes, and as many
+-- as all of these have room
+pub record AreWithinProcesses (p : Settings) (transports : ℕ) (fs : Flying) : Type 0 where
+  pub known : AllByRecursion (λ f. f.row.site.transport < transports) fs.items
+  pub within : (t : ℕ) → count_by (is_at t) fs.items ≤ p.process_limit
+  pub room : fs.room ≡ most_flights p transports
+
+-- a read asks for no more recipients than may be in memory
+abbrev pub AsksWithin : Settings → Question → Type 0
+AsksWithin p Nothing = Unit {0}
+AsksWithin p Active = Unit {0}
+AsksWithin p Incoming = Unit {0}
+AsksWithin p Deferred = Unit {0}
+AsksWithin p (Recipients id from max) = max ≤ p.recipient_limit
+
+-- deliveries have room, the sites of as many recipients as a read may ask for, and the outcomes of
+-- as many as may be in memory
+pub record HaveRoom (p : Settings) (transports : ℕ) (flights : Flying) (question : Question)
+    (named : Vec Site Global) (unsettled : Queued Unsettled) : Type 0 where
+  pub deliveries : AreWithinProcesses p transports flights
+  pub asked : AsksWithin p question
+  pub names : p.recipient_limit ≤ vec_capacity named
+  pub outcomes : unsettled.room ≡ p.recipient_limit
