@@ -110,4 +110,5 @@ pub mod NextRows
 pub mod ProcessLaws
 pub mod ProcessDecisions
 pub mod ReadRooms
+mod LoadRooms
 pub mod SyncedLaws

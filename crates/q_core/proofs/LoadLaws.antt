@@ -80,10 +80,10 @@ counted : (waiting more flights unsettled few limit n memory : ℕ) → memory �
 counted waiting more flights unsettled few limit n memory whole within fits rows read = grind (arith, whole, within, fits, rows, read)
 
 -- what a load takes up fits in memory
-record Fits (w : World) (l : Ledger) (m : Message) (from to : ℕ) : Type 0 where
-  few : length (load_positions m from to) ≤ w.settings.recipient_limit - in_memory l
+pub record Fits (w : World) (l : Ledger) (m : Message) (from to : ℕ) : Type 0 where
+  pub few : length (load_positions m from to) ≤ w.settings.recipient_limit - in_memory l
 
-fits : (w : World) (l : Ledger) (id : Id) (from to : ℕ) (m : Message) → IsConsistent w l → message_of l.book id ≡ Some m → may_load w l id from to ≡ true → Fits w l m from to
+pub fits : (w : World) (l : Ledger) (id : Id) (from to : ℕ) (m : Message) → IsConsistent w l → message_of l.book id ≡ Some m → may_load w l id from to ≡ true → Fits w l m from to
 fits w l id from to m k e may =
     let load = load_on w l id from to (admitted_of l id) (message_of l.book id) k refl refl may in
     let both : Some load.message ≡ Some m = sym load.there ∙ e in
@@ -160,7 +160,7 @@ load_used l rows s =
 -- ---- the whole entry
 
 -- the rows that the core makes are those of the load
-rows_are : {w : World} {c : Core} {l : Ledger} → AgreesButScan w c l → (id : Id) (from to : ℕ) (m : Message) (ts : List Taken) → message_of l.book id ≡ Some m → map (λ (t : Taken). t.position) ts ≡ load_positions m from to →
+pub rows_are : {w : World} {c : Core} {l : Ledger} → AgreesButScan w c l → (id : Id) (from to : ℕ) (m : Message) (ts : List Taken) → message_of l.book id ≡ Some m → map (λ (t : Taken). t.position) ts ≡ load_positions m from to →
     c.named ≡ map (λ p. w.table.route (address_at m p)) (load_positions m from to) → load_rows w m from to ≡ rows_in c.params.entry_limit id [] ts c.named
 rows_are {w = w} {c = c} {l = l} h id from to m ts e read named =
     let name : m.id ≡ id = id_eq-true m.id id (find-passes (λ (x : Message). id_eq x.id id) l.book.messages m e) in

@@ -2,7 +2,7 @@
 use Rattle.q_jobs.specs.Jobs.{behind_jobs}
 use Rattle.q_jobs.specs.declared.job.Job.{Job}
 use Rattle.q_laws.proofs.Members.{in_filtered, least_in}
-use Rattle.std.proofs.Common.{◌≡◌, ◌∙◌, ◌+◌, ◌<◌, ◌≤◌, ◌==◌, arith, Bool, false, filter, None, Option, option_map, refl, Some, subst, suc, sym, true, zero, ℕ}
+use Rattle.std.proofs.Common.{◌≡◌, ◌+◌, ◌<◌, ◌≤◌, ◌==◌, arith, Bool, false, filter, None, Option, option_map, refl, Some, subst, suc, sym, true, zero, ℕ}
 use Rattle.std.proofs.lemmas.Bool.{and_parts, eqb-true, ltb-true}
 use Rattle.std.specs.Option.{option_or}
 use Rattle.std.specs.Prelude.{◌&&◌, ◌^◌, if◌then◌else◌, nat_lt, option_and_then}

@@ -1,5 +1,5 @@
 -- Where a transport has a process left, fewer deliveries are in flight than all transports have.
-use Rattle.std.proofs.Common.{◌≡◌, ◌∙◌, ◌⊎◌, ◌+◌, ◌*◌, ◌<◌, ◌≤◌, ◌==◌, ◌++◌, ap, arith, Bool, cond, false, filter, inl, inr, length, List, [], ◌∷◌, refl, subst, suc, sym, true, zero, ℕ}
+use Rattle.std.proofs.Common.{◌≡◌, ◌⊎◌, ◌+◌, ◌*◌, ◌<◌, ◌≤◌, ◌==◌, ◌++◌, ap, arith, Bool, cond, false, filter, inl, inr, length, List, [], ◌∷◌, refl, subst, suc, true, zero, ℕ}
 use Rattle.std.proofs.lemmas.Bool.{cases_lt, cases_order, eq-eqb, eqb-true, le-ltb, lt-ltb, ne_eqb}
 use Rattle.std.specs.List.{AllByRecursion}
 use Rattle.std.specs.Prelude.{count_by, nat_lt}
@@ -80,6 +80,12 @@ has_flight_room p transports t fs h known left =
     let all = all_below transports fs.items h.known in
     let fewer = fewer_below transports p.process_limit t fs.items h.within known left in
     omega (arith, all, fewer, h.room)
+
+pub processes_few : (p : Settings) (transports : ℕ) (fs : Flying) → AreWithinProcesses p transports fs → length fs.items ≤ most_flights p transports
+processes_few p transports fs h =
+    let all = all_below transports fs.items h.known in
+    let most = most_below transports p.process_limit fs.items h.within in
+    omega (arith, all, most)
 
 -- ---- it goes on to hold
 

@@ -1,5 +1,5 @@
 -- The outcomes of recipients in memory have space.
-use Rattle.std.proofs.Common.{◌≡◌, ℕ, ◌+◌, ◌-◌, ◌≤◌, Bool, true, List, length, sym, ap, ◌∙◌, arith, Some, sum_by}
+use Rattle.std.proofs.Common.{◌≡◌, ℕ, ◌+◌, ◌-◌, ◌≤◌, Bool, true, List, length, sym, ap, ◌∙◌, arith, Some}
 use Rattle.std.proofs.lemmas.Bool.{le-leb, leb-true}
 use Rattle.std.proofs.lemmas.Bool.Decides.{nat_tests}
 use Rattle.std.specs.Prelude.{◌==◌, find, nat_le}
@@ -9,7 +9,6 @@ use Rattle.q_core.specs.Held.{have_space}
 use Rattle.q_core.specs.Queries.{flight_in}
 use Rattle.q_core.specs.declared.state.Core.{Core}
 use Rattle.q_model.specs.Ledger.{Ledger}
-use Rattle.q_model.specs.Lists.{drop_first}
 use Rattle.q_model.specs.Settings.{Settings, World}
 use Rattle.q_model.specs.declared.rows.Delivery.{Delivery}
 use Rattle.q_model.specs.declared.rows.Row.{Row}

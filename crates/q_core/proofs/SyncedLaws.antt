@@ -1,5 +1,5 @@
 -- What is known of the messages that an earlier life left stays known while no others are left.
-use Rattle.std.proofs.Common.{◌≡◌, ◌∙◌, ◌∷◌, ◌++◌, ap, Bool, false, filter, if◌then◌else◌, inl, inr, List, map, not, refl, subst, sym, true}
+use Rattle.std.proofs.Common.{◌≡◌, ◌∙◌, ap, Bool, false, filter, if◌then◌else◌, inl, inr, List, map, not, subst, sym, true}
 use Rattle.std.specs.List.{list_any}
 use Rattle.q_core.proofs.BookLaws.{KeepsPlace, ids_at-change}
 use Rattle.q_core.specs.Agrees.{AreSyncedAlike}

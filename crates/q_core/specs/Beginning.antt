@@ -1,6 +1,7 @@
 -- A core in which nothing happened yet.
 use Rattle.std.specs.Prelude.{◌≡◌, ◌≤◌, [], false, None, replicate, Vec, vec_capacity, ℕ}
 use Rattle.std.specs.declared.alloc.Global.{Global}
+use Rattle.q_core.specs.Rooms.{most_sites}
 use Rattle.q_core.specs.State.{State}
 use Rattle.q_core.specs.declared.state.Question.TheVariants.{Nothing}
 use Rattle.q_core.specs.declared.state.Seen.TheVariants.{Unknown}
@@ -16,7 +17,7 @@ use Rattle.q_pool.specs.Pooled.{Pooled}
 use Rattle.q_queue.specs.Queued.{Queued}
 use Rattle.q_schedule.specs.Schedule.{Scheduling}
 
--- nothing is in the registers, and messages have the room that the settings say
+-- nothing is in the registers, and they have the room that the settings say
 pub record AreNew (p : Settings) (transports : ℕ) (made : Dests × Pooled × Scheduling) : Type 0 where
   pub sites : made.0.items ≡ []
   pub admitted : made.1 ≡ record
@@ -25,12 +26,16 @@ pub record AreNew (p : Settings) (transports : ℕ) (made : Dests × Pooled × S
   pub peers : made.2.peers ≡ []
   pub messages : made.2.messages ≡ []
   pub message_room : made.2.message_room ≡ p.active_limit
+  pub site_room : made.0.room ≡ most_sites p transports
+  pub peer_room : made.2.room ≡ p.recipient_limit
+  pub line_room : made.2.line_room ≡ p.active_limit
 
 -- nothing waits, nothing is in flight, no site is named and no outcome is to be settled, with room for
 -- so many recipients and deliveries
 pub record AreEmpty (recipients deliveries : ℕ)
     (made : Held × Flying × Opened × Vec Site Global × Queued Unsettled) : Type 0 where
   pub waiting : made.0.items ≡ []
+  pub row_room : made.0.room ≡ recipients
   pub flights : made.1.items ≡ []
   pub flight_room : made.1.room ≡ deliveries
   pub named : made.3.items ≡ []

@@ -1,6 +1,7 @@
 -- How recipients come into the core.
 use Rattle.q_core.specs.declared.state.Question.{Question}
 use Rattle.q_core.specs.Lists.{AtPlace}
+use Rattle.q_core.specs.Rooms.{most_sites}
 use Rattle.q_core.specs.Ties.{AreNamed}
 use Rattle.q_model.specs.Ledger.{Ledger}
 use Rattle.q_model.specs.Message.{Message, address_at}
@@ -11,9 +12,9 @@ use Rattle.q_model.specs.Step.{after}
 use Rattle.q_model.specs.declared.entry.Entry.TheVariants as entries
 use Rattle.q_core.specs.Agrees.{Agrees, Matches}
 use Rattle.q_model.specs.Loads.{may_load}
-use Rattle.std.specs.List.{enumerate_from, list_any}
+use Rattle.std.specs.List.{enumerate_from, list_all, list_any}
 use Rattle.std.specs.Option.{option_map_or}
-use Rattle.std.specs.Prelude.{◌&&◌, ◌+◌, ◌≡◌, false, Some, true, ◌++◌, ◌==◌, [], Bool, if◌then◌else◌, length, List, map, min, nat_lt, not, Option, ◌||◌, ℕ, ◌∷◌, set}
+use Rattle.std.specs.Prelude.{◌&&◌, ◌+◌, ◌≡◌, false, Some, true, ◌++◌, ◌==◌, [], Bool, if◌then◌else◌, length, List, map, min, nat_le, nat_lt, not, Option, ◌||◌, ℕ, ◌∷◌, set}
 use Rattle.q_model.specs.declared.id.Id.{Id}
 use Rattle.q_model.specs.declared.rows.Row.{Row}
 use Rattle.q_model.specs.Batches.{join_rows}
@@ -90,6 +91,13 @@ abbrev pub joined_within : Id → List Row → ℕ → (ℕ × List Job) → Lis
 joined_within id rows room line = if can_join id rows room line then joined_line id rows line
     else line.1
 
+-- these rows of the message have room beside what is there: they themselves, a record for the site
+-- of each, and jobs in the lines that it joins
+abbrev pub fit_in : Core → Id → List Row → Bool
+fit_in c id rows = nat_le (length c.waiting + length rows) c.params.recipient_limit
+    && (nat_le (length c.sites + length rows) (most_sites c.params c.transports)
+    && list_all (can_join id rows c.params.active_limit) (enumerate_from 0 c.lines))
+
 -- The message was read up to this position: its recipients wait at their sites.
 pub record IsLoaded (old new : Core) (id : Id) (to : ℕ) (taken : List Taken)
     (rows : List Row) : Type 0 where
@@ -109,10 +117,11 @@ pub record IsLoaded (old new : Core) (id : Id) (to : ℕ) (taken : List Taken)
   pub memory : new.in_memory ≡ min (old.in_memory + length taken) old.params.recipient_limit
   pub named : new.named ≡ []
 
--- it was read so, and its recipients wait in the rows that their sites make
+-- it was read so, and its recipients wait in the rows that their sites make, where these fit
 abbrev pub HasLoaded : Core → Core → Id → ℕ → List Taken → Type 0
 HasLoaded old new id to taken = (rows : List Row)
-    → rows ≡ rows_in old.params.entry_limit id [] taken old.named → IsLoaded old new id to taken rows
+    → rows ≡ rows_in old.params.entry_limit id [] taken old.named → fit_in old id rows ≡ true
+    → IsLoaded old new id to taken rows
 
 -- these are the message's recipients to be read between two positions, and the sites are theirs
 pub record ReadsAre (w : World) (l : Ledger) (named : List Site) (id : Id) (from to : ℕ)

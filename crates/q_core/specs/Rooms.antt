@@ -1,6 +1,6 @@
 -- The room that is made at the beginning suffices.
 use Rattle.std.specs.List.{AllByRecursion}
-use Rattle.std.specs.Prelude.{◌≡◌, ◌<◌, ◌≤◌, ◌*◌, count_by, max, Vec, vec_capacity, ℕ}
+use Rattle.std.specs.Prelude.{◌≡◌, ◌<◌, ◌≤◌, ◌+◌, ◌*◌, count_by, max, Vec, vec_capacity, ℕ}
 use Rattle.std.specs.declared.alloc.Global.{Global}
 use Rattle.q_core.specs.Starting.{flights_at}
 use Rattle.q_core.specs.declared.state.Core.{Core}
@@ -20,6 +20,11 @@ HasProcess c transport = (transport < c.transports)
 -- how many deliveries can be in flight: as many as there are processes of all transports
 abbrev pub most_flights : Settings → ℕ → ℕ
 most_flights p transports = max 1 (transports * p.process_limit)
+
+-- how many sites can be known: those that rows wait for, those that deliveries are under way to, and
+-- the dead ones that are remembered
+abbrev pub most_sites : Settings → ℕ → ℕ
+most_sites p transports = 2 * p.recipient_limit + most_flights p transports
 
 -- deliveries are at transports that there are, no more at each than it has processes, and as many
 -- as all of these have room
@@ -44,3 +49,12 @@ pub record HaveRoom (p : Settings) (transports : ℕ) (flights : Flying) (questi
   pub asked : AsksWithin p question
   pub names : p.recipient_limit ≤ vec_capacity named
   pub outcomes : unsettled.room ≡ p.recipient_limit
+
+-- as many rows and peers have room as recipients may be in memory, as many sites as can be known, and
+-- in each line a job of each message that may be in memory
+pub record HasRoomForLoads (p : Settings) (transports row_room site_room peer_room line_room : ℕ)
+    : Type 0 where
+  pub rows : row_room ≡ p.recipient_limit
+  pub sites : site_room ≡ most_sites p transports
+  pub peers : peer_room ≡ p.recipient_limit
+  pub jobs : line_room ≡ p.active_limit

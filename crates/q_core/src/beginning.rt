@@ -35,7 +35,7 @@ fn registers(alloc: Global, params: &Params, transports: u8) -> Result<Registers
 {
     let messages = params.qmgr_message_active_limit;
     let room = params.qmgr_message_recipient_limit;
-    let sites = Sites::new(alloc, 2 * room)?;
+    let sites = Sites::new(alloc, 2 * room + most_flights(params, transports))?;
     let admitted = Pool::new(
         alloc,
         messages,
@@ -51,7 +51,7 @@ fn most_flights(params: &Params, transports: u8) -> u32
     requires { IsInRange params.now }
     ensures result { result ≡ most_flights params.now transports }
     ensures some { 1 ≤ result }
-    ensures few { result < 2 ^ 30 }
+    ensures few { result ≤ 255000 }
 {
     (u32::from(transports) * params.default_process_limit).max(1)
 }

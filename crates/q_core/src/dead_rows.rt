@@ -13,6 +13,7 @@ use q_model::Site;
 fn hold_each(waiting: &mut Rows, sites: &Sites)
     ensures rows { rows_of waiting.new.items ≡ rows_of waiting.old.items }
     ensures held { AreHeldBy (goes_to_dead sites.now.items) waiting.new.items }
+    ensures room { waiting.new.room ≡ waiting.old.room }
 {
     let mut at = waiting.first();
     while let Some(number) = at {
@@ -34,6 +35,7 @@ pub(crate) fn hold_at(waiting: &mut Rows, site: &Site, was_dead: bool, is_dead: 
         → ((r : Row) → p r ≡ (if site_eq r.site site.now then was_dead else p r))
         → ((r : Row) → q r ≡ (if site_eq r.site site.now then is_dead else p r))
         → AreHeldBy p waiting.old.items → AreHeldBy q waiting.new.items }
+    ensures room { waiting.new.room ≡ waiting.old.room }
 {
     if is_dead != was_dead {
         waiting.hold(site, is_dead);
@@ -47,6 +49,7 @@ pub(crate) fn hold_dead(waiting: &mut Rows, sites: &Sites)
     requires { AreWaitingTied sites.now.items (rows_of waiting.old.items) }
     ensures rows { rows_of waiting.new.items ≡ rows_of waiting.old.items }
     ensures held { AreHeldBy (goes_to_dead sites.now.items) waiting.new.items }
+    ensures room { waiting.new.room ≡ waiting.old.room }
 {
     if sites.dead_waiting() == 0 {
         waiting.release_all();

@@ -35,6 +35,7 @@ pub(crate) fn count_rows(sites: &mut Sites, rows: &[Row], waiting: &Rows, params
     ensures busy { (fs : List Delivery) → AreBusyTied sites.old.items fs
         → AreBusyTied sites.new.items fs }
     ensures dead { (r : Row) → goes_to_dead sites.new.items r ≡ goes_to_dead sites.old.items r }
+    ensures room { sites.new.room ≡ sites.old.room }
 {
     for i in 0..rows.len() {
         sites.gain(site_at(rows, i), params);

@@ -4,7 +4,7 @@ ghost use Rattle.q_core.specs.Agrees.{ForLedgers};
 ghost use Rattle.q_core.specs.Changes.{IsUnchanged, IsSlotChange, is_looked_at};
 ghost use Rattle.q_core.specs.Deciding.{is_answered, is_reading};
 ghost use Rattle.q_core.specs.Held.{is_admitted_in};
-ghost use Rattle.q_core.specs.Loading.{AreRowsOf, LoadsAs, AreRowsAdded, rows_in, may_name, ReadsAs, HasLoaded};
+ghost use Rattle.q_core.specs.Loading.{AreRowsOf, LoadsAs, AreRowsAdded, fit_in, rows_in, may_name, ReadsAs, HasLoaded};
 ghost use Rattle.q_pool.specs.Slots.{read_up};
 
 use crate::counting::gain_waiting;
@@ -50,28 +50,31 @@ impl Core {
         self.turns.read(id, unread(&self.admitted, id));
     }
 
-    /// Takes the rows of the message in, which is in memory.
-    fn add_rows(&mut self, id: Id, rows: Vec<Row>) -> Result<(), NoMemory>
-        requires own { AreRowsOf id rows.items }
-        requires there { is_admitted_in self.old id ≡ true }
-        ensures ok { OnOk result (AreRowsAdded self.old self.new id rows.items) }
-        ensures err { OnErr result (IsUnchanged self.old self.new) }
+    /// Whether these rows of the message fit in, which they do where a ledger may load them.
+    fn fit(&self, id: Id, rows: &[Row]) -> bool
+        ensures { result ≡ fit_in self.now id rows.now }
     {
         self.waiting.stand_apart();
         if (self.waiting.spare() as usize) < rows.len() {
-            return Err(NoMemory);
+            return false;
         }
         self.sites.stand_apart();
         if (self.sites.spare() as usize) < rows.len() {
-            return Err(NoMemory);
+            return false;
         }
+        can_join_all(&self.turns, id, rows)
+    }
+
+    /// Takes the rows of the message in, which is in memory.
+    fn add_rows(&mut self, id: Id, rows: Vec<Row>)
+        requires own { AreRowsOf id rows.items }
+        requires there { is_admitted_in self.old id ≡ true }
+        requires room { fit_in self.old id rows.items ≡ true }
+        ensures { AreRowsAdded self.old self.new id rows.items }
+    {
+        self.waiting.stand_apart();
+        self.sites.stand_apart();
         self.turns.stand_apart();
-        if (self.turns.spare_peers() as usize) < rows.len() {
-            return Err(NoMemory);
-        }
-        if !can_join_all(&self.turns, id, &rows) {
-            return Err(NoMemory);
-        }
         join_lines(&mut self.turns, id, &rows);
         count_peers(&mut self.turns, id, &rows, &self.waiting);
         count_rows(&mut self.sites, &rows, &self.waiting, &self.params);
@@ -79,7 +82,6 @@ impl Core {
         add_all(&mut self.waiting, rows, &self.sites);
         gain_waiting(&mut self.admitted, id, count);
         touch_message(&mut self.touched_message, id);
-        Ok(())
     }
 
     /// Ends the question that was answered.
@@ -124,13 +126,17 @@ impl Core {
         self.named.push_reserved(*site);
     }
 
+    /// Takes in the recipients that were read, where their rows fit in.
     fn load(&mut self, alloc: Global, id: Id, to: u32, taken: &Batch) -> Result<(), NoMemory>
         requires { is_admitted_in self.old id ≡ true }
         ensures ok { OnOk result (HasLoaded self.old self.new id to taken.now.items) }
         ensures err { OnErr result (IsUnchanged self.old self.new) }
     {
         let rows = self.read_rows(alloc, id, taken)?;
-        self.add_rows(id, rows)?;
+        if !self.fit(id, &rows) {
+            return Ok(());
+        }
+        self.add_rows(id, rows);
         self.note_read(id, to);
         self.count_read(taken.len());
         self.end_question();

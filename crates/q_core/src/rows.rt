@@ -50,6 +50,7 @@ pub(crate) fn take_row(waiting: &mut Rows, id: Id, site: &Site) -> Option<Row>
     ensures held { (p : Row → Bool) → AreHeldBy p waiting.old.items → AreHeldBy p waiting.new.items }
     ensures rows { rows_of waiting.new.items
         ≡ drop_first (is_for id site.now) (rows_of waiting.old.items) }
+    ensures room { waiting.new.room ≡ waiting.old.room }
 {
     waiting.stand_apart();
     match waiting.first_for(id, site) {
@@ -64,6 +65,7 @@ pub(crate) fn add_all(waiting: &mut Rows, rows: Vec<Row>, sites: &Sites)
     ensures rows { rows_of waiting.new.items ≡ rows_of waiting.old.items ++ rows.items }
     ensures held { AreHeldBy (goes_to_dead sites.now.items) waiting.old.items
         → AreHeldBy (goes_to_dead sites.now.items) waiting.new.items }
+    ensures room { waiting.new.room ≡ waiting.old.room }
 {
     let mut rest = rows;
     rest.reverse();

@@ -9,7 +9,7 @@ use crate::touched::Touched;
 use q_dest::Sites;
 use q_flights::Flights;
 use q_held::Rows;
-use q_model::{Entry, Id, Mode, Moment, NoMemory, Positions, Request, Scan, Site, Unsettled};
+use q_model::{Id, Mode, Moment, Positions, Request, Scan, Site, Unsettled};
 use q_open_rows::OpenRows;
 use q_params::Params;
 use q_pool::{Pool, Slot};
@@ -83,7 +83,7 @@ impl Model for Core {
 
     ghost view = { state_of };
 
-    ghost use Rattle.q_core.specs.Rooms.{HaveRoom};
+    ghost use Rattle.q_core.specs.Rooms.{HasRoomForLoads, HaveRoom};
     ghost use Rattle.q_core.specs.Ties.{AreMessagesTied, AreSitesTied, AreTied, AreTurnsTied, goes_to_dead};
     ghost use Rattle.q_core.specs.Touched.{IsTidyBut};
     ghost use Rattle.q_held.specs.Held.{AreHeldBy, rows_of};
@@ -97,7 +97,9 @@ impl Model for Core {
         × AreTurnsTied a.turns.peers (rows_of a.waiting.items) a.starts
         × AreHeldBy (goes_to_dead a.sites.items) a.waiting.items
         × AreMessagesTied a.params a.turns (heads a.admitted.items)
-        × HaveRoom a.params a.transports a.flights a.question a.named a.unsettled };
+        × HaveRoom a.params a.transports a.flights a.question a.named a.unsettled
+        × HasRoomForLoads a.params a.transports a.waiting.room a.sites.room a.turns.room
+        a.turns.line_room };
 }
 
 impl Core {

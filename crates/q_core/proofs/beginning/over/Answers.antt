@@ -36,6 +36,7 @@ invariant_of-result c =
         names = e.name_room;
         outcomes = ap (λ (q : Queued Unsettled). q.room) e.unsettled;
       },
+      record { rows = e.row_room; sites = r.site_room; peers = r.peer_room; jobs = r.line_room },
     )
 
 pub returns : goal.returns

@@ -1,4 +1,5 @@
-use Rattle.std.proofs.Common.{◌∙◌, [], ap}
+use Rattle.std.proofs.Common.{◌∙◌, ◌*◌, ◌+◌, [], ap}
+use Rattle.q_core.specs.Rooms.{most_flights}
 use Rattle.q_dest.specs.Dests.{Dests}
 use Rattle.q_model.specs.Settings.{Settings}
 use Rattle.q_schedule.specs.Schedule.{Scheduling}
@@ -12,4 +13,9 @@ returns c = record {
   messages = ap (λ (x : Scheduling). x.messages) c.in_ok-turns.ensures;
   message_room = ap (λ (x : Scheduling). x.message_room) c.in_ok-turns.ensures ∙ ap (λ (p : Settings). p.active_limit) c.params.view_is;
   sites = ap (λ (x : Dests). x.items) c.in_ok-sites.ensures;
+  site_room =
+      ap (λ (x : Dests). x.room) c.in_ok-sites.ensures ∙ ap (λ n. 2 * c.params.inside.qmgr_message_recipient_limit + n) c.most_flights.ensures.result
+      ∙ ap (λ (p : Settings). 2 * p.recipient_limit + most_flights c.args.params.now c.args.transports) c.params.view_is;
+  peer_room = ap (λ (x : Scheduling). x.room) c.in_ok-turns.ensures ∙ ap (λ (p : Settings). p.recipient_limit) c.params.view_is;
+  line_room = ap (λ (x : Scheduling). x.line_room) c.in_ok-turns.ensures ∙ ap (λ (p : Settings). p.active_limit) c.params.view_is;
 }

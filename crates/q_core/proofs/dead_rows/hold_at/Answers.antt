@@ -19,3 +19,6 @@ pub returns-else-is_dead-was_dead-clause-held : goal.returns-else-is_dead-was_de
 returns-else-is_dead-was_dead-clause-held c = λ p q before after held.
     let same : c.args.is_dead ≡ c.args.was_dead = grind (arith, common_steps, c.if-is_dead-was_dead.false) in
     tested_alike p q c.args.waiting.now.items (λ r. before r ∙ ap (λ b. cond (site_eq r.site c.args.site.now) b (p r)) (sym same) ∙ sym (after r)) held
+
+pub returns-then-is_dead-was_dead-clause-room : goal.returns-then-is_dead-was_dead-clause-room
+returns-then-is_dead-was_dead-clause-room c = ap (λ (v : Held). v.room) c.hold.ensures

@@ -17,3 +17,6 @@ returns-then-dead_waiting-eq0-clause-held c =
     let none : length (filter is_dead_waiting ds) ≡ 0 = omega (arith, c.dead_waiting.ensures, c.if-dead_waiting-eq0.true) in
     let items : c.release_all.new.self.items ≡ map released hs = ap (λ (v : Held). v.items) c.release_all.ensures in
     subst (AreHeldBy (goes_to_dead ds)) (sym items) (held_none ds hs c.requires none)
+
+pub returns-then-dead_waiting-eq0-clause-room : goal.returns-then-dead_waiting-eq0-clause-room
+returns-then-dead_waiting-eq0-clause-room c = ap (λ (v : Held). v.room) c.release_all.ensures

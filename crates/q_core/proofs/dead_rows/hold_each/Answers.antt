@@ -13,6 +13,7 @@ pub loop-at-init : goal.loop-at-init
 loop-at-init c = record {
   rows = refl;
   passed = begins (goes_to_dead c.args.sites.now.items) c.args.waiting.now.items c.first-at.result c.first-at.ensures;
+  room = refl;
 }
 
 pub returns-in_default-get-clause-held : goal.returns-in_default-get-clause-held
@@ -51,6 +52,7 @@ loop-at-preserved c =
       passed = subst (λ xs. Passed (goes_to_dead ds) xs c.next-at.result) (sym items)
           (goes_on ds hs l.at n row row.site held c.stand_apart.ensures.apart l.invariant.passed c.in-Some.is there refl c.is_dead.ensures c.next-at.result
           (c.next-at.ensures ∙ ap (λ xs. next_such (λ r. any_row) n (plain xs)) items));
+      room = ap (λ (v : Held). v.room) c.hold.ensures ∙ l.invariant.room;
     }
 
 pub returns-clause-rows : goal.returns-clause-rows

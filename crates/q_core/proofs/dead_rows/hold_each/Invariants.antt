@@ -14,4 +14,5 @@ abbrev pub invariant-loop-at : goal.invariant-loop-at
 invariant-loop-at l = record {
   rows : plain l.waiting.items ≡ plain l.initial.waiting.items;
   passed : Passed (goes_to_dead l.sites.items) l.waiting.items l.at;
+  room : l.waiting.room ≡ l.initial.waiting.room;
 }

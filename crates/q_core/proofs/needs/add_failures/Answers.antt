@@ -1,6 +1,5 @@
-use Rattle.std.proofs.Common.{◌≡◌, ◌∙◌, ◌++◌, ◌∷◌, ◌<◌, [], ap, subst, sym, get_or, length, take}
+use Rattle.std.proofs.Common.{◌∙◌, ◌++◌, ◌∷◌, ◌<◌, [], ap, subst, sym, get_or, length}
 use Rattle.q_core.proofs.NeedsLaws.{failed_more, put_off_fit}
-use Rattle.q_core.specs.Needs.{needs_put_off}
 use Rattle.q_model.specs.declared.outcome.Why.TheVariants.{Expired}
 use Rattle.q_model.specs.declared.rows.Need.TheVariants.{Log}
 use Rattle.q_model.specs.declared.rows.Unsettled.{Unsettled}

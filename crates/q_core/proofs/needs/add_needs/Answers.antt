@@ -1,4 +1,4 @@
-use Rattle.std.proofs.Common.{◌≡◌, ◌∙◌, ◌++◌, ◌<◌, ap, subst, sym, get_or, length, take}
+use Rattle.std.proofs.Common.{◌∙◌, ◌++◌, ◌<◌, ap, subst, sym, get_or, length, take}
 use Rattle.std.specs.Option.{option_copied}
 use Rattle.q_core.proofs.NeedsLaws.{added_more, needs_fit}
 use Rattle.q_core.specs.Needs.{need_at, needs_in}

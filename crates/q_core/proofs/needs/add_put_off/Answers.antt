@@ -1,4 +1,3 @@
-use Rattle.std.proofs.Common.{◌≡◌, ◌∙◌, ◌++◌, ap, refl, sym}
 use Rattle.q_core.proofs.NeedsLaws.{added_none}
 use Rattle.q_core.proofs.needs.add_put_off.Goals as goal
 

@@ -30,3 +30,6 @@ returns-in-None-clause-rows c =
     let hs = c.args.waiting.now.items in
     let p = is_for c.args.id c.args.site.now in
     sym (dropped_none p (rows_of hs) (ap (find p) (sym (rows_plain hs)) ∙ none_found p (plain hs) (sym c.in-None.ensures)))
+
+pub returns-in-Some-clause-room : goal.returns-in-Some-clause-room
+returns-in-Some-clause-room c = ap (λ (v : Held). v.room) c.remove.ensures.items

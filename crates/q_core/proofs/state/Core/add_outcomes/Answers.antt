@@ -1,6 +1,6 @@
-use Rattle.std.proofs.Common.{◌≡◌, ◌∙◌, ◌≤◌, ◌+◌, ◌++◌, ◌<◌, ◌^◌, ap, arith, false, length, length-append, List, None, refl, Some, subst, sym, true}
+use Rattle.std.proofs.Common.{◌≡◌, ◌∙◌, ◌++◌, ◌<◌, ◌^◌, ap, arith, length, length-append, List, None, refl, Some, sym, true}
 use Rattle.std.specs.Option.{option_copied}
-use Rattle.std.specs.Prelude.{◌==◌, find, nat_le, not}
+use Rattle.std.specs.Prelude.{◌==◌}
 use Rattle.q_core.proofs.MessageTies.{messages_same}
 use Rattle.q_core.proofs.NamedLaws.{needs_named}
 use Rattle.q_core.proofs.PoolTies.{heads_recounted, some_there}
@@ -82,6 +82,7 @@ invariant_of-self c =
         names = c.self.invariant.6.names;
         outcomes = ap (λ (q : Queued Unsettled). q.room) added ∙ c.self.invariant.6.outcomes;
       },
+      c.self.invariant.7,
     )
 
 pub returns-clause-busy : goal.returns-clause-busy

@@ -3,8 +3,6 @@ use Rattle.std.specs.Option.{option_copied}
 use Rattle.std.specs.Prelude.{◌&&◌}
 use Rattle.q_core.specs.Held.{have_space}
 use Rattle.q_core.specs.Leaving.{fails_in}
-use Rattle.q_core.specs.Queries.{expired_in}
-use Rattle.q_model.specs.declared.rows.Row.{Row}
 use Rattle.q_core.proofs.state.Core.fails.Goals as goal
 
 pub returns-then-id_expired : goal.returns-then-id_expired

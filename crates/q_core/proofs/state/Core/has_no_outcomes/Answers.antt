@@ -1,4 +1,4 @@
-use Rattle.std.proofs.Common.{◌≡◌, ◌∙◌, ap}
+use Rattle.std.proofs.Common.{◌∙◌, ap}
 use Rattle.q_core.proofs.AppliedLaws.{none_counted}
 use Rattle.q_core.specs.State.{State}
 use Rattle.q_model.specs.Lists.{has_none}

@@ -1,4 +1,4 @@
-use Rattle.std.proofs.Common.{◌≡◌, ◌∙◌, ◌-◌, ℕ, ap, length, refl}
+use Rattle.std.proofs.Common.{◌∙◌, ap, length, refl}
 use Rattle.std.specs.Prelude.{nat_le}
 use Rattle.q_core.proofs.SpaceLaws.{spare_space}
 use Rattle.q_core.specs.Held.{have_space}

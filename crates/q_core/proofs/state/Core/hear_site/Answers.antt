@@ -39,6 +39,7 @@ invariant_of-self c =
           (turned_at site change (λ d. heard_in_site core.params d.busy core.clock.seconds c.args.state d.known) ds dead is) c.self.invariant.4,
       c.self.invariant.5,
       c.self.invariant.6,
+      rw (ap (λ (x : Dests). x.room) c.hear.ensures, c.hold_at.ensures.room) c.self.invariant.7,
     )
 
 pub returns : goal.returns

@@ -69,6 +69,7 @@ invariant_of-self-2 c =
         names = c.self.invariant.6.names;
         outcomes = c.self.invariant.6.outcomes;
       }),
+      rw (ap (λ (x : Dests). x.room) c.land.ensures) c.self.invariant.7,
     )
 
 pub returns-clause-landed : goal.returns-clause-landed

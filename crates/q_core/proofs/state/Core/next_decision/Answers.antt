@@ -4,7 +4,7 @@ use Rattle.q_core.specs.Looking.{is_unseen, looks_left}
 use Rattle.q_core.specs.declared.state.Core.{Core}
 use Rattle.q_core.proofs.AskLaws.{asking_applied, decided_law, quiet_law, same_unseen}
 use Rattle.q_core.proofs.PlacedDecisions.{placed_law}
-use Rattle.q_core.proofs.ReadRooms.{decided_asks, other_asks}
+use Rattle.q_core.proofs.ReadRooms.{decided_asks}
 use Rattle.q_core.proofs.StartedLaws.{started_law}
 use Rattle.q_core.proofs.AskedLaws.{look_unseen}
 use Rattle.q_core.proofs.state.Core.next_decision.Goals as goal

@@ -80,6 +80,7 @@ invariant_of-self-2 c =
         names = c.self.invariant.6.names;
         outcomes = c.self.invariant.6.outcomes;
       }),
+      rw (c.take_row.ensures.room, ap (λ (x : Dests). x.room) c.begin.ensures, ap (λ (x : Scheduling). x.room) c.lose.ensures, ap (λ (x : Scheduling). x.line_room) c.lose.ensures, ap (λ (x : Scheduling). x.room) c.start.ensures, ap (λ (x : Scheduling). x.line_room) c.start.ensures) c.self.invariant.7,
     )
 
 pub push-requires-clause-room : goal.push-requires-clause-room

@@ -1,4 +1,4 @@
-use Rattle.std.proofs.Common.{◌≡◌, ◌∙◌, ◌<◌, [], ◌∷◌, ap, arith, drop, length, List, None, refl, Some, subst, sym}
+use Rattle.std.proofs.Common.{◌≡◌, ◌∙◌, ◌<◌, [], ◌∷◌, ap, arith, drop, length, List, None, Some, subst, sym}
 use Rattle.std.specs.List.{remove}
 use Rattle.std.specs.Prelude.{slice_get}
 use Rattle.q_core.proofs.MessageTies.{messages_same}
@@ -43,6 +43,7 @@ invariant_of-self c =
         names = c.self.invariant.6.names;
         outcomes = ap (λ (q : Queued Unsettled). q.room) c.pop.ensures.items ∙ c.self.invariant.6.outcomes;
       },
+      c.self.invariant.7,
     )
 
 pub returns-clause-change : goal.returns-clause-change

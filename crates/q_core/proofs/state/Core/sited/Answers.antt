@@ -1,4 +1,4 @@
-use Rattle.std.proofs.Common.{arith, length, subst, sym, true, ◌≡◌}
+use Rattle.std.proofs.Common.{arith, subst, sym, true, ◌≡◌}
 use Rattle.q_core.proofs.ReadRooms.{name_room}
 use Rattle.q_core.specs.Loading.{may_name}
 use Rattle.q_core.specs.State.{State}

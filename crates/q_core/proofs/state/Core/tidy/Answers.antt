@@ -32,6 +32,7 @@ invariant_of-self c =
       held_forgotten c.record_limit-limit.result core.sites.items core.waiting.items c.stand_apart.ensures.apart c.self.invariant.2.waiting c.self.invariant.4,
       messages_stay core.params core.turns (heads core.admitted.items) c.self.invariant.5 _ (ap (λ (x : Scheduling). x.messages) c.tidy_touched_lines.ensures) (ap (λ (x : Scheduling). x.message_room) c.tidy_touched_lines.ensures),
       c.self.invariant.6,
+      rw (ap (λ (x : Scheduling). x.room) c.tidy_touched_lines.ensures, ap (λ (x : Scheduling). x.line_room) c.tidy_touched_lines.ensures, ap (λ (x : Dests). x.room) c.forget_oldest.ensures) c.self.invariant.7,
     )
 
 pub returns : goal.returns

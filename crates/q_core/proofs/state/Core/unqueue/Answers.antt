@@ -106,6 +106,7 @@ invariant_of-self-2 c =
         names = c.self.invariant.6.names;
         outcomes = ap (λ (q : Queued Unsettled). q.room) added ∙ c.self.invariant.6.outcomes;
       },
+      rw (c.take_row.ensures.room, ap (λ (x : Dests). x.room) c.leave.ensures, ap (λ (x : Scheduling). x.room) c.lose.ensures, ap (λ (x : Scheduling). x.line_room) c.lose.ensures) c.self.invariant.7,
     )
 
 pub returns-clause-left : goal.returns-clause-left

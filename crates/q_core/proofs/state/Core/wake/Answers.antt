@@ -40,6 +40,7 @@ invariant_of-self c =
       subst (λ es. AreHeldBy (goes_to_dead es) c.hold_dead.new.waiting.items) sites c.hold_dead.ensures.held,
       c.self.invariant.5,
       c.self.invariant.6,
+      rw (ap (λ (x : Dests). x.room) c.revive_due.ensures, c.hold_dead.ensures.room) c.self.invariant.7,
     )
 
 pub returns-clause-woken : goal.returns-clause-woken

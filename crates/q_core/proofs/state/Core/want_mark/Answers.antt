@@ -1,9 +1,8 @@
-use Rattle.std.proofs.Common.{◌≡◌, ◌∙◌, ap, refl, sym}
+use Rattle.std.proofs.Common.{◌∙◌, ap, refl, sym}
 use Rattle.std.specs.Option.{option_copied}
 use Rattle.q_core.proofs.MarkedFirst.{marked_first, none_marked}
 use Rattle.q_core.proofs.TiedLaws.{tied_logged}
 use Rattle.q_core.specs.State.{State}
-use Rattle.q_core.specs.View.{state_of}
 use Rattle.q_held.specs.Held.{rows_of}
 use Rattle.q_model.specs.Logs.{first_logged}
 use Rattle.q_model.specs.declared.rows.Unsettled.{Unsettled}
@@ -27,6 +26,7 @@ invariant_of-self c =
         names = c.self.invariant.6.names;
         outcomes = ap (λ (q : Queued Unsettled). q.room) c.set_first.ensures ∙ c.self.invariant.6.outcomes;
       },
+      c.self.invariant.7,
     )
 
 pub returns-in-Some-clause-change : goal.returns-in-Some-clause-change
