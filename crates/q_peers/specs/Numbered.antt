@@ -11,10 +11,12 @@ pub record Numbered : Type 0 where
   pub number : ℕ
   pub row : Row
 
--- the rows in the order in which they came, and how many have room
+-- the rows in the order in which they came, how many have room, and how many positions each has
+-- room for
 pub record Items : Type 0 where
   pub items : List Numbered
   pub room : ℕ
+  pub most : ℕ
 
 abbrev pub rows_of : List Numbered → List Row
 rows_of ks = map (λ k. k.row) ks

@@ -4,7 +4,7 @@ ghost use Rattle.std.specs.List.{list_any};
 ghost use Rattle.q_peers.specs.Numbered.{any_row, first_such, is_at, is_for, next_such, rows_of};
 
 use crate::bucket::{peer_bucket, site_bucket};
-use crate::slots::{WAITING, row_at};
+use crate::slots::WAITING;
 use crate::waiting::Waiting;
 use crate::walk::{first_at_from, first_for_from};
 use q_model::{Id, Site};
@@ -21,7 +21,7 @@ impl Waiting {
     pub fn next(&self, number: u32) -> Option<u32>
         ensures { result ≡ next_such (λ r. any_row) number self.now.items }
     {
-        let _row = row_at(&self.rows, number)?;
+        let _row = self.rows.get(number)?;
         self.order.stand_once();
         self.order.next(number)
     }
@@ -40,10 +40,10 @@ impl Waiting {
     pub fn next_at(&self, number: u32) -> Option<u32>
         ensures { result ≡ next_such (λ r. is_at r.site) number self.now.items }
     {
-        let site = &row_at(&self.rows, number)?.site;
+        let row = self.rows.get(number)?;
         self.by_site.stand_once();
         let from = self.by_site.next(number);
-        first_at_from(&self.rows, &self.by_site, from, site)
+        first_at_from(&self.rows, &self.by_site, from, row.site)
     }
 
     /// The number of the first row of a message to a site, by a walk along their bucket.

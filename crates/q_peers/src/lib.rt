@@ -9,9 +9,11 @@
 //! buckets by message and site and in buckets by site, as many of each as rows have room. Only along one
 //! bucket does a call walk.
 //!
-//! Room is made once, by `new`; no other call takes memory or can fail. It is an error to make it
-//! without room or for 2^30 rows and more, and to add a row where there is no room. It is none to
-//! ask for a number that no row has, or to remove it: the answer is None.
+//! Room is made once, by `new`, for the positions of each row too (`q_positions::Slots`); no other
+//! call takes memory or can fail, and a row is lent as it stands there. It is an error to make it
+//! without room, for 2^30 rows and more or for more than 1024 positions in a row, and to add a row
+//! where there is no room for it or for its positions. It is none to ask for a number that no row
+//! has: the answer is None; nor to remove it: nothing goes.
 #![tactic(auto)]
 
 mod bucket;

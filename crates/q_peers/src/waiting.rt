@@ -1,14 +1,15 @@
 //! The rows that wait.
-ghost use Rattle.std.specs.Prelude.{◌≡◌, ◌<◌, ◌≤◌, ◌-◌, ◌++◌, ◌^◌, [], ◌∷◌, Bool, IfOk, filter, find, length, None, not, Some};
-ghost use Rattle.std.specs.Option.{option_copied};
+ghost use Rattle.std.specs.Prelude.{◌≡◌, ◌<◌, ◌≤◌, ◌-◌, ◌++◌, ◌^◌, [], ◌∷◌, Bool, IfOk, filter, find, length, None, not, option_map, Some};
+ghost use Rattle.std.specs.Option.{is_some};
 ghost use Rattle.q_model.specs.Lists.{drop_first};
 ghost use Rattle.q_model.specs.declared.rows.Row.{Row};
+ghost use Rattle.q_positions.specs.Rows.{row_shown};
 ghost use Rattle.q_peers.specs.Numbered.{AreApart, first_such, has_number, row_at, rows_of};
 
 use crate::bucket::{peer_bucket, site_bucket};
-use crate::slots::{FREE, WAITING, fresh_order, fresh_rows, put_row, row_at, take_row};
+use crate::slots::{FREE, WAITING, fresh_order};
 use q_chains::Chains;
-use q_model::Row;
+use q_positions::{RowRef, Slots};
 use std::alloc::{AllocError, Global};
 use std::marker::Model;
 
@@ -16,7 +17,7 @@ use std::marker::Model;
 #[derive(Debug, Drop)]
 pub struct Waiting {
     /// The rows by number.
-    pub(crate) rows: Vec<Option<Row>>,
+    pub(crate) rows: Slots,
     /// Two lists: the numbers of the rows in the order in which they came, and the free numbers.
     pub(crate) order: Chains,
     /// The numbers in each bucket of messages at sites, in the order in which the rows came.
@@ -37,22 +38,27 @@ impl Model for Waiting {
     ghost Value = { Items };
 
     ghost view = { λ a. record {
-      items = items_of a.rows.items (get_or a.order.lists 0 []);
+      items = items_of a.rows.rows (get_or a.order.lists 0 []);
       room = a.room;
+      most = a.rows.most;
     } };
 
-    ghost invariant = { λ a. IsSound a.rows.items a.order a.by_peer a.by_site a.live a.room };
+    ghost invariant = { λ a. IsSound a.rows.rows a.order a.by_peer a.by_site a.live a.room };
 }
 
 impl Waiting {
-    /// No row, and room for so many. For each of them it takes 40 bytes, in which numbers and
-    /// buckets are chained, and those of the row. An error says that memory is wanting.
-    pub fn new(alloc: Global, room: u32) -> Result<Waiting, AllocError>
+    /// No row, and room for so many, each of so many positions at most. For each of them it takes
+    /// 40 bytes, in which numbers and buckets are chained, and those of the row and of its
+    /// positions (`q_positions::Slots`). An error says that memory is wanting.
+    pub fn new(alloc: Global, room: u32, most: u32) -> Result<Waiting, AllocError>
         requires some { 1 ≤ room }
         requires few { room < 2 ^ 30 }
-        ensures { IfOk result (λ made. made ≡ record { items = []; room = room }) }
+        requires one { 1 ≤ most }
+        requires short { most ≤ 1024 }
+        ensures { IfOk result (λ made. made
+            ≡ record { items = []; room = room; most = most }) }
     {
-        let rows = fresh_rows(alloc, room)?;
+        let rows = Slots::new(alloc, room, most)?;
         let order = fresh_order(alloc, room)?;
         let by_peer = Chains::new(alloc, room, room)?;
         let by_site = Chains::new(alloc, room, room)?;
@@ -91,19 +97,22 @@ impl Waiting {
     }
 
     /// The row of a number.
-    pub fn get(&self, number: u32) -> Option<&Row>
-        ensures { option_copied result ≡ row_at number self.now.items }
+    pub fn get(&self, number: u32) -> Option<RowRef<'_>>
+        ensures { option_map row_shown result ≡ row_at number self.now.items }
     {
-        row_at(&self.rows, number)
+        self.rows.get(number)
     }
 
     /// Adds a row behind all others, and gives the number that it has from now on.
-    pub fn push(&mut self, row: Row) -> u32
-        requires { length self.old.items < self.old.room }
+    pub fn push(&mut self, row: RowRef<'_>) -> u32
+        requires room { length self.old.items < self.old.room }
+        requires positions { length row.positions.now ≤ self.old.most }
         ensures items { self.new ≡ record self.old {
-          items = self.old.items ++ record { number = result; row = row } ∷ [];
+          items = self.old.items
+              ++ record { number = result; row = row_shown row.entry } ∷ [];
         } }
-        ensures rows { rows_of self.new.items ≡ rows_of self.old.items ++ row ∷ [] }
+        ensures rows { rows_of self.new.items
+            ≡ rows_of self.old.items ++ row_shown row.entry ∷ [] }
         ensures fresh { find (has_number result) self.old.items ≡ None }
         ensures below { result < self.old.room }
     {
@@ -111,34 +120,35 @@ impl Waiting {
         let Some(number) = self.order.first(FREE) else {
             unreachable!()
         };
-        let peer = peer_bucket(row.id, &row.site, self.room);
-        let site = site_bucket(&row.site, self.room);
+        let peer = peer_bucket(row.id, row.site, self.room);
+        let site = site_bucket(row.site, self.room);
         self.order.remove(number);
         self.order.push(WAITING, number);
         self.by_peer.push(peer, number);
         self.by_site.push(site, number);
-        put_row(&mut self.rows, number, row);
+        self.rows.put(number, row);
         self.live += 1;
         number
     }
 
-    /// Takes the row of a number out.
-    pub fn remove(&mut self, number: u32) -> Option<Row>
-        ensures taken { result ≡ row_at number self.old.items }
+    /// Takes the row of a number out, and tells whether there was one.
+    pub fn remove(&mut self, number: u32) -> bool
+        ensures taken { result ≡ is_some (row_at number self.old.items) }
         ensures items { self.new ≡ record self.old
             { items = filter (λ k. not (has_number number k)) self.old.items } }
         ensures rows { (p : Row → Bool) → first_such p self.old.items ≡ Some number
             → rows_of self.new.items ≡ drop_first p (rows_of self.old.items) }
     {
         self.order.stand_once();
-        if row_at(&self.rows, number).is_none() {
-            return None;
+        if self.rows.get(number).is_none() {
+            return false;
         }
         self.order.remove(number);
         self.order.push(FREE, number);
         self.by_peer.remove(number);
         self.by_site.remove(number);
+        self.rows.clear(number);
         self.live -= 1;
-        take_row(&mut self.rows, number)
+        true
     }
 }

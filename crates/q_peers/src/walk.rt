@@ -6,9 +6,9 @@ ghost use Rattle.q_model.specs.Sites.{site_eq};
 ghost use Rattle.q_peers.specs.Numbered.{is_at, is_for};
 ghost use Rattle.q_peers.specs.Slots.{from_on, passes};
 
-use crate::slots::row_at;
 use q_chains::Chains;
-use q_model::{Id, Row, Site};
+use q_model::{Id, Site};
+use q_positions::Slots;
 
 fn same_id(a: Id, b: Id) -> bool
     ensures { result ≡ id_eq a b }
@@ -23,35 +23,35 @@ fn same_site(a: &Site, b: &Site) -> bool
 }
 
 /// Whether the row of the number goes to the site.
-fn is_row_at(rows: &Vec<Option<Row>>, number: u32, site: &Site) -> bool
-    ensures { result ≡ passes (is_at site.now) rows.now.items number }
+fn is_row_at(rows: &Slots, number: u32, site: &Site) -> bool
+    ensures { result ≡ passes (is_at site.now) rows.now.rows number }
 {
-    match row_at(rows, number) {
-        Some(row) => same_site(&row.site, site),
+    match rows.get(number) {
+        Some(row) => same_site(row.site, site),
         None => false,
     }
 }
 
 /// Whether it is of the message, and goes to the site.
-fn is_row_for(rows: &Vec<Option<Row>>, number: u32, id: Id, site: &Site) -> bool
-    ensures { result ≡ passes (is_for id site.now) rows.now.items number }
+fn is_row_for(rows: &Slots, number: u32, id: Id, site: &Site) -> bool
+    ensures { result ≡ passes (is_for id site.now) rows.now.rows number }
 {
-    match row_at(rows, number) {
-        Some(row) => same_id(row.id, id) && same_site(&row.site, site),
+    match rows.get(number) {
+        Some(row) => same_id(row.id, id) && same_site(row.site, site),
         None => false,
     }
 }
 
 /// The first number whose row goes to the site, from this one on in its list.
 pub(crate) fn first_at_from(
-    rows: &Vec<Option<Row>>,
+    rows: &Slots,
     lists: &Chains,
     from: Option<u32>,
     site: &Site,
 ) -> Option<u32>
     requires { IfSome from (λ number. stands number lists.now.lists ≡ true) }
     ensures { result
-        ≡ find (passes (is_at site.now) rows.now.items) (from_on from lists.now.lists) }
+        ≡ find (passes (is_at site.now) rows.now.rows) (from_on from lists.now.lists) }
 {
     lists.stand_once();
     let mut at = from;
@@ -66,7 +66,7 @@ pub(crate) fn first_at_from(
 
 /// The first number whose row is of the message and goes to the site, from this one on in its list.
 pub(crate) fn first_for_from(
-    rows: &Vec<Option<Row>>,
+    rows: &Slots,
     lists: &Chains,
     from: Option<u32>,
     id: Id,
@@ -74,7 +74,7 @@ pub(crate) fn first_for_from(
 ) -> Option<u32>
     requires { IfSome from (λ number. stands number lists.now.lists ≡ true) }
     ensures { result
-        ≡ find (passes (is_for id site.now) rows.now.items) (from_on from lists.now.lists) }
+        ≡ find (passes (is_for id site.now) rows.now.rows) (from_on from lists.now.lists) }
 {
     lists.stand_once();
     let mut at = from;

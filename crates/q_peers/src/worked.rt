@@ -3,7 +3,8 @@
 ghost use Rattle.std.specs.Prelude.{◌≤◌, ◌<◌, ◌^◌};
 
 use crate::Waiting;
-use q_model::{Hop, Id, Row, Sequence, Site};
+use q_model::{Hop, Id, Site};
+use q_positions::RowRef;
 use std::alloc::{AllocError, Global};
 use std::test::Fail;
 
@@ -65,40 +66,39 @@ fn site(transport: u8) -> Option<Site> {
     Some(Site { transport, hop })
 }
 
-fn row(alloc: Global, serial: u32, transport: u8) -> Option<Row> {
-    Some(Row {
-        id: id(serial),
-        site: site(transport)?,
-        positions: Sequence::new(alloc),
-    })
-}
-
 /// The number of a row that is added, where there is room.
-fn added(alloc: Global, waiting: &mut Waiting, serial: u32, transport: u8) -> Option<u32> {
+fn added(waiting: &mut Waiting, serial: u32, transport: u8) -> Option<u32> {
     if waiting.spare() == 0 {
         return None;
     }
-    Some(waiting.push(row(alloc, serial, transport)?))
+    let site = site(transport)?;
+    Some(waiting.push(RowRef {
+        id: id(serial),
+        site: &site,
+        positions: &[serial],
+    }))
 }
 
 /// The first row of a message to a site goes.
 fn removed(waiting: &mut Waiting, serial: u32, transport: u8) -> Option<Pair> {
     let number = waiting.first_for(id(serial), &site(transport)?)?;
-    let row = waiting.remove(number)?;
-    Some((row.id.serial, row.site.transport))
+    let pair = pair_at(waiting, number);
+    waiting.remove(number);
+    pair
 }
 
 /// Whether the call is answered as it is to be, where the rows after it are these.
-fn carries_out(alloc: Global, waiting: &mut Waiting, call: Call, rows: usize) -> bool {
+fn carries_out(waiting: &mut Waiting, call: Call, rows: usize) -> bool {
     let before = waiting.len();
     match call {
         Call::Add(serial, transport) => {
-            let number = added(alloc, waiting, serial, transport);
+            let number = added(waiting, serial, transport);
             number.is_some() == (before < rows)
         }
         Call::Remove(serial, transport) => {
-            let row = removed(waiting, serial, transport);
-            row.is_some() == (before > rows) && (row.is_none() || row == Some((serial, transport)))
+            let pair = removed(waiting, serial, transport);
+            pair.is_some() == (before > rows)
+                && (pair.is_none() || pair == Some((serial, transport)))
         }
     }
 }
@@ -173,7 +173,7 @@ fn empty(alloc: Global, room: u32) -> Result<Box<Waiting>, AllocError>
     requires some { 1 ≤ room }
     requires few { room < 2 ^ 30 }
 {
-    let waiting = Waiting::new(alloc, room)?;
+    let waiting = Waiting::new(alloc, room, 1)?;
     Ok(Box::new(alloc, waiting)?)
 }
 
@@ -183,10 +183,7 @@ fn rows_after_each_call(rt: HostRuntime) -> Result<(), Fail> {
     assert!(rt; reads(&waiting, Rows::All, &[]));
     for i in 0..ROWS.len() {
         let (call, want) = ROWS[i];
-        assert!(rt;
-            carries_out(rt.alloc(), &mut waiting, call, want.len()),
-            "row {i}"
-        );
+        assert!(rt; carries_out(&mut waiting, call, want.len()), "row {i}");
         assert_eq!(rt; waiting.len(), want.len());
         assert!(rt; reads(&waiting, Rows::All, want), "row {i}");
         for (serial, transport) in ASKED {
@@ -210,25 +207,25 @@ fn rows_after_each_call(rt: HostRuntime) -> Result<(), Fail> {
 #[test]
 fn numbers_stay(rt: HostRuntime) -> Result<(), Fail> {
     let mut waiting = empty(rt.alloc(), 2)?;
-    let first = added(rt.alloc(), &mut waiting, 1, 1).unwrap_or(u32::MAX);
-    let second = added(rt.alloc(), &mut waiting, 2, 1).unwrap_or(u32::MAX);
+    let first = added(&mut waiting, 1, 1).unwrap_or(u32::MAX);
+    let second = added(&mut waiting, 2, 1).unwrap_or(u32::MAX);
     assert_eq!(rt; pair_at(&waiting, first), Some((1, 1)));
     assert_eq!(rt; pair_at(&waiting, second), Some((2, 1)));
     assert_eq!(rt; waiting.spare(), 0);
     assert_eq!(rt; waiting.next(first), Some(second));
-    assert!(rt; waiting.remove(first).is_some());
+    assert!(rt; waiting.remove(first));
     // it went
     assert!(rt; waiting.get(first).is_none());
-    assert!(rt; waiting.remove(first).is_none());
+    assert!(rt; !waiting.remove(first));
     assert_eq!(rt; waiting.next(first), None);
     assert_eq!(rt; waiting.next_at(first), None);
     assert_eq!(rt; pair_at(&waiting, second), Some((2, 1)));
     // its number is the only one that is free
-    assert_eq!(rt; added(rt.alloc(), &mut waiting, 3, 1), Some(first));
+    assert_eq!(rt; added(&mut waiting, 3, 1), Some(first));
     assert_eq!(rt; waiting.next_at(second), Some(first));
     // no row has such a number
     assert!(rt; waiting.get(u32::MAX).is_none());
-    assert!(rt; waiting.remove(u32::MAX).is_none());
+    assert!(rt; !waiting.remove(u32::MAX));
     assert_eq!(rt; waiting.next_at(u32::MAX), None);
     Ok(())
 }

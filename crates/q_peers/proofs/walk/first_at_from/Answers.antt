@@ -14,5 +14,5 @@ loop-at-preserved c =
     let fails = sym c.is_row_at.ensures ∙ c.if-is_row_at.false in
     record {
       there = still_there s c.stand_once.ensures n c.loop-at.at c.next-at.result c.in-Some.is c.next-at.ensures;
-      rest = found_behind s c.stand_once.ensures n c.loop-at.at c.next-at.result c.in-Some.is c.next-at.ensures (passes (is_at c.args.site.now) c.args.rows.now.items) fails ∙ c.loop-at.invariant.rest;
+      rest = found_behind s c.stand_once.ensures n c.loop-at.at c.next-at.result c.in-Some.is c.next-at.ensures (passes (is_at c.args.site.now) c.args.rows.now.rows) fails ∙ c.loop-at.invariant.rest;
     }

@@ -12,6 +12,6 @@ decreases-loop-at l = length (from_on l.at l.lists.lists)
 abbrev pub invariant-loop-at : goal.invariant-loop-at
 invariant-loop-at l = record {
   there : IfSome l.at (λ n. stands n l.lists.lists ≡ true);
-  rest : find (passes (is_at l.site) l.rows.items) (from_on l.at l.lists.lists)
-      ≡ find (passes (is_at l.site) l.rows.items) (from_on l.fn.from l.lists.lists);
+  rest : find (passes (is_at l.site) l.rows.rows) (from_on l.at l.lists.lists)
+      ≡ find (passes (is_at l.site) l.rows.rows) (from_on l.fn.from l.lists.lists);
 }

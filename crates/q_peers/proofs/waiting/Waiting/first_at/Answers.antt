@@ -16,6 +16,6 @@ returns c =
     let b = c.site_bucket.result in
     let p = is_at c.args.site.now in
     c.first_at_from.ensures
-    ∙ ap (λ o. find (passes p a.rows.items) (from_on o a.by_site.lists)) c.first-from.ensures
-    ∙ first_in_bucket a.rows.items a.order a.by_peer a.by_site a.live a.room c.self.invariant site_key a.by_site c.self.invariant.by_site c.stand_once.ensures b p c.site_bucket.ensures.below (site_bucket c.args.site.now a.room b c.site_bucket.ensures.is)
+    ∙ ap (λ o. find (passes p a.rows.rows) (from_on o a.by_site.lists)) c.first-from.ensures
+    ∙ first_in_bucket a.rows.rows a.order a.by_peer a.by_site a.live a.room c.self.invariant site_key a.by_site c.self.invariant.by_site c.stand_once.ensures b p c.site_bucket.ensures.below (site_bucket c.args.site.now a.room b c.site_bucket.ensures.is)
     ∙ ap (λ (v : Items). first_such p v.items) c.self.view_is

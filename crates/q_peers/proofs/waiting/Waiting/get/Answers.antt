@@ -6,5 +6,5 @@ use Rattle.q_peers.proofs.waiting.Waiting.get.Goals as goal
 pub returns : goal.returns
 returns c =
     let a = c.self.inside in
-    c.row_at.ensures ∙ sym (row a.rows.items a.order a.by_peer a.by_site a.live a.room c.self.invariant c.args.number)
+    c.get.ensures ∙ sym (row a.rows.rows a.order a.by_peer a.by_site a.live a.room c.self.invariant c.args.number)
     ∙ ap (λ (v : Items). row_at c.args.number v.items) c.self.view_is

@@ -1,7 +1,7 @@
-use Rattle.std.proofs.Common.{◌∙◌, ◌%◌, ap, Bool, refl, sym}
-use Rattle.std.specs.Option.{option_copied}
+use Rattle.std.proofs.Common.{◌∙◌, ◌%◌, ap, Bool, option_map, refl, sym}
 use Rattle.std.specs.Prelude.{find}
 use Rattle.q_model.specs.declared.rows.Row.{Row}
+use Rattle.q_positions.specs.Rows.{row_shown}
 use Rattle.q_peers.specs.Buckets.{site_key}
 use Rattle.q_peers.specs.Numbered.{is_at, Items, next_such}
 use Rattle.q_peers.specs.Slots.{from_on, passes}
@@ -9,20 +9,20 @@ use Rattle.q_peers.proofs.Keys.{bucket_below, site_bucket}
 use Rattle.q_peers.proofs.Standing.{goes_on, next_in_bucket, no_row, stands_filed}
 use Rattle.q_peers.proofs.waiting.Waiting.next_at.Goals as goal
 
-pub returns-in_err-site : goal.returns-in_err-site
-returns-in_err-site c =
+pub returns-in_err-row : goal.returns-in_err-row
+returns-in_err-row c =
     let a = c.self.inside in
     let n = c.args.number in
     c.from_residual.ensures
-    ∙ sym (no_row a.rows.items a.order a.by_peer a.by_site a.live a.room c.self.invariant (λ r. is_at r.site) n (sym c.row_at.ensures ∙ ap option_copied c.in_err-site.was))
+    ∙ sym (no_row a.rows.rows a.order a.by_peer a.by_site a.live a.room c.self.invariant (λ r. is_at r.site) n (sym c.get.ensures ∙ ap (option_map row_shown) c.in_err-row.was))
     ∙ ap (λ (v : Items). next_such (λ r. is_at r.site) n v.items) c.self.view_is
 
 pub next-from-requires : goal.next-from-requires
 next-from-requires c =
     let a = c.self.inside in
-    let r = c.in_ok-site.field-0.now in
-    stands_filed a.rows.items a.order a.by_peer a.by_site a.live a.room c.self.invariant site_key a.by_site c.self.invariant.by_site c.stand_once.ensures c.args.number r
-    (sym c.row_at.ensures ∙ ap option_copied c.in_ok-site.was) (bucket_below (site_key r) a.room c.self.invariant.some)
+    let r = row_shown c.in_ok-row.row in
+    stands_filed a.rows.rows a.order a.by_peer a.by_site a.live a.room c.self.invariant site_key a.by_site c.self.invariant.by_site c.stand_once.ensures c.args.number r
+    (sym c.get.ensures ∙ ap (option_map row_shown) c.in_ok-row.was) (bucket_below (site_key r) a.room c.self.invariant.some)
 
 pub first_at_from-requires : goal.first_at_from-requires
 first_at_from-requires c = goes_on c.args.number c.self.inside.by_site c.next-from.result c.next-from.ensures
@@ -31,11 +31,11 @@ pub returns : goal.returns
 returns c =
     let a = c.self.inside in
     let n = c.args.number in
-    let r = c.in_ok-site.field-0.now in
+    let r = row_shown c.in_ok-row.row in
     let like : Row → Row → Bool = λ q. is_at q.site in
     c.first_at_from.ensures
-    ∙ ap (λ o. find (passes (like r) a.rows.items) (from_on o a.by_site.lists)) c.next-from.ensures
-    ∙ next_in_bucket a.rows.items a.order a.by_peer a.by_site a.live a.room c.self.invariant site_key a.by_site c.self.invariant.by_site c.stand_once.ensures like n r
-    (sym c.row_at.ensures ∙ ap option_copied c.in_ok-site.was) (bucket_below (site_key r) a.room c.self.invariant.some)
+    ∙ ap (λ o. find (passes (like r) a.rows.rows) (from_on o a.by_site.lists)) c.next-from.ensures
+    ∙ next_in_bucket a.rows.rows a.order a.by_peer a.by_site a.live a.room c.self.invariant site_key a.by_site c.self.invariant.by_site c.stand_once.ensures like n r
+    (sym c.get.ensures ∙ ap (option_map row_shown) c.in_ok-row.was) (bucket_below (site_key r) a.room c.self.invariant.some)
     (site_bucket r.site a.room (site_key r % a.room) refl)
     ∙ ap (λ (v : Items). next_such like n v.items) c.self.view_is

@@ -6,5 +6,5 @@ use Rattle.q_peers.proofs.waiting.Waiting.spare.Goals as goal
 pub returns : goal.returns
 returns c =
     let a = c.self.inside in
-    ap (λ n. a.room - n) (c.self.invariant.count ∙ sym (count a.rows.items a.order a.by_peer a.by_site a.live a.room c.self.invariant))
+    ap (λ n. a.room - n) (c.self.invariant.count ∙ sym (count a.rows.rows a.order a.by_peer a.by_site a.live a.room c.self.invariant))
     ∙ ap (λ (v : Items). v.room - length v.items) c.self.view_is
