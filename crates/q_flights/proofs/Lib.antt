@@ -1,3 +1,4 @@
 pub mod Rising
 pub mod Counted
 pub mod Found
+mod Filled

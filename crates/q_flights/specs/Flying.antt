@@ -2,11 +2,19 @@
 use Rattle.std.specs.List.{AllByRecursion}
 use Rattle.std.specs.Prelude.{◌<◌, ◌==◌, [], ◌∷◌, Bool, List, nat_lt, not, ℕ}
 use Rattle.q_model.specs.declared.rows.Delivery.{Delivery}
+use Rattle.q_flights.specs.declared.delivery_ref.DeliveryRef.{DeliveryRef}
+use Rattle.q_positions.specs.Rows.{row_shown}
 
--- the deliveries in the order in which they began, and how many have room
+-- the delivery that is read
+abbrev pub delivery_shown : DeliveryRef → Delivery
+delivery_shown f = record { number = f.number; row = row_shown f.row }
+
+-- the deliveries in the order in which they began, how many have room, and how many positions each
+-- has room for
 pub record Flying : Type 0 where
   pub items : List Delivery
   pub room : ℕ
+  pub most : ℕ
 
 abbrev pub has_number : ℕ → Delivery → Bool
 has_number number f = f.number == number

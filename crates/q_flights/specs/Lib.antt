@@ -1,2 +1,3 @@
 pub mod Flying
+pub mod Entries
 pub mod Sound

@@ -1,7 +1,11 @@
 -- What always holds of the deliveries in flight and of their counts.
 use Rattle.std.specs.Prelude.{◌≡◌, ◌<◌, count_by, length, List, slice_index_or, ℕ}
+use Rattle.q_flights.specs.declared.entry.Entry.{Entry}
+use Rattle.q_flights.specs.Entries.{deliveries_of}
 use Rattle.q_flights.specs.Flying.{AreRising, is_at}
+use Rattle.q_keyed.specs.Numbered.{Items}
 use Rattle.q_model.specs.declared.rows.Delivery.{Delivery}
+use Rattle.q_positions.specs.Lists.{Lists}
 
 -- each transport has its count
 pub record AreCounted (flights : List Delivery) (counts : List ℕ) : Type 0 where
@@ -12,3 +16,8 @@ pub record AreCounted (flights : List Delivery) (counts : List ℕ) : Type 0 whe
 pub record IsSound (flights : List Delivery) (counts : List ℕ) : Type 0 where
   pub rise : AreRising flights
   pub counted : AreCounted flights counts
+
+-- so it is of the deliveries of these entries, and each place of an entry has its list
+pub record AreKept (entries : Items Entry) (positions : Lists) (counts : List ℕ) : Type 0 where
+  pub sound : IsSound (deliveries_of positions.lists entries.items) counts
+  pub places : length positions.lists ≡ entries.room

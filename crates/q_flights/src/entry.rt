@@ -1,22 +1,19 @@
 //! Deliveries as they are found by their numbers.
 ghost use Rattle.std.specs.Prelude.{◌≡◌};
+ghost use Rattle.q_flights.specs.Entries.{delivery_of};
+ghost use Rattle.q_flights.specs.Flying.{delivery_shown};
 
+use crate::delivery_ref::DeliveryRef;
 use q_keyed::HasKey;
-use q_model::Delivery;
-use std::marker::Model;
+use q_model::{Id, Site};
+use q_positions::RowRef;
 
-/// A delivery. A contract sees it as that.
+/// A delivery without the positions of its row.
 #[derive(Debug, Drop)]
 pub(crate) struct Entry {
-    pub(crate) delivery: Delivery,
-}
-
-impl Model for Entry {
-    ghost use Rattle.q_model.specs.declared.rows.Delivery.{Delivery as DeliveryOf};
-
-    ghost Value = { DeliveryOf };
-
-    ghost view = { λ a. a.delivery };
+    pub(crate) number: u64,
+    pub(crate) id: Id,
+    pub(crate) site: Site,
 }
 
 impl HasKey for Entry {
@@ -32,11 +29,11 @@ impl HasKey for Entry {
     ghost hash = { λ n. n % 2 ^ 32 };
 
     fn has_key(&self, key: &u64) -> bool {
-        self.delivery.number == *key
+        self.number == *key
     }
 
     fn hash(&self) -> u32 {
-        Entry::hash_of(&self.delivery.number)
+        Entry::hash_of(&self.number)
     }
 
     fn hash_of(key: &u64) -> u32 {
@@ -50,8 +47,22 @@ impl HasKey for Entry {
 
 impl Entry {
     pub(crate) fn transport(&self) -> u8
-        ensures { result ≡ self.now.row.site.transport }
+        ensures { result ≡ self.now.site.transport }
     {
-        self.delivery.row.site.transport
+        self.site.transport
+    }
+
+    /// The delivery of these positions.
+    pub(crate) fn with<'a>(&'a self, positions: &'a [u32]) -> DeliveryRef<'a>
+        ensures { delivery_shown result ≡ delivery_of self.now positions.now }
+    {
+        DeliveryRef {
+            number: self.number,
+            row: RowRef {
+                id: self.id,
+                site: &self.site,
+                positions,
+            },
+        }
     }
 }

@@ -1,13 +1,15 @@
 //! The deliveries.
-ghost use Rattle.std.specs.Option.{option_copied};
-ghost use Rattle.std.specs.Prelude.{◌≡◌, ◌<◌, ◌≤◌, ◌-◌, ◌++◌, ◌^◌, [], ◌∷◌, IfOk, count_by, filter, find, length};
-ghost use Rattle.q_flights.specs.Flying.{AreRising, has_number, IsAbove, is_at, is_other, started_earlier};
+ghost use Rattle.std.specs.Option.{is_some};
+ghost use Rattle.std.specs.Prelude.{◌≡◌, ◌<◌, ◌≤◌, ◌-◌, ◌++◌, ◌^◌, [], ◌∷◌, IfOk, count_by, filter, find, length, option_map};
+ghost use Rattle.q_flights.specs.Flying.{AreRising, delivery_shown, has_number, IsAbove, is_at, is_other, started_earlier};
 ghost use Rattle.q_model.specs.Lists.{least};
+ghost use Rattle.q_positions.specs.Rows.{row_shown};
 
 use crate::counts::{Counts, count_begun, count_ended};
+use crate::delivery_ref::DeliveryRef;
 use crate::entry::Entry;
 use q_keyed::Keyed;
-use q_model::Delivery;
+use q_positions::{Lists, RowRef};
 use std::alloc::{AllocError, Global};
 use std::marker::Model;
 
@@ -15,32 +17,45 @@ use std::marker::Model;
 #[derive(Debug, Drop)]
 pub struct Flights {
     entries: Keyed<Entry>,
+    /// The positions of each delivery, by the number of its entry.
+    positions: Lists,
     /// How many of them are at each transport.
     counts: Counts,
 }
 
 impl Model for Flights {
     ghost use Rattle.q_flights.specs.Flying.{Flying};
-    ghost use Rattle.q_flights.specs.Sound.{IsSound};
-    ghost use Rattle.q_keyed.specs.Numbered.{values_of};
 
     ghost Value = { Flying };
 
-    ghost view = { λ a. record { items = values_of a.entries.items; room = a.entries.room } };
+    ghost use Rattle.q_flights.specs.Entries.{deliveries_of};
+    ghost use Rattle.q_flights.specs.Sound.{AreKept};
 
-    ghost invariant = { λ a. IsSound (values_of a.entries.items) a.counts };
+    ghost view = { λ a. record {
+      items = deliveries_of a.positions.lists a.entries.items;
+      room = a.entries.room;
+      most = a.positions.most;
+    } };
+
+    ghost invariant = { λ a. AreKept a.entries a.positions a.counts };
 }
 
 impl Flights {
-    /// No delivery, and room for so many. An error says that memory is wanting.
-    pub fn new(alloc: Global, room: u32) -> Result<Flights, AllocError>
+    /// No delivery, and room for so many, each of so many positions at most. An error says that
+    /// memory is wanting.
+    pub fn new(alloc: Global, room: u32, most: u32) -> Result<Flights, AllocError>
         requires some { 1 ≤ room }
         requires few { room < 2 ^ 30 }
-        ensures { IfOk result (λ made. made ≡ record { items = []; room = room }) }
+        requires one { 1 ≤ most }
+        requires short { most ≤ 1024 }
+        ensures { IfOk result (λ made. made
+            ≡ record { items = []; room = room; most = most }) }
     {
         let entries = Keyed::new(alloc, room)?;
+        let positions = Lists::new(alloc, room, most)?;
         Ok(Flights {
             entries,
+            positions,
             counts: [0; 256],
         })
     }
@@ -71,22 +86,22 @@ impl Flights {
     }
 
     /// The delivery of this number.
-    pub fn get(&self, number: u64) -> Option<&Delivery>
-        ensures { option_copied result ≡ find (has_number number) self.now.items }
+    pub fn get(&self, number: u64) -> Option<DeliveryRef<'_>>
+        ensures { option_map delivery_shown result ≡ find (has_number number) self.now.items }
     {
         self.entries.stand_apart();
         let at = self.entries.find(&number)?;
         let entry = self.entries.get(at)?;
-        Some(&entry.delivery)
+        Some(entry.with(self.positions.get(at)))
     }
 
     /// The delivery with the least number.
-    pub fn first(&self) -> Option<&Delivery>
-        ensures { option_copied result ≡ least started_earlier self.now.items }
+    pub fn first(&self) -> Option<DeliveryRef<'_>>
+        ensures { option_map delivery_shown result ≡ least started_earlier self.now.items }
     {
         let at = self.entries.first()?;
         let entry = self.entries.get(at)?;
-        Some(&entry.delivery)
+        Some(entry.with(self.positions.get(at)))
     }
 
     /// How many are at the transport.
@@ -96,28 +111,40 @@ impl Flights {
         self.counts[usize::from(transport)] as usize
     }
 
-    /// Adds a delivery behind all others.
-    pub fn push(&mut self, delivery: Delivery)
+    /// Adds a delivery of this row, behind all others.
+    pub fn push(&mut self, number: u64, row: RowRef<'_>)
         requires room { length self.old.items < self.old.room }
-        requires above { IsAbove delivery.number self.old.items }
-        ensures { self.new ≡ record self.old { items = self.old.items ++ delivery ∷ [] } }
+        requires positions { length row.positions.now ≤ self.old.most }
+        requires above { IsAbove number self.old.items }
+        ensures { self.new ≡ record self.old {
+          items = self.old.items ++ record { number = number; row = row_shown row.entry } ∷ [];
+        } }
     {
         self.entries.stand_apart();
-        let entry = Entry { delivery };
+        let entry = Entry {
+            number,
+            id: row.id,
+            site: *row.site,
+        };
         count_begun(&mut self.counts, entry.transport());
-        let _at = self.entries.push(entry);
+        let at = self.entries.push(entry);
+        self.positions.set(at, row.positions);
     }
 
-    /// Takes the delivery of this number out.
-    pub fn remove(&mut self, number: u64) -> Option<Delivery>
-        ensures taken { result ≡ find (has_number number) self.old.items }
+    /// Takes the delivery of this number out, and tells whether there was one.
+    pub fn remove(&mut self, number: u64) -> bool
+        ensures taken { result ≡ is_some (find (has_number number) self.old.items) }
         ensures items { self.new ≡ record self.old
             { items = filter (is_other number) self.old.items } }
     {
         self.entries.stand_apart();
-        let at = self.entries.find(&number)?;
-        let entry = self.entries.remove(at)?;
+        let Some(at) = self.entries.find(&number) else {
+            return false;
+        };
+        let Some(entry) = self.entries.remove(at) else {
+            return false;
+        };
         count_ended(&mut self.counts, entry.transport());
-        Some(entry.delivery)
+        true
     }
 }

@@ -6,16 +6,20 @@
 //! many there are: numbers that follow one another fall in buckets of their own
 //! (`q_keyed::Keyed`), as long as those in flight don't lie farther apart than there is room.
 //!
-//! Room is made once, by `new`; no other call takes memory or can fail. It is an error to make it
-//! without room or for 2^30 deliveries and more, and to add a delivery where there is no room or
-//! where its number isn't above all others. It is none to ask for a number that isn't in flight,
-//! or to remove it: the answer is None.
+//! Room is made once, by `new`, for the positions of each delivery too (`q_positions::Lists`); no
+//! other call takes memory or can fail, and a delivery is lent as it stands there. It is an error
+//! to make it without room, for 2^30 deliveries and more or for more than 1024 positions in one,
+//! and to add a delivery where there is no room for it or for its positions or where its number
+//! isn't above all others. It is none to ask for a number that isn't in flight: the answer is None;
+//! nor to remove it: nothing goes.
 #![tactic(auto)]
 
 mod counts;
+mod delivery_ref;
 mod entry;
 mod flights;
 #[cfg(test)]
 mod worked;
 
+pub use delivery_ref::DeliveryRef;
 pub use flights::Flights;

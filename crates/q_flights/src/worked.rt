@@ -1,8 +1,9 @@
 //! A worked sequence, with room for four deliveries. The numbers 1, 5 and 9 are of one bucket.
 ghost use Rattle.std.specs.Prelude.{◌+◌};
 
-use crate::Flights;
-use q_model::{Delivery, Hop, Id, Positions, Row, Site};
+use crate::{DeliveryRef, Flights};
+use q_model::{Hop, Id, Site};
+use q_positions::RowRef;
 use std::alloc::{AllocError, Global};
 use std::marker::Model;
 use std::test::Fail;
@@ -15,14 +16,14 @@ struct Life {
 }
 
 impl Model for Life {
-    ghost use Rattle.std.specs.Prelude.{◌+◌};
+    ghost use Rattle.std.specs.Prelude.{◌+◌, ◌≤◌};
     ghost use Rattle.q_flights.specs.Flying.{Flying, IsAbove};
 
     ghost Value = { Flying };
 
     ghost view = { λ a. a.flights };
 
-    ghost invariant = { λ a. IsAbove (a.starts + 1) a.flights.items };
+    ghost invariant = { λ a. IsAbove (a.starts + 1) a.flights.items × (1 ≤ a.flights.most) };
 }
 
 /// A call.
@@ -54,39 +55,51 @@ const ROWS: [(Call, &[u64], [usize; 2]); 14] = [
     (Call::End(u64::MAX), &[], [0, 0]),
 ];
 
-fn delivery(alloc: Global, number: u64, transport: u8) -> Option<Delivery> {
-    let row = Row {
-        id: Id {
-            generation: 1,
-            serial: 1,
-            bounce: false,
-        },
-        site: Site {
-            transport,
-            hop: Hop::new(b"mx.example")?,
-        },
-        positions: Positions::new(alloc),
-    };
-    Some(Delivery { number, row })
+fn site(transport: u8) -> Option<Site> {
+    let hop = Hop::new(b"mx.example")?;
+    Some(Site { transport, hop })
+}
+
+/// The position that a delivery of this number gets.
+fn position(number: u64) -> u32 {
+    (number % (1 << 32)) as u32
+}
+
+/// Whether the delivery has this number and its position.
+fn is_own(found: DeliveryRef<'_>, number: u64) -> bool {
+    found.number == number && found.row.positions == [position(number)].as_slice()
 }
 
 impl Life {
     /// No delivery, and room for four, in a box: a test lets it go at each of its ends.
     fn new(alloc: Global) -> Result<Box<Life>, AllocError> {
-        let flights = Flights::new(alloc, 4)?;
+        let flights = Flights::new(alloc, 4, 1)?;
         Ok(Box::new(alloc, Life { flights, starts: 0 })?)
     }
 
     /// Begins a delivery, where there is room for it and its number is above all others.
-    fn begin(&mut self, delivery: Delivery) {
-        if self.flights.spare() > 0 && self.starts < delivery.number {
-            self.starts = delivery.number;
-            self.flights.push(delivery);
+    fn begin(&mut self, number: u64, site: &Site) {
+        if self.flights.spare() > 0 && self.starts < number {
+            self.starts = number;
+            let id = Id {
+                generation: 1,
+                serial: 1,
+                bounce: false,
+            };
+            let positions = &[position(number)];
+            self.flights.push(
+                number,
+                RowRef {
+                    id,
+                    site,
+                    positions,
+                },
+            );
         }
     }
 
-    /// Ends the delivery of this number, and gives it back.
-    fn end(&mut self, number: u64) -> Option<Delivery> {
+    /// Ends the delivery of this number, and tells whether there was one.
+    fn end(&mut self, number: u64) -> bool {
         self.flights.remove(number)
     }
 
@@ -94,7 +107,7 @@ impl Life {
     fn stands(&self, want: &[u64], counts: [usize; 2]) -> bool {
         for number in want {
             match self.flights.get(*number) {
-                Some(found) if found.number == *number => {}
+                Some(found) if is_own(found, *number) => {}
                 _ => return false,
             }
         }
@@ -105,17 +118,16 @@ impl Life {
     }
 }
 
-/// Carries out a call, and gives the number of the delivery that ended.
-fn carry_out(alloc: Global, life: &mut Life, call: Call) -> Option<u64> {
+/// Carries out a call, and tells whether a delivery ended.
+fn carry_out(life: &mut Life, call: Call) -> bool {
     match call {
         Call::Begin(number, transport) => {
-            life.begin(delivery(alloc, number, transport)?);
-            None
+            if let Some(site) = site(transport) {
+                life.begin(number, &site);
+            }
+            false
         }
-        Call::End(number) => {
-            let ended = life.end(number)?;
-            Some(ended.number)
-        }
+        Call::End(number) => life.end(number),
     }
 }
 
@@ -125,8 +137,8 @@ fn deliveries_after_each_call(rt: HostRuntime) -> Result<(), Fail> {
     let mut before: &[u64] = &[];
     for i in 0..ROWS.len() {
         let (call, want, counts) = ROWS[i];
-        let ended = carry_out(rt.alloc(), &mut life, call);
-        assert_eq!(rt; ended.is_some(), want.len() < before.len(), "row {i}");
+        let ended = carry_out(&mut life, call);
+        assert_eq!(rt; ended, want.len() < before.len(), "row {i}");
         assert!(rt; life.stands(want, counts), "row {i}");
         before = want;
     }

@@ -64,5 +64,5 @@ some_row None = refl
 some_row (Some k) = refl
 
 -- so does the number of a row
-pub row_in : (n : ℕ) (r : Row) (ks : List Numbered) → row_at n ks ≡ Some r → is_in n (numbers_of ks) ≡ true
-row_in n r ks is = in_numbers n ks ∙ some_row (find (has_number n) ks) ∙ ap is_some is
+pub row_in : (n : ℕ) (ks : List Numbered) → is_some (row_at n ks) ≡ true → is_in n (numbers_of ks) ≡ true
+row_in n ks is = in_numbers n ks ∙ some_row (find (has_number n) ks) ∙ is

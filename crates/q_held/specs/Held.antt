@@ -12,10 +12,12 @@ pub record HeldRow : Type 0 where
   pub row : Row
   pub held : Bool
 
--- the rows in the order in which they came, and how many have room
+-- the rows in the order in which they came, how many have room, and how many positions each has
+-- room for
 pub record Held : Type 0 where
   pub items : List HeldRow
   pub room : ℕ
+  pub most : ℕ
 
 abbrev pub numbered : HeldRow → Numbered
 numbered h = record { number = h.number; row = h.row }

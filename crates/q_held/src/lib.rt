@@ -9,9 +9,10 @@
 //! that ranks them anew (`q_ranks`): it walks along all rows.
 //!
 //! Room is made once, by `new`; no other call takes memory or can fail. It is an error to make it
-//! without room or for 2^30 rows and more, and to add a row where there is no room. It is none to
-//! ask for a number that no row has, or to remove it: the answer is None. Nor is it one to hold
-//! back or let go a site to which no row goes: nothing happens.
+//! without room, for 2^30 rows and more or for more than 1024 positions in a row, and to add a row
+//! where there is no room for it or for its positions. It is none to ask for a number that no row
+//! has: the answer is None; nor to remove it, or to hold back or let go a site to which no row
+//! goes: nothing happens.
 #![tactic(auto)]
 
 mod finding;

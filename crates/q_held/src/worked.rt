@@ -1,7 +1,8 @@
 //! Worked calls over four rows. The sites of the transports 1, 5 and 9 are of one bucket.
 
 use crate::Rows;
-use q_model::{Hop, Id, Row, Sequence, Site};
+use q_model::{Hop, Id, Site};
+use q_positions::RowRef;
 use std::alloc::{AllocError, Global};
 use std::test::Fail;
 
@@ -72,26 +73,24 @@ fn site(transport: u8) -> Option<Site> {
     Some(Site { transport, hop })
 }
 
-fn row(alloc: Global, serial: u32, transport: u8) -> Option<Row> {
-    Some(Row {
-        id: id(serial),
-        site: site(transport)?,
-        positions: Sequence::new(alloc),
-    })
-}
-
 /// The number of a row that is added, where there is room.
-fn added(alloc: Global, rows: &mut Rows, serial: u32, transport: u8, held: bool) -> Option<u32> {
+fn added(rows: &mut Rows, serial: u32, transport: u8, held: bool) -> Option<u32> {
     if rows.spare() == 0 {
         return None;
     }
-    Some(rows.push(row(alloc, serial, transport)?, held))
+    let site = site(transport)?;
+    let row = RowRef {
+        id: id(serial),
+        site: &site,
+        positions: &[serial],
+    };
+    Some(rows.push(row, held))
 }
 
 /// The first row of a message to a site goes.
-fn removed(rows: &mut Rows, serial: u32, transport: u8) -> Option<Row> {
+fn removed(rows: &mut Rows, serial: u32, transport: u8) -> Option<bool> {
     let number = rows.first_for(id(serial), &site(transport)?)?;
-    rows.remove(number)
+    Some(rows.remove(number))
 }
 
 fn hold(rows: &mut Rows, transport: u8, held: bool) {
@@ -101,13 +100,13 @@ fn hold(rows: &mut Rows, transport: u8, held: bool) {
 }
 
 /// Makes a call, where it is none in error.
-fn make(alloc: Global, rows: &mut Rows, call: Call) {
+fn make(rows: &mut Rows, call: Call) {
     match call {
         Call::Add(serial, transport, held) => {
-            let _number = added(alloc, rows, serial, transport, held);
+            let _number = added(rows, serial, transport, held);
         }
         Call::Remove(serial, transport) => {
-            let _row = removed(rows, serial, transport);
+            let _removed = removed(rows, serial, transport);
         }
         Call::Hold(transport, held) => hold(rows, transport, held),
         Call::ReleaseAll => rows.release_all(),
@@ -121,10 +120,10 @@ fn pair_at(rows: &Rows, number: Option<u32>) -> Option<Pair> {
 }
 
 /// Makes the calls of the rows, and gives the first of these behind which another row is found.
-fn first_wrong(alloc: Global, rows: &mut Rows, table: &[(Call, Option<Pair>)]) -> Option<usize> {
+fn first_wrong(rows: &mut Rows, table: &[(Call, Option<Pair>)]) -> Option<usize> {
     for i in 0..table.len() {
         let (call, wanted) = table[i];
-        make(alloc, rows, call);
+        make(rows, call);
         if pair_at(rows, rows.first_held()) != wanted {
             return Some(i);
         }
@@ -155,14 +154,14 @@ fn two_at(rows: &Rows, transport: u8) -> Option<(Option<Pair>, Option<Pair>)> {
 
 /// No row, in a box.
 fn fresh(alloc: Global) -> Result<Box<Rows>, AllocError> {
-    let rows = Rows::new(alloc, ROOM)?;
+    let rows = Rows::new(alloc, ROOM, 1)?;
     Ok(Box::new(alloc, rows)?)
 }
 
 #[test]
 fn first_held_after_each_call(rt: HostRuntime) -> Result<(), Fail> {
     let mut rows = fresh(rt.alloc())?;
-    assert_eq!(rt; first_wrong(rt.alloc(), &mut rows, &ROWS), None);
+    assert_eq!(rt; first_wrong(&mut rows, &ROWS), None);
     assert!(rt; wait(&rows, &LEFT));
     assert_eq!(rt; two_at(&rows, 9), Some((Some((6, 9)), Some((8, 9)))));
     assert_eq!(rt; two_at(&rows, 5), Some((Some((7, 5)), None)));
