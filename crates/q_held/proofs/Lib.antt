@@ -5,3 +5,4 @@ mod Changes
 pub mod Walk
 mod Releasing
 mod HeldRows
+pub mod Short

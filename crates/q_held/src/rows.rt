@@ -1,5 +1,6 @@
 //! The rows, and how they come and go.
 ghost use Rattle.std.specs.Prelude.{◌≡◌, ◌<◌, ◌≤◌, ◌-◌, ◌++◌, ◌^◌, [], ◌∷◌, Bool, IfOk, filter, find, length, None, not, option_map, Some};
+ghost use Rattle.std.specs.List.{AllByRecursion};
 ghost use Rattle.std.specs.Option.{is_some};
 ghost use Rattle.q_model.specs.Lists.{drop_first};
 ghost use Rattle.q_model.specs.declared.rows.Row.{Row};
@@ -53,12 +54,15 @@ impl Rows {
         Ok(Rows { waiting, marks })
     }
 
-    /// No two rows have one number, and there are no more than have room, whatever was called: this
-    /// does nothing, and is there for callers whose proofs want to know it.
+    /// No two rows have one number, there are no more than have room, and none has more positions
+    /// than have room, whatever was called: this does nothing, and is there for callers whose proofs
+    /// want to know it.
     pub fn stand_apart(&self)
         ensures apart { AreApart (plain self.now.items) }
         ensures within { length self.now.items ≤ self.now.room }
         ensures few { self.now.room < 2 ^ 30 }
+        ensures short { AllByRecursion (λ r. length r.positions ≤ self.now.most)
+            (rows_of self.now.items) }
     {
         self.waiting.stand_apart();
     }
@@ -75,6 +79,13 @@ impl Rows {
         ensures { result ≡ self.now.room - length self.now.items }
     {
         self.waiting.spare()
+    }
+
+    /// How many positions a row has room for.
+    pub fn most(&self) -> u32
+        ensures { result ≡ self.now.most }
+    {
+        self.waiting.most()
     }
 
     /// The row of a number.

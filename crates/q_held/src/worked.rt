@@ -75,7 +75,7 @@ fn site(transport: u8) -> Option<Site> {
 
 /// The number of a row that is added, where there is room.
 fn added(rows: &mut Rows, serial: u32, transport: u8, held: bool) -> Option<u32> {
-    if rows.spare() == 0 {
+    if rows.spare() == 0 || rows.most() == 0 {
         return None;
     }
     let site = site(transport)?;
@@ -116,7 +116,8 @@ fn make(rows: &mut Rows, call: Call) {
 /// The message and the transport of the row of a number.
 fn pair_at(rows: &Rows, number: Option<u32>) -> Option<Pair> {
     let row = rows.get(number?)?;
-    Some((row.id.serial, row.site.transport))
+    let site = row.site;
+    Some((row.id.serial, site.transport))
 }
 
 /// Makes the calls of the rows, and gives the first of these behind which another row is found.

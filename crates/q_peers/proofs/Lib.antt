@@ -9,3 +9,4 @@ pub mod Changes
 pub mod Peers
 pub mod Rests
 mod NumberedRows
+pub mod Short

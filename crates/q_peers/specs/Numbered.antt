@@ -1,5 +1,6 @@
 -- What a contract sees of the rows that wait, and how one of them is named.
-use Rattle.std.specs.Prelude.{◌≡◌, ◌&&◌, ◌==◌, [], ◌∷◌, Bool, find, if◌then◌else◌, List, map, None, Option, option_map, true, ℕ}
+use Rattle.std.specs.List.{AllByRecursion}
+use Rattle.std.specs.Prelude.{◌≡◌, ◌≤◌, ◌&&◌, ◌==◌, [], ◌∷◌, Bool, find, if◌then◌else◌, length, List, map, None, Option, option_map, true, ℕ}
 use Rattle.q_model.specs.declared.id.Id.{Id}
 use Rattle.q_model.specs.declared.rows.Row.{Row}
 use Rattle.q_model.specs.Ids.{id_eq}
@@ -29,6 +30,10 @@ has_number n k = k.number == n
 abbrev pub AreApart : List Numbered → Type 0
 AreApart [] = Unit {0}
 AreApart (k ∷ ks) = (find (has_number k.number) ks ≡ None) × AreApart ks
+
+-- none has more positions than this
+abbrev pub AreShort : ℕ → List Numbered → Type 0
+AreShort most ks = AllByRecursion (λ k. length k.row.positions ≤ most) ks
 
 abbrev pub any_row : Row → Bool
 any_row r = true

@@ -4,7 +4,7 @@ ghost use Rattle.std.specs.Option.{is_some};
 ghost use Rattle.q_model.specs.Lists.{drop_first};
 ghost use Rattle.q_model.specs.declared.rows.Row.{Row};
 ghost use Rattle.q_positions.specs.Rows.{row_shown};
-ghost use Rattle.q_peers.specs.Numbered.{AreApart, first_such, has_number, row_at, rows_of};
+ghost use Rattle.q_peers.specs.Numbered.{AreApart, AreShort, first_such, has_number, row_at, rows_of};
 
 use crate::bucket::{peer_bucket, site_bucket};
 use crate::slots::{FREE, WAITING, fresh_order};
@@ -72,13 +72,16 @@ impl Waiting {
         })
     }
 
-    /// No two rows have one number, and there are no more than have room, whatever was called: this
-    /// does nothing, and is there for callers whose proofs want to know it.
+    /// No two rows have one number, there are no more than have room, and none has more positions
+    /// than have room, whatever was called: this does nothing, and is there for callers whose proofs
+    /// want to know it.
     pub fn stand_apart(&self)
         ensures apart { AreApart self.now.items }
         ensures within { length self.now.items ≤ self.now.room }
         ensures few { self.now.room < 2 ^ 30 }
+        ensures short { AreShort self.now.most self.now.items }
     {
+        self.rows.stand_short();
         self.order.stand_once();
     }
 
@@ -94,6 +97,13 @@ impl Waiting {
         ensures { result ≡ self.now.room - length self.now.items }
     {
         self.room - self.live
+    }
+
+    /// How many positions a row has room for.
+    pub fn most(&self) -> u32
+        ensures { result ≡ self.now.most }
+    {
+        self.rows.most()
     }
 
     /// The row of a number.

@@ -68,7 +68,7 @@ fn site(transport: u8) -> Option<Site> {
 
 /// The number of a row that is added, where there is room.
 fn added(waiting: &mut Waiting, serial: u32, transport: u8) -> Option<u32> {
-    if waiting.spare() == 0 {
+    if waiting.spare() == 0 || waiting.most() == 0 {
         return None;
     }
     let site = site(transport)?;
@@ -106,7 +106,8 @@ fn carries_out(waiting: &mut Waiting, call: Call, rows: usize) -> bool {
 /// The message and the transport of the row of a number.
 fn pair_at(waiting: &Waiting, number: u32) -> Option<Pair> {
     let row = waiting.get(number)?;
-    Some((row.id.serial, row.site.transport))
+    let site = row.site;
+    Some((row.id.serial, site.transport))
 }
 
 fn first(waiting: &Waiting, rows: Rows) -> Option<u32> {

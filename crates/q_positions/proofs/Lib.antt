@@ -1,2 +1,3 @@
 mod Cells
 mod Standing
+pub mod Short

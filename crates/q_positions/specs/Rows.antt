@@ -1,6 +1,7 @@
 -- What a contract sees of rows whose positions stand side by side.
+use Rattle.std.specs.List.{AllByRecursion}
 use Rattle.std.specs.Option.{option_map_or}
-use Rattle.std.specs.Prelude.{◌++◌, [], ◌∷◌, List, Option, set, slice_get, ℕ}
+use Rattle.std.specs.Prelude.{◌++◌, ◌≤◌, [], ◌∷◌, length, List, Option, set, slice_get, ℕ}
 use Rattle.q_model.specs.declared.rows.Row.{Row}
 use Rattle.q_positions.specs.declared.row_ref.RowRef.{RowRef}
 
@@ -12,6 +13,10 @@ row_shown r = record { id = r.id; site = r.site.now; positions = r.positions.now
 pub record Slots : Type 0 where
   pub rows : List (Option Row)
   pub most : ℕ
+
+-- no row has more positions than this
+abbrev pub AreShort : ℕ → List (Option Row) → Type 0
+AreShort most rows = AllByRecursion (λ o. length (option_map_or (λ r. r.positions) o []) ≤ most) rows
 
 -- rows in order, how many have room, and how many positions each has room for
 pub record Rows : Type 0 where

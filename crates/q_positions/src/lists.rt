@@ -1,4 +1,5 @@
 //! Lists of numbers side by side.
+ghost use Rattle.std.specs.List.{AllByRecursion};
 ghost use Rattle.std.specs.Prelude.{◌≡◌, ◌<◌, ◌≤◌, ◌+◌, ◌*◌, ◌++◌, ◌^◌, [], ◌∷◌, drop, get_or, IfOk, length, replicate, set, take};
 
 use std::alloc::{AllocError, Global};
@@ -76,6 +77,21 @@ impl Lists {
         let cells = zeros(alloc, start_of(room, most))?;
         let lens = zeros(alloc, room as usize)?;
         Ok(Lists { cells, lens, most })
+    }
+
+    /// How many lists there are.
+    pub fn count(&self) -> u32
+        ensures { result ≡ length self.now.lists }
+    {
+        self.lens.len() as u32
+    }
+
+    /// No list has more numbers than have room, whatever was called: this does nothing, and is there
+    /// for callers whose proofs want to know it.
+    pub fn stand_short(&self)
+        ensures { AllByRecursion (λ xs. length xs ≤ self.now.most) self.now.lists }
+    {
+        let _most = self.most;
     }
 
     /// How many numbers each list has room for.

@@ -1,4 +1,5 @@
 //! Rows in order.
+ghost use Rattle.std.specs.List.{AllByRecursion};
 ghost use Rattle.std.specs.Prelude.{◌≡◌, ◌<◌, ◌≤◌, ◌-◌, ◌++◌, ◌^◌, [], ◌∷◌, IfOk, IfSome, length, option_map, slice_get};
 ghost use Rattle.std.specs.Option.{option_copied};
 ghost use Rattle.q_positions.specs.Rows.{joined_at, row_shown};
@@ -80,6 +81,14 @@ impl RowList {
         ensures { result ≡ self.now.room - length self.now.rows }
     {
         self.room - self.heads.len() as u32
+    }
+
+    /// No row has more positions than have room, whatever was called: this does nothing, and is
+    /// there for callers whose proofs want to know it.
+    pub fn stand_short(&self)
+        ensures { AllByRecursion (λ r. length r.positions ≤ self.now.most) self.now.rows }
+    {
+        self.positions.stand_short();
     }
 
     /// How many positions a row has room for.

@@ -1,7 +1,7 @@
 //! Places for rows by number.
 ghost use Rattle.std.specs.Prelude.{◌≡◌, ◌<◌, ◌≤◌, ◌^◌, get_or, IfOk, length, None, option_map, replicate, set, Some};
 ghost use Rattle.std.specs.Option.{option_copied};
-ghost use Rattle.q_positions.specs.Rows.{row_shown};
+ghost use Rattle.q_positions.specs.Rows.{AreShort, row_shown};
 
 use crate::head::Head;
 use crate::lists::Lists;
@@ -77,6 +77,21 @@ impl Slots {
         let heads = fresh_heads(alloc, room)?;
         let positions = Lists::new(alloc, room, most)?;
         Ok(Slots { heads, positions })
+    }
+
+    /// How many places there are.
+    pub fn count(&self) -> u32
+        ensures { result ≡ length self.now.rows }
+    {
+        self.positions.count()
+    }
+
+    /// No row has more positions than have room, whatever was called: this does nothing, and is
+    /// there for callers whose proofs want to know it.
+    pub fn stand_short(&self)
+        ensures { AreShort self.now.most self.now.rows }
+    {
+        self.positions.stand_short();
     }
 
     /// How many positions a row has room for.

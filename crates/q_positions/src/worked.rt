@@ -1,6 +1,4 @@
 //! Worked calls over three lists, three places and two rows, each with room for two positions.
-ghost use Rattle.std.specs.Prelude.{◌≡◌, length};
-
 use crate::{Lists, RowList, RowRef, Slots};
 use q_model::{Hop, Id, Positions, Row, Site};
 use std::alloc::{AllocError, Global};
@@ -35,24 +33,22 @@ const CHANGES: [(Change, [&[u32]; 3]); 9] = [
 ];
 
 /// Makes a change, where it is none in error.
-fn make_change(lists: &mut Lists, change: Change)
-    requires { length lists.old.lists ≡ 3 }
-    ensures { length lists.new.lists ≡ 3 }
-{
+fn make_change(lists: &mut Lists, change: Change) {
+    let count = lists.count();
     let most = lists.most() as usize;
     match change {
         Change::Push(number, position) => {
-            if number < COUNT && lists.get(number).len() < most {
+            if number < count && lists.get(number).len() < most {
                 lists.push(number, position);
             }
         }
         Change::Set(number, positions) => {
-            if number < COUNT && positions.len() <= most {
+            if number < count && positions.len() <= most {
                 lists.set(number, positions);
             }
         }
         Change::Clear(number) => {
-            if number < COUNT {
+            if number < count {
                 lists.clear(number);
             }
         }
@@ -117,12 +113,16 @@ fn row(
 }
 
 /// Puts a row under a number, where it is no error.
-fn put(slots: &mut Slots, number: u32, row: RowRef<'_>)
-    requires { length slots.old.rows ≡ 3 }
-    ensures { length slots.new.rows ≡ 3 }
-{
-    if number < COUNT && row.positions.len() <= slots.most() as usize {
+fn put(slots: &mut Slots, number: u32, row: RowRef<'_>) {
+    if number < slots.count() && row.positions.len() <= slots.most() as usize {
         slots.put(number, row);
+    }
+}
+
+/// Takes the row of the first number away, where there is one.
+fn clear_first(slots: &mut Slots) {
+    if slots.count() > 0 {
+        slots.clear(0);
     }
 }
 
@@ -141,7 +141,7 @@ fn rows_by_number(rt: HostRuntime) -> Result<(), Fail> {
     assert!(rt; slots.get(1).is_none());
     put(&mut slots, 2, RowRef::of(second));
     assert!(rt; shows(slots.get(2), 2, 5, &[9]));
-    slots.clear(0);
+    clear_first(&mut slots);
     assert!(rt; slots.get(0).is_none());
     assert!(rt; shows(slots.get(2), 2, 5, &[9]));
     assert!(rt; slots.get(COUNT).is_none());
