@@ -46,7 +46,7 @@ impl Life {
             admitted: 0,
             decisions: 0,
         };
-        life.hear(alloc, Heard::At { moment: 1000 })?;
+        life.hear(Heard::At { moment: 1000 })?;
         Some(life)
     }
 
@@ -99,7 +99,7 @@ impl Life {
     }
 
     /// Answers the read that waits.
-    fn load(&mut self, alloc: Global, id: Id, from: u32, max: u32) -> Option<()> {
+    fn load(&mut self, id: Id, from: u32, max: u32) -> Option<()> {
         let to = self
             .mail
             .recipients(id.serial)
@@ -115,16 +115,17 @@ impl Life {
             position: to,
             at: 0,
         };
-        self.core.loaded(alloc, &self.batch, behind).ok()
+        self.core.loaded(&self.batch, behind);
+        Some(())
     }
 
     /// Answers a look or a read, or counts the decision.
-    fn answer(&mut self, alloc: Global, decision: Decision) -> Option<()> {
+    fn answer(&mut self, decision: Decision) -> Option<()> {
         match decision {
             Decision::LookActive => self.tell(Found::Nothing),
             Decision::LookIncoming => self.tell(self.incoming()),
             Decision::LookDeferred { .. } => self.tell(Found::Nothing),
-            Decision::Read { id, from, max } => self.load(alloc, id, from, max),
+            Decision::Read { id, from, max } => self.load(id, from, max),
             Decision::Admit { id, .. } => {
                 self.admitted = id.serial;
                 self.count()
@@ -134,13 +135,13 @@ impl Life {
     }
 
     /// Whether there was a decision.
-    fn step(&mut self, alloc: Global) -> Option<bool> {
+    fn step(&mut self) -> Option<bool> {
         if !self.core.is_answered() {
             return None;
         }
         match self.core.next_decision() {
             Some(decision) => {
-                self.answer(alloc, decision)?;
+                self.answer(decision)?;
                 Some(true)
             }
             None => Some(false),
@@ -148,9 +149,9 @@ impl Life {
     }
 
     /// Takes a thousand decisions at most. Whether there is none left.
-    pub(crate) fn decide(&mut self, alloc: Global) -> Option<bool> {
+    pub(crate) fn decide(&mut self) -> Option<bool> {
         for _i in 0..ENOUGH {
-            if !self.step(alloc)? {
+            if !self.step()? {
                 return Some(true);
             }
         }
@@ -169,18 +170,18 @@ impl Life {
     }
 
     /// Takes the event and the decisions that follow.
-    fn hear(&mut self, alloc: Global, heard: Heard<'_>) -> Option<()>
+    fn hear(&mut self, heard: Heard<'_>) -> Option<()>
         requires { IsInTime heard }
     {
         self.take_event(heard)?;
-        self.decide(alloc)?.then_some(())
+        self.decide()?.then_some(())
     }
 
     /// A message comes.
-    pub(crate) fn bring(&mut self, alloc: Global) -> Option<()> {
+    pub(crate) fn bring(&mut self) -> Option<()> {
         self.came = self.came.checked_add(1)?;
         let id = id_of(self.came);
-        self.hear(alloc, Heard::Mail { id })
+        self.hear(Heard::Mail { id })
     }
 
     /// What becomes of the recipients of a delivery.
@@ -211,10 +212,10 @@ impl Life {
     /// A delivery ends, and a message comes in the place of the one that is gone.
     pub(crate) fn turn(&mut self, alloc: Global) -> Option<()> {
         self.reply(alloc)?;
-        if !self.decide(alloc)? {
+        if !self.decide()? {
             return None;
         }
-        self.bring(alloc)
+        self.bring()
     }
 
     /// Whether the first site is dead, which is the only one where sites die.
@@ -232,10 +233,10 @@ impl Life {
             if self.has_dead_site() {
                 return Some(());
             }
-            if !self.decide(alloc)? {
+            if !self.decide()? {
                 return None;
             }
-            self.bring(alloc)?;
+            self.bring()?;
         }
         None
     }

@@ -38,7 +38,7 @@ fn filled(rt: HostRuntime, scenario: Scenario, messages: u32) -> Result<Life> {
     };
     let lap = Lap::begin(rt, &life)?;
     for _i in 0..messages.saturating_add(scenario.large_messages()) {
-        if life.bring(rt.alloc()).is_none() {
+        if life.bring().is_none() {
             bail!("{STUCK}");
         }
     }
@@ -52,7 +52,7 @@ fn put_off(rt: HostRuntime, life: &mut Life, lap: &Lap) -> Result<bool> {
         if lap.is_long(rt)? {
             return Ok(false);
         }
-        match life.decide(rt.alloc()) {
+        match life.decide() {
             Some(true) => return Ok(true),
             Some(false) => {}
             None => bail!("{STUCK}"),

@@ -1,5 +1,5 @@
 -- Recipients are grouped in rows; lines and sites are gone through one by one.
-use Rattle.std.proofs.Common.{◌≡◌, ℕ, ◌+◌, ◌<◌, Bool, true, false, cond, List, [], ◌∷◌, ◌++◌, length, map, take, set, refl, sym, ap, ◌∙◌, subst, Some, None, inl, inr, position, arith, zero, suc, if◌then◌else◌}
+use Rattle.std.proofs.Common.{◌≡◌, ℕ, ◌+◌, ◌<◌, ◌≤◌, Bool, true, false, cond, List, [], ◌∷◌, ◌++◌, length, map, take, set, refl, sym, ap, ◌∙◌, subst, Some, None, inl, inr, position, arith, zero, suc, if◌then◌else◌}
 use Rattle.std.proofs.lemmas.Grind.{common_steps}
 use Rattle.std.specs.List.{enumerate_from, position_or_len}
 use Rattle.std.specs.Prelude.{find, not, slice_get}
@@ -55,6 +55,14 @@ join_None limit id site p xs h = elim (position-find (has_space limit site) xs) 
   | inl n ↦ join_new limit id site p xs n.1
   | inr f ↦ let bad : None ≡ Some f.0 = sym h ∙ f.2.place in cc
 ]
+
+pub joined_few : (limit : ℕ) (id : Id) (site : Site) (p : ℕ) (xs : List Row) → length (join_rows limit id site p xs) ≤ length xs + 1
+joined_few limit id site p [] = omega arith
+joined_few limit id site p (x ∷ xs) = step (joined_few limit id site p xs) (has_space limit site x)
+  where
+    step : length (join_rows limit id site p xs) ≤ length xs + 1 → (b : Bool) → length (if b then more p x ∷ xs else x ∷ join_rows limit id site p xs) ≤ length (x ∷ xs) + 1
+    step rest true = omega arith
+    step rest false = omega (arith, rest)
 
 -- ---- one more each time
 

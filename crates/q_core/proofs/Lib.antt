@@ -111,4 +111,5 @@ pub mod ProcessLaws
 pub mod ProcessDecisions
 pub mod ReadRooms
 mod LoadRooms
+mod RowPlaces
 pub mod SyncedLaws

@@ -14,10 +14,14 @@ use Rattle.q_core.proofs.ListLaws.{list_any-map}
 use Rattle.q_core.proofs.LoadLaws.{fits}
 use Rattle.q_core.proofs.PeerTies.{name_of}
 use Rattle.q_core.specs.Agrees.{Agrees, job_of, jobs_of}
-use Rattle.q_core.specs.Loading.{can_join, fit_in}
-use Rattle.q_core.specs.Rooms.{most_flights, most_sites}
+use Rattle.q_core.specs.Known.{known_records}
+use Rattle.q_core.specs.Loading.{can_join, fit_beside, fit_in}
+use Rattle.q_core.specs.Rooms.{HasRoomForLoads, most_flights, most_sites}
 use Rattle.q_core.specs.Ties.{ArePeersTied}
 use Rattle.q_core.specs.declared.state.Core.{Core}
+use Rattle.q_dest.specs.declared.dest.Dest.{Dest}
+use Rattle.q_dest.specs.Dests.{Dests}
+use Rattle.q_held.specs.Held.{Held, HeldRow, rows_of}
 use Rattle.q_jobs.specs.declared.job.Job.{Job}
 use Rattle.q_laws.proofs.Batched.{rows_filled, rows_length}
 use Rattle.q_laws.proofs.Distinct.{distinct_cons, distinct_tail, gone_listed, id_cases}
@@ -44,6 +48,7 @@ use Rattle.q_rounds.specs.KeyLaws.{key_eq-refl, key_eq-true}
 use Rattle.q_rounds.specs.declared.peer.Peer.{Peer}
 use Rattle.q_rounds.specs.declared.peer.PeerKey.{PeerKey}
 use Rattle.q_rounds.specs.Rounds.{key_eq, key_of}
+use Rattle.q_schedule.specs.Schedule.{Scheduling}
 use Rattle.q_turns.specs.Turns.{AreApart, HaveJobs}
 
 -- ---- what it is to fit in
@@ -63,36 +68,56 @@ module _ (c : Core) (id : Id) (rows : List Row) where
   abbrev lined : Bool
   lined = list_all (can_join id rows c.params.active_limit) (enumerate_from 0 c.lines)
 
-  pub fit_parts : fit_in c id rows ≡ true → FitsIn c id rows
-  fit_parts h =
-      let two = and_parts beside (known && lined) h in
-      let both = and_parts known lined two.1 in
-      record {
-        beside = leb-true (length c.waiting + length rows) c.params.recipient_limit two.0;
-        known = leb-true (length c.sites + length rows) (most_sites c.params c.transports) both.0;
-        lines = both.1;
-      }
-
   pub fit_from : FitsIn c id rows → fit_in c id rows ≡ true
   fit_from h =
       and_from beside (known && lined) (le-leb (length c.waiting + length rows) c.params.recipient_limit h.beside)
       (and_from known lined (le-leb (length c.sites + length rows) (most_sites c.params c.transports) h.known) h.lines)
 
+-- ---- the same by the room of the parts
+
+pub record FitsBeside (waiting : Held) (sites : Dests) (turns : Scheduling) (id : Id) (rows : List Row) : Type 0 where
+  pub beside : length waiting.items + length rows ≤ waiting.room
+  pub known : length sites.items + length rows ≤ sites.room
+  pub lines : list_all (can_join id rows turns.line_room) (enumerate_from 0 turns.lines) ≡ true
+
+module _ (w : Held) (s : Dests) (t : Scheduling) (id : Id) (rows : List Row) where
+  abbrev waits : Bool
+  waits = nat_le (length w.items + length rows) w.room
+
+  abbrev knows : Bool
+  knows = nat_le (length s.items + length rows) s.room
+
+  abbrev joins : Bool
+  joins = list_all (can_join id rows t.line_room) (enumerate_from 0 t.lines)
+
+  pub beside_parts : fit_beside w s t id rows ≡ true → FitsBeside w s t id rows
+  beside_parts h =
+      let two = and_parts waits (knows && joins) h in
+      let both = and_parts knows joins two.1 in
+      record {
+        beside = leb-true (length w.items + length rows) w.room two.0;
+        known = leb-true (length s.items + length rows) s.room both.0;
+        lines = both.1;
+      }
+
   -- rows are too many
-  pub too_many : c.params.recipient_limit < length c.waiting + length rows → false ≡ fit_in c id rows
-  too_many h = sym (ap (λ b. b && (known && lined)) (lt-leb (length c.waiting + length rows) c.params.recipient_limit h))
+  pub too_many : w.room < length w.items + length rows → false ≡ fit_beside w s t id rows
+  too_many h = sym (ap (λ b. b && (knows && joins)) (lt-leb (length w.items + length rows) w.room h))
 
   -- so are sites
-  pub too_known : length c.waiting + length rows ≤ c.params.recipient_limit → most_sites c.params c.transports < length c.sites + length rows → false ≡ fit_in c id rows
-  too_known few h =
-      sym (ap (λ b. b && (known && lined)) (le-leb (length c.waiting + length rows) c.params.recipient_limit few)
-      ∙ ap (λ b. b && lined) (lt-leb (length c.sites + length rows) (most_sites c.params c.transports) h))
+  pub too_known : length w.items + length rows ≤ w.room → s.room < length s.items + length rows → false ≡ fit_beside w s t id rows
+  too_known few h = sym (ap (λ b. b && (knows && joins)) (le-leb (length w.items + length rows) w.room few) ∙ ap (λ b. b && joins) (lt-leb (length s.items + length rows) s.room h))
 
   -- lines decide
-  pub by_lines : length c.waiting + length rows ≤ c.params.recipient_limit → length c.sites + length rows ≤ most_sites c.params c.transports → lined ≡ fit_in c id rows
-  by_lines few h =
-      sym (ap (λ b. b && (known && lined)) (le-leb (length c.waiting + length rows) c.params.recipient_limit few)
-      ∙ ap (λ b. b && lined) (le-leb (length c.sites + length rows) (most_sites c.params c.transports) h))
+  pub by_lines : length w.items + length rows ≤ w.room → length s.items + length rows ≤ s.room → joins ≡ fit_beside w s t id rows
+  by_lines few h = sym (ap (λ b. b && (knows && joins)) (le-leb (length w.items + length rows) w.room few) ∙ ap (λ b. b && joins) (le-leb (length s.items + length rows) s.room h))
+
+  pub beside_is : (p : Settings) (transports : ℕ) → HasRoomForLoads p transports w.room s.room t.room t.line_room → (c : Core) → c.params ≡ p → c.transports ≡ transports → c.waiting ≡ rows_of w.items → c.sites ≡ known_records s.items → c.lines ≡ t.lines →
+      fit_beside w s t id rows ≡ fit_in c id rows
+  beside_is p transports h c params same waiting sites lines =
+      let a = length-map w.items (λ (k : HeldRow). k.row) in
+      let b = length-map s.items (λ (d : Dest). d.known) in
+      rw (params, same, waiting, sites, lines, a, b, h.rows, h.sites, h.jobs) refl
 
 -- ---- a peer has a row that waits, so there are no more of them than rows
 

@@ -1,10 +1,10 @@
 -- Of the rows of a site only the one that was begun last may have space, so it needs no search.
-use Rattle.std.proofs.Common.{◌≡◌, ◌∙◌, ◌++◌, ◌∷◌, ◌⊎◌, [], ap, arith, Bool, false, inl, inr, length, List, None, position, refl, set, Some, subst, suc, sym, true, zero, ℕ}
-use Rattle.std.proofs.lemmas.Bool.{and_parts}
+use Rattle.std.proofs.Common.{◌≡◌, ◌∙◌, ◌+◌, ◌++◌, ◌∷◌, ◌<◌, ◌≤◌, ◌⊎◌, [], ap, arith, Bool, cond, false, inl, inr, length, List, None, position, refl, set, Some, subst, suc, sym, true, zero, ℕ}
+use Rattle.std.proofs.lemmas.Bool.{and_parts, ltb-true}
 use Rattle.std.proofs.lemmas.List.{length-append}
 use Rattle.std.proofs.lemmas.Map.Keys.{any_passes_from_place}
 use Rattle.std.specs.Cmp.Derive.{both_true}
-use Rattle.std.specs.Prelude.{nat_lt, slice_get}
+use Rattle.std.specs.Prelude.{IfSome, nat_lt, slice_get}
 use Rattle.q_core.proofs.ListLaws.{find-passes, position-find}
 use Rattle.q_core.proofs.RowWalkLaws.{any_place}
 use Rattle.q_core.specs.Grouping.{AreOpen}
@@ -16,7 +16,7 @@ use Rattle.q_model.specs.declared.rows.Row.{Row}
 use Rattle.q_model.specs.Values.{Site}
 use Rattle.q_open_rows.proofs.Places.{place_other, place_own}
 use Rattle.q_open_rows.specs.declared.open_row.OpenRow.{OpenRow}
-use Rattle.q_open_rows.specs.Opened.{place_of, with_place}
+use Rattle.q_open_rows.specs.Opened.{is_at, place_of, with_place}
 
 none_passes : (p : Row → Bool) (rows : List Row) → ((i : ℕ) (r : Row) → slice_get rows i ≡ Some r → p r ≡ true → ⊥) → None ≡ position p rows
 none_passes p rows h = elim (position-find p rows) [
@@ -54,6 +54,11 @@ module _ (limit : ℕ) (site : Site) (rows : List Row) (os : List OpenRow) (kept
   there k row at is space =
       let f = any_place (has_space limit site) rows (any_passes_from_place (has_space limit site) rows k row (sym is) space) in
       sym at ∙ kept site f.0 f.1 f.2.there (find-passes (has_space limit site) rows f.1 f.2.found) ∙ sym f.2.place
+
+got_within : {X : Type 0} (xs : List X) (i : ℕ) (x : X) → slice_get xs i ≡ Some x → i < length xs
+got_within [] i x h = cc
+got_within (y ∷ ys) zero x h = omega arith
+got_within (y ∷ ys) (suc i) x h = let rest = got_within ys i x h in omega (arith, rest)
 
 -- ---- a position joins a row
 
@@ -112,4 +117,33 @@ open_begun limit id site p rows os none kept = λ other j r there space. elim (g
       let same = site_eq-true site other (and_parts (site_eq site other) (nat_lt 1 limit) at).0 in
       ap (λ x. place_of x (with_place site (length rows) os)) (sym same) ∙ place_own site (length rows) os ∙ ap (λ n. Some n) (sym s.0)
   | inr t ↦ other_row limit site other rows os j r (site_eq site other) refl none kept t space
+]
+
+pub placed_few : (site : Site) (k : ℕ) (os : List OpenRow) → length (with_place site k os) ≤ length os + 1
+placed_few site k [] = omega arith
+placed_few site k (o ∷ os) = step (placed_few site k os) (is_at site o)
+  where
+    step : length (with_place site k os) ≤ length os + 1 → (b : Bool) → length (cond b (record { site = site; place = k } ∷ os) (o ∷ with_place site k os)) ≤ length (o ∷ os) + 1
+    step rest true = omega arith
+    step rest false = omega (arith, rest)
+
+-- ---- the row at the place that is found
+
+pub found_within : (p : Row → Bool) (rows : List Row) (k : ℕ) → position p rows ≡ Some k → k < length rows
+found_within p [] k h = cc
+found_within p (r ∷ rs) k h = elim (position-find p (r ∷ rs)) [
+  | inl n ↦ let bad : None ≡ Some k = sym n.0 ∙ h in cc
+  | inr f ↦ let same : Some f.0 ≡ Some k = sym f.2.place ∙ h in
+      let is : f.0 ≡ k = cc in
+      subst (λ n. n < length (r ∷ rs)) is (got_within (r ∷ rs) f.0 f.1 f.2.there)
+]
+
+pub found_space : (limit : ℕ) (site : Site) (rows : List Row) (k : ℕ) → position (has_space limit site) rows ≡ Some k → IfSome (slice_get rows k) (λ r. length r.positions < limit)
+found_space limit site rows k h = elim (position-find (has_space limit site) rows) [
+  | inl n ↦ let bad : None ≡ Some k = sym n.0 ∙ h in cc
+  | inr f ↦ let same : Some f.0 ≡ Some k = sym f.2.place ∙ h in
+      let is : f.0 ≡ k = cc in
+      let there : slice_get rows k ≡ Some f.1 = ap (slice_get rows) (sym is) ∙ f.2.there in
+      let less = ltb-true (length f.1.positions) limit (and_parts (site_eq f.1.site site) (nat_lt (length f.1.positions) limit) (find-passes (has_space limit site) rows f.1 f.2.found)).1 in
+      subst (λ o. IfSome o (λ (r : Row). length r.positions < limit)) (sym there) less
 ]

@@ -12,7 +12,7 @@ use Rattle.q_core.proofs.RowsLaws.{needs_law, rows_law, with_outcomes_is, stands
 use Rattle.q_core.proofs.SiteLaws.{LeavesFrom, tidy_left_law}
 use Rattle.q_core.proofs.SpaceLaws.{row_has_space}
 use Rattle.q_core.proofs.StepLaws.{HoldsRaw, raw_law}
-use Rattle.q_core.specs.Agrees.{Agrees, Matches}
+use Rattle.q_core.specs.Agrees.{Agrees, AgreesButScan, Matches}
 use Rattle.q_core.specs.Changes.{HasLeftSite, IsTidied, is_looked_at}
 use Rattle.q_core.specs.UsedSites.{busy_in}
 use Rattle.q_core.specs.Held.{have_space, is_dead_in}
@@ -59,6 +59,39 @@ dropped_same {c = c} {l = l} {entry = entry} h r first there dead =
 counted : (whole part rest others kept few memory : ℕ) → memory ≡ whole + others + kept → whole ≡ part + rest → few ≤ part → memory - (part - few) ≡ rest + others + (kept + few)
 counted whole part rest others kept few memory total parts less = omega (arith, total, parts, less)
 
+-- which row was put off last is no part of a ledger
+parts_noted : {w : World} {c : Core} {l : Ledger} (number : ℕ) (positions : List ℕ) → AgreesButScan w c l → AgreesButScan w (record c { skips = number; skipped = positions }) l
+parts_noted number positions h = record {
+  settings = h.settings;
+  count = h.count;
+  transports = h.transports;
+  mode = h.mode;
+  clock = h.clock;
+  timed = h.timed;
+  next_run = h.next_run;
+  ignores = h.ignores;
+  deferred_turn = h.deferred_turn;
+  admitted = h.admitted;
+  waiting = h.waiting;
+  flights = h.flights;
+  memory = h.memory;
+  served = h.served;
+  unsettled = h.unsettled;
+  lines = h.lines;
+  sites = h.sites;
+  synced = h.synced;
+  starts = h.starts;
+  active = h.active;
+  incoming = h.incoming;
+}
+
+raw_noted : {w : World} {c d : Core} {l : Ledger} → d ≡ record c { skips = d.skips; skipped = d.skipped } → HoldsRaw w c l → HoldsRaw w d l
+raw_noted {w = w} {d = d} {l = l} same h = subst (λ (x : Core). HoldsRaw w x l) (sym same) (record { parts = parts_noted d.skips d.skipped h.parts; scan = h.scan; asked = h.asked; seen = h.seen })
+
+pub skip_noted : {w : World} {c d : Core} {l : Ledger} → d ≡ record c { skips = d.skips } → Matches w c l → Matches w d l
+skip_noted {w = w} {c = c} {d = d} {l = l} same m =
+    subst (λ (x : Core). Matches w x l) (sym same) (record { parts = parts_noted d.skips c.skipped m.parts; scan = record { goes_on = m.scan.goes_on; seen = m.scan.seen } })
+
 -- the ledger without the row, where its message is m
 abbrev skipped : World → Ledger → Row → Message → Ledger
 skipped w l r m = record l {
@@ -87,9 +120,12 @@ skip_raw {w = w} {c = c} {d = d} {l = l} {entry = entry} h r m there e first dea
     (length l.unsettled) (length (put_off_in c r)) c.in_memory h.parts.memory (parts ∙ ap (λ (xs : List Row). length r.positions + sum_by (λ x. length x.positions) xs) narrow) (needs_few _ r.id r.positions os)
     ∙ ap (λ n. sum_by (λ (x : Row). length x.positions) ws + sum_by (λ (f : Delivery). length f.row.positions) l.flights + n)
     (ap (λ (xs : List Unsettled). length l.unsettled + length xs) needs ∙ sym (length-append l.unsettled (needs_of w l.now m r.positions os))) in
-    let rest : d ≡ record c { waiting = d.waiting; flights = d.flights; unsettled = d.unsettled; in_memory = d.in_memory } =
-    u.rest ∙ ap (λ fs. record c { waiting = d.waiting; flights = fs; unsettled = d.unsettled; in_memory = d.in_memory }) (sym (ap (λ (x : Core). x.flights) u.rest)) in
-    rows_law ws l.flights us h rest (record { waiting = waiting; flights = ap (λ (x : Core). x.flights) u.rest ∙ h.parts.flights; unsettled = unsettled; memory = memory })
+    let kept : Core = record c { waiting = d.waiting; flights = d.flights; unsettled = d.unsettled; in_memory = d.in_memory } in
+    let rest : d ≡ record kept { skips = d.skips; skipped = d.skipped } =
+    u.rest
+    ∙ ap (λ fs. record c { waiting = d.waiting; flights = fs; unsettled = d.unsettled; in_memory = d.in_memory; skipped = d.skipped }) (sym (ap (λ (x : Core). x.flights) u.rest))
+    ∙ ap (λ n. record c { waiting = d.waiting; flights = d.flights; unsettled = d.unsettled; in_memory = d.in_memory; skips = n; skipped = d.skipped }) (sym (ap (λ (x : Core). x.skips) u.rest)) in
+    raw_noted rest (rows_law ws l.flights us h refl (record { waiting = waiting; flights = ap (λ (x : Core). x.flights) u.rest ∙ h.parts.flights; unsettled = unsettled; memory = memory }))
 
 -- a row left its site, and no other
 skip_leaves : (w : World) {l : Ledger} (r : Row) (m : Message) (p : Row → Bool) → find p l.waiting ≡ Some r → LeavesFrom r.site l (noted (entries.Skip r.id r.site r.positions) (skipped w l r m))
@@ -116,38 +152,10 @@ skip_law {w = w} {c = c} {u = u} {mid = mid} {d = d} {l = l} {entry = entry} a l
     let done : Matches w d (tidied w l (noted e (skipped w l r m.0))) = tidy_left_law r.site l (skip_leaves w r m.0 p found) a.sites.apart (note_law e quiet over) left s in
     subst (λ z. Matches w d (tidied w l (noted e z))) (sym (with_outcomes_is w r.id r.positions (replicate (length r.positions) (outcomes.Later 0)) (unqueued l r.id r.site r.positions) m.0 m.1)) done
 
--- which row was put off last is no part of a ledger
-pub skip_noted : {w : World} {c d : Core} {l : Ledger} → d ≡ record c { skips = d.skips; skipped = d.skipped } → Matches w c l → Matches w d l
-skip_noted {w = w} {c = c} {d = d} {l = l} same m = let h = m.parts in
-    let noted : Core = record c { skips = d.skips; skipped = d.skipped } in
-    let agrees : Matches w noted l = record {
-      parts = record {
-        settings = h.settings;
-        count = h.count;
-        transports = h.transports;
-        mode = h.mode;
-        clock = h.clock;
-        timed = h.timed;
-        next_run = h.next_run;
-        ignores = h.ignores;
-        deferred_turn = h.deferred_turn;
-        admitted = h.admitted;
-        waiting = h.waiting;
-        flights = h.flights;
-        memory = h.memory;
-        served = h.served;
-        unsettled = h.unsettled;
-        lines = h.lines;
-        sites = h.sites;
-        synced = h.synced;
-        starts = h.starts;
-        active = h.active;
-        incoming = h.incoming;
-      };
-      scan = record { goes_on = m.scan.goes_on; seen = m.scan.seen };
-    } in
-    subst (λ (x : Core). Matches w x l) (sym same) agrees
-
 -- the number is the next, as it was before the row left
-pub left_skips : (c u mid d : Core) (site : Site) → u ≡ record c { waiting = u.waiting; unsettled = u.unsettled; in_memory = u.in_memory } → HasLeftSite u mid site → IsTidied mid d → next_skip_number d ≡ next_skip_number c
+pub left_skips : (c u mid d : Core) (site : Site) → u ≡ record c { waiting = u.waiting; unsettled = u.unsettled; in_memory = u.in_memory; skipped = u.skipped } → HasLeftSite u mid site → IsTidied mid d → next_skip_number d ≡ next_skip_number c
 left_skips c u mid d site un left tidied = ap next_skip_number tidied.rest ∙ ap next_skip_number left.rest ∙ ap next_skip_number un
+
+-- its positions stay kept
+pub left_kept : (u mid d : Core) (site : Site) → HasLeftSite u mid site → IsTidied mid d → d.skipped ≡ u.skipped
+left_kept u mid d site left tidied = ap (λ (x : Core). x.skipped) tidied.rest ∙ ap (λ (x : Core). x.skipped) left.rest

@@ -1,5 +1,5 @@
 -- A core in which nothing happened yet.
-use Rattle.std.specs.Prelude.{◌≡◌, ◌≤◌, [], false, None, replicate, Vec, vec_capacity, ℕ}
+use Rattle.std.specs.Prelude.{◌≡◌, ◌≤◌, [], ◌∷◌, false, None, replicate, Vec, vec_capacity, ℕ}
 use Rattle.std.specs.declared.alloc.Global.{Global}
 use Rattle.q_core.specs.Rooms.{most_sites}
 use Rattle.q_core.specs.State.{State}
@@ -14,6 +14,8 @@ use Rattle.q_model.specs.Settings.{Settings}
 use Rattle.q_model.specs.Values.{Site}
 use Rattle.q_open_rows.specs.Opened.{Opened}
 use Rattle.q_pool.specs.Pooled.{Pooled}
+use Rattle.q_positions.specs.Lists.{Lists}
+use Rattle.q_positions.specs.Rows.{Rows}
 use Rattle.q_queue.specs.Queued.{Queued}
 use Rattle.q_schedule.specs.Schedule.{Scheduling}
 
@@ -30,17 +32,21 @@ pub record AreNew (p : Settings) (transports : ℕ) (made : Dests × Pooled × S
   pub peer_room : made.2.room ≡ p.recipient_limit
   pub line_room : made.2.line_room ≡ p.active_limit
 
--- nothing waits, nothing is in flight, no site is named and no outcome is to be settled, with room for
--- so many recipients and deliveries
-pub record AreEmpty (recipients deliveries : ℕ)
-    (made : Held × Flying × Opened × Vec Site Global × Queued Unsettled) : Type 0 where
-  pub waiting : made.0.items ≡ []
-  pub row_room : made.0.room ≡ recipients
-  pub flights : made.1.items ≡ []
-  pub flight_room : made.1.room ≡ deliveries
-  pub named : made.3.items ≡ []
-  pub name_room : recipients ≤ vec_capacity made.3
-  pub unsettled : made.4 ≡ record { items = []; room = recipients }
+-- nothing waits, nothing is in flight, no outcome is to be settled and no row was put off, with the
+-- room that the settings say and for so many deliveries
+pub record AreEmpty (p : Settings) (deliveries : ℕ)
+    (made : Held × Flying × Queued Unsettled × Lists) : Type 0 where
+  pub waiting : made.0 ≡ record { items = []; room = p.recipient_limit; most = p.entry_limit }
+  pub flights : made.1 ≡ record { items = []; room = deliveries; most = p.entry_limit }
+  pub unsettled : made.2 ≡ record { items = []; room = p.recipient_limit }
+  pub skipped : made.3 ≡ record { lists = [] ∷ []; most = p.entry_limit }
+
+-- nothing was read, with the room that the settings say
+pub record AreUnread (p : Settings) (made : Rows × Opened × Vec Site Global) : Type 0 where
+  pub rows : made.0 ≡ record { rows = []; room = p.recipient_limit; most = p.entry_limit }
+  pub places : made.1.room ≡ p.recipient_limit
+  pub named : made.2.items ≡ []
+  pub name_room : p.recipient_limit ≤ vec_capacity made.2
 
 -- what the core holds then
 abbrev pub first_state : Settings → ℕ → Mode → State

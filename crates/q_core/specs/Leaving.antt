@@ -35,16 +35,17 @@ fails_in c r = expired_in c r.id && have_space c r.positions
 abbrev pub put_off_in : Core → Row → List Unsettled
 put_off_in c r = needs_put_off (fails_in c r) r.id r.positions
 
--- the row at this place waits no more, and what its recipients need is added
+-- the row at this place waits no more, what its recipients need is added, and its positions are kept
 pub record IsUnqueued (old new : Core) (entry : ℕ) (r : Row) : Type 0 where
   pub row : slice_get old.waiting entry ≡ Some r
   pub rest : new ≡ record old {
     waiting = new.waiting;
     unsettled = new.unsettled;
-    in_memory =
-        new.in_memory;
+    in_memory = new.in_memory;
+    skipped = new.skipped;
   }
   pub waiting : new.waiting ≡ remove old.waiting entry
+  pub kept : new.skipped ≡ r.positions
   pub unsettled : new.unsettled ≡ old.unsettled ++ put_off_in old r
   pub memory : new.in_memory ≡ old.in_memory - (length r.positions - length (put_off_in old r))
 

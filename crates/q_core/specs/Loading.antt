@@ -24,6 +24,9 @@ use Rattle.q_model.specs.Routes.{world_without_table}
 use Rattle.q_model.specs.Settings.{Settings, World}
 use Rattle.q_model.specs.SiteRecords.{new_record}
 use Rattle.q_model.specs.Values.{Site, SiteRecord, Taken}
+use Rattle.q_dest.specs.Dests.{Dests}
+use Rattle.q_held.specs.Held.{Held}
+use Rattle.q_schedule.specs.Schedule.{Scheduling}
 use Rattle.q_pool.specs.Slots.{changed_at, read_up}
 use Rattle.q_jobs.specs.declared.job.Job.{Job}
 use Rattle.q_core.specs.declared.state.Core.{Core}
@@ -91,12 +94,22 @@ abbrev pub joined_within : Id → List Row → ℕ → (ℕ × List Job) → Lis
 joined_within id rows room line = if can_join id rows room line then joined_line id rows line
     else line.1
 
+-- the rows of the message that its recipients make which were read, with the sites that were named
+abbrev pub rows_read : Core → Id → List Taken → List Row
+rows_read c id taken = rows_in c.params.entry_limit id [] taken c.named
+
 -- these rows of the message have room beside what is there: they themselves, a record for the site
 -- of each, and jobs in the lines that it joins
 abbrev pub fit_in : Core → Id → List Row → Bool
 fit_in c id rows = nat_le (length c.waiting + length rows) c.params.recipient_limit
     && (nat_le (length c.sites + length rows) (most_sites c.params c.transports)
     && list_all (can_join id rows c.params.active_limit) (enumerate_from 0 c.lines))
+
+-- the same by the room of the parts
+abbrev pub fit_beside : Held → Dests → Scheduling → Id → List Row → Bool
+fit_beside waiting sites turns id rows = nat_le (length waiting.items + length rows) waiting.room
+    && (nat_le (length sites.items + length rows) sites.room
+    && list_all (can_join id rows turns.line_room) (enumerate_from 0 turns.lines))
 
 -- The message was read up to this position: its recipients wait at their sites.
 pub record IsLoaded (old new : Core) (id : Id) (to : ℕ) (taken : List Taken)
@@ -120,7 +133,7 @@ pub record IsLoaded (old new : Core) (id : Id) (to : ℕ) (taken : List Taken)
 -- it was read so, and its recipients wait in the rows that their sites make, where these fit
 abbrev pub HasLoaded : Core → Core → Id → ℕ → List Taken → Type 0
 HasLoaded old new id to taken = (rows : List Row)
-    → rows ≡ rows_in old.params.entry_limit id [] taken old.named → fit_in old id rows ≡ true
+    → rows ≡ rows_read old id taken → fit_in old id rows ≡ true
     → IsLoaded old new id to taken rows
 
 -- these are the message's recipients to be read between two positions, and the sites are theirs

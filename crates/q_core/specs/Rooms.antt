@@ -1,6 +1,6 @@
 -- The room that is made at the beginning suffices.
 use Rattle.std.specs.List.{AllByRecursion}
-use Rattle.std.specs.Prelude.{◌≡◌, ◌<◌, ◌≤◌, ◌+◌, ◌*◌, count_by, max, Vec, vec_capacity, ℕ}
+use Rattle.std.specs.Prelude.{◌≡◌, ◌<◌, ◌≤◌, ◌+◌, ◌*◌, count_by, length, max, Vec, vec_capacity, ℕ}
 use Rattle.std.specs.declared.alloc.Global.{Global}
 use Rattle.q_core.specs.Starting.{flights_at}
 use Rattle.q_core.specs.declared.state.Core.{Core}
@@ -10,6 +10,7 @@ use Rattle.q_flights.specs.Flying.{Flying, is_at}
 use Rattle.q_model.specs.declared.rows.Unsettled.{Unsettled}
 use Rattle.q_model.specs.Settings.{Settings}
 use Rattle.q_model.specs.Values.{Site}
+use Rattle.q_positions.specs.Lists.{Lists}
 use Rattle.q_queue.specs.Queued.{Queued}
 
 -- the transport is one of the core's, and has a process left
@@ -48,6 +49,7 @@ pub record HaveRoom (p : Settings) (transports : ℕ) (flights : Flying) (questi
   pub deliveries : AreWithinProcesses p transports flights
   pub asked : AsksWithin p question
   pub names : p.recipient_limit ≤ vec_capacity named
+  pub named_few : length named.items ≤ p.recipient_limit
   pub outcomes : unsettled.room ≡ p.recipient_limit
 
 -- as many rows and peers have room as recipients may be in memory, as many sites as can be known, and
@@ -58,3 +60,15 @@ pub record HasRoomForLoads (p : Settings) (transports row_room site_room peer_ro
   pub sites : site_room ≡ most_sites p transports
   pub peers : peer_room ≡ p.recipient_limit
   pub jobs : line_room ≡ p.active_limit
+
+-- rows that wait and deliveries have room for as many positions as a delivery may have, and so has the
+-- one row that was put off last; rows of a load have room, and a place for the site of each
+pub record HasRoomForPositions (p : Settings) (waiting_most flight_most : ℕ) (kept : Lists)
+    (row_room row_most place_room : ℕ) : Type 0 where
+  pub waiting : waiting_most ≡ p.entry_limit
+  pub flights : flight_most ≡ p.entry_limit
+  pub last : length kept.lists ≡ 1
+  pub last_most : kept.most ≡ p.entry_limit
+  pub rows : row_room ≡ p.recipient_limit
+  pub positions : row_most ≡ p.entry_limit
+  pub places : place_room ≡ p.recipient_limit

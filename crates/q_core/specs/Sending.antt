@@ -18,6 +18,10 @@ is_for id site r = id_eq r.id id && site_eq r.site site
 abbrev pub row_for : Core → Id → Site → Option Row
 row_for c id site = find (is_for id site) c.waiting
 
+-- this holds of it, where there is one
+abbrev pub AtRowFor : Core → Id → Site → (Row → Type 0) → Type 0
+AtRowFor c id site P = (r : Row) → row_for c id site ≡ Some r → P r
+
 -- the message was last sent to the site with this number
 abbrev pub served_now : Id → Site → ℕ → List Served → List Served
 served_now id site number served = record { id = id; site = site; last = number } ∷ filter

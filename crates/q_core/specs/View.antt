@@ -1,5 +1,5 @@
 -- The state that a contract sees, by the core's fields.
-use Rattle.std.specs.Prelude.{option_to_list}
+use Rattle.std.specs.Prelude.{[], get_or, option_to_list}
 use Rattle.q_core.specs.Known.{known_records}
 use Rattle.q_core.specs.ServedRows.{served_rows}
 use Rattle.q_core.specs.State.{State}
@@ -35,5 +35,5 @@ state_of a = record {
   question = a.question;
   named = a.named.items;
   skips = a.skips;
-  skipped = a.skipped;
+  skipped = get_or a.skipped.lists 0 [];
 }

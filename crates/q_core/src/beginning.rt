@@ -1,7 +1,7 @@
 //! A core at the beginning of a life. All room of its parts is made here.
 ghost use Rattle.std.specs.Prelude.{◌≡◌, ◌≤◌, ◌<◌, ◌^◌, IfOk, true};
 ghost use Rattle.q_core.specs.Agrees.{AgreesIfConsistent, AgreesIfOrderly, ForFirst};
-ghost use Rattle.q_core.specs.Beginning.{AreEmpty, AreNew, first_state};
+ghost use Rattle.q_core.specs.Beginning.{AreEmpty, AreNew, AreUnread, first_state};
 ghost use Rattle.q_core.specs.Changes.{is_looked_at};
 ghost use Rattle.q_core.specs.Deciding.{is_answered};
 ghost use Rattle.q_core.specs.Rooms.{most_flights};
@@ -13,10 +13,11 @@ use crate::touched::Touched;
 use q_dest::Sites;
 use q_flights::Flights;
 use q_held::Rows;
-use q_model::{Mode, NoMemory, Positions, Site, Unsettled};
+use q_model::{Mode, NoMemory, Site, Unsettled};
 use q_open_rows::OpenRows;
 use q_params::Params;
 use q_pool::Pool;
+use q_positions::{Lists, RowList};
 use q_queue::Queue;
 use q_schedule::Schedule;
 use std::alloc::Global;
@@ -24,9 +25,12 @@ use std::alloc::Global;
 /// The sites, the messages, and their schedule.
 type Registers = (Sites, Pool, Schedule);
 
-/// The rows that wait, the deliveries in flight, the rows that are begun, the sites that are named,
-/// and the outcomes that are to be settled.
-type Rooms = (Rows, Flights, OpenRows, Vec<Site>, Queue<Unsettled>);
+/// The rows that wait, the deliveries in flight, the outcomes that are to be settled, and the row
+/// that was put off last.
+type Rooms = (Rows, Flights, Queue<Unsettled>, Lists);
+
+/// The rows of a load, the places of those that are begun, and the sites that are named.
+type Loads = (RowList, OpenRows, Vec<Site>);
 
 /// Registers with nothing in them.
 fn registers(alloc: Global, params: &Params, transports: u8) -> Result<Registers, NoMemory>
@@ -56,38 +60,52 @@ fn most_flights(params: &Params, transports: u8) -> u32
     (u32::from(transports) * params.default_process_limit).max(1)
 }
 
-/// Room for as many rows, rows and sites of a batch, and outcomes, as recipients may be in memory,
-/// since each of these has one, and for so many deliveries.
-fn rooms(alloc: Global, room: u32, deliveries: u32) -> Result<Rooms, NoMemory>
-    requires some { 1 ≤ room }
-    requires few { room < 2 ^ 30 }
-    requires some_deliveries { 1 ≤ deliveries }
-    requires few_deliveries { deliveries < 2 ^ 30 }
-    ensures { IfOk result (AreEmpty room deliveries) }
+/// Room for as many rows and outcomes as recipients may be in memory, since each of these has one,
+/// for so many deliveries, and for as many positions in each as a delivery may have.
+fn rooms(alloc: Global, params: &Params, deliveries: u32) -> Result<Rooms, NoMemory>
+    requires range { IsInRange params.now }
+    requires some { 1 ≤ deliveries }
+    requires few { deliveries < 2 ^ 30 }
+    ensures { IfOk result (AreEmpty params.now deliveries) }
 {
-    let waiting = Rows::new(alloc, room)?;
-    let flights = Flights::new(alloc, deliveries)?;
+    let room = params.qmgr_message_recipient_limit;
+    let most = params.default_destination_recipient_limit;
+    let waiting = Rows::new(alloc, room, most)?;
+    let flights = Flights::new(alloc, deliveries, most)?;
+    let unsettled = Queue::new(alloc, room)?;
+    let skipped = Lists::new(alloc, 1, most)?;
+    Ok((waiting, flights, unsettled, skipped))
+}
+
+/// Room for as many rows and sites of a load as recipients may be in memory.
+fn loads(alloc: Global, params: &Params) -> Result<Loads, NoMemory>
+    requires { IsInRange params.now }
+    ensures { IfOk result (AreUnread params.now) }
+{
+    let room = params.qmgr_message_recipient_limit;
+    let rows = RowList::new(alloc, room, params.default_destination_recipient_limit)?;
     let open_rows = OpenRows::new(alloc, room)?;
     let named = Vec::with_capacity(alloc, room as usize)?;
-    let unsettled = Queue::new(alloc, room)?;
-    Ok((waiting, flights, open_rows, named, unsettled))
+    Ok((rows, open_rows, named))
 }
 
 /// A core in which nothing happened yet.
 fn over(
-    alloc: Global,
     params: Params,
     transports: u8,
     mode: Mode,
     registers: Registers,
     rooms: Rooms,
+    loads: Loads,
 ) -> Core
     requires registers { AreNew params transports registers }
-    requires rooms { AreEmpty params.recipient_limit (most_flights params transports) rooms }
+    requires rooms { AreEmpty params (most_flights params transports) rooms }
+    requires loads { AreUnread params loads }
     ensures { result ≡ first_state params transports mode }
 {
     let (sites, admitted, turns) = registers;
-    let (waiting, flights, open_rows, named, unsettled) = rooms;
+    let (waiting, flights, unsettled, skipped) = rooms;
+    let (rows, open_rows, named) = loads;
     Core {
         params,
         transports,
@@ -114,8 +132,9 @@ fn over(
         question: Question::Nothing,
         named,
         skips: 0,
-        skipped: Positions::new(alloc),
+        skipped,
         touched_message: Touched::Nothing,
+        rows,
         open_rows,
     }
 }
@@ -133,8 +152,9 @@ impl Core {
         ensures looked { IfOk result (λ core. is_looked_at core ≡ true) }
     {
         let deliveries = most_flights(&params, transports);
-        let rooms = rooms(alloc, params.qmgr_message_recipient_limit, deliveries)?;
+        let rooms = rooms(alloc, &params, deliveries)?;
+        let loads = loads(alloc, &params)?;
         let registers = registers(alloc, &params, transports)?;
-        Ok(over(alloc, params, transports, mode, registers, rooms))
+        Ok(over(params, transports, mode, registers, rooms, loads))
     }
 }

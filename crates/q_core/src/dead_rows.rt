@@ -14,6 +14,7 @@ fn hold_each(waiting: &mut Rows, sites: &Sites)
     ensures rows { rows_of waiting.new.items ≡ rows_of waiting.old.items }
     ensures held { AreHeldBy (goes_to_dead sites.now.items) waiting.new.items }
     ensures room { waiting.new.room ≡ waiting.old.room }
+    ensures most { waiting.new.most ≡ waiting.old.most }
 {
     let mut at = waiting.first();
     while let Some(number) = at {
@@ -21,7 +22,7 @@ fn hold_each(waiting: &mut Rows, sites: &Sites)
         let Some(row) = waiting.get(number) else {
             return;
         };
-        let site = row.site;
+        let site = *row.site;
         waiting.hold(&site, sites.is_dead(&site));
         at = waiting.next(number);
     }
@@ -36,6 +37,7 @@ pub(crate) fn hold_at(waiting: &mut Rows, site: &Site, was_dead: bool, is_dead: 
         → ((r : Row) → q r ≡ (if site_eq r.site site.now then is_dead else p r))
         → AreHeldBy p waiting.old.items → AreHeldBy q waiting.new.items }
     ensures room { waiting.new.room ≡ waiting.old.room }
+    ensures most { waiting.new.most ≡ waiting.old.most }
 {
     if is_dead != was_dead {
         waiting.hold(site, is_dead);
@@ -50,6 +52,7 @@ pub(crate) fn hold_dead(waiting: &mut Rows, sites: &Sites)
     ensures rows { rows_of waiting.new.items ≡ rows_of waiting.old.items }
     ensures held { AreHeldBy (goes_to_dead sites.now.items) waiting.new.items }
     ensures room { waiting.new.room ≡ waiting.old.room }
+    ensures most { waiting.new.most ≡ waiting.old.most }
 {
     if sites.dead_waiting() == 0 {
         waiting.release_all();

@@ -10,11 +10,11 @@ ghost use Rattle.q_core.specs.Tidied.{tidied_served};
 ghost use Rattle.q_model.specs.Next.{start_rule};
 
 use crate::counting::begin_flight;
-use crate::rows::take_row;
+use crate::rows::{first_row, take_row};
 use crate::state::Core;
 use crate::touched::touch_message;
 use q_jobs::Job;
-use q_model::{Delivery, Entry, Id, Site};
+use q_model::{Entry, Id, Site};
 use q_schedule::Schedule;
 
 /// The account with one delivery more; a life begins fewer than 2^48.
@@ -66,17 +66,20 @@ impl Core {
             (served_now id site number self.old.served) }
     {
         self.flights.stand_apart();
-        let Some(row) = take_row(&mut self.waiting, id, &site) else {
-            return;
+        self.waiting.stand_apart();
+        let Some(row) = first_row(&self.waiting, id, &site) else {
+            unreachable!()
         };
-        touch_message(&mut self.touched_message, row.id);
-        self.sites.begin(&row.site);
+        let (owner, target) = (row.id, *row.site);
+        self.flights.push(number, row);
+        take_row(&mut self.waiting, id, &site);
+        touch_message(&mut self.touched_message, owner);
+        self.sites.begin(&target);
         self.turns.stand_apart();
-        self.turns.start(row.id, &row.site, number);
+        self.turns.start(owner, &target, number);
         self.turns.stand_apart();
-        self.turns.lose(row.id, &row.site);
-        begin_flight(&mut self.admitted, row.id);
-        self.flights.push(Delivery { number, row });
+        self.turns.lose(owner, &target);
+        begin_flight(&mut self.admitted, owner);
         self.starts = number;
     }
 

@@ -12,26 +12,30 @@ ghost use Rattle.q_turns.specs.Turns.{line_at, may_wait, with_line};
 
 use q_dest::Sites;
 use q_held::Rows;
-use q_model::{Id, Row, Site};
+use q_model::{Id, Site};
 use q_params::Params;
+use q_positions::RowList;
 use q_schedule::Schedule;
 
 /// The site of the row at a place.
-fn site_at(rows: &[Row], i: usize) -> &Site
-    requires { i < length rows.now }
-    ensures { (r : Row) → slice_get rows.now i ≡ Some r → result.now ≡ r.site }
+fn site_at(rows: &RowList, i: usize) -> &Site
+    requires { i < length rows.now.rows }
+    ensures { (r : Row) → slice_get rows.now.rows i ≡ Some r → result.now ≡ r.site }
 {
-    &rows[i].site
+    let Some(row) = rows.get(i) else {
+        unreachable!()
+    };
+    row.site
 }
 
 /// Counts these rows, of which none waits yet, at their sites. A site that has no record gets one.
-pub(crate) fn count_rows(sites: &mut Sites, rows: &[Row], waiting: &Rows, params: &Params)
+pub(crate) fn count_rows(sites: &mut Sites, rows: &RowList, waiting: &Rows, params: &Params)
     requires tied { AreWaitingTied sites.old.items (rows_of waiting.now.items) }
-    requires room { length sites.old.items + length rows.now ≤ sites.old.room }
-    requires few { length (rows_of waiting.now.items) + length rows.now < 2 ^ 32 }
+    requires room { length sites.old.items + length rows.now.rows ≤ sites.old.room }
+    requires few { length (rows_of waiting.now.items) + length rows.now.rows < 2 ^ 32 }
     ensures known { known_records sites.new.items ≡ known_records sites.old.items
-        ++ new_sites params.now (known_records sites.old.items) [] rows.now }
-    ensures waiting { AreWaitingTied sites.new.items (rows_of waiting.now.items ++ rows.now) }
+        ++ new_sites params.now (known_records sites.old.items) [] rows.now.rows }
+    ensures waiting { AreWaitingTied sites.new.items (rows_of waiting.now.items ++ rows.now.rows) }
     ensures busy { (fs : List Delivery) → AreBusyTied sites.old.items fs
         → AreBusyTied sites.new.items fs }
     ensures dead { (r : Row) → goes_to_dead sites.new.items r ≡ goes_to_dead sites.old.items r }
@@ -42,30 +46,35 @@ pub(crate) fn count_rows(sites: &mut Sites, rows: &[Row], waiting: &Rows, params
     }
 }
 
-fn has_row_at(rows: &[Row], at: usize) -> bool
-    ensures { result ≡ list_any (λ r. r.site.transport == at) rows.now }
+fn has_row_at(rows: &RowList, at: usize) -> bool
+    ensures { result ≡ list_any (λ r. r.site.transport == at) rows.now.rows }
 {
-    rows.iter().any(|row| usize::from(row.site.transport) == at)
+    for i in 0..rows.len() {
+        if usize::from(site_at(rows, i).transport) == at {
+            return true;
+        }
+    }
+    false
 }
 
 /// Whether the message has one of these rows at the transport, and no job in its line.
-fn joins(turns: &Schedule, id: Id, rows: &[Row], at: usize) -> bool
-    ensures { result ≡ joins_in id rows.now at (line_at at turns.now.lines) }
+fn joins(turns: &Schedule, id: Id, rows: &RowList, at: usize) -> bool
+    ensures { result ≡ joins_in id rows.now.rows at (line_at at turns.now.lines) }
 {
     has_row_at(rows, at) && turns.job(at, id).is_none()
 }
 
 /// Whether the line has room, where the message joins it.
-fn can_join(turns: &Schedule, id: Id, rows: &[Row], at: usize) -> bool
+fn can_join(turns: &Schedule, id: Id, rows: &RowList, at: usize) -> bool
     requires { at < length turns.now.lines }
-    ensures { result ≡ can_join id rows.now turns.now.line_room (at, line_at at turns.now.lines) }
+    ensures { result ≡ can_join id rows.now.rows turns.now.line_room (at, line_at at turns.now.lines) }
 {
     !joins(turns, id, rows, at) || turns.spare_jobs(at) != 0
 }
 
 /// Whether each line has room that the message joins.
-pub(crate) fn can_join_all(turns: &Schedule, id: Id, rows: &[Row]) -> bool
-    ensures { result ≡ list_all (can_join id rows.now turns.now.line_room)
+pub(crate) fn can_join_all(turns: &Schedule, id: Id, rows: &RowList) -> bool
+    ensures { result ≡ list_all (can_join id rows.now.rows turns.now.line_room)
         (enumerate_from 0 turns.now.lines) }
 {
     for at in 0..turns.transports() {
@@ -77,11 +86,11 @@ pub(crate) fn can_join_all(turns: &Schedule, id: Id, rows: &[Row]) -> bool
 }
 
 /// The message joins the line, where it has come to wait there, and has room.
-fn join(turns: &mut Schedule, id: Id, rows: &[Row], at: usize)
+fn join(turns: &mut Schedule, id: Id, rows: &RowList, at: usize)
     requires { at < length turns.old.lines }
     ensures { turns.new ≡ record turns.old {
       lines = with_line at
-          (λ jobs. joined_within id rows.now turns.old.line_room (at, jobs)) turns.old.lines;
+          (λ jobs. joined_within id rows.now.rows turns.old.line_room (at, jobs)) turns.old.lines;
     } }
 {
     if joins(turns, id, rows, at) && turns.spare_jobs(at) != 0 {
@@ -90,10 +99,10 @@ fn join(turns: &mut Schedule, id: Id, rows: &[Row], at: usize)
 }
 
 /// The message joins the lines in which it has come to wait, where they have room.
-pub(crate) fn join_lines(turns: &mut Schedule, id: Id, rows: &[Row])
+pub(crate) fn join_lines(turns: &mut Schedule, id: Id, rows: &RowList)
     ensures { turns.new ≡ record turns.old {
       lines = map
-          (joined_within id rows.now turns.old.line_room) (enumerate_from 0 turns.old.lines);
+          (joined_within id rows.now.rows turns.old.line_room) (enumerate_from 0 turns.old.lines);
     } }
 {
     for at in 0..turns.transports() {
@@ -103,16 +112,16 @@ pub(crate) fn join_lines(turns: &mut Schedule, id: Id, rows: &[Row])
 
 /// Counts these rows of the message, of which none waits yet, at their peers. It has a job at the
 /// transport of each that has a line.
-pub(crate) fn count_peers(turns: &mut Schedule, id: Id, rows: &[Row], waiting: &Rows)
-    requires own { AreRowsOf id rows.now }
-    requires jobs { list_all (λ r. may_wait turns.old.lines r.site.transport id) rows.now ≡ true }
+pub(crate) fn count_peers(turns: &mut Schedule, id: Id, rows: &RowList, waiting: &Rows)
+    requires own { AreRowsOf id rows.now.rows }
+    requires jobs { list_all (λ r. may_wait turns.old.lines r.site.transport id) rows.now.rows ≡ true }
     requires tied { ArePeersTied turns.old.peers (rows_of waiting.now.items) }
-    requires room { length turns.old.peers + length rows.now ≤ turns.old.room }
-    requires few { length (rows_of waiting.now.items) + length rows.now < 2 ^ 32 }
+    requires room { length turns.old.peers + length rows.now.rows ≤ turns.old.room }
+    requires few { length (rows_of waiting.now.items) + length rows.now.rows < 2 ^ 32 }
     ensures rest { turns.new ≡ record turns.old { peers = turns.new.peers } }
     ensures served { served_rows turns.new.peers ≡ served_rows turns.old.peers }
     ensures tied { (starts : ℕ) → AreTurnsTied turns.old.peers (rows_of waiting.now.items) starts
-        → AreTurnsTied turns.new.peers (rows_of waiting.now.items ++ rows.now) starts }
+        → AreTurnsTied turns.new.peers (rows_of waiting.now.items ++ rows.now.rows) starts }
 {
     for i in 0..rows.len() {
         turns.stand_apart();

@@ -1,36 +1,41 @@
 //! Recipients come into memory.
-ghost use Rattle.std.specs.Prelude.{◌≡◌, ◌+◌, ◌++◌, ◌∷◌, [], IfOk, IsTrue, true, length, map, min, OnErr, OnOk};
+ghost use Rattle.std.specs.Prelude.{◌≡◌, ◌+◌, ◌++◌, ◌∷◌, [], IsTrue, true, length, min};
 ghost use Rattle.q_core.specs.Agrees.{ForLedgers};
-ghost use Rattle.q_core.specs.Changes.{IsUnchanged, IsSlotChange, is_looked_at};
+ghost use Rattle.q_core.specs.Changes.{IsSlotChange, is_looked_at};
 ghost use Rattle.q_core.specs.Deciding.{is_answered, is_reading};
 ghost use Rattle.q_core.specs.Held.{is_admitted_in};
-ghost use Rattle.q_core.specs.Loading.{AreRowsOf, LoadsAs, AreRowsAdded, fit_in, rows_in, may_name, ReadsAs, HasLoaded};
+ghost use Rattle.q_core.specs.Loading.{AreRowsAdded, fit_beside, fit_in, HasLoaded, LoadsAs, may_name, ReadsAs, rows_read};
 ghost use Rattle.q_pool.specs.Slots.{read_up};
 
 use crate::counting::gain_waiting;
-use crate::grouping::rows_of;
+use crate::grouping::group;
 use crate::joining::{can_join_all, count_peers, count_rows, join_lines};
 use crate::rows::add_all;
 use crate::state::{Core, Question};
 use crate::tidy::unread;
 use crate::touched::touch_message;
-use q_model::{Batch, Cursor, Entry, Id, NoMemory, Row, Site};
-use std::alloc::Global;
+use q_dest::Sites;
+use q_held::Rows;
+use q_model::{Batch, Cursor, Id, Site};
+use q_positions::RowList;
+use q_schedule::Schedule;
+
+/// Whether these rows of the message fit in, which they do where a ledger may load them.
+fn fit(waiting: &Rows, sites: &Sites, turns: &Schedule, id: Id, rows: &RowList) -> bool
+    ensures { result ≡ fit_beside waiting.now sites.now turns.now id rows.now.rows }
+{
+    waiting.stand_apart();
+    if (waiting.spare() as usize) < rows.len() {
+        return false;
+    }
+    sites.stand_apart();
+    if (sites.spare() as usize) < rows.len() {
+        return false;
+    }
+    can_join_all(turns, id, rows)
+}
 
 impl Core {
-    /// The rows of the recipients that were read, whose sites were named.
-    fn read_rows(&mut self, alloc: Global, id: Id, taken: &Batch) -> Result<Vec<Row>, NoMemory>
-        ensures rows { IfOk result (λ rows. rows.items
-            ≡ rows_in self.old.params.entry_limit id [] taken.now.items self.old.named) }
-        ensures own { IfOk result (λ rows. AreRowsOf id rows.items) }
-        ensures same { self.new ≡ self.old }
-    {
-        let limit = self.params.default_destination_recipient_limit;
-        let open_rows = &mut self.open_rows;
-        let rows = rows_of(alloc, open_rows, limit, id, taken, &self.named)?;
-        Ok(rows)
-    }
-
     /// So many recipients more are in memory, within the limit.
     fn count_read(&mut self, count: usize)
         ensures rest { self.new ≡ record self.old { in_memory = self.new.in_memory } }
@@ -50,38 +55,30 @@ impl Core {
         self.turns.read(id, unread(&self.admitted, id));
     }
 
-    /// Whether these rows of the message fit in, which they do where a ledger may load them.
-    fn fit(&self, id: Id, rows: &[Row]) -> bool
-        ensures { result ≡ fit_in self.now id rows.now }
-    {
-        self.waiting.stand_apart();
-        if (self.waiting.spare() as usize) < rows.len() {
-            return false;
-        }
-        self.sites.stand_apart();
-        if (self.sites.spare() as usize) < rows.len() {
-            return false;
-        }
-        can_join_all(&self.turns, id, rows)
-    }
-
-    /// Takes the rows of the message in, which is in memory.
-    fn add_rows(&mut self, id: Id, rows: Vec<Row>)
-        requires own { AreRowsOf id rows.items }
+    /// Takes the recipients that were read, whose sites were named, in as rows of the message, which
+    /// is in memory. Where these don't fit in, nothing is done, and the answer is false.
+    fn add_rows(&mut self, id: Id, taken: &Batch) -> bool
         requires there { is_admitted_in self.old id ≡ true }
-        requires room { fit_in self.old id rows.items ≡ true }
-        ensures { AreRowsAdded self.old self.new id rows.items }
+        requires sited { length taken.now.items ≡ length self.old.named }
+        ensures fits { result ≡ fit_in self.old id (rows_read self.old id taken.now.items) }
+        ensures added { IsTrue result → AreRowsAdded self.old self.new id
+            (rows_read self.old id taken.now.items) }
     {
+        group(&mut self.rows, &mut self.open_rows, id, taken, &self.named);
+        let rows = &self.rows;
+        if !fit(&self.waiting, &self.sites, &self.turns, id, rows) {
+            return false;
+        }
         self.waiting.stand_apart();
         self.sites.stand_apart();
         self.turns.stand_apart();
-        join_lines(&mut self.turns, id, &rows);
-        count_peers(&mut self.turns, id, &rows, &self.waiting);
-        count_rows(&mut self.sites, &rows, &self.waiting, &self.params);
-        let count = rows.len() as u64;
+        join_lines(&mut self.turns, id, rows);
+        count_peers(&mut self.turns, id, rows, &self.waiting);
+        count_rows(&mut self.sites, rows, &self.waiting, &self.params);
         add_all(&mut self.waiting, rows, &self.sites);
-        gain_waiting(&mut self.admitted, id, count);
+        gain_waiting(&mut self.admitted, id, rows.len() as u64);
         touch_message(&mut self.touched_message, id);
+        true
     }
 
     /// Ends the question that was answered.
@@ -127,58 +124,51 @@ impl Core {
     }
 
     /// Takes in the recipients that were read, where their rows fit in.
-    fn load(&mut self, alloc: Global, id: Id, to: u32, taken: &Batch) -> Result<(), NoMemory>
-        requires { is_admitted_in self.old id ≡ true }
-        ensures ok { OnOk result (HasLoaded self.old self.new id to taken.now.items) }
-        ensures err { OnErr result (IsUnchanged self.old self.new) }
+    fn load(&mut self, id: Id, to: u32, taken: &Batch)
+        requires there { is_admitted_in self.old id ≡ true }
+        requires sited { length taken.now.items ≡ length self.old.named }
+        ensures { HasLoaded self.old self.new id to taken.now.items }
     {
-        let rows = self.read_rows(alloc, id, taken)?;
-        if !self.fit(id, &rows) {
-            return Ok(());
+        if !self.add_rows(id, taken) {
+            return;
         }
-        self.add_rows(id, rows);
         self.note_read(id, to);
         self.count_read(taken.len());
         self.end_question();
-        Ok(())
     }
 
     /// Takes in the recipients that were read, up to this place.
-    fn apply_read(&mut self, alloc: Global, taken: &Batch, to: u32) -> Result<(), NoMemory>
-        requires { IsTrue (is_looked_at self.old) }
-        ensures ok { OnOk result (ForLedgers self.old
-            (λ w l. ReadsAs w l self.old taken.now.items to self.new)) }
-        ensures err { OnErr result (IsUnchanged self.old self.new) }
+    fn apply_read(&mut self, taken: &Batch, to: u32)
+        requires seen { IsTrue (is_looked_at self.old) }
+        requires sited { length taken.now.items ≡ length self.old.named }
+        ensures { ForLedgers self.old (λ w l. ReadsAs w l self.old taken.now.items to self.new) }
     {
         let Question::Recipients { id, .. } = self.question else {
-            return Ok(());
+            return;
         };
         if !self.has_slot(id) {
-            return Ok(());
+            return;
         }
-        self.load(alloc, id, to, taken)?;
+        self.load(id, to, taken);
         self.tidy();
-        Ok(())
     }
 
     /// The answer to the read that waits for it: the pending recipients from the read's place on,
     /// in order, as many as it may have, whose sites were named by `sited` in the same order. The
     /// cursor stands just behind the last of them where there were so many, else behind the last
-    /// recipient. After want of memory the core is as it was.
+    /// recipient.
     ///
     /// It is an error to call it where no read waits for its answer, or with more or fewer
     /// recipients than sites were named since the read was asked.
-    pub fn loaded(&mut self, alloc: Global, taken: &Batch, cursor: Cursor) -> Result<(), NoMemory>
+    pub fn loaded(&mut self, taken: &Batch, cursor: Cursor)
         requires reading { is_reading self.old.question ≡ true }
         requires sited { length taken.now.items ≡ length self.old.named }
         requires seen { IsTrue (is_looked_at self.old) }
-        ensures ok { OnOk result (ForLedgers self.old
-            (λ w l. LoadsAs w l self.old taken.now.items cursor.position self.new)) }
-        ensures answered { OnOk result (is_answered self.new.question ≡ true) }
-        ensures err { OnErr result (self.new ≡ self.old) }
+        ensures exact { ForLedgers self.old
+            (λ w l. LoadsAs w l self.old taken.now.items cursor.position self.new) }
+        ensures answered { is_answered self.new.question ≡ true }
     {
-        self.apply_read(alloc, taken, cursor.position)?;
+        self.apply_read(taken, cursor.position);
         self.question = Question::Nothing;
-        Ok(())
     }
 }

@@ -5,7 +5,7 @@ ghost use Rattle.q_core.specs.Agrees.{ForLedgers};
 ghost use Rattle.q_model.specs.Memory.{is_admitted};
 ghost use Rattle.q_core.specs.Held.{is_admitted_in};
 ghost use Rattle.q_core.specs.Queries.{expired_in, flight_in, flight_shown, record_behind, slot_expired_in, skipped_in};
-ghost use Rattle.q_flights.specs.Flying.{started_earlier};
+ghost use Rattle.q_flights.specs.Flying.{delivery_shown, started_earlier};
 ghost use Rattle.q_model.specs.Book.{message_of};
 ghost use Rattle.q_model.specs.Deliveries.{flight_of};
 ghost use Rattle.q_model.specs.Lists.{least};
@@ -17,7 +17,8 @@ use crate::names::{same_id, same_site};
 use crate::state::{Core, Question};
 use q_backoff::expired;
 use q_dest::WideSiteRecord;
-use q_model::{Delivery, Id, Moment, Row, Site};
+use q_flights::DeliveryRef;
+use q_model::{Id, Moment, Row, Site};
 use q_pool::Slot;
 use std::marker::Model;
 
@@ -86,8 +87,8 @@ impl Core {
         self.starts
     }
 
-    pub(crate) fn delivery(&self, number: u64) -> Option<&Delivery>
-        ensures { option_copied result ≡ flight_in self.now number }
+    pub(crate) fn delivery(&self, number: u64) -> Option<DeliveryRef<'_>>
+        ensures { option_map delivery_shown result ≡ flight_in self.now number }
     {
         self.flights.get(number)
     }
@@ -100,7 +101,7 @@ impl Core {
         match self.delivery(number) {
             Some(delivery) => Some(Flight {
                 id: delivery.row.id,
-                site: delivery.row.site,
+                site: *delivery.row.site,
             }),
             None => None,
         }
@@ -130,7 +131,7 @@ impl Core {
             (λ f. f.row.positions) (flight_of l number)) }
     {
         match self.delivery(number) {
-            Some(delivery) => Some(delivery.row.positions.as_slice()),
+            Some(delivery) => Some(delivery.row.positions),
             None => None,
         }
     }
@@ -141,7 +142,7 @@ impl Core {
         ensures { option_copied result ≡ skipped_in self.now entry }
     {
         if self.skips == entry {
-            Some(self.skipped.as_slice())
+            Some(self.skipped.get(0))
         } else {
             None
         }

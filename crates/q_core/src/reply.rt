@@ -34,14 +34,8 @@ fn add_needs_of(
         } }
 {
     if let Some(delivery) = flights.get(number) {
-        let row = &delivery.row;
-        add_needs(
-            unsettled,
-            row.id,
-            expired,
-            row.positions.as_slice(),
-            outcomes,
-        );
+        let row = delivery.row;
+        add_needs(unsettled, row.id, expired, row.positions, outcomes);
     }
 }
 
@@ -55,11 +49,11 @@ impl Core {
         let Some(delivery) = self.delivery(number) else {
             return None;
         };
-        let row = &delivery.row;
-        if !self.has_space(row.positions.as_slice()) {
+        let row = delivery.row;
+        if !self.has_space(row.positions) {
             return None;
         }
-        let (id, site) = (row.id, row.site);
+        let (id, site) = (row.id, *row.site);
         let recipients = row.positions.len();
         let expired = self.id_expired(id);
         let before = self.unsettled.len();
@@ -100,12 +94,14 @@ impl Core {
             → self.new.sites ≡ left_sites self.new self.old.sites f.row.site }
     {
         self.flights.stand_apart();
-        let Some(delivery) = self.flights.remove(number) else {
+        let Some(delivery) = self.flights.get(number) else {
             return;
         };
+        let (id, site) = (delivery.row.id, *delivery.row.site);
+        let _ = self.flights.remove(number);
         self.sites.stand_apart();
-        self.sites.land(&delivery.row.site);
-        end_flight(&mut self.admitted, delivery.row.id);
+        self.sites.land(&site);
+        end_flight(&mut self.admitted, id);
     }
 
     /// Takes the reply of the delivery of this number, with an outcome for each recipient.

@@ -1,15 +1,16 @@
 //! Which waiting row of a message is sent next at a transport.
-ghost use Rattle.std.specs.Prelude.{◌≡◌, ◌<◌, ◌^◌, nat_lt};
-ghost use Rattle.std.specs.Option.{option_copied};
+ghost use Rattle.std.specs.Prelude.{◌≡◌, ◌<◌, ◌^◌, nat_lt, option_map};
 ghost use Rattle.q_core.specs.Starting.{can_start_in, flights_at, has_room_in, is_startable_in, last_start_in, next_row_in, next_row_of, rows_for, start_in, sooner_row};
 ghost use Rattle.q_held.specs.Held.{rows_of};
+ghost use Rattle.q_positions.specs.Rows.{row_shown};
 
 use crate::decision::Decision;
 use crate::names::same_id;
 use crate::rows::first_row;
 use crate::state::Core;
 use q_held::Rows;
-use q_model::{Id, Row, Site};
+use q_model::{Id, Site};
+use q_positions::RowRef;
 
 impl Core {
     pub(crate) fn flights_of(&self, transport: u8) -> usize
@@ -32,24 +33,26 @@ impl Core {
         self.sites.has_space(site)
     }
 
-    fn is_startable(&self, row: &Row) -> bool
-        ensures { result ≡ is_startable_in self.now row.now }
+    fn is_startable(&self, row: RowRef<'_>) -> bool
+        ensures { result ≡ is_startable_in self.now (row_shown row.entry) }
     {
-        self.has_process(row.site.transport) && self.has_room(&row.site)
+        let site = row.site;
+        self.has_process(site.transport) && self.has_room(site)
     }
 
-    fn is_startable_for(&self, id: Id, transport: u8, row: &Row) -> bool
-        ensures { result ≡ rows_for self.now id transport row.now }
+    fn is_startable_for(&self, id: Id, transport: u8, row: RowRef<'_>) -> bool
+        ensures { result ≡ rows_for self.now id transport (row_shown row.entry) }
     {
-        same_id(row.id, id) && row.site.transport == transport && self.is_startable(row)
+        let site = row.site;
+        same_id(row.id, id) && site.transport == transport && self.is_startable(row)
     }
 
     /// The number of the message's last delivery to the row's site, 0 for none.
-    fn last_start(&self, row: &Row) -> u64
-        ensures { result ≡ last_start_in self.now row.now }
+    fn last_start(&self, row: RowRef<'_>) -> u64
+        ensures { result ≡ last_start_in self.now (row_shown row.entry) }
     {
         self.turns.stand_apart();
-        self.turns.last(row.id, &row.site)
+        self.turns.last(row.id, row.site)
     }
 
     /// The row that was found before, or this one, where it may be sent now and starts sooner.
@@ -57,11 +60,11 @@ impl Core {
         &self,
         id: Id,
         transport: u8,
-        next: Option<&'a Row>,
-        row: &'a Row,
-    ) -> Option<&'a Row>
-        ensures { option_copied result ≡ sooner_row self.now transport id
-            (option_copied next.entry) row.now }
+        next: Option<RowRef<'a>>,
+        row: RowRef<'a>,
+    ) -> Option<RowRef<'a>>
+        ensures { option_map row_shown result ≡ sooner_row self.now transport id
+            (option_map row_shown next.entry) (row_shown row.entry) }
     {
         if !self.is_startable_for(id, transport, row) {
             return next;
@@ -75,8 +78,8 @@ impl Core {
     /// The row of the message that starts next at the transport. It is of the site that the
     /// message was sent to longest ago or never; among equals it is the first read. While rows may
     /// be left in another order than that in which they were read, a walk over all finds it.
-    fn next_row(&self, id: Id, transport: u8) -> Option<&Row>
-        ensures { option_copied result ≡ next_row_in self.now transport id }
+    fn next_row(&self, id: Id, transport: u8) -> Option<RowRef<'_>>
+        ensures { option_map row_shown result ≡ next_row_in self.now transport id }
     {
         if !self.has_process(transport) {
             return None;
@@ -114,7 +117,7 @@ impl Core {
             Some(row) => Some(Decision::Start {
                 number: self.starts + 1,
                 id: row.id,
-                site: row.site,
+                site: *row.site,
             }),
             None => None,
         }
@@ -122,8 +125,13 @@ impl Core {
 }
 
 /// The row of the message that starts next at the transport, of these rows.
-fn next_row_among<'a>(core: &'a Core, waiting: &'a Rows, id: Id, transport: u8) -> Option<&'a Row>
-    ensures { option_copied result
+fn next_row_among<'a>(
+    core: &'a Core,
+    waiting: &'a Rows,
+    id: Id,
+    transport: u8,
+) -> Option<RowRef<'a>>
+    ensures { option_map row_shown result
         ≡ next_row_of core.now transport id (rows_of waiting.now.items) }
 {
     waiting.stand_apart();

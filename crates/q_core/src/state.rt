@@ -9,10 +9,11 @@ use crate::touched::Touched;
 use q_dest::Sites;
 use q_flights::Flights;
 use q_held::Rows;
-use q_model::{Id, Mode, Moment, Positions, Request, Scan, Site, Unsettled};
+use q_model::{Id, Mode, Moment, Request, Scan, Site, Unsettled};
 use q_open_rows::OpenRows;
 use q_params::Params;
 use q_pool::{Pool, Slot};
+use q_positions::{Lists, RowList};
 use q_queue::Queue;
 use q_schedule::Schedule;
 use std::marker::Model;
@@ -65,12 +66,13 @@ pub struct Core {
     pub(crate) question: Question,
     /// The sites of the recipients that were read since the last `Read`, in order.
     pub(crate) named: Vec<Site>,
-    /// The number of the row that was put off last, 0 for none, and its positions.
+    /// The number of the row that was put off last, 0 for none, and its positions, as the one list.
     pub(crate) skips: u32,
-    pub(crate) skipped: Positions,
+    pub(crate) skipped: Lists,
     /// The messages that entries touched since the core was tidied.
     pub(crate) touched_message: Touched<Id>,
-    /// Where the rows of the last load stood that recipients may join.
+    /// The rows of the last load, and where those stood that recipients may join.
+    pub(crate) rows: RowList,
     pub(crate) open_rows: OpenRows,
 }
 
@@ -83,7 +85,7 @@ impl Model for Core {
 
     ghost view = { state_of };
 
-    ghost use Rattle.q_core.specs.Rooms.{HasRoomForLoads, HaveRoom};
+    ghost use Rattle.q_core.specs.Rooms.{HasRoomForLoads, HasRoomForPositions, HaveRoom};
     ghost use Rattle.q_core.specs.Ties.{AreMessagesTied, AreSitesTied, AreTied, AreTurnsTied, goes_to_dead};
     ghost use Rattle.q_core.specs.Touched.{IsTidyBut};
     ghost use Rattle.q_held.specs.Held.{AreHeldBy, rows_of};
@@ -99,7 +101,9 @@ impl Model for Core {
         × AreMessagesTied a.params a.turns (heads a.admitted.items)
         × HaveRoom a.params a.transports a.flights a.question a.named a.unsettled
         × HasRoomForLoads a.params a.transports a.waiting.room a.sites.room a.turns.room
-        a.turns.line_room };
+        a.turns.line_room
+        × HasRoomForPositions a.params a.waiting.most a.flights.most a.skipped a.rows.room
+        a.rows.most a.open_rows.room };
 }
 
 impl Core {

@@ -1,12 +1,13 @@
 //! Outcomes that aren't on disk yet, and rows that can't be sent.
-ghost use Rattle.std.specs.Option.{option_copied};
-ghost use Rattle.std.specs.Prelude.{◌≡◌, find};
+ghost use Rattle.std.specs.Prelude.{◌≡◌, find, option_map};
 ghost use Rattle.q_core.specs.Held.{have_space, is_dead_in};
+ghost use Rattle.q_positions.specs.Rows.{row_shown};
 ghost use Rattle.q_core.specs.Rules.{decision_of, first_need_in, next_skip_in, next_skip_number};
 
 use crate::decision::Decision;
 use crate::state::Core;
-use q_model::{Failure, Need, Row, Unsettled};
+use q_model::{Failure, Need, Unsettled};
+use q_positions::RowRef;
 
 /// What an outcome needs first: a record of its failure, or its mark.
 fn needed(row: &Unsettled) -> Decision
@@ -49,8 +50,9 @@ impl Core {
     }
 
     /// The first waiting row whose site is dead.
-    fn first_dead(&self) -> Option<&Row>
-        ensures { option_copied result ≡ find (λ r. is_dead_in self.now r.site) self.now.waiting }
+    fn first_dead(&self) -> Option<RowRef<'_>>
+        ensures { option_map row_shown result
+            ≡ find (λ r. is_dead_in self.now r.site) self.now.waiting }
     {
         self.waiting.stand_apart();
         match self.waiting.first_held() {
@@ -76,7 +78,7 @@ impl Core {
         match self.first_dead() {
             Some(row) => Some(Decision::Skip {
                 id: row.id,
-                site: row.site,
+                site: *row.site,
                 entry: self.next_skip_number(),
             }),
             None => None,

@@ -217,7 +217,7 @@ impl Driver {
             position: to,
             at: 0,
         };
-        self.core.loaded(alloc, &taken, cursor)?;
+        self.core.loaded(&taken, cursor);
         Ok(())
     }
 

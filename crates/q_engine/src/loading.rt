@@ -43,7 +43,7 @@ impl Engine {
     }
 
     /// Takes in recipients whose sites were named, and answers the read.
-    fn take_in(&mut self, alloc: Global, taken: &Batch, next: Cursor) -> Result<(), NoMemory>
+    fn take_in(&mut self, taken: &Batch, next: Cursor) -> Result<(), NoMemory>
         requires reading { is_reading self.old.core.value.question ≡ true }
         requires looked { is_looked_at self.old.core.value ≡ true }
         requires named { self.old.core.value.named ≡ [] }
@@ -57,7 +57,8 @@ impl Engine {
         if self.core.named() != taken.len() {
             return Err(NoMemory);
         }
-        self.core.loaded(alloc, taken, next)
+        self.core.loaded(taken, next);
+        Ok(())
     }
 
     /// Reads the next recipients of a message into memory, and tells how far it was read. A message
@@ -92,7 +93,7 @@ impl Engine {
             return Ok(());
         };
         let next = reading.progress.next;
-        self.take_in(alloc, &reading.taken, next)?;
+        self.take_in(&reading.taken, next)?;
         self.places
             .keep(alloc, id, reading.progress, &reading.taken);
         let to = next.position;

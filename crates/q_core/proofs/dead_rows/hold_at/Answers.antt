@@ -22,3 +22,6 @@ returns-else-is_dead-was_dead-clause-held c = λ p q before after held.
 
 pub returns-then-is_dead-was_dead-clause-room : goal.returns-then-is_dead-was_dead-clause-room
 returns-then-is_dead-was_dead-clause-room c = ap (λ (v : Held). v.room) c.hold.ensures
+
+pub returns-then-is_dead-was_dead-clause-most : goal.returns-then-is_dead-was_dead-clause-most
+returns-then-is_dead-was_dead-clause-most c = ap (λ (v : Held). v.most) c.hold.ensures

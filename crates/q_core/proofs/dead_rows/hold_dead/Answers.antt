@@ -20,3 +20,6 @@ returns-then-dead_waiting-eq0-clause-held c =
 
 pub returns-then-dead_waiting-eq0-clause-room : goal.returns-then-dead_waiting-eq0-clause-room
 returns-then-dead_waiting-eq0-clause-room c = ap (λ (v : Held). v.room) c.release_all.ensures
+
+pub returns-then-dead_waiting-eq0-clause-most : goal.returns-then-dead_waiting-eq0-clause-most
+returns-then-dead_waiting-eq0-clause-most c = ap (λ (v : Held). v.most) c.release_all.ensures

@@ -15,4 +15,5 @@ invariant-loop-at l = record {
   rows : plain l.waiting.items ≡ plain l.initial.waiting.items;
   passed : Passed (goes_to_dead l.sites.items) l.waiting.items l.at;
   room : l.waiting.room ≡ l.initial.waiting.room;
+  most : l.waiting.most ≡ l.initial.waiting.most;
 }

@@ -27,9 +27,9 @@ there_at rows i h = elim (slice_get_cases rows i).1 [
 pub loop-i-preserved : goal.loop-i-preserved
 loop-i-preserved c =
     let i = c.loop-i.i in
-    let rows = c.args.rows.now in
+    let rows = c.args.rows.now.rows in
     let ws = rows_of c.args.waiting.now.items in
-    let at = there_at rows i c.loop-i-test.true in
+    let at = there_at rows i (omega (arith, c.len-i-end.ensures, c.loop-i-test.true)) in
     let r : Row = at.0 in
     let ps = c.loop-i.turns.peers in
     let site = c.site_at.ensures r at.1 in
@@ -50,8 +50,8 @@ loop-i-preserved c =
 pub gain-requires-clause-job : goal.gain-requires-clause-job
 gain-requires-clause-job c =
     let i = c.loop-i.i in
-    let rows = c.args.rows.now in
-    let at = there_at rows i c.loop-i-test.true in
+    let rows = c.args.rows.now.rows in
+    let at = there_at rows i (omega (arith, c.len-i-end.ensures, c.loop-i-test.true)) in
     let site = c.site_at.ensures at.0 at.1 in
     ap (λ (x : Scheduling). may_wait x.lines c.site_at.result.now.transport c.args.id) c.loop-i.invariant.0
     ∙ ap (λ s. may_wait c.args.turns.now.lines s.transport c.args.id) site
@@ -60,21 +60,21 @@ gain-requires-clause-job c =
 pub gain-requires-clause-few : goal.gain-requires-clause-few
 gain-requires-clause-few c =
     let i = c.loop-i.i in
-    let rows = c.args.rows.now in
+    let rows = c.args.rows.now.rows in
     let ws = rows_of c.args.waiting.now.items in
     let k : PeerKey = record { id = c.args.id; site = c.site_at.result.now } in
     let tie = c.loop-i.invariant.1 k in
     let within = count_within (λ (r : Row). key_eq (name_of r) k) (ws ++ take i rows) in
     let sum = length-append ws (take i rows) in
     let front = length-take i rows in
-    omega (arith, tie, within, sum, front, c.loop-i-test.true, c.requires.few)
+    omega (arith, tie, within, sum, front, c.len-i-end.ensures, c.loop-i-test.true, c.requires.few)
 
 pub gain-requires-clause-room : goal.gain-requires-clause-room
 gain-requires-clause-room c =
     let room = ap (λ (x : Scheduling). x.room) c.loop-i.invariant.0 in
-    omega (arith, c.loop-i.invariant.2, room, c.loop-i-test.true, c.requires.room)
+    omega (arith, c.loop-i.invariant.2, room, c.len-i-end.ensures, c.loop-i-test.true, c.requires.room)
 
 pub returns-clause-tied : goal.returns-clause-tied
 returns-clause-tied c = λ starts tie.
-    let rows = c.args.rows.now in
-    subst (λ xs. AreTurnsTied c.loop-i.turns.peers (rows_of c.args.waiting.now.items ++ xs) starts) (take_all c.loop-i.i rows (omega (arith, c.loop-i-test.false))) (c.loop-i.invariant.4 starts tie)
+    let rows = c.args.rows.now.rows in
+    subst (λ xs. AreTurnsTied c.loop-i.turns.peers (rows_of c.args.waiting.now.items ++ xs) starts) (take_all c.loop-i.i rows (omega (arith, c.len-i-end.ensures, c.loop-i-test.false))) (c.loop-i.invariant.4 starts tie)

@@ -8,7 +8,7 @@ use Rattle.q_core.proofs.joining.count_peers.Given as goal
 abbrev pub invariant-loop-i : goal.invariant-loop-i
 invariant-loop-i l =
     (l.turns ≡ record l.initial.turns { peers = l.turns.peers })
-    × ArePeersTied l.turns.peers (rows_of l.waiting.items ++ take l.i l.rows)
+    × ArePeersTied l.turns.peers (rows_of l.waiting.items ++ take l.i l.rows.rows)
     × (length l.turns.peers ≤ length l.initial.turns.peers + l.i)
     × (served_rows l.turns.peers ≡ served_rows l.initial.turns.peers)
-    × ((starts : ℕ) → AreTurnsTied l.initial.turns.peers (rows_of l.waiting.items) starts → AreTurnsTied l.turns.peers (rows_of l.waiting.items ++ take l.i l.rows) starts)
+    × ((starts : ℕ) → AreTurnsTied l.initial.turns.peers (rows_of l.waiting.items) starts → AreTurnsTied l.turns.peers (rows_of l.waiting.items ++ take l.i l.rows.rows) starts)

@@ -31,11 +31,11 @@ pub loop-i-preserved : goal.loop-i-preserved
 loop-i-preserved c =
     let i = c.loop-i.i in
     let p = c.args.params.now in
-    let rows = c.args.rows.now in
+    let rows = c.args.rows.now.rows in
     let ws = rows_of c.args.waiting.now.items in
     let start = known_records c.args.sites.now.items in
     let ds = c.loop-i.sites.items in
-    let at = there_at rows i c.loop-i-test.true in
+    let at = there_at rows i (omega (arith, c.len-i-end.ensures, c.loop-i-test.true)) in
     let r : Row = at.0 in
     let site = c.site_at.ensures r at.1 in
     let new = new_dest p r.site in
@@ -44,7 +44,7 @@ loop-i-preserved c =
     let taken = one_more rows i r at.1 in
     let all : ((ws ++ take i rows) ++ r ∷ []) ≡ ws ++ take (i + 1) rows = append_assoc ws (take i rows) (r ∷ []) ∙ ap (λ xs. ws ++ xs) (sym taken) in (
       ap known_records is ∙ known_gained r ds new refl b ∙ known_more p start (new_sites p start [] (take i rows)) ds r.site c.loop-i.invariant.0
-          ∙ ap (λ xs. start ++ xs) (sym (sites_more p start i [] rows r.site c.loop-i-test.true (λ x e. ap (λ (y : Row). y.site) (same_some r x (sym at.1 ∙ e)))) ∙ ap (λ n. new_sites p start [] (take n rows)) (sym (add-one i))),
+          ∙ ap (λ xs. start ++ xs) (sym (sites_more p start i [] rows r.site (omega (arith, c.len-i-end.ensures, c.loop-i-test.true)) (λ x e. ap (λ (y : Row). y.site) (same_some r x (sym at.1 ∙ e)))) ∙ ap (λ n. new_sites p start [] (take n rows)) (sym (add-one i))),
       subst (λ xs. AreWaitingTied c.gain.new.self.items xs) all (subst (λ xs. AreWaitingTied xs ((ws ++ take i rows) ++ r ∷ [])) (sym is) (waiting_gained r ds new refl (ws ++ take i rows) refl c.loop-i.invariant.1 b refl)),
       λ fs tie. subst (λ xs. AreBusyTied xs fs) (sym is) (busy_gained r ds new refl fs refl (c.loop-i.invariant.2 fs tie) b),
       rw is (omega (arith, one_site_more r ds new refl b, c.loop-i.invariant.3)),
@@ -55,14 +55,14 @@ loop-i-preserved c =
 pub gain-requires-clause-few : goal.gain-requires-clause-few
 gain-requires-clause-few c =
     let i = c.loop-i.i in
-    let rows = c.args.rows.now in
+    let rows = c.args.rows.now.rows in
     let ws = rows_of c.args.waiting.now.items in
     let site = c.site_at.result.now in
     let tie = c.loop-i.invariant.1 site in
     let within = count_within (λ (r : Row). site_eq r.site site) (ws ++ take i rows) in
     let sum = length-append ws (take i rows) in
     let front = length-take i rows in
-    omega (arith, tie, within, sum, front, c.loop-i-test.true, c.requires.few)
+    omega (arith, tie, within, sum, front, c.len-i-end.ensures, c.loop-i-test.true, c.requires.few)
 
 pub gain-requires-clause-room : goal.gain-requires-clause-room
-gain-requires-clause-room c = omega (arith, c.loop-i.invariant.3, c.loop-i.invariant.4, c.loop-i-test.true, c.requires.room)
+gain-requires-clause-room c = omega (arith, c.loop-i.invariant.3, c.loop-i.invariant.4, c.len-i-end.ensures, c.loop-i-test.true, c.requires.room)

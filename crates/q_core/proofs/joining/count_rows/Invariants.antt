@@ -10,8 +10,8 @@ use Rattle.q_core.proofs.joining.count_rows.Given as goal
 -- the rows before this one are counted
 abbrev pub invariant-loop-i : goal.invariant-loop-i
 invariant-loop-i l =
-    (known_records l.sites.items ≡ known_records l.initial.sites.items ++ new_sites l.params (known_records l.initial.sites.items) [] (take l.i l.rows))
-    × AreWaitingTied l.sites.items (rows_of l.waiting.items ++ take l.i l.rows)
+    (known_records l.sites.items ≡ known_records l.initial.sites.items ++ new_sites l.params (known_records l.initial.sites.items) [] (take l.i l.rows.rows))
+    × AreWaitingTied l.sites.items (rows_of l.waiting.items ++ take l.i l.rows.rows)
     × ((fs : List Delivery) → AreBusyTied l.initial.sites.items fs → AreBusyTied l.sites.items fs)
     × (length l.sites.items ≤ length l.initial.sites.items + l.i) × (l.sites.room ≡ l.initial.sites.room)
     × ((r : Row) → goes_to_dead l.sites.items r ≡ goes_to_dead l.initial.sites.items r)

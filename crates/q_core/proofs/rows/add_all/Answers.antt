@@ -1,25 +1,56 @@
-use Rattle.std.proofs.Common.{◌≡◌, ◌∙◌, ◌++◌, ◌∷◌, [], ap, arith, length, reverse, subst, sym}
-use Rattle.std.proofs.lemmas.List.{append_assoc, length-append, reverse-append}
-use Rattle.std.specs.Option.{option_to_list}
+use Rattle.std.proofs.Common.{◌≡◌, ◌<◌, ◌≤◌, ◌∙◌, ◌++◌, ◌∷◌, [], ap, arith, inl, inr, length, List, None, option_map, Some, subst, sym, take, ℕ}
+use Rattle.std.proofs.lemmas.List.{append_assoc, length-append, length-map, take_all}
+use Rattle.std.proofs.lemmas.Option.{slice_get_cases}
+use Rattle.std.specs.Prelude.{slice_get}
+use Rattle.q_core.proofs.CountedLaws.{one_more}
+use Rattle.q_core.proofs.RowPlaces.{holds_there}
 use Rattle.q_core.specs.Ties.{goes_to_dead}
 use Rattle.q_held.proofs.Tested.{tested_more}
-use Rattle.q_held.specs.Held.{AreHeldBy, Held, rows_of}
+use Rattle.q_held.specs.Held.{AreHeldBy, Held, HeldRow, rows_of}
+use Rattle.q_model.specs.declared.rows.Row.{Row}
+use Rattle.q_positions.specs.Rows.{row_shown}
 use Rattle.q_core.proofs.rows.add_all.Goals as goal
 
-pub loop-row-preserved : goal.loop-row-preserved
-loop-row-preserved c =
+not_past : (rows : List Row) (i : ℕ) → i < length rows → slice_get rows i ≡ None → ⊥
+not_past rows i less none = elim (slice_get_cases rows i).1 [
+  | inl f ↦ let bad : None ≡ Some f.0 = sym none ∙ f.2 in cc
+  | inr past ↦ absurd (omega (arith, less, past.0))
+]
+
+-- the row at a place is there
+pub returns-in_default-clause-rows : goal.returns-in_default-clause-rows
+returns-in_default-clause-rows c = absurd (not_past c.args.rows.now.rows c.loop-place.place (omega (arith, c.len-place-end.ensures, c.loop-place-test.true)) (sym c.get.ensures ∙ ap (option_map row_shown) c.in_default.is))
+
+pub push-requires-clause-room : goal.push-requires-clause-room
+push-requires-clause-room c =
+    let same = length-map c.args.waiting.now.items (λ (h : HeldRow). h.row) in
+    omega (arith, same, c.loop-place.invariant.1, c.loop-place.invariant.3, c.len-place-end.ensures, c.loop-place-test.true, c.requires.room)
+
+pub push-requires-clause-positions : goal.push-requires-clause-positions
+push-requires-clause-positions c =
+    let there : slice_get c.args.rows.now.rows c.loop-place.place ≡ Some (row_shown c.in-Some.row) = sym c.get.ensures ∙ ap (option_map row_shown) c.in-Some.is in
+    let short = holds_there (λ (r : Row). length r.positions ≤ c.args.rows.now.most) c.args.rows.now.rows c.loop-place.place (row_shown c.in-Some.row) there c.stand_short.ensures in
+    omega (arith, short, c.loop-place.invariant.2, c.requires.short)
+
+pub loop-place-preserved : goal.loop-place-preserved
+loop-place-preserved c =
     let p = goes_to_dead c.args.sites.now.items in
-    let l = c.loop-row in
-    let row = c.in-Some.row in
-    let left = c.pop.new.self.items in
-    let popped : l.rest.items ≡ left ++ row ∷ [] = c.pop.ensures.items ∙ ap (λ o. left ++ option_to_list o) c.in-Some.is in
-    let turned : reverse l.rest.items ≡ row ∷ reverse left = ap reverse popped ∙ reverse-append left (row ∷ []) in
-    let fewer = ap length popped ∙ length-append left (row ∷ []) in
+    let l = c.loop-place in
+    let rows = c.args.rows.now.rows in
+    let row = row_shown c.in-Some.row in
+    let there : slice_get rows l.place ≡ Some row = sym c.get.ensures ∙ ap (option_map row_shown) c.in-Some.is in
     let more = ap (λ (v : Held). length v.items) c.push.ensures.items ∙ length-append l.waiting.items _ in (
-      ap (λ xs. xs ++ reverse left) c.push.ensures.rows
-          ∙ append_assoc (rows_of l.waiting.items) (row ∷ []) (reverse left)
-          ∙ ap (λ xs. rows_of l.waiting.items ++ xs) (sym turned) ∙ l.invariant.0,
+      c.push.ensures.rows
+          ∙ ap (λ rs. rs ++ row ∷ []) l.invariant.0
+          ∙ append_assoc (rows_of c.args.waiting.now.items) (take l.place rows) (row ∷ [])
+          ∙ ap (λ rs. rows_of c.args.waiting.now.items ++ rs) (sym (one_more rows l.place row there)),
       ap (λ (v : Held). v.room) c.push.ensures.items ∙ l.invariant.1,
-      omega (arith, fewer, more, l.invariant.2),
-      λ held. subst (AreHeldBy p) (sym (ap (λ (v : Held). v.items) c.push.ensures.items)) (tested_more p l.waiting.items _ c.is_dead-is_dead.ensures (l.invariant.3 held)),
+      ap (λ (v : Held). v.most) c.push.ensures.items ∙ l.invariant.2,
+      omega (arith, more, l.invariant.3),
+      λ held. subst (AreHeldBy p) (sym (ap (λ (v : Held). v.items) c.push.ensures.items)) (tested_more p l.waiting.items _ c.is_dead-is_dead.ensures (l.invariant.4 held)),
     )
+
+pub returns-clause-rows : goal.returns-clause-rows
+returns-clause-rows c =
+    c.loop-place.invariant.0
+    ∙ ap (λ rs. rows_of c.args.waiting.now.items ++ rs) (take_all c.loop-place.place c.args.rows.now.rows (omega (arith, c.len-place-end.ensures, c.loop-place-test.false)))

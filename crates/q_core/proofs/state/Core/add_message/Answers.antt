@@ -53,6 +53,7 @@ invariant_of-self c =
       messages_more a.params a.turns (heads a.admitted.items) c.self.invariant.5 c.args.slot c.admit.new.self _ (c.admit.ensures ∙ ap (λ m. record a.turns { messages = a.turns.messages ++ m ∷ [] }) c.admitted.ensures) slots,
       c.self.invariant.6,
       rw (ap (λ (x : Scheduling). x.room) c.admit.ensures, ap (λ (x : Scheduling). x.line_room) c.admit.ensures) c.self.invariant.7,
+      c.self.invariant.8,
     )
 
 pub returns : goal.returns

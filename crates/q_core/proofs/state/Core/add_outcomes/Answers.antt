@@ -1,6 +1,6 @@
 use Rattle.std.proofs.Common.{◌≡◌, ◌∙◌, ◌++◌, ◌<◌, ◌^◌, ap, arith, length, length-append, List, None, refl, Some, sym, true}
-use Rattle.std.specs.Option.{option_copied}
-use Rattle.std.specs.Prelude.{◌==◌}
+use Rattle.std.specs.Prelude.{◌==◌, option_map}
+use Rattle.q_flights.specs.Flying.{delivery_shown}
 use Rattle.q_core.proofs.MessageTies.{messages_same}
 use Rattle.q_core.proofs.NamedLaws.{needs_named}
 use Rattle.q_core.proofs.PoolTies.{heads_recounted, some_there}
@@ -28,36 +28,36 @@ use Rattle.q_core.proofs.state.Core.add_outcomes.Goals as goal
 
 pub returns-in_default-clause-added : goal.returns-in_default-clause-added
 returns-in_default-clause-added c = λ f found.
-    let bad : None ≡ Some f = sym (ap option_copied c.in_default.is) ∙ c.delivery.ensures ∙ found in cc
+    let bad : None ≡ Some f = sym (ap (option_map delivery_shown) c.in_default.is) ∙ c.delivery.ensures ∙ found in cc
 
 -- there is no space
 
 pub returns-then-not-has_space-clause-added : goal.returns-then-not-has_space-clause-added
 returns-then-not-has_space-clause-added c = λ g found.
-    let f = c.in-Some.delivery.now in
-    let both : Some f ≡ Some g = sym (ap option_copied c.in-Some.is) ∙ c.delivery.ensures ∙ found in
+    let f = delivery_shown c.in-Some.delivery in
+    let both : Some f ≡ Some g = sym (ap (option_map delivery_shown) c.in-Some.is) ∙ c.delivery.ensures ∙ found in
     let it : f ≡ g = cc in
     ap (λ (x : Delivery). have_space c.args.self.now x.row.positions) (sym it)
-    ∙ ap (have_space c.args.self.now) (sym c.as_slice.ensures) ∙ sym c.has_space.ensures ∙ c.if-not-has_space.true
+    ∙ sym c.has_space.ensures ∙ c.if-not-has_space.true
 
 -- there is
 
 pub add_needs_of-requires : goal.add_needs_of-requires
 add_needs_of-requires c = λ g found.
     let a = c.self.inside in
-    let f = c.in-Some.delivery.now in
-    let at : flight_in (state_of a) c.args.number ≡ Some f = ap (λ (s : State). flight_in s c.args.number) c.self.view_is ∙ sym c.delivery.ensures ∙ ap option_copied c.in-Some.is in
+    let f = delivery_shown c.in-Some.delivery in
+    let at : flight_in (state_of a) c.args.number ≡ Some f = ap (λ (s : State). flight_in s c.args.number) c.self.view_is ∙ sym c.delivery.ensures ∙ ap (option_map delivery_shown) c.in-Some.is in
     let both : Some f ≡ Some g = sym at ∙ found in
     let it : f ≡ g = cc in
-    let space : have_space c.args.self.now f.row.positions ≡ true = ap (have_space c.args.self.now) (sym c.as_slice.ensures) ∙ sym c.has_space.ensures ∙ c.if-not-has_space.false in
+    let space : have_space c.args.self.now f.row.positions ≡ true = sym c.has_space.ensures ∙ c.if-not-has_space.false in
     made_space (state_of a) a.unsettled g.row.positions refl c.self.invariant.6.outcomes
     (ap (λ (s : State). have_space s g.row.positions) c.self.view_is ∙ ap (λ (x : Delivery). have_space c.args.self.now x.row.positions) (sym it) ∙ space)
 
 pub invariant_of-self : goal.invariant_of-self
 invariant_of-self c =
     let a = c.self.inside in
-    let f = c.in-Some.delivery.now in
-    let at : flight_in (state_of a) c.args.number ≡ Some f = ap (λ (s : State). flight_in s c.args.number) c.self.view_is ∙ sym c.delivery.ensures ∙ ap option_copied c.in-Some.is in
+    let f = delivery_shown c.in-Some.delivery in
+    let at : flight_in (state_of a) c.args.number ≡ Some f = ap (λ (s : State). flight_in s c.args.number) c.self.view_is ∙ sym c.delivery.ensures ∙ ap (option_map delivery_shown) c.in-Some.is in
     let us = a.unsettled.items in
     let new : List Unsettled = replied_in c.args.self.now f c.args.outcomes.now in
     let added : c.add_needs_of.new.unsettled ≡ record a.unsettled { items = us ++ new } = c.add_needs_of.ensures f at ∙ ap (λ b. record a.unsettled { items = us ++ needs_in b f.row.id f.row.positions c.args.outcomes.now }) c.id_expired-expired.ensures in
@@ -80,22 +80,24 @@ invariant_of-self c =
         deliveries = c.self.invariant.6.deliveries;
         asked = c.self.invariant.6.asked;
         names = c.self.invariant.6.names;
+        named_few = c.self.invariant.6.named_few;
         outcomes = ap (λ (q : Queued Unsettled). q.room) added ∙ c.self.invariant.6.outcomes;
       },
       c.self.invariant.7,
+      c.self.invariant.8,
     )
 
 pub returns-clause-busy : goal.returns-clause-busy
 returns-clause-busy c =
-    let f = c.in-Some.delivery.now in
-    let at : flight_in (state_of c.self.inside) c.args.number ≡ Some f = ap (λ (s : State). flight_in s c.args.number) c.self.view_is ∙ sym c.delivery.ensures ∙ ap option_copied c.in-Some.is in
+    let f = delivery_shown c.in-Some.delivery in
+    let at : flight_in (state_of c.self.inside) c.args.number ≡ Some f = ap (λ (s : State). flight_in s c.args.number) c.self.view_is ∙ sym c.delivery.ensures ∙ ap (option_map delivery_shown) c.in-Some.is in
     flies_there c.args.number f c.self.inside.flights.items at
 
 pub returns-clause-added : goal.returns-clause-added
 returns-clause-added c = λ g found.
     let a = c.self.inside in
-    let f = c.in-Some.delivery.now in
-    let at : flight_in (state_of a) c.args.number ≡ Some f = ap (λ (s : State). flight_in s c.args.number) c.self.view_is ∙ sym c.delivery.ensures ∙ ap option_copied c.in-Some.is in
+    let f = delivery_shown c.in-Some.delivery in
+    let at : flight_in (state_of a) c.args.number ≡ Some f = ap (λ (s : State). flight_in s c.args.number) c.self.view_is ∙ sym c.delivery.ensures ∙ ap (option_map delivery_shown) c.in-Some.is in
     let both : Some f ≡ Some g = sym at ∙ ap (λ (s : State). flight_in s c.args.number) c.self.view_is ∙ found in
     let it : f ≡ g = cc in
     let us = a.unsettled.items in
@@ -116,5 +118,5 @@ returns-clause-added c = λ g found.
           ap (λ ss. record (state_of a) { admitted = ss; unsettled = c.add_needs_of.new.unsettled.items; in_memory = c.saturating_sub-self-inside.result }) slots
           ∙ ap (λ (s : State). record s { unsettled = c.add_needs_of.new.unsettled.items; in_memory = c.saturating_sub-self-inside.result }) c.self.view_is;
       unsettled = items ∙ ap (λ xs. xs ++ new) (ap (λ (s : State). s.unsettled) c.self.view_is) ∙ ap (λ xs. c.args.self.now.unsettled ++ xs) given;
-      memory = grind (arith, count, few, all, memory, c.saturating_sub-self-inside.ensures, c.saturating_sub-done.ensures, c.len-recipients.ensures);
+      memory = grind (arith, count, few, all, memory, c.saturating_sub-self-inside.ensures, c.saturating_sub-done.ensures);
     }

@@ -24,6 +24,7 @@ invariant_of-self c =
       messages_kept a.params a.turns (heads a.admitted.items) c.self.invariant.5 c.args.id cleared (λ s. refl) _ slots,
       c.self.invariant.6,
       c.self.invariant.7,
+      c.self.invariant.8,
     )
 
 pub returns : goal.returns

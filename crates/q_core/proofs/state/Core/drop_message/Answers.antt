@@ -28,6 +28,7 @@ invariant_of-self c =
       messages_left a.params a.turns (heads a.admitted.items) c.self.invariant.5 c.args.id c.remove-2.new.self _ c.remove-2.ensures slots,
       c.self.invariant.6,
       rw (ap (λ (x : Scheduling). x.room) c.remove-2.ensures, ap (λ (x : Scheduling). x.line_room) c.remove-2.ensures) c.self.invariant.7,
+      c.self.invariant.8,
     )
 
 pub returns : goal.returns

@@ -40,6 +40,7 @@ invariant_of-self c =
       c.self.invariant.5,
       c.self.invariant.6,
       rw (ap (λ (x : Dests). x.room) c.hear.ensures, c.hold_at.ensures.room) c.self.invariant.7,
+      rw c.hold_at.ensures.most c.self.invariant.8,
     )
 
 pub returns : goal.returns

@@ -1,4 +1,4 @@
-use Rattle.std.proofs.Common.{◌≡◌, ◌∙◌, ◌==◌, ap, filter, find, List, None, not, refl, Some, sym}
+use Rattle.std.proofs.Common.{◌≡◌, ◌∙◌, ◌==◌, ap, filter, find, None, not, option_map, refl, Some, sym}
 use Rattle.q_core.proofs.MessageTies.{messages_same}
 use Rattle.q_core.proofs.PoolTies.{heads_recounted}
 use Rattle.q_core.proofs.ProcessLaws.{processes_left}
@@ -6,7 +6,7 @@ use Rattle.q_core.proofs.SiteChanges.{sites_landed, sites_settled}
 use Rattle.q_core.proofs.SiteViews.{settled_used}
 use Rattle.q_core.proofs.TiedLaws.{tied_landed}
 use Rattle.q_flights.proofs.Rising.{whole}
-use Rattle.q_flights.specs.Flying.{Flying}
+use Rattle.q_flights.specs.Flying.{delivery_shown, Flying, has_number}
 use Rattle.q_core.specs.Counting.{without_flight}
 use Rattle.q_core.specs.Queries.{flight_in}
 use Rattle.q_core.specs.State.{State}
@@ -26,31 +26,28 @@ use Rattle.q_core.proofs.state.Core.land.Goals as goal
 
 -- none has the number
 
-pub invariant_of-self : goal.invariant_of-self
-invariant_of-self c =
-    let a = c.self.inside in
-    let same : c.remove.new.self ≡ a.flights =
-    c.remove.ensures.items ∙ ap (λ (fs : List Delivery). record a.flights { items = fs }) (whole c.args.number a.flights.items (sym c.remove.ensures.taken ∙ c.in_default.is)) in
-    rw same c.self.invariant
-
 pub returns-in_default-clause-landed : goal.returns-in_default-clause-landed
-returns-in_default-clause-landed c = record {
-  rest = ap (λ (s : State). record s { flights = c.remove.new.self.items; sites = c.args.self.now.sites }) c.self.view_is;
-  flights = ap (λ (v : Flying). v.items) c.remove.ensures.items ∙ ap (λ (s : State). filter (λ (f : Delivery). not (f.number == c.args.number)) s.flights) c.self.view_is;
-}
+returns-in_default-clause-landed c =
+    let a = c.self.inside in
+    let none : find (has_number c.args.number) a.flights.items ≡ None = sym c.get.ensures ∙ ap (option_map delivery_shown) c.in_default.is in
+    let same : filter (λ (f : Delivery). not (f.number == c.args.number)) a.flights.items ≡ a.flights.items = whole c.args.number a.flights.items none in
+    record {
+      rest = refl;
+      flights = sym (ap (λ (s : State). s.flights) c.self.view_is) ∙ sym same ∙ ap (λ (s : State). filter (λ (f : Delivery). not (f.number == c.args.number)) s.flights) c.self.view_is;
+    }
 
 pub returns-in_default-clause-left : goal.returns-in_default-clause-left
 returns-in_default-clause-left c = λ f at.
-    let bad : None ≡ Some f = sym c.in_default.is ∙ c.remove.ensures.taken ∙ ap (λ (s : State). flight_in s c.args.number) c.self.view_is ∙ at in cc
+    let bad : None ≡ Some f = sym (ap (option_map delivery_shown) c.in_default.is) ∙ c.get.ensures ∙ ap (λ (s : State). flight_in s c.args.number) c.self.view_is ∙ at in cc
 
 -- it goes
 
-pub invariant_of-self-2 : goal.invariant_of-self-2
-invariant_of-self-2 c =
+pub invariant_of-self : goal.invariant_of-self
+invariant_of-self c =
     let a = c.self.inside in
     let rows = rows_of a.waiting.items in
-    let f = c.in-Some.delivery in
-    let at : find (λ (x : Delivery). x.number == c.args.number) a.flights.items ≡ Some f = sym c.remove.ensures.taken ∙ c.in-Some.is in
+    let f = delivery_shown c.in-Some.delivery in
+    let at : find (λ (x : Delivery). x.number == c.args.number) a.flights.items ≡ Some f = sym c.get.ensures ∙ ap (option_map delivery_shown) c.in-Some.is in
     let fs = filter (λ (x : Delivery). not (x.number == c.args.number)) a.flights.items in
     let left : c.remove.new.self.items ≡ fs = ap (λ (v : Flying). v.items) c.remove.ensures.items in
     let slots : heads c.end_flight.new.pool.items ≡ heads a.admitted.items = ap (λ (m : Pooled). heads m.items) c.end_flight.ensures ∙ heads_recounted without_flight f.row.id a.admitted.items in
@@ -67,15 +64,17 @@ invariant_of-self-2 c =
         deliveries = processes_left a.params a.transports a.flights (λ (x : Delivery). not (x.number == c.args.number)) c.self.invariant.6.deliveries;
         asked = c.self.invariant.6.asked;
         names = c.self.invariant.6.names;
+        named_few = c.self.invariant.6.named_few;
         outcomes = c.self.invariant.6.outcomes;
       }),
       rw (ap (λ (x : Dests). x.room) c.land.ensures) c.self.invariant.7,
+      rw (ap (λ (v : Flying). v.most) c.remove.ensures.items) c.self.invariant.8,
     )
 
 pub returns-clause-landed : goal.returns-clause-landed
 returns-clause-landed c =
     let a = c.self.inside in
-    let slots : heads c.end_flight.new.pool.items ≡ heads a.admitted.items = ap (λ (m : Pooled). heads m.items) c.end_flight.ensures ∙ heads_recounted without_flight c.in-Some.delivery.row.id a.admitted.items in
+    let slots : heads c.end_flight.new.pool.items ≡ heads a.admitted.items = ap (λ (m : Pooled). heads m.items) c.end_flight.ensures ∙ heads_recounted without_flight (delivery_shown c.in-Some.delivery).row.id a.admitted.items in
     record {
       rest = ap (λ ss. record (state_of a) { admitted = ss; flights = c.remove.new.self.items; sites = c.args.self.now.sites }) slots ∙ ap (λ (s : State). record s { flights = c.remove.new.self.items; sites = c.args.self.now.sites }) c.self.view_is;
       flights = ap (λ (v : Flying). v.items) c.remove.ensures.items ∙ ap (λ (s : State). filter (λ (f : Delivery). not (f.number == c.args.number)) s.flights) c.self.view_is;
@@ -85,8 +84,8 @@ pub returns-clause-left : goal.returns-clause-left
 returns-clause-left c = λ g found.
     let a = c.self.inside in
     let rows = rows_of a.waiting.items in
-    let f = c.in-Some.delivery in
-    let at : find (λ (x : Delivery). x.number == c.args.number) a.flights.items ≡ Some f = sym c.remove.ensures.taken ∙ c.in-Some.is in
+    let f = delivery_shown c.in-Some.delivery in
+    let at : find (λ (x : Delivery). x.number == c.args.number) a.flights.items ≡ Some f = sym c.get.ensures ∙ ap (option_map delivery_shown) c.in-Some.is in
     let both : Some f ≡ Some g = sym at ∙ ap (λ (s : State). flight_in s c.args.number) c.self.view_is ∙ found in
     let it : f ≡ g = cc in
     let fs = filter (λ (x : Delivery). not (x.number == c.args.number)) a.flights.items in

@@ -27,6 +27,7 @@ invariant_of-self c =
       messages_read a.params a.turns (heads a.admitted.items) c.self.invariant.5 c.args.id (read_up c.args.to) (λ s. refl) (λ s. refl) _ c.unread.result c.unread.ensures c.read-2.new.self c.read-2.ensures slots (slots_found _ c.stand_apart.ensures.apart),
       c.self.invariant.6,
       rw (ap (λ (x : Scheduling). x.room) c.read-2.ensures, ap (λ (x : Scheduling). x.line_room) c.read-2.ensures) c.self.invariant.7,
+      c.self.invariant.8,
     )
 
 pub returns : goal.returns

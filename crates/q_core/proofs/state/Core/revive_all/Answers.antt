@@ -41,6 +41,7 @@ invariant_of-self c =
       c.self.invariant.5,
       c.self.invariant.6,
       rw (ap (λ (x : Dests). x.room) c.revive_all.ensures, c.hold_dead.ensures.room) c.self.invariant.7,
+      rw c.hold_dead.ensures.most c.self.invariant.8,
     )
 
 pub returns-clause-revived : goal.returns-clause-revived

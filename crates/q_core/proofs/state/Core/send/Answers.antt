@@ -1,9 +1,11 @@
-use Rattle.std.proofs.Common.{◌≡◌, ◌∙◌, ◌++◌, ◌<◌, ◌^◌, ◌∷◌, [], ap, arith, false, length, List, map, refl, Some, subst, sym, true}
+use Rattle.std.proofs.Common.{◌≡◌, ◌∙◌, ◌++◌, ◌<◌, ◌≤◌, ◌^◌, ◌∷◌, [], ap, arith, false, length, List, map, refl, Some, subst, sym, true}
 use Rattle.std.specs.List.{list_any, remove}
-use Rattle.std.specs.Prelude.{find, position, slice_get}
+use Rattle.std.specs.Prelude.{find, option_map, position, slice_get}
 use Rattle.q_core.proofs.MessageTies.{messages_same, messages_stay}
 use Rattle.q_core.proofs.ListLaws.{drop_first-Some}
-use Rattle.q_core.proofs.RowWalkLaws.{any_place, none_any, same_place}
+use Rattle.q_core.proofs.RowPlaces.{holds_found, stands_first}
+use Rattle.q_core.proofs.RowWalkLaws.{none_any, same_place}
+use Rattle.q_positions.specs.Rows.{row_shown}
 use Rattle.q_core.proofs.CountLaws.{count_within}
 use Rattle.q_core.proofs.ProcessLaws.{has_flight_room, processes_begun}
 use Rattle.q_core.specs.Rooms.{HasProcess}
@@ -43,24 +45,23 @@ use Rattle.q_core.proofs.state.Core.send.Goals as goal
 process_at : (s : State) (rows : List Row) (id : Id) (site : Site) (row : Row) → find (is_for id site) rows ≡ Some row → HasProcess s site.transport → HasProcess s row.site.transport
 process_at s rows id site row found h = subst (λ (k : PeerKey). HasProcess s k.site.transport) (sym (name_found rows id site row found)) h
 
-pub invariant_of-self-2 : goal.invariant_of-self-2
-invariant_of-self-2 c =
+pub invariant_of-self : goal.invariant_of-self
+invariant_of-self c =
     let a = c.self.inside in
     let p = is_for c.args.id c.args.site in
     let rows = rows_of a.waiting.items in
     let same = ap (λ (s : State). s.waiting) c.self.view_is in
-    let f = any_place p rows (ap (list_any p) same ∙ c.requires.there) in
-    let row = c.in-Some.row in
-    let is : f.1 ≡ row = (let both : Some f.1 ≡ Some row = sym f.2.found ∙ sym c.take_row.ensures.taken ∙ c.in-Some.is in cc) in
-    let there : slice_get rows f.0 ≡ Some row = f.2.there ∙ ap (λ (x : Row). Some x) is in
-    let left : rows_of c.take_row.new.waiting.items ≡ remove rows f.0 = c.take_row.ensures.rows ∙ sym (drop_first-Some p rows f.0 f.2.place) in
+    let row = row_shown c.in-Some.row in
+    let found : find p rows ≡ Some row = sym c.first_row.ensures ∙ ap (option_map row_shown) c.in-Some.is in
+    let f = stands_first p rows row found (ap (list_any p) same ∙ c.requires.there) in
+    let there = f.1.there in
+    let left : rows_of c.take_row.new.waiting.items ≡ remove rows f.0 = c.take_row.ensures.rows ∙ sym (drop_first-Some p rows f.0 f.1.first) in
     let slots : heads c.begin_flight.new.pool.items ≡ heads a.admitted.items = ap (λ (m : Pooled). heads m.items) c.begin_flight.ensures ∙ heads_recounted with_flight row.id a.admitted.items in
     let added : c.push.new.self.items ≡ a.flights.items ++ record { number = c.args.number; row = row } ∷ [] =
     ap (λ (v : Flying). v.items) c.push.ensures in
     let less = subst (λ (s : State). s.starts < c.args.number) (sym c.self.view_is) c.requires.next in
     let few : length (a.flights.items ++ record { number = c.args.number; row = row } ∷ []) < 2 ^ 64 = (let more = length-append a.flights.items (record { number = c.args.number; row = row } ∷ []) in omega (arith, more, c.stand_apart.ensures.within, c.stand_apart.ensures.few)) in
     let sites : c.begin.new.self.items ≡ map (changed_at row.site begun) a.sites.items = ap (λ (x : Dests). x.items) c.begin.ensures in
-    let found : find p rows ≡ Some row = f.2.found ∙ ap (λ (x : Row). Some x) is in
     let process = process_at (state_of a) rows c.args.id c.args.site row found (subst (λ (s : State). HasProcess s c.args.site.transport) (sym c.self.view_is) c.requires.process) in
     let again : c.start.new.self.peers ≡ started_at row.id row.site c.args.number a.turns.peers = ap (λ (x : Scheduling). x.peers) c.start.ensures in
     let lost : c.lose.new.self.peers ≡ lost_at row.id row.site c.start.new.self.peers = ap (λ (x : Scheduling). x.peers) c.lose.ensures in
@@ -69,7 +70,7 @@ invariant_of-self-2 c =
       rw (left, added) (tied_sent a.params a.admitted c.begin_flight.new.pool rows f.0 row a.flights.items a.unsettled.items a.starts c.args.number there less few c.begin_flight.ensures c.self.invariant.0),
       rw (slots, c.touch_message.ensures, left, lines) (row_gone f.0 row there c.self.invariant.1),
       rw (sites, left, added) (sites_begun rows f.0 row c.args.number a.flights.items a.sites.items there c.self.invariant.2),
-      rw left (rw lost (turns_lost c.start.new.self.peers rows c.args.number f.0 row c.stand_apart-3.ensures.apart started there (first_of rows c.args.id c.args.site f.0 row f.2.place found))),
+      rw left (rw lost (turns_lost c.start.new.self.peers rows c.args.number f.0 row c.stand_apart-4.ensures.apart started there (first_of rows c.args.id c.args.site f.0 row f.1.first found))),
       rw sites (tested_alike (goes_to_dead a.sites.items) (goes_to_dead (map (changed_at row.site begun) a.sites.items)) c.take_row.new.waiting.items (λ r. sym (alike_changed row.site begun (λ d. refl) a.sites.items r))
           (c.take_row.ensures.held (goes_to_dead a.sites.items) c.self.invariant.4)),
       messages_same a.params c.lose.new.self (heads a.admitted.items)
@@ -78,9 +79,11 @@ invariant_of-self-2 c =
         deliveries = processes_begun a.params a.transports a.flights (record { number = c.args.number; row = row }) c.self.invariant.6.deliveries process.0 process.1;
         asked = c.self.invariant.6.asked;
         names = c.self.invariant.6.names;
+        named_few = c.self.invariant.6.named_few;
         outcomes = c.self.invariant.6.outcomes;
       }),
       rw (c.take_row.ensures.room, ap (λ (x : Dests). x.room) c.begin.ensures, ap (λ (x : Scheduling). x.room) c.lose.ensures, ap (λ (x : Scheduling). x.line_room) c.lose.ensures, ap (λ (x : Scheduling). x.room) c.start.ensures, ap (λ (x : Scheduling). x.line_room) c.start.ensures) c.self.invariant.7,
+      rw (c.take_row.ensures.most, ap (λ (v : Flying). v.most) c.push.ensures) c.self.invariant.8,
     )
 
 pub push-requires-clause-room : goal.push-requires-clause-room
@@ -97,7 +100,7 @@ start-requires-clause-own c =
 pub begin-requires : goal.begin-requires
 begin-requires c =
     let a = c.self.inside in
-    let site = c.in-Some.row.site in
+    let site = (row_shown c.in-Some.row).site in
     let tie = c.self.invariant.2.busy site in
     let within = count_within (λ (f : Delivery). site_eq f.row.site site) a.flights.items in
     omega (arith, tie, within, c.stand_apart.ensures.within, c.stand_apart.ensures.few)
@@ -113,12 +116,12 @@ returns-clause-sent c = λ entry at.
     let p = is_for c.args.id c.args.site in
     let rows = rows_of a.waiting.items in
     let same = ap (λ (s : State). s.waiting) c.self.view_is in
-    let f = any_place p rows (ap (list_any p) same ∙ c.requires.there) in
-    let row = c.in-Some.row in
-    let is : f.1 ≡ row = (let both : Some f.1 ≡ Some row = sym f.2.found ∙ sym c.take_row.ensures.taken ∙ c.in-Some.is in cc) in
-    let there : slice_get rows f.0 ≡ Some row = f.2.there ∙ ap (λ (x : Row). Some x) is in
-    let left : rows_of c.take_row.new.waiting.items ≡ remove rows f.0 = c.take_row.ensures.rows ∙ sym (drop_first-Some p rows f.0 f.2.place) in
-    let e = same_place p rows f.0 entry f.2.place (ap (position p) same ∙ at) in
+    let row = row_shown c.in-Some.row in
+    let found : find p rows ≡ Some row = sym c.first_row.ensures ∙ ap (option_map row_shown) c.in-Some.is in
+    let f = stands_first p rows row found (ap (list_any p) same ∙ c.requires.there) in
+    let there = f.1.there in
+    let left : rows_of c.take_row.new.waiting.items ≡ remove rows f.0 = c.take_row.ensures.rows ∙ sym (drop_first-Some p rows f.0 f.1.first) in
+    let e = same_place p rows f.0 entry f.1.first (ap (position p) same ∙ at) in
     let here : slice_get c.args.self.now.waiting entry ≡ Some row = ap (λ ws. slice_get ws entry) (sym same) ∙ ap (slice_get rows) (sym e) ∙ there in
     let slots : heads c.begin_flight.new.pool.items ≡ heads a.admitted.items = ap (λ (m : Pooled). heads m.items) c.begin_flight.ensures ∙ heads_recounted with_flight row.id a.admitted.items in
     let added : c.push.new.self.items ≡ a.flights.items ++ record { number = c.args.number; row = row } ∷ [] =
@@ -149,21 +152,20 @@ returns-clause-served c =
     let p = is_for c.args.id c.args.site in
     let rows = rows_of a.waiting.items in
     let same = ap (λ (s : State). s.waiting) c.self.view_is in
-    let f = any_place p rows (ap (list_any p) same ∙ c.requires.there) in
-    let row = c.in-Some.row in
-    let is : f.1 ≡ row = (let both : Some f.1 ≡ Some row = sym f.2.found ∙ sym c.take_row.ensures.taken ∙ c.in-Some.is in cc) in
-    let there : slice_get rows f.0 ≡ Some row = f.2.there ∙ ap (λ (x : Row). Some x) is in
-    let left : rows_of c.take_row.new.waiting.items ≡ remove rows f.0 = c.take_row.ensures.rows ∙ sym (drop_first-Some p rows f.0 f.2.place) in
-    let found : find p rows ≡ Some row = f.2.found ∙ ap (λ (x : Row). Some x) is in
+    let row = row_shown c.in-Some.row in
+    let found : find p rows ≡ Some row = sym c.first_row.ensures ∙ ap (option_map row_shown) c.in-Some.is in
+    let f = stands_first p rows row found (ap (list_any p) same ∙ c.requires.there) in
+    let there = f.1.there in
+    let left : rows_of c.take_row.new.waiting.items ≡ remove rows f.0 = c.take_row.ensures.rows ∙ sym (drop_first-Some p rows f.0 f.1.first) in
     let ps = a.turns.peers in
     let n = c.args.number in
     let less = subst (λ (s : State). s.starts < n) (sym c.self.view_is) c.requires.next in
     let begun : c.start.new.self.peers ≡ started_at row.id row.site n ps = ap (λ (x : Scheduling). x.peers) c.start.ensures in
     let lost : c.lose.new.self.peers ≡ lost_at row.id row.site c.start.new.self.peers = ap (λ (x : Scheduling). x.peers) c.lose.ensures in
     let started = subst (λ qs. AreTurnsTied qs rows n) (sym begun) (turns_started ps rows a.starts n row.id row.site less c.self.invariant.3) in
-    let s = c.stand_apart-2.ensures in
+    let s = c.stand_apart-3.ensures in
     ap served_rows lost
-    ∙ served_lost c.start.new.self.peers rows f.0 row c.stand_apart-3.ensures.apart started.counts there
+    ∙ served_lost c.start.new.self.peers rows f.0 row c.stand_apart-4.ensures.apart started.counts there
     ∙ ap (tidied_served (remove rows f.0))
     (ap served_rows begun
     ∙ rows_started row.id row.site n (omega (arith, less)) ps s.apart (all_before ps a.starts n less c.self.invariant.3.known) (peer_of a.turns.lines ps rows s.apart s.jobs c.self.invariant.3.counts p row found)
@@ -171,20 +173,17 @@ returns-clause-served c =
     ∙ ap (λ (v : State). served_now c.args.id c.args.site n v.served) c.self.view_is)
     ∙ ap (λ ws. tidied_served ws (served_now c.args.id c.args.site n c.args.self.now.served)) (sym left)
 
-pub invariant_of-self : goal.invariant_of-self
-invariant_of-self c =
+pub unreachable-requires : goal.unreachable-requires
+unreachable-requires c =
     let p = is_for c.args.id c.args.site in
     let rows = rows_of c.self.inside.waiting.items in
-    let bad : true ≡ false = sym (ap (λ (s : State). list_any p s.waiting) c.self.view_is ∙ c.requires.there) ∙ none_any p rows (sym c.in_default.ensures.taken) in cc
+    let bad : true ≡ false = sym (ap (λ (s : State). list_any p s.waiting) c.self.view_is ∙ c.requires.there) ∙ none_any p rows (sym c.first_row.ensures ∙ ap (option_map row_shown) c.in_default.is) in cc
 
-pub returns-in_default-clause-sent : goal.returns-in_default-clause-sent
-returns-in_default-clause-sent c = λ entry at.
+-- it has no more positions than have room
+pub push-requires-clause-positions : goal.push-requires-clause-positions
+push-requires-clause-positions c =
+    let a = c.self.inside in
     let p = is_for c.args.id c.args.site in
-    let rows = rows_of c.self.inside.waiting.items in
-    let bad : true ≡ false = sym (ap (λ (s : State). list_any p s.waiting) c.self.view_is ∙ c.requires.there) ∙ none_any p rows (sym c.in_default.ensures.taken) in cc
-
-pub returns-in_default-clause-served : goal.returns-in_default-clause-served
-returns-in_default-clause-served c =
-    let p = is_for c.args.id c.args.site in
-    let rows = rows_of c.self.inside.waiting.items in
-    let bad : true ≡ false = sym (ap (λ (s : State). list_any p s.waiting) c.self.view_is ∙ c.requires.there) ∙ none_any p rows (sym c.in_default.ensures.taken) in cc
+    let found : find p (rows_of a.waiting.items) ≡ Some (row_shown c.in-Some.row) = sym c.first_row.ensures ∙ ap (option_map row_shown) c.in-Some.is in
+    let short = holds_found (λ (r : Row). length r.positions ≤ a.waiting.most) p (rows_of a.waiting.items) (row_shown c.in-Some.row) found c.stand_apart-2.ensures.short in
+    omega (arith, short, c.self.invariant.8.waiting, c.self.invariant.8.flights)

@@ -41,9 +41,11 @@ invariant_of-self c =
         deliveries = c.self.invariant.6.deliveries;
         asked = c.self.invariant.6.asked;
         names = c.self.invariant.6.names;
+        named_few = c.self.invariant.6.named_few;
         outcomes = ap (λ (q : Queued Unsettled). q.room) c.pop.ensures.items ∙ c.self.invariant.6.outcomes;
       },
       c.self.invariant.7,
+      c.self.invariant.8,
     )
 
 pub returns-clause-change : goal.returns-clause-change

@@ -33,6 +33,7 @@ invariant_of-self c =
       messages_stay core.params core.turns (heads core.admitted.items) c.self.invariant.5 _ (ap (λ (x : Scheduling). x.messages) c.tidy_touched_lines.ensures) (ap (λ (x : Scheduling). x.message_room) c.tidy_touched_lines.ensures),
       c.self.invariant.6,
       rw (ap (λ (x : Scheduling). x.room) c.tidy_touched_lines.ensures, ap (λ (x : Scheduling). x.line_room) c.tidy_touched_lines.ensures, ap (λ (x : Dests). x.room) c.forget_oldest.ensures) c.self.invariant.7,
+      c.self.invariant.8,
     )
 
 pub returns : goal.returns

@@ -1,10 +1,12 @@
-use Rattle.std.proofs.Common.{◌≡◌, ◌∙◌, ℕ, ◌+◌, ◌≤◌, ◌++◌, ◌<◌, ◌^◌, ap, arith, false, filter, length, length-append, List, refl, Some, subst, sym, true}
+use Rattle.std.proofs.Common.{◌≡◌, ◌∙◌, ◌≤◌, ◌++◌, ◌<◌, ◌^◌, ap, arith, false, filter, length, length-append, List, refl, Some, sym, true, []}
 use Rattle.std.proofs.lemmas.Bool.{and_parts}
 use Rattle.std.specs.List.{list_any, remove}
-use Rattle.std.specs.Prelude.{find, position, slice_get}
+use Rattle.std.specs.Prelude.{find, get_or, option_map, position, slice_get}
+use Rattle.q_core.proofs.RowPlaces.{holds_found, last_kept, room_kept, stands_first}
+use Rattle.q_positions.specs.Rows.{row_shown}
 use Rattle.q_core.proofs.MessageTies.{messages_same, messages_stay}
 use Rattle.q_core.proofs.ListLaws.{drop_first-Some}
-use Rattle.q_core.proofs.RowWalkLaws.{any_place, none_any, same_place}
+use Rattle.q_core.proofs.RowWalkLaws.{none_any, same_place}
 use Rattle.q_core.proofs.TurnTies.{first_of, served_lost, turns_lost}
 use Rattle.q_core.proofs.SiteChanges.{sites_left, sites_settled}
 use Rattle.q_core.proofs.SiteViews.{settled_used}
@@ -39,51 +41,73 @@ use Rattle.q_queue.specs.Queued.{Queued}
 use Rattle.q_schedule.specs.Schedule.{Scheduling}
 use Rattle.q_core.proofs.state.Core.unqueue.Goals as goal
 
+pub unreachable-requires : goal.unreachable-requires
+unreachable-requires c =
+    let p = is_for c.args.id c.args.site.now in
+    let rows = rows_of c.self.inside.waiting.items in
+    let bad : true ≡ false = sym (ap (λ (s : State). list_any p s.waiting) c.self.view_is ∙ c.requires.there) ∙ none_any p rows (sym c.first_row.ensures ∙ ap (option_map row_shown) c.in_default.is) in cc
+
+-- it has no more positions than have room
+pub set-requires-clause-room : goal.set-requires-clause-room
+set-requires-clause-room c =
+    let a = c.self.inside in
+    let p = is_for c.args.id c.args.site.now in
+    let found : find p (rows_of a.waiting.items) ≡ Some (row_shown c.in-Some.row) = sym c.first_row.ensures ∙ ap (option_map row_shown) c.in-Some.is in
+    let short = holds_found (λ (r : Row). length r.positions ≤ a.waiting.most) p (rows_of a.waiting.items) (row_shown c.in-Some.row) found c.stand_apart.ensures.short in
+    omega (arith, short, c.self.invariant.8.waiting, c.self.invariant.8.last_most)
+
+pub set-requires-clause-known : goal.set-requires-clause-known
+set-requires-clause-known c = let one = c.self.invariant.8.last in omega (arith, one)
+
 pub returns-clause-row : goal.returns-clause-row
-returns-clause-row c = λ entry at.
+returns-clause-row c = λ r asked entry at.
     let a = c.self.inside in
     let p = is_for c.args.id c.args.site.now in
     let rows = rows_of a.waiting.items in
     let same = ap (λ (s : State). s.waiting) c.self.view_is in
-    let f = any_place p rows (ap (list_any p) same ∙ c.requires.there) in
-    let row = c.in-Some.row in
-    let is : f.1 ≡ row = (let both : Some f.1 ≡ Some row = sym f.2.found ∙ sym c.take_row.ensures.taken ∙ c.in-Some.is in cc) in
-    let there : slice_get rows f.0 ≡ Some row = f.2.there ∙ ap (λ (x : Row). Some x) is in
-    let left : rows_of c.take_row.new.waiting.items ≡ remove rows f.0 = c.take_row.ensures.rows ∙ sym (drop_first-Some p rows f.0 f.2.place) in
-    let for : row_for c.args.self.now c.args.id c.args.site.now ≡ Some row = ap (find p) (sym same) ∙ f.2.found ∙ ap (λ (x : Row). Some x) is in
+    let row = row_shown c.in-Some.row in
+    let found : find p rows ≡ Some row = sym c.first_row.ensures ∙ ap (option_map row_shown) c.in-Some.is in
+    let f = stands_first p rows row found (ap (list_any p) same ∙ c.requires.there) in
+    let there = f.1.there in
+    let left : rows_of c.take_row.new.waiting.items ≡ remove rows f.0 = c.take_row.ensures.rows ∙ sym (drop_first-Some p rows f.0 f.1.first) in
+    let for : row_for c.args.self.now c.args.id c.args.site.now ≡ Some row = ap (find p) (sym same) ∙ found in
     let new : List Unsettled = put_off_in c.args.self.now row in
-    let added : c.add_put_off.new.unsettled ≡ record a.unsettled { items = a.unsettled.items ++ new } = c.add_put_off.ensures ∙ ap (λ (ps : List ℕ). record a.unsettled { items = a.unsettled.items ++ needs_put_off c.fails-fails.result row.id ps }) c.as_slice.ensures ∙ ap (λ b. record a.unsettled { items = a.unsettled.items ++ needs_put_off b row.id row.positions }) (c.fails-fails.ensures row for) in
+    let added : c.add_put_off.new.unsettled ≡ record a.unsettled { items = a.unsettled.items ++ new } = c.add_put_off.ensures ∙ ap (λ b. record a.unsettled { items = a.unsettled.items ++ needs_put_off b row.id row.positions }) (c.fails-fails.ensures row for) in
     let items : c.add_put_off.new.unsettled.items ≡ a.unsettled.items ++ new = ap (λ (q : Queued Unsettled). q.items) added in
     let long = length-append a.unsettled.items new in
     let sum = ap (λ (xs : List Unsettled). length xs) items in
     let count : c.saturating_sub-needs.result ≡ length new = omega (arith, sum, long, c.saturating_sub-needs.ensures, c.len.ensures, c.len-before.ensures) in
     let slots : heads c.put_off_row.new.pool.items ≡ heads a.admitted.items = ap (λ (m : Pooled). heads m.items) c.put_off_row.ensures ∙ heads_recounted (with_row_put_off c.saturating_sub-needs.result) row.id a.admitted.items in
-    let e = same_place p rows f.0 entry f.2.place (ap (position p) same ∙ at) in
-    record {
+    let both : Some row ≡ Some r = sym for ∙ asked in
+    let it : row ≡ r = cc in
+    let e = same_place p rows f.0 entry f.1.first (ap (position p) same ∙ at) in
+    let kept : get_or c.set.new.self.lists 0 [] ≡ row.positions = last_kept a.skipped c.set.new.self row.positions c.self.invariant.8.last c.set.ensures in
+    rw (sym it) (record {
       row = ap (λ ws. slice_get ws entry) (sym same) ∙ ap (slice_get rows) (sym e) ∙ there;
       rest =
-          ap (λ (x : Scheduling). record (state_of a) { admitted = heads c.put_off_row.new.pool.items; waiting = rows_of c.take_row.new.waiting.items; served = c.args.self.now.served; unsettled = c.add_put_off.new.unsettled.items; in_memory = c.saturating_sub-self-inside.result; lines = x.lines; sites = c.args.self.now.sites }) c.lose.ensures
-          ∙ ap (λ ss. record (state_of a) { admitted = ss; waiting = rows_of c.take_row.new.waiting.items; served = c.args.self.now.served; unsettled = c.add_put_off.new.unsettled.items; in_memory = c.saturating_sub-self-inside.result; sites = c.args.self.now.sites }) slots
-          ∙ ap (λ (s : State). record s { waiting = rows_of c.take_row.new.waiting.items; served = c.args.self.now.served; unsettled = c.add_put_off.new.unsettled.items; in_memory = c.saturating_sub-self-inside.result; sites = c.args.self.now.sites }) c.self.view_is;
+          ap (λ (x : Scheduling). record (state_of a) { admitted = heads c.put_off_row.new.pool.items; waiting = rows_of c.take_row.new.waiting.items; served = c.args.self.now.served; unsettled = c.add_put_off.new.unsettled.items; in_memory = c.saturating_sub-self-inside.result; lines = x.lines; sites = c.args.self.now.sites; skipped = get_or c.set.new.self.lists 0 [] }) c.lose.ensures
+          ∙ ap (λ ss. record (state_of a) { admitted = ss; waiting = rows_of c.take_row.new.waiting.items; served = c.args.self.now.served; unsettled = c.add_put_off.new.unsettled.items; in_memory = c.saturating_sub-self-inside.result; sites = c.args.self.now.sites; skipped = get_or c.set.new.self.lists 0 [] }) slots
+          ∙ ap (λ (s : State). record s { waiting = rows_of c.take_row.new.waiting.items; served = c.args.self.now.served; unsettled = c.add_put_off.new.unsettled.items; in_memory = c.saturating_sub-self-inside.result; sites = c.args.self.now.sites; skipped = get_or c.set.new.self.lists 0 [] }) c.self.view_is;
       waiting = left ∙ ap (λ k. remove rows k) e ∙ ap (λ ws. remove ws entry) same;
+      kept = kept;
       unsettled = items ∙ ap (λ us. us ++ new) (ap (λ (s : State). s.unsettled) c.self.view_is);
-      memory = let memory = ap (λ (s : State). s.in_memory) c.self.view_is in grind (arith, count, memory, c.saturating_sub-self-inside.ensures, c.saturating_sub-done.ensures, c.len-2.ensures);
-    }
+      memory = let memory = ap (λ (s : State). s.in_memory) c.self.view_is in grind (arith, count, memory, c.saturating_sub-self-inside.ensures, c.saturating_sub-done.ensures);
+    })
 
-pub invariant_of-self-2 : goal.invariant_of-self-2
-invariant_of-self-2 c =
+pub invariant_of-self : goal.invariant_of-self
+invariant_of-self c =
     let a = c.self.inside in
     let p = is_for c.args.id c.args.site.now in
     let rows = rows_of a.waiting.items in
     let same = ap (λ (s : State). s.waiting) c.self.view_is in
-    let f = any_place p rows (ap (list_any p) same ∙ c.requires.there) in
-    let row = c.in-Some.row in
-    let is : f.1 ≡ row = (let both : Some f.1 ≡ Some row = sym f.2.found ∙ sym c.take_row.ensures.taken ∙ c.in-Some.is in cc) in
-    let there : slice_get rows f.0 ≡ Some row = f.2.there ∙ ap (λ (x : Row). Some x) is in
-    let left : rows_of c.take_row.new.waiting.items ≡ remove rows f.0 = c.take_row.ensures.rows ∙ sym (drop_first-Some p rows f.0 f.2.place) in
-    let for : row_for c.args.self.now c.args.id c.args.site.now ≡ Some row = ap (find p) (sym same) ∙ f.2.found ∙ ap (λ (x : Row). Some x) is in
+    let row = row_shown c.in-Some.row in
+    let found : find p rows ≡ Some row = sym c.first_row.ensures ∙ ap (option_map row_shown) c.in-Some.is in
+    let f = stands_first p rows row found (ap (list_any p) same ∙ c.requires.there) in
+    let there = f.1.there in
+    let left : rows_of c.take_row.new.waiting.items ≡ remove rows f.0 = c.take_row.ensures.rows ∙ sym (drop_first-Some p rows f.0 f.1.first) in
+    let for : row_for c.args.self.now c.args.id c.args.site.now ≡ Some row = ap (find p) (sym same) ∙ found in
     let new : List Unsettled = put_off_in c.args.self.now row in
-    let added : c.add_put_off.new.unsettled ≡ record a.unsettled { items = a.unsettled.items ++ new } = c.add_put_off.ensures ∙ ap (λ (ps : List ℕ). record a.unsettled { items = a.unsettled.items ++ needs_put_off c.fails-fails.result row.id ps }) c.as_slice.ensures ∙ ap (λ b. record a.unsettled { items = a.unsettled.items ++ needs_put_off b row.id row.positions }) (c.fails-fails.ensures row for) in
+    let added : c.add_put_off.new.unsettled ≡ record a.unsettled { items = a.unsettled.items ++ new } = c.add_put_off.ensures ∙ ap (λ b. record a.unsettled { items = a.unsettled.items ++ needs_put_off b row.id row.positions }) (c.fails-fails.ensures row for) in
     let items : c.add_put_off.new.unsettled.items ≡ a.unsettled.items ++ new = ap (λ (q : Queued Unsettled). q.items) added in
     let long = length-append a.unsettled.items new in
     let sum = ap (λ (xs : List Unsettled). length xs) items in
@@ -94,37 +118,43 @@ invariant_of-self-2 c =
     let sites : c.leave.new.self.items ≡ filter is_kept (settled row.site left_dest a.sites.items) = ap (λ (x : Dests). x.items) c.leave.ensures in (
       rw (left, items) (tied_put_off a.params a.admitted c.put_off_row.new.pool rows f.0 row a.flights.items a.unsettled.items new a.starts c.saturating_sub-needs.result there count few named c.put_off_row.ensures c.self.invariant.0),
       rw (slots, c.touch_message.ensures, left, ap (λ (x : Scheduling). x.lines) c.lose.ensures) (row_gone f.0 row there c.self.invariant.1),
-      rw (sites, left) (sites_settled (remove rows f.0) a.flights.items row.site left_dest (λ d. refl) a.sites.items c.stand_apart.ensures.apart (sites_left rows f.0 row a.flights.items a.sites.items there c.self.invariant.2)),
-      rw (ap (λ (x : Scheduling). x.peers) c.lose.ensures, left) (turns_lost a.turns.peers rows a.starts f.0 row c.stand_apart-2.ensures.apart c.self.invariant.3 there (first_of rows c.args.id c.args.site.now f.0 row f.2.place (f.2.found ∙ ap (λ (x : Row). Some x) is))),
+      rw (sites, left) (sites_settled (remove rows f.0) a.flights.items row.site left_dest (λ d. refl) a.sites.items c.stand_apart-2.ensures.apart (sites_left rows f.0 row a.flights.items a.sites.items there c.self.invariant.2)),
+      rw (ap (λ (x : Scheduling). x.peers) c.lose.ensures, left) (turns_lost a.turns.peers rows a.starts f.0 row c.stand_apart-3.ensures.apart c.self.invariant.3 there (first_of rows c.args.id c.args.site.now f.0 row f.1.first found)),
       rw sites (tested_alike (goes_to_dead a.sites.items) (goes_to_dead (filter is_kept (settled row.site left_dest a.sites.items))) c.take_row.new.waiting.items
-          (λ r. sym (alike_settled row.site left_dest (λ d. refl) a.sites.items c.stand_apart.ensures.apart r)) (c.take_row.ensures.held (goes_to_dead a.sites.items) c.self.invariant.4)),
+          (λ r. sym (alike_settled row.site left_dest (λ d. refl) a.sites.items c.stand_apart-2.ensures.apart r)) (c.take_row.ensures.held (goes_to_dead a.sites.items) c.self.invariant.4)),
       messages_same a.params c.lose.new.self (heads a.admitted.items)
           (messages_stay a.params a.turns (heads a.admitted.items) c.self.invariant.5 c.lose.new.self (ap (λ (x : Scheduling). x.messages) c.lose.ensures) (ap (λ (x : Scheduling). x.message_room) c.lose.ensures)) _ slots,
       record {
         deliveries = c.self.invariant.6.deliveries;
         asked = c.self.invariant.6.asked;
         names = c.self.invariant.6.names;
+        named_few = c.self.invariant.6.named_few;
         outcomes = ap (λ (q : Queued Unsettled). q.room) added ∙ c.self.invariant.6.outcomes;
       },
       rw (c.take_row.ensures.room, ap (λ (x : Dests). x.room) c.leave.ensures, ap (λ (x : Scheduling). x.room) c.lose.ensures, ap (λ (x : Scheduling). x.line_room) c.lose.ensures) c.self.invariant.7,
+      rw (c.take_row.ensures.most, c.set.ensures) (room_kept row.positions c.self.invariant.8),
     )
 
 pub returns-clause-left : goal.returns-clause-left
-returns-clause-left c =
+returns-clause-left c = λ r asked.
     let a = c.self.inside in
     let p = is_for c.args.id c.args.site.now in
     let rows = rows_of a.waiting.items in
     let same = ap (λ (s : State). s.waiting) c.self.view_is in
-    let f = any_place p rows (ap (list_any p) same ∙ c.requires.there) in
-    let row = c.in-Some.row in
-    let is : f.1 ≡ row = (let both : Some f.1 ≡ Some row = sym f.2.found ∙ sym c.take_row.ensures.taken ∙ c.in-Some.is in cc) in
-    let there : slice_get rows f.0 ≡ Some row = f.2.there ∙ ap (λ (x : Row). Some x) is in
-    let left : rows_of c.take_row.new.waiting.items ≡ remove rows f.0 = c.take_row.ensures.rows ∙ sym (drop_first-Some p rows f.0 f.2.place) in
+    let row = row_shown c.in-Some.row in
+    let found : find p rows ≡ Some row = sym c.first_row.ensures ∙ ap (option_map row_shown) c.in-Some.is in
+    let f = stands_first p rows row found (ap (list_any p) same ∙ c.requires.there) in
+    let there = f.1.there in
+    let left : rows_of c.take_row.new.waiting.items ≡ remove rows f.0 = c.take_row.ensures.rows ∙ sym (drop_first-Some p rows f.0 f.1.first) in
+    let for : row_for c.args.self.now c.args.id c.args.site.now ≡ Some row = ap (find p) (sym same) ∙ found in
+    let both : Some row ≡ Some r = sym for ∙ asked in
+    let it : row ≡ r = cc in
     let fs = a.flights.items in
     ap (λ (x : Dests). known_records x.items) c.leave.ensures
-    ∙ settled_used (remove rows f.0) fs row.site left_dest (λ d. refl) a.sites.items c.stand_apart.ensures.apart (sites_left rows f.0 row fs a.sites.items there c.self.invariant.2)
+    ∙ settled_used (remove rows f.0) fs row.site left_dest (λ d. refl) a.sites.items c.stand_apart-2.ensures.apart (sites_left rows f.0 row fs a.sites.items there c.self.invariant.2)
     ∙ ap (λ rs. used_in rs fs (moved_back (is_left_in rs fs row.site) (known_records a.sites.items))) (sym left)
     ∙ ap (λ (s : State). used_in (rows_of c.take_row.new.waiting.items) fs (moved_back (is_left_in (rows_of c.take_row.new.waiting.items) fs row.site) s.sites)) c.self.view_is
+    ∙ ap (λ (x : Row). used_in (rows_of c.take_row.new.waiting.items) fs (moved_back (is_left_in (rows_of c.take_row.new.waiting.items) fs x.site) c.args.self.now.sites)) it
 
 pub returns-clause-served : goal.returns-clause-served
 returns-clause-served c =
@@ -132,36 +162,23 @@ returns-clause-served c =
     let p = is_for c.args.id c.args.site.now in
     let rows = rows_of a.waiting.items in
     let same = ap (λ (s : State). s.waiting) c.self.view_is in
-    let f = any_place p rows (ap (list_any p) same ∙ c.requires.there) in
-    let row = c.in-Some.row in
-    let is : f.1 ≡ row = (let both : Some f.1 ≡ Some row = sym f.2.found ∙ sym c.take_row.ensures.taken ∙ c.in-Some.is in cc) in
-    let there : slice_get rows f.0 ≡ Some row = f.2.there ∙ ap (λ (x : Row). Some x) is in
-    let left : rows_of c.take_row.new.waiting.items ≡ remove rows f.0 = c.take_row.ensures.rows ∙ sym (drop_first-Some p rows f.0 f.2.place) in
+    let row = row_shown c.in-Some.row in
+    let found : find p rows ≡ Some row = sym c.first_row.ensures ∙ ap (option_map row_shown) c.in-Some.is in
+    let f = stands_first p rows row found (ap (list_any p) same ∙ c.requires.there) in
+    let there = f.1.there in
+    let left : rows_of c.take_row.new.waiting.items ≡ remove rows f.0 = c.take_row.ensures.rows ∙ sym (drop_first-Some p rows f.0 f.1.first) in
     ap (λ (x : Scheduling). served_rows x.peers) c.lose.ensures
-    ∙ served_lost a.turns.peers rows f.0 row c.stand_apart-2.ensures.apart c.self.invariant.3.counts there
+    ∙ served_lost a.turns.peers rows f.0 row c.stand_apart-3.ensures.apart c.self.invariant.3.counts there
     ∙ ap (λ ws. tidied_served ws (served_rows a.turns.peers)) (sym left)
     ∙ ap (λ (v : State). tidied_served (rows_of c.take_row.new.waiting.items) v.served) c.self.view_is
-
-pub invariant_of-self : goal.invariant_of-self
-invariant_of-self c =
-    let p = is_for c.args.id c.args.site.now in
-    let rows = rows_of c.self.inside.waiting.items in
-    let bad : true ≡ false = sym (ap (λ (s : State). list_any p s.waiting) c.self.view_is ∙ c.requires.there) ∙ none_any p rows (sym c.in_default.ensures.taken) in cc
-
-pub returns-in_default-clause-some : goal.returns-in_default-clause-some
-returns-in_default-clause-some c =
-    let p = is_for c.args.id c.args.site.now in
-    let rows = rows_of c.self.inside.waiting.items in
-    let bad : true ≡ false = sym (ap (λ (s : State). list_any p s.waiting) c.self.view_is ∙ c.requires.there) ∙ none_any p rows (sym c.in_default.ensures.taken) in cc
 
 -- there is space for its outcomes
 pub add_put_off-requires : goal.add_put_off-requires
 add_put_off-requires c = λ fails.
     let a = c.self.inside in
     let p = is_for c.args.id c.args.site.now in
-    let rows = rows_of a.waiting.items in
-    let row = c.in-Some.row in
-    let for : row_for c.args.self.now c.args.id c.args.site.now ≡ Some row = ap (find p) (sym (ap (λ (s : State). s.waiting) c.self.view_is)) ∙ sym c.take_row.ensures.taken ∙ c.in-Some.is in
+    let row = row_shown c.in-Some.row in
+    let found : find p (rows_of a.waiting.items) ≡ Some row = sym c.first_row.ensures ∙ ap (option_map row_shown) c.in-Some.is in
+    let for : row_for c.args.self.now c.args.id c.args.site.now ≡ Some row = ap (find p) (sym (ap (λ (s : State). s.waiting) c.self.view_is)) ∙ found in
     let both = and_parts (expired_in c.args.self.now row.id) (have_space c.args.self.now row.positions) (sym (c.fails-fails.ensures row for) ∙ fails) in
-    subst (λ (ps : List ℕ). length a.unsettled.items + length ps ≤ a.unsettled.room) (sym c.as_slice.ensures)
-    (made_space (state_of a) a.unsettled row.positions refl c.self.invariant.6.outcomes (ap (λ (s : State). have_space s row.positions) c.self.view_is ∙ both.1))
+    made_space (state_of a) a.unsettled row.positions refl c.self.invariant.6.outcomes (ap (λ (s : State). have_space s row.positions) c.self.view_is ∙ both.1)

@@ -24,9 +24,11 @@ invariant_of-self c =
         deliveries = c.self.invariant.6.deliveries;
         asked = c.self.invariant.6.asked;
         names = c.self.invariant.6.names;
+        named_few = c.self.invariant.6.named_few;
         outcomes = ap (λ (q : Queued Unsettled). q.room) c.set_first.ensures ∙ c.self.invariant.6.outcomes;
       },
       c.self.invariant.7,
+      c.self.invariant.8,
     )
 
 pub returns-in-Some-clause-change : goal.returns-in-Some-clause-change

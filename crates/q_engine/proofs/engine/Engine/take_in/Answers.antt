@@ -1,5 +1,4 @@
 use Rattle.std.proofs.Common.{◌≡◌, ◌∙◌, ◌++◌, List, ap, subst, sym}
-use Rattle.q_books.proofs.Results.{on_ok}
 use Rattle.q_model.specs.Values.{Site}
 use Rattle.q_core.specs.Agrees.{Agrees}
 use Rattle.q_core.specs.Loading.{ReadsAre}
@@ -10,11 +9,11 @@ use Rattle.q_engine.proofs.CarriedLoads.{named_agrees}
 use Rattle.q_engine.proofs.engine.Engine.take_in.Goals as goal
 
 pub returns-clause-ok : goal.returns-clause-ok
-returns-clause-ok c = on_ok c.loaded.result (λ loads w l a id from max asks following reads.
+returns-clause-ok c = λ w l a id from max asks following reads.
     let old = c.args.self.now.core.value in
     let sites = sites_of c.args.self.now c.args.taken.now.items in
     let is : c.name_sites.new.self.core.value ≡ record old { named = sites } =
     ap (λ (e : Engine). e.core.value) c.in_ok-name_sites.ensures.ok ∙ ap (λ (xs : List Site). record old { named = xs ++ sites }) c.requires.named in
     let lent : c.deref_mut.result.now ≡ record old { named = sites } = c.deref_mut.ensures.value ∙ is in
-    loads w l (subst (λ (k : Core). Agrees w k l) (sym lent) (named_agrees w old l sites a)) id from max (ap (λ (k : Core). k.question) lent ∙ asks) following
-    (subst (λ (k : Core). ReadsAre w l k.named id from c.args.next.position c.args.taken.now.items) (sym lent) reads)) c.loaded.ensures.ok
+    c.loaded.ensures.exact w l (subst (λ (k : Core). Agrees w k l) (sym lent) (named_agrees w old l sites a)) id from max (ap (λ (k : Core). k.question) lent ∙ asks) following
+    (subst (λ (k : Core). ReadsAre w l k.named id from c.args.next.position c.args.taken.now.items) (sym lent) reads)
