@@ -27,11 +27,19 @@ pub(crate) struct Life {
     decisions: u64,
 }
 
+/// Puts a value in a box. For a value of any type the check needn't know how it is laid out.
+fn boxed<T: Drop>(alloc: Global, value: T) -> Option<Box<T>> {
+    match Box::new(alloc, value) {
+        Ok(made) => Some(made),
+        Err(_) => None,
+    }
+}
+
 /// A core with no message.
 fn empty_core(alloc: Global) -> Option<Box<Core>> {
     let params = read_params(LIMITS).ok()?;
     let core = Core::new(alloc, params, 1, Mode::Deliver).ok()?;
-    Box::new(alloc, core).ok()
+    boxed(alloc, core)
 }
 
 impl Life {

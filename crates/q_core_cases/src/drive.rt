@@ -56,13 +56,21 @@ const ALL: u32 = 100_000;
 /// The domain of the sender of each mail.
 pub(crate) const SENDER_DOMAIN: u32 = 0;
 
+/// Puts a value in a box. For a value of any type the check needn't know how it is laid out.
+pub(crate) fn boxed<T: Drop>(alloc: Global, value: T) -> Option<Box<T>> {
+    match Box::new(alloc, value) {
+        Ok(made) => Some(made),
+        Err(_) => None,
+    }
+}
+
 /// The core of a life on an empty spool.
 fn first_core(alloc: Global, settings: &str) -> Result<Box<Core>, Stop> {
     let Ok(params) = read_params(settings.as_bytes()) else {
         return Err(Stop::Wrong);
     };
     let core = Core::new(alloc, params, 1, Mode::Deliver)?;
-    Box::new(alloc, core).map_err(|_| Stop::NoMemory)
+    boxed(alloc, core).ok_or(Stop::NoMemory)
 }
 
 impl Driver {

@@ -1,4 +1,5 @@
 //! The rules on a core that begins a life, and what the clock, the triggers and looks lead to.
+use crate::drive::boxed;
 use q_core::laws::{n1, n2, n3, n4, n5, n6, n7, n8};
 use q_core::{Core, Decision, FileFacts, Found, Heard};
 use q_model::{Id, Mode, Moment, Place, Trigger};
@@ -61,7 +62,7 @@ fn message(serial: u32) -> Found {
 /// A core at the beginning of a life, in a box: a test lets it go at each assertion.
 fn fresh_core(alloc: Global, transports: u8, mode: Mode) -> Option<Box<Core>> {
     let core = Core::new(alloc, Params::defaults(), transports, mode).ok()?;
-    Box::new(alloc, core).ok()
+    boxed(alloc, core)
 }
 
 #[test]
