@@ -3,5 +3,6 @@ pub mod Items
 pub mod Moves
 pub mod Filed
 pub mod Standing
+pub mod Places
 pub mod Changes
 pub mod Values

@@ -24,7 +24,7 @@ module _ {K T : Type 0} where
       (order buckets : Lists) (live room : ℕ) : Type 0 where
     pub some : 1 ≤ room
     pub few : room < 2 ^ 30
-    pub slots : length items ≡ room
+    pub slots : length items ≤ room
     pub two : length order.lists ≡ 2
     pub known : order.numbers ≡ room
     pub filled : (n : ℕ) → is_in n (get_or order.lists 0 []) ≡ is_some (get_or items n None)

@@ -5,7 +5,9 @@ ghost use Rattle.q_keyed.specs.Numbered.{AreApart, AreKeysApart, first_such, has
 
 use crate::finding::bucket;
 use crate::key::HasKey;
-use crate::slots::{FREE, USED, fresh_items, fresh_order, item_at, put_item, take_item};
+use crate::slots::{
+    FREE, USED, fresh_items, fresh_order, item_at, make_place, put_item, take_item,
+};
 use q_chains::Chains;
 use std::alloc::{AllocError, Global};
 use std::marker::Model;
@@ -13,7 +15,7 @@ use std::marker::Model;
 /// Items in an order. A contract sees them as a list of items with their numbers.
 #[derive(Debug, Drop)]
 pub struct Keyed<T: HasKey> {
-    /// The items by number.
+    /// The items by number, as far as numbers were ever used.
     pub(crate) items: Vec<Option<T>>,
     /// Two lists: the numbers of the items in their order, and the free numbers.
     pub(crate) order: Chains,
@@ -25,7 +27,7 @@ pub struct Keyed<T: HasKey> {
 }
 
 impl<T: HasKey> Model for Keyed<T> {
-    ghost use Rattle.std.specs.Prelude.{[], get_or};
+    ghost use Rattle.std.specs.Prelude.{◌≤◌, [], get_or, vec_capacity};
     ghost use Rattle.q_keyed.specs.Numbered.{Items, items_code};
     ghost use Rattle.q_keyed.specs.Slots.{items_of};
     ghost use Rattle.q_keyed.specs.Sound.{IsSound};
@@ -39,12 +41,14 @@ impl<T: HasKey> Model for Keyed<T> {
       room = a.room;
     } };
 
-    ghost invariant = { λ a. IsSound T.eq T.key_of T.hash a.items.items a.order a.by_key a.live a.room };
+    ghost invariant = { λ a. IsSound T.eq T.key_of T.hash a.items.items a.order a.by_key a.live a.room
+        × (a.room ≤ vec_capacity a.items) };
 }
 
 impl<T: HasKey + Drop> Keyed<T> {
     /// No item, and room for so many. For each of them it takes 24 bytes, in which numbers and
-    /// buckets are chained, and those of the item. An error says that memory is wanting.
+    /// buckets are chained, and those of the item, which aren't written to before as many items are
+    /// there at a time. An error says that memory is wanting.
     pub fn new(alloc: Global, room: u32) -> Result<Keyed<T>, AllocError>
         requires some { 1 ≤ room }
         requires few { room < 2 ^ 30 }
@@ -106,13 +110,14 @@ impl<T: HasKey + Drop> Keyed<T> {
         ensures below { result < self.old.room }
     {
         self.order.stand_once();
-        let Some(number) = self.order.first(FREE) else {
+        let Some(number) = self.order.last(FREE) else {
             unreachable!()
         };
         let key = bucket(item.hash(), self.room);
         self.order.remove(number);
         self.order.push(USED, number);
         self.by_key.push(key, number);
+        make_place(&mut self.items, number, self.room);
         put_item(&mut self.items, number, item);
         self.live += 1;
         number
@@ -129,13 +134,14 @@ impl<T: HasKey + Drop> Keyed<T> {
         ensures below { result < self.old.room }
     {
         self.order.stand_once();
-        let Some(number) = self.order.first(FREE) else {
+        let Some(number) = self.order.last(FREE) else {
             unreachable!()
         };
         let key = bucket(item.hash(), self.room);
         self.order.remove(number);
         self.order.insert_before(number, at);
         self.by_key.push(key, number);
+        make_place(&mut self.items, number, self.room);
         put_item(&mut self.items, number, item);
         self.live += 1;
         number

@@ -25,7 +25,7 @@ invariant_of-self g c =
     let a = c.self.inside in
     let there = some_of (get_or a.items.items c.args.number None) (ap is_some (sym c.item_at.ensures) ∙ copied c.item_at.result ∙ sym c.is_some.ensures ∙ c.if-is_some.true) in
     let order : c.push.new.self ≡ moved 0 c.args.number a.order = c.push.ensures ∙ ap (λ (s : Lists). record s { lists = pushed 0 c.args.number s.lists }) c.remove.ensures in
-    rw order (sound_moved g.T.HasKey.eq g.T.HasKey.key_of g.T.HasKey.hash g.met.T.HasKey.is_same g.met.T.HasKey.is_own a.items.items a.order a.by_key a.live a.room c.self.invariant c.stand_once.ensures c.args.number there.0 there.1)
+    (rw order (sound_moved g.T.HasKey.eq g.T.HasKey.key_of g.T.HasKey.hash g.met.T.HasKey.is_same g.met.T.HasKey.is_own a.items.items a.order a.by_key a.live a.room c.self.invariant.0 c.stand_once.ensures c.args.number there.0 there.1), c.self.invariant.1)
 
 pub returns-then-is_some : goal.returns-then-is_some
 returns-then-is_some g c =
@@ -33,7 +33,7 @@ returns-then-is_some g c =
     let there = some_of (get_or a.items.items c.args.number None) (ap is_some (sym c.item_at.ensures) ∙ copied c.item_at.result ∙ sym c.is_some.ensures ∙ c.if-is_some.true) in
     let order : c.push.new.self ≡ moved 0 c.args.number a.order = c.push.ensures ∙ ap (λ (s : Lists). record s { lists = pushed 0 c.args.number s.lists }) c.remove.ensures in
     ap (λ (s : Lists). record { items = items_of a.items.items (get_or s.lists 0 []); room = a.room }) order
-    ∙ ap (λ (ks : List (Numbered g.row.T.Denot)). record { items = ks; room = a.room }) (items_moved g.T.HasKey.eq g.T.HasKey.key_of g.T.HasKey.hash g.met.T.HasKey.is_same g.met.T.HasKey.is_own a.items.items a.order a.by_key a.live a.room c.self.invariant c.stand_once.ensures c.args.number there.0 there.1)
+    ∙ ap (λ (ks : List (Numbered g.row.T.Denot)). record { items = ks; room = a.room }) (items_moved g.T.HasKey.eq g.T.HasKey.key_of g.T.HasKey.hash g.met.T.HasKey.is_same g.met.T.HasKey.is_own a.items.items a.order a.by_key a.live a.room c.self.invariant.0 c.stand_once.ensures c.args.number there.0 there.1)
     ∙ ap (λ (v : Items g.row.T.Denot). record v { items = moved_last c.args.number v.items }) c.self.view_is
 
 pub returns-else-is_some : goal.returns-else-is_some
@@ -41,5 +41,5 @@ returns-else-is_some g c =
     let a = c.self.inside in
     let empty = none (get_or a.items.items c.args.number None) (ap is_some (sym c.item_at.ensures) ∙ copied c.item_at.result ∙ sym c.is_some.ensures ∙ c.if-is_some.false) in
     sym c.self.view_is
-    ∙ ap (λ (ks : List (Numbered g.row.T.Denot)). record { items = ks; room = a.room }) (sym (moved_stay g.T.HasKey.eq g.T.HasKey.key_of g.T.HasKey.hash g.met.T.HasKey.is_same g.met.T.HasKey.is_own a.items.items a.order a.by_key a.live a.room c.self.invariant c.stand_once.ensures c.args.number empty))
+    ∙ ap (λ (ks : List (Numbered g.row.T.Denot)). record { items = ks; room = a.room }) (sym (moved_stay g.T.HasKey.eq g.T.HasKey.key_of g.T.HasKey.hash g.met.T.HasKey.is_same g.met.T.HasKey.is_own a.items.items a.order a.by_key a.live a.room c.self.invariant.0 c.stand_once.ensures c.args.number empty))
     ∙ ap (λ (v : Items g.row.T.Denot). record v { items = moved_last c.args.number v.items }) c.self.view_is

@@ -6,5 +6,5 @@ use Rattle.q_keyed.proofs.keyed.Keyed.spare.Goals as goal
 pub returns : goal.returns
 returns g c =
     let a = c.self.inside in
-    ap (λ n. a.room - n) (c.self.invariant.count ∙ sym (count g.T.HasKey.eq g.T.HasKey.key_of g.T.HasKey.hash g.met.T.HasKey.is_same g.met.T.HasKey.is_own a.items.items a.order a.by_key a.live a.room c.self.invariant))
+    ap (λ n. a.room - n) (c.self.invariant.0.count ∙ sym (count g.T.HasKey.eq g.T.HasKey.key_of g.T.HasKey.hash g.met.T.HasKey.is_same g.met.T.HasKey.is_own a.items.items a.order a.by_key a.live a.room c.self.invariant.0))
     ∙ ap (λ (v : Items g.row.T.Denot). v.room - length v.items) c.self.view_is
