@@ -28,8 +28,6 @@ mod lane;
 mod needs;
 mod walking;
 mod wanted;
-#[cfg(test)]
-mod worked;
 
 pub use candidate::Candidate;
 pub use candidates::Candidates;

@@ -11,7 +11,5 @@
 
 mod chains;
 mod links;
-#[cfg(test)]
-mod worked;
 
 pub use chains::Chains;

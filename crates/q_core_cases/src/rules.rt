@@ -1,10 +1,17 @@
 //! The rules on a core that begins a life, and what the clock, the triggers and looks lead to.
-use crate::drive::boxed;
 use q_core::laws::{n1, n2, n3, n4, n5, n6, n7, n8};
 use q_core::{Core, Decision, FileFacts, Found, Heard};
 use q_model::{Id, Mode, Moment, Place, Trigger};
 use q_params::Params;
 use std::alloc::Global;
+
+/// Puts a value in a box.
+fn boxed<T: Drop>(alloc: Global, value: T) -> Option<Box<T>> {
+    match Box::new(alloc, value) {
+        Ok(made) => Some(made),
+        Err(_) => None,
+    }
+}
 
 /// Whether a fresh core looks at active, and at incoming where it delivers, and does nothing else.
 fn only_looks(core: &Core, delivers: bool) -> bool {

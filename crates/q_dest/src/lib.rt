@@ -24,8 +24,6 @@ mod site_record;
 mod sites;
 mod table;
 mod window;
-#[cfg(test)]
-mod worked;
 
 pub use dest::Dest;
 pub use site_record::WideSiteRecord;

@@ -50,7 +50,7 @@ impl WideSiteRecord {
     }
 
     /// Hears that a delivery reached it, with so many in flight.
-    pub fn hear_up(&mut self, params: &Params, busy: u64)
+    fn hear_up(&mut self, params: &Params, busy: u64)
         ensures { self.new ≡ up_in params.now busy self.old }
     {
         if self.is_dead() {
@@ -92,7 +92,7 @@ impl WideSiteRecord {
     }
 
     /// Hears that a delivery didn't reach it.
-    pub fn hear_down(&mut self, params: &Params, moment: Moment)
+    fn hear_down(&mut self, params: &Params, moment: Moment)
         requires { moment ≤ 999990000000 }
         ensures { self.new ≡ down_in params.now moment self.old }
     {

@@ -1,8 +1,7 @@
 //! Recipients that come into memory by batches, where there is room for ten.
-use crate::drive::{Stop, deliver_all, live, params_of, table_of};
+use crate::drive::{Stop, deliver_all, live};
 use q_message::write_message;
 use q_model::{Address, Addresses, Area, Bytes, Head, Name, NoMemory};
-use q_replay::replay;
 use q_silent_host::SilentHost;
 use q_stream::MemSource;
 use std::alloc::Global;
@@ -10,26 +9,7 @@ use std::test::Fail;
 
 const ROOM_FOR_TEN: &str = "qmgr_message_recipient_limit = 10";
 
-/// A mail to twelve recipients, of whom one is put off and tried again.
-const PUT_OFF: &str = "\
-at 1000
-mail a@x.example r0@y.example r1@y.example r2@y.example r3@y.example r4@y.example r5@y.example \
-r6@y.example r7@y.example r8@y.example r9@y.example r10@y.example r11@y.example
-reply 1 up ok ok ok ok ok ok ok ok ok later
-reply 2 up ok ok
-at 1300
-end
-";
-
-const PUT_OFF_PARTS: [&str; 3] = [
-    "\nload 00000001-00000001 0 10\n\
-     start 1 00000001-00000001 smtp y.example 0 1 2 3 4 5 6 7 8 9\n",
-    "\nload 00000001-00000001 10 12\nstart 2 00000001-00000001 smtp y.example 10 11\n",
-    "\nadmit 00000001-00000001\nload 00000001-00000001 0 12\n\
-     start 3 00000001-00000001 smtp y.example 9\nend\n",
-];
-
-/// The same mail alone.
+/// A mail to twelve recipients.
 const TWELVE: &str = "\
 at 1000
 mail a@x.example r0@y.example r1@y.example r2@y.example r3@y.example r4@y.example r5@y.example \
@@ -54,40 +34,6 @@ sync 00000001-00000001
 load 00000001-00000001 10 12
 start 2 00000001-00000001 smtp z.example 10 11
 ";
-
-/// Whether these parts stand in a trace, each behind the one before.
-fn has_in_order(trace: &str, parts: &[&str]) -> bool {
-    let mut rest = trace;
-    for part in parts {
-        let Some((_, behind)) = rest.split_once(*part) else {
-            return false;
-        };
-        rest = behind;
-    }
-    true
-}
-
-fn replayed(alloc: Global, host: &mut SilentHost, list: &str) -> Result<bool, Stop> {
-    let params = params_of(ROOM_FOR_TEN)?;
-    let table = table_of(alloc, "")?;
-    let mut source = MemSource::new(alloc, list.as_bytes(), 4096, &[])?;
-    Ok(replay(alloc, &mut source, host, params, table).is_ok())
-}
-
-#[test]
-fn recipients_are_read_again_behind_a_delay(rt: HostRuntime) -> Result<(), Fail> {
-    let alloc = rt.alloc();
-    let mut host = SilentHost::new(alloc);
-    let Ok(true) = replayed(alloc, &mut host, PUT_OFF) else {
-        return Err(Fail::from("no replay"));
-    };
-    assert!(rt;
-        has_in_order(host.told(), &PUT_OFF_PARTS),
-        "{}",
-        host.told()
-    );
-    Ok(())
-}
 
 /// The twelve recipients, the last two at another domain.
 fn at_two_domains(alloc: Global) -> Result<Addresses, Stop> {

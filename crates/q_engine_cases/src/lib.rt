@@ -1,5 +1,5 @@
-//! Tests by public calls alone of the engine and of the crates right at it: that calls answer where
-//! memory is ample, and what no contract says of them.
+//! Tests of the engine and of a drain by public calls alone, which no page of `cases` can say: a queue file
+//! that is another one while its message is in memory, and two servers that wait for each other.
 #![tactic(auto)]
 
 #[cfg(test)]
@@ -7,16 +7,6 @@ mod batches;
 #[cfg(test)]
 mod drive;
 #[cfg(test)]
-mod engines;
+mod pairs;
 #[cfg(test)]
-mod looks;
-#[cfg(test)]
-mod openings;
-#[cfg(test)]
-mod places_kept;
-#[cfg(test)]
-mod replays;
-#[cfg(test)]
-mod scans;
-#[cfg(test)]
-mod spool_calls;
+mod turns;

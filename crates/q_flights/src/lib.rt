@@ -18,8 +18,6 @@ mod counts;
 mod delivery_ref;
 mod entry;
 mod flights;
-#[cfg(test)]
-mod worked;
 
 pub use delivery_ref::DeliveryRef;
 pub use flights::Flights;

@@ -21,7 +21,5 @@
 
 mod heads;
 mod marks;
-#[cfg(test)]
-mod worked;
 
 pub use heads::Heads;

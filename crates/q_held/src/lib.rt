@@ -18,7 +18,5 @@
 mod finding;
 mod holding;
 mod rows;
-#[cfg(test)]
-mod worked;
 
 pub use rows::Rows;

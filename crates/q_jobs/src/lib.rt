@@ -16,8 +16,6 @@
 
 mod job;
 mod line;
-#[cfg(test)]
-mod worked;
 
 pub use job::Job;
 pub use line::Line;

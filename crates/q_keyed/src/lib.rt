@@ -18,8 +18,6 @@ mod finding;
 mod key;
 mod keyed;
 mod slots;
-#[cfg(test)]
-mod worked;
 
 pub use key::HasKey;
 pub use keyed::Keyed;

@@ -19,7 +19,5 @@ mod least;
 mod making;
 mod tree;
 mod within;
-#[cfg(test)]
-mod worked;
 
 pub use least::Least;

@@ -13,7 +13,5 @@
 
 mod marked;
 mod marking;
-#[cfg(test)]
-mod worked;
 
 pub use marked::Marked;

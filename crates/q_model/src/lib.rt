@@ -15,7 +15,6 @@ mod names;
 mod no_memory;
 mod outcome;
 mod padded;
-mod rooms;
 mod rows;
 mod sequence;
 mod site;
@@ -32,7 +31,6 @@ pub use name::Name;
 pub use names::Names;
 pub use no_memory::NoMemory;
 pub use outcome::{Failure, Note, Outcome, SiteState, Why};
-pub use rooms::Rooms;
 pub use rows::{
     Admitted, DeferredName, Delivery, Health, Mark, Need, Place, Request, Row, Scan, Served,
     SiteRecord, Unsettled,

@@ -11,8 +11,6 @@
 
 mod open_row;
 mod open_rows;
-#[cfg(test)]
-mod worked;
 
 pub use open_row::OpenRow;
 pub use open_rows::OpenRows;

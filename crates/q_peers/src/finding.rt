@@ -1,7 +1,6 @@
 //! The first row, and the next one: of all, and of a site; and the first of a message to a site.
 ghost use Rattle.std.specs.Prelude.{◌≡◌};
-ghost use Rattle.std.specs.List.{list_any};
-ghost use Rattle.q_peers.specs.Numbered.{any_row, first_such, is_at, is_for, next_such, rows_of};
+ghost use Rattle.q_peers.specs.Numbered.{any_row, first_such, is_at, is_for, next_such};
 
 use crate::bucket::{peer_bucket, site_bucket};
 use crate::slots::WAITING;
@@ -53,12 +52,5 @@ impl Waiting {
         self.by_peer.stand_once();
         let from = self.by_peer.first(peer_bucket(id, site, self.room));
         first_for_from(&self.rows, &self.by_peer, from, id, site)
-    }
-
-    /// Whether a row waits that goes to the site.
-    pub fn waits_at(&self, site: &Site) -> bool
-        ensures { result ≡ list_any (is_at site.now) (rows_of self.now.items) }
-    {
-        self.first_at(site).is_some()
     }
 }

@@ -21,8 +21,6 @@ mod finding;
 mod slots;
 mod waiting;
 mod walk;
-#[cfg(test)]
-mod worked;
 
 pub use bucket::{peer_hash, site_hash};
 pub use waiting::Waiting;

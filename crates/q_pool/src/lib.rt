@@ -13,8 +13,6 @@ mod kept;
 mod pool;
 mod slot;
 mod walk;
-#[cfg(test)]
-mod worked;
 
 pub use kept::Kept;
 pub use pool::Pool;

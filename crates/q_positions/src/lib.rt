@@ -17,8 +17,6 @@ mod lists;
 mod row_list;
 mod row_ref;
 mod slots;
-#[cfg(test)]
-mod worked;
 
 pub use lists::Lists;
 pub use row_list::RowList;

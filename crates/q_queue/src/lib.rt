@@ -12,7 +12,5 @@
 #![tactic(auto)]
 
 mod queue;
-#[cfg(test)]
-mod worked;
 
 pub use queue::Queue;

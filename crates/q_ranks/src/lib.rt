@@ -21,7 +21,5 @@
 
 mod giving;
 mod ranked;
-#[cfg(test)]
-mod worked;
 
 pub use ranked::Ranked;

@@ -20,8 +20,6 @@ mod index;
 mod places;
 mod register;
 mod together;
-#[cfg(test)]
-mod worked;
 
 pub use entry::Entry;
 pub use register::Register;

@@ -24,8 +24,6 @@ mod peer;
 mod round;
 mod rounds;
 mod walking;
-#[cfg(test)]
-mod worked;
 
 pub use peer::{Peer, PeerKey};
 pub use rounds::Rounds;

@@ -28,8 +28,6 @@ mod ranked;
 mod ranking;
 mod schedule;
 mod stale;
-#[cfg(test)]
-mod worked;
 
 pub use admitted::Admitted;
 pub use schedule::Schedule;

@@ -28,13 +28,6 @@ impl Schedule {
         self.turns.spare_jobs(transport)
     }
 
-    /// How many peers more have room.
-    pub fn spare_peers(&self) -> u32
-        ensures { result ≡ self.now.room - length self.now.peers }
-    {
-        self.turns.spare_peers()
-    }
-
     /// The job of a message.
     pub fn job(&self, transport: usize, id: Id) -> Option<&Job>
         ensures { option_copied result ≡ find (is_job_of id) (line_at transport self.now.lines) }

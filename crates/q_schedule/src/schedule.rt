@@ -1,5 +1,5 @@
 //! The schedule.
-ghost use Rattle.std.specs.Prelude.{◌≡◌, ◌<◌, ◌≤◌, ◌-◌, ◌^◌, [], IfOk, length, replicate};
+ghost use Rattle.std.specs.Prelude.{◌≡◌, ◌<◌, ◌≤◌, ◌^◌, [], IfOk, length, replicate};
 ghost use Rattle.std.specs.List.{AllByRecursion};
 ghost use Rattle.q_rounds.specs.Rounds.{AreStartsApart};
 ghost use Rattle.q_schedule.specs.Schedule.{AreApart as AreMessagesApart};
@@ -96,12 +96,5 @@ impl Schedule {
     {
         self.turns.stand_apart();
         self.messages.stand_apart();
-    }
-
-    /// How many messages more have room.
-    pub fn spare_messages(&self) -> u32
-        ensures { result ≡ self.now.message_room - length self.now.messages }
-    {
-        self.messages.spare()
     }
 }

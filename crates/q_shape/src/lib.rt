@@ -15,8 +15,6 @@ mod numbers;
 mod options;
 mod ranks;
 mod table;
-#[cfg(test)]
-mod worked;
 
 pub use age_table::AgeTable;
 pub use options::ShapeOptions;

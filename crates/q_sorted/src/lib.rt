@@ -21,8 +21,6 @@ mod block;
 mod blocks;
 mod entry;
 mod sorted;
-#[cfg(test)]
-mod worked;
 
 pub use entry::Entry;
 pub use sorted::Sorted;

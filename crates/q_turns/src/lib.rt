@@ -34,10 +34,6 @@ mod moving;
 mod next;
 mod peers;
 mod turns;
-#[cfg(test)]
-mod worked;
-#[cfg(test)]
-mod worked_filing;
 
 pub use filing::Facts;
 pub use turns::Turns;

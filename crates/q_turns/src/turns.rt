@@ -123,13 +123,6 @@ impl Turns {
         self.lines[transport].spare()
     }
 
-    /// How many peers more have room.
-    pub fn spare_peers(&self) -> u32
-        ensures { result ≡ self.now.room - length self.now.peers }
-    {
-        self.peers.spare()
-    }
-
     /// The job of a message.
     pub fn job(&self, transport: usize, id: Id) -> Option<&Job>
         ensures { option_copied result ≡ find (is_job_of id) (line_at transport self.now.lines) }

@@ -16,8 +16,6 @@ mod reading;
 mod request;
 mod submission;
 mod tables;
-#[cfg(test)]
-mod worked;
 
 pub use error::WordsError;
 pub use reading::read_words;

@@ -1,0 +1,184 @@
+//! What a case is carried out on: a spool and an output in memory, and what its next command is given.
+use crate::bytes::bytes_of;
+use crate::fault::{Fault, fault_of};
+use crate::flaw::Flaw;
+use crate::places::{number_of, numbers_of, spot_of};
+use crate::server::Act;
+use crate::snapshot::Snapshot;
+use crate::step::Step;
+use crate::sweep::{Life, Sweep};
+use q_link::ScriptHops;
+use q_mem_host::Rot;
+use q_model::Moment;
+use q_silent_host::SilentHost;
+use q_top::Status;
+use std::alloc::Global;
+use std::mem;
+
+/// The moment of a command that is stopped after each call.
+const FIRST_MOMENT: Moment = 1_000;
+
+/// How many bytes of the input come at once, where a page says nothing of it.
+const PIECE: usize = 4_096;
+
+/// The spool of a case, what its next command is given, and what the last one left.
+#[derive(Drop)]
+pub(crate) struct Stage {
+    pub(crate) alloc: Global,
+    pub(crate) host: SilentHost,
+    /// The moments that the clock gives.
+    pub(crate) moments: Vec<Moment>,
+    /// How many bytes of the input come at once, and the calls on it that fail.
+    pub(crate) piece: usize,
+    pub(crate) fails: Vec<u64>,
+    pub(crate) servers: Vec<Vec<Act>>,
+    /// The fault of disk or output in its midst.
+    pub(crate) fault: Option<Fault>,
+    /// How the last command ended, unless the page has said it.
+    pub(crate) ended: Option<Status>,
+    /// How much was told before it, and how far a page has found its parts in what was told since.
+    pub(crate) told_before: usize,
+    pub(crate) found: usize,
+    /// How many calls were made before it.
+    pub(crate) calls_before: u64,
+    /// Its links, and how many of them a page has asked after.
+    pub(crate) hops: ScriptHops,
+    pub(crate) links_seen: usize,
+}
+
+impl Stage {
+    pub(crate) fn new(alloc: Global) -> Stage {
+        Stage {
+            alloc,
+            host: SilentHost::new(alloc),
+            moments: Vec::new(alloc),
+            piece: PIECE,
+            fails: Vec::new(alloc),
+            servers: Vec::new(alloc),
+            fault: None,
+            ended: None,
+            told_before: 0,
+            found: 0,
+            calls_before: 0,
+            hops: ScriptHops::new(alloc),
+            links_seen: 0,
+        }
+    }
+
+    /// A file stands on the spool, synced.
+    fn put(&mut self, step: &Step<'_>) -> Result<(), Flaw> {
+        let spot = spot_of(step.rest())?;
+        let bytes = bytes_of(self.alloc, step.below.as_slice(), b"\n")?;
+        self.host.put(spot.area, spot.name, bytes.as_slice())?;
+        Ok(())
+    }
+
+    /// A command is stopped after each call, on a spool with the files that the page has put, and the
+    /// lives behind it begin at this moment.
+    fn sweep(&mut self, step: &Step<'_>) -> Result<(), Flaw> {
+        let alloc = self.alloc;
+        let Some((moment, words)) = step.rest().split_once(' ') else {
+            return Err(Flaw::NoStep("no moment and command"));
+        };
+        let input = bytes_of(alloc, step.below.as_slice(), b"\n")?;
+        let list = format!(in alloc; "at {moment}\nend\n")?;
+        let spool = Snapshot::of(alloc, &mut self.host, "")?;
+        let sweep = Sweep {
+            alloc,
+            spool: &spool,
+            first: Life {
+                words,
+                input: input.as_slice(),
+                moment: FIRST_MOMENT,
+            },
+            next: Life {
+                words: "replay",
+                input: list.as_bytes(),
+                moment: number_of(moment)?,
+            },
+        };
+        sweep.run()
+    }
+
+    fn crash(&mut self, choice: &str) -> Result<(), Flaw> {
+        let rot = match choice {
+            "keeping" => Rot::Keep,
+            "losing" => Rot::Old,
+            _ => match u8::from_str_radix(choice, 16) {
+                Ok(byte) => Rot::Byte(byte),
+                Err(_) => return Err(Flaw::NoStep("no crash")),
+            },
+        };
+        let host = mem::replace(&mut self.host, SilentHost::new(self.alloc));
+        self.host = host.crash(rot);
+        Ok(())
+    }
+
+    /// Adds to what the last server does.
+    fn add_act(&mut self, act: Act) -> Result<(), Flaw> {
+        match self.servers.last_mut() {
+            Some(acts) => {
+                acts.push(act)?;
+                Ok(())
+            }
+            None => Err(Flaw::NoStep("no server before")),
+        }
+    }
+
+    /// Carries out a step on servers. Whether it was one.
+    fn script(&mut self, step: &Step<'_>) -> Result<bool, Flaw> {
+        let rest = step.rest();
+        let act = match step.word() {
+            "server" => {
+                self.servers.push(Vec::new(self.alloc))?;
+                return Ok(true);
+            }
+            "says" => Act::Says(bytes_of(self.alloc, step.below.as_slice(), b"\r\n")?),
+            "slowly" => Act::Slowly(bytes_of(self.alloc, step.below.as_slice(), b"\r\n")?),
+            "waits" => Act::Waits,
+            "ends" => Act::Ends,
+            "read-fails" => Act::ReadFails,
+            "write-fails" => Act::WriteFails(number_of(rest)?),
+            "write-waits" => Act::WriteWaits(number_of(rest)?),
+            _ => return Ok(false),
+        };
+        self.add_act(act)?;
+        Ok(true)
+    }
+
+    /// Carries out a step on the spool, and on what the next command is given. Whether it was one.
+    fn prepare(&mut self, step: &Step<'_>) -> Result<bool, Flaw> {
+        let rest = step.rest();
+        match step.word() {
+            "put" => self.put(step)?,
+            "crash" => self.crash(rest)?,
+            "sweep" => self.sweep(step)?,
+            "clock" => self.moments = numbers_of(self.alloc, rest)?,
+            "pieces" => self.piece = number_of(rest)? as usize,
+            "input-fails" => self.fails = numbers_of(self.alloc, rest)?,
+            "fails" => self.fault = Some(fault_of(self.alloc, false, rest)?),
+            "stops" => self.fault = Some(fault_of(self.alloc, true, rest)?),
+            _ => return Ok(false),
+        }
+        Ok(true)
+    }
+
+    /// Carries out a step.
+    pub(crate) fn carry_out(&mut self, step: &Step<'_>) -> Result<(), Flaw> {
+        if self.judge(step)? {
+            return Ok(());
+        }
+        self.judge_end()?;
+        if step.word() == "run" {
+            let input = bytes_of(self.alloc, step.below.as_slice(), b"\n")?;
+            return self.run(step.rest(), input.as_slice());
+        }
+        if self.prepare(step)? {
+            return Ok(());
+        }
+        if self.script(step)? {
+            return Ok(());
+        }
+        Err(Flaw::NoStep("no such step"))
+    }
+}
