@@ -1,6 +1,6 @@
-# Commands on a machine that has the kit: `make demo`, `make build`, `make test`.
+# Commands on a machine that has the kit: `make demo`, `make build`, `make test`, `make bench`.
 
-.PHONY: demo build test
+.PHONY: demo build test bench
 
 # Shows what the program does on a fresh spool in a folder of its own, and delivers a message to q_hop.
 # That alone is proved first, since it is to run as a process. What the tools say is kept apart, and shown
@@ -19,3 +19,9 @@ build:
 # Proves everything and runs every test: the gate.
 test:
 	.ci/run
+
+# Measures the built program on real folders, and how fast it delivers mail to q_hop.
+bench: build
+	cd crates/q_hop && rt run
+	bench/spool
+	bench/drain
