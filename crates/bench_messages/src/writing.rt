@@ -1,6 +1,6 @@
 //! A large queue file.
 use q_message::write_message;
-use q_model::{Address, Addresses, Bytes, Head, NoMemory};
+use q_model::{Address, Addresses, Bytes, Head, MOST_CONTENT_BYTES, MOST_RECIPIENTS, NoMemory};
 use std::alloc::Global;
 
 fn recipients(alloc: Global, count: u16) -> Result<Addresses, NoMemory> {
@@ -31,7 +31,8 @@ pub(crate) fn file_of(alloc: Global, count: u16) -> Option<Bytes> {
     };
     let to = recipients(alloc, count).ok()?;
     let content = content(alloc, count).ok()?;
-    if to.len() == 0 || to.len() > 50_000 || content.len() > 20_000_000 {
+    let many = to.len() > MOST_RECIPIENTS as usize;
+    if to.len() == 0 || many || content.len() > MOST_CONTENT_BYTES as usize {
         return None;
     }
     write_message(alloc, &head, &to, &content).ok()

@@ -7,7 +7,7 @@ mod running;
 mod server;
 
 use q_message::read_head;
-use q_model::{Address, Addresses, Area, Head, Name, Spot};
+use q_model::{Address, Addresses, Area, Head, MOST_CONTENT_BYTES, Name, Spot};
 use q_silent_host::{FIRST, SilentHost};
 use round::{Counts, Message, deliver};
 use std::alloc::Global;
@@ -37,7 +37,7 @@ fn message(alloc: Global, host: &mut SilentHost) -> Option<Message> {
     };
     let mut to = Addresses::new(alloc);
     to.push(Address::new(b"b@y.example")?).ok()?;
-    if content.len() > 20_000_000 {
+    if content.len() > MOST_CONTENT_BYTES as usize {
         return None;
     }
     let bytes = q_message::write_message(alloc, &head, &to, &content).ok()?;

@@ -8,7 +8,7 @@ use Rattle.q_model.specs.Texts.{domain_of}
 use Rattle.q_model.specs.Times.{age_of}
 use Rattle.q_shape.specs.Counts.{Count}
 use Rattle.q_walk.specs.Listed.{listed}
-use Rattle.q_words.specs.declared.request.Queues.{Queues}
+use Rattle.q_model.specs.declared.queues.Queues.{Queues}
 
 -- the domain of a sender; the null sender has a name of its own
 abbrev pub sender_domain : Option (List ℕ) → List ℕ

@@ -10,7 +10,7 @@ use crate::paying::most_need;
 use crate::rows::waiting_for;
 use crate::state::Core;
 use q_jobs::Job;
-use q_model::Id;
+use q_model::{Id, MOST_DELIVERIES};
 use q_pool::Slot;
 
 impl Core {
@@ -130,7 +130,7 @@ impl Core {
     pub(crate) fn next_start(&self) -> Option<Decision>
         ensures { result ≡ next_start_in self.now }
     {
-        if self.starts < 1 << 48 {
+        if self.starts < MOST_DELIVERIES {
             self.first_choice()
         } else {
             None

@@ -14,14 +14,14 @@ use crate::rows::{first_row, take_row};
 use crate::state::Core;
 use crate::touched::touch_message;
 use q_jobs::Job;
-use q_model::{Entry, Id, Site};
+use q_model::{Entry, Id, MOST_DELIVERIES, Site};
 use q_schedule::Schedule;
 
 /// The account with one delivery more; a life begins fewer than 2^48.
 fn with_start(job: Job) -> Job
     ensures { result ≡ with_start job }
 {
-    if job.starts < 1 << 48 {
+    if job.starts < MOST_DELIVERIES {
         Job {
             starts: job.starts + 1,
             ..job

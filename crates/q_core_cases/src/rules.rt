@@ -1,7 +1,7 @@
 //! The rules on a core that begins a life, and what the clock, the triggers and looks lead to.
 use q_core::laws::{n1, n2, n3, n4, n5, n6, n7, n8};
 use q_core::{Core, Decision, FileFacts, Found, Heard};
-use q_model::{Id, Mode, Moment, Place, Trigger};
+use q_model::{Id, LAST_MOMENT, Mode, Moment, Place, Trigger};
 use q_params::Params;
 use std::alloc::Global;
 
@@ -90,7 +90,7 @@ fn a_fresh_core_only_looks(rt: HostRuntime) {
 /// Hears an event, where that is allowed.
 fn hears(core: &mut Core, heard: Heard<'_>) -> bool {
     let late = match heard {
-        Heard::At { moment } => moment > 999_990_000_000,
+        Heard::At { moment } => moment > LAST_MOMENT,
         _ => false,
     };
     if late || !core.is_answered() || !core.is_looked_at() {

@@ -11,7 +11,7 @@ use Rattle.q_engine.specs.declared.error.EngineError.{EngineError}
 use Rattle.q_engine.specs.declared.error.EngineError.TheVariants as errors
 use Rattle.q_entries.specs.Causes.{HostCause}
 use Rattle.q_events.proofs.LineParts.{rose_later}
-use Rattle.q_events.specs.declared.error.Bound.{Bound}
+use Rattle.q_model.specs.declared.limits.Bound.{Bound}
 use Rattle.q_host.specs.Faults.{DiskCause, Faults}
 use Rattle.q_host.specs.declared.error.HostError.{HostError}
 use Rattle.q_host.specs.declared.error.HostError.TheVariants.{Disk, NoMemory, Tell}

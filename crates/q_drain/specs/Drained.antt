@@ -10,7 +10,7 @@ use Rattle.q_engine.specs.Refusals.{is_of_host}
 use Rattle.q_engine.specs.declared.engine.Engine.{Engine}
 use Rattle.q_engine.specs.declared.error.EngineError.{EngineError}
 use Rattle.q_engine.specs.declared.error.EngineError.TheVariants as errors
-use Rattle.q_events.specs.declared.error.Bound.TheVariants.{Deliveries}
+use Rattle.q_model.specs.declared.limits.Bound.TheVariants.{Deliveries}
 use Rattle.q_host.specs.View.{View as HostView}
 use Rattle.q_host.specs.declared.error.HostError.TheVariants as faults
 use Rattle.q_link.specs.Records.{HopsView, Rests, counted}

@@ -17,9 +17,9 @@ use crate::poll::Served;
 use crate::turn::{Turn, take_turn};
 use q_agent::Agent;
 use q_engine::{Engine, EngineError};
-use q_events::Bound;
 use q_host::{Host, HostError};
 use q_link::{Hops, Link};
+use q_model::Bound;
 use q_stream::Clock;
 use std::alloc::Global;
 

@@ -15,10 +15,8 @@ use q_agent::{Agent, Report};
 use q_engine::Engine;
 use q_host::{Host, HostError};
 use q_link::{Hops, Link};
+use q_model::MOST_DELIVERIES;
 use std::alloc::Global;
-
-/// How many deliveries a life may begin.
-const DELIVERIES: u64 = 1 << 48;
 
 /// How many polls a turn may have. None comes near: each ends in a report, or is that of a session
 /// that was open.
@@ -108,7 +106,7 @@ fn poll_next<L: Link, H: Host, N: Hops<Link = L>>(
             busy,
         }));
     };
-    if engine.last_number() >= DELIVERIES {
+    if engine.last_number() >= MOST_DELIVERIES {
         return Ok(None);
     }
     let next = hear_report(alloc, engine, agent, host, hops, report, known)?;

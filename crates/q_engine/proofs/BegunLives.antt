@@ -23,7 +23,7 @@ use Rattle.q_restart.specs.Openings.{begun, IsRefusal, KeepsOwnNotes, Opens}
 use Rattle.q_restart.specs.declared.error.OpenError.{OpenError}
 use Rattle.q_restart.specs.declared.error.OpenError.TheVariants as open_errors
 use Rattle.q_restart.specs.declared.opening.Spool.{Spool}
-use Rattle.q_events.specs.declared.error.Bound.{Bound}
+use Rattle.q_model.specs.declared.limits.Bound.{Bound}
 use Rattle.q_model.specs.declared.spot.Area.{Area}
 use Rattle.q_engine.specs.declared.error.EngineError.TheVariants as errors
 use Rattle.q_transport.specs.Contents.{Contents}

@@ -8,7 +8,7 @@ use Rattle.q_model.specs.Ids.{are_distinct}
 use Rattle.q_model.specs.Orderly.{is_orderly}
 use Rattle.q_model.specs.Settings.{Settings, World}
 use Rattle.q_model.specs.Step.{after}
-use Rattle.q_events.specs.declared.error.Bound.TheVariants as bounds
+use Rattle.q_model.specs.declared.limits.Bound.TheVariants as bounds
 use Rattle.q_host.specs.View.{View}
 use Rattle.q_host.specs.declared.error.HostError.{HostError}
 use Rattle.q_books.specs.HostStands.{HostStands}

@@ -8,7 +8,7 @@ use Rattle.q_model.specs.Deliveries.{flight_of}
 use Rattle.q_model.specs.Ledger.{Ledger}
 use Rattle.q_model.specs.Past.{arrivals}
 use Rattle.q_model.specs.Settings.{World}
-use Rattle.q_events.specs.declared.error.Bound.TheVariants as bounds
+use Rattle.q_model.specs.declared.limits.Bound.TheVariants as bounds
 use Rattle.q_model.specs.FaultCounts.{Rose}
 use Rattle.q_host.specs.Faults.{Faults}
 use Rattle.q_host.specs.declared.error.HostError.{HostError}

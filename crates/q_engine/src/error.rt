@@ -2,9 +2,8 @@
 ghost use Rattle.std.specs.Prelude.{◌≡◌, true};
 ghost use Rattle.q_engine.specs.Refusals.{is_of_host, refusal_of};
 
-use q_events::Bound;
 use q_host::HostError;
-use q_model::{Area, Name};
+use q_model::{Area, Bound, Name};
 use thiserror::Error;
 
 /// Why an engine gave up. It is spent by each refusal.

@@ -6,14 +6,7 @@ ghost use Rattle.q_model.specs.Deliveries.{flight_of};
 
 use crate::engine::Engine;
 use crate::error::EngineError;
-use q_events::Bound;
-use q_model::{Address, Event, Outcome};
-
-/// How many bytes the content of a message that comes may have (postconf(5): message_size_limit).
-const MAX_CONTENT: usize = 10_240_000;
-
-/// How many recipients a message may have.
-const MAX_RECIPIENTS: usize = 50_000;
+use q_model::{Address, Bound, Event, MOST_MAIL_BYTES, MOST_RECIPIENTS, Outcome};
 
 /// A count, of which no more than 2^32 - 1 is told.
 fn counted(count: usize) -> u32
@@ -30,12 +23,12 @@ fn mail_refusal(arrived: u32, to: &[Address], content: &[u8]) -> Option<EngineEr
     ensures serial { IfNone result (arrived < 2 ^ 32 - 1) }
     ensures kind { IfSome result (λ error. is_of_event error ≡ true) }
 {
-    if content.len() > MAX_CONTENT {
+    if content.len() > MOST_MAIL_BYTES as usize {
         return Some(EngineError::Limit {
             bound: Bound::Content,
         });
     }
-    if to.len() > MAX_RECIPIENTS {
+    if to.len() > MOST_RECIPIENTS as usize {
         return Some(EngineError::Limit {
             bound: Bound::Recipients,
         });

@@ -10,20 +10,17 @@ use crate::failures::{failures_at, positions_of};
 use crate::read_fault::read_fault;
 use q_host::{Host, HostError};
 use q_message::read_names;
-use q_model::{Address, Bytes, FileHead, Id, Spot};
+use q_model::{Address, Bytes, FileHead, Id, MOST_RETURNED_BYTES, Spot};
 use q_notice::notice;
 use std::alloc::Global;
-
-/// How many bytes of a message its notice has at most.
-const FRONT: u32 = 50_000;
 
 fn front_size(size: u32) -> usize
     ensures { result ≡ min size 50000 }
 {
-    if size < FRONT {
+    if size < MOST_RETURNED_BYTES {
         size as usize
     } else {
-        FRONT as usize
+        MOST_RETURNED_BYTES as usize
     }
 }
 

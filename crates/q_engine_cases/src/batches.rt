@@ -1,7 +1,7 @@
 //! Recipients that come into memory by batches, where there is room for ten.
 use crate::drive::{Stop, deliver_all, live};
 use q_message::write_message;
-use q_model::{Address, Addresses, Area, Bytes, Head, Name, NoMemory};
+use q_model::{Address, Addresses, Area, Bytes, Head, MOST_RECIPIENTS, Name, NoMemory};
 use q_silent_host::SilentHost;
 use q_stream::MemSource;
 use std::alloc::Global;
@@ -55,7 +55,7 @@ fn file_to(alloc: Global, to: &Addresses) -> Result<Bytes, NoMemory> {
         sender: Address::new(b"a@x.example"),
         arrival: 1000,
     };
-    if to.len() < 1 || to.len() > 50_000 {
+    if to.len() < 1 || to.len() > MOST_RECIPIENTS as usize {
         return Err(NoMemory);
     }
     write_message(alloc, &head, to, b"")

@@ -9,7 +9,7 @@ use Rattle.q_events.specs.EventList.{bad, item_at, leads, past_limit, FirstItem}
 use Rattle.q_events.specs.Readings.{is_in_line}
 use Rattle.q_events.specs.States.{text_left, EventsState, ReaderState}
 use Rattle.q_events.specs.TextLines.{cut, is_long, lines_from, TextLine, whole}
-use Rattle.q_events.specs.declared.error.Bound.TheVariants.{Input}
+use Rattle.q_model.specs.declared.limits.Bound.TheVariants.{Input}
 use Rattle.q_events.specs.declared.error.EventError.{EventError}
 use Rattle.q_events.specs.declared.error.EventError.TheVariants as errors
 use Rattle.q_events.specs.declared.line_reader.Next.{Next}

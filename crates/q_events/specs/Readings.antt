@@ -4,7 +4,7 @@ use Rattle.std.specs.Prelude.{◌+◌, ◌++◌, ◌==◌, ◌≡◌, Bool, Err,
 use Rattle.q_events.specs.EventList.{bad, first_item, found, leads, past_limit, FirstItem}
 use Rattle.q_events.specs.States.{EventsState, text_left}
 use Rattle.q_events.specs.TextLines.{lines_from, TextLine}
-use Rattle.q_events.specs.declared.error.Bound.TheVariants.{Input}
+use Rattle.q_model.specs.declared.limits.Bound.TheVariants.{Input}
 use Rattle.q_events.specs.declared.error.EventError.{EventError}
 use Rattle.q_events.specs.declared.error.EventError.TheVariants as errors
 use Rattle.q_events.specs.declared.item.Item.{Item}

@@ -1,29 +1,6 @@
 //! Why there is no next event.
-use q_model::NoMemory;
+use q_model::{Bound, NoMemory};
 use thiserror::Error;
-
-/// A limit of the queue manager. A reader of event lists comes to `Input` alone.
-#[derive(Clone, Copy, Debug, PartialEq, Eq, Error)]
-pub enum Bound {
-    /// A message may have 10,240,000 bytes of content.
-    #[error("content")]
-    Content,
-    /// A message may have 50,000 recipients.
-    #[error("recipients")]
-    Recipients,
-    /// There are 2^32 - 1 generations.
-    #[error("generation")]
-    Generation,
-    /// A generation has 2^32 - 1 serials.
-    #[error("serial")]
-    Serial,
-    /// An event list may have 2^40 bytes.
-    #[error("input")]
-    Input,
-    /// A life may start 2^48 deliveries.
-    #[error("deliveries")]
-    Deliveries,
-}
 
 /// Why there is no next item. After one of these the reader gives no item any more.
 #[derive(Clone, Copy, Debug, PartialEq, Eq, Error)]

@@ -8,11 +8,11 @@ ghost use Rattle.q_events.specs.LineReadings.{ReadsLine};
 ghost use Rattle.q_events.specs.Readings.{GivesNoMore, is_list_end, Reads};
 ghost use Rattle.q_events.specs.States.{unread_list};
 
-use crate::error::{Bound, EventError};
+use crate::error::EventError;
 use crate::item::Item;
 use crate::line::{Command, Line, parse};
 use crate::line_reader::{LineError, LineReader, NextLine};
-use q_model::{Bytes, Event, NoMemory};
+use q_model::{Bound, Bytes, Event, NoMemory};
 use q_stream::Source;
 use std::alloc::Global;
 use std::marker::Model;

@@ -12,6 +12,6 @@ mod item;
 mod line;
 mod line_reader;
 
-pub use error::{Bound, EventError};
+pub use error::EventError;
 pub use events::Events;
 pub use item::Item;

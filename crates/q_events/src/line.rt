@@ -3,14 +3,11 @@ ghost use Rattle.std.specs.Prelude.{◌≡◌, IfOk};
 ghost use Rattle.q_text.specs.Pieces.{words_in};
 ghost use Rattle.q_events.specs.EventLines.{command_of, is_body, is_passed, meaning_of_line, mail_in, moment_of, reply_in, reply_to, single_of, trigger_command};
 
-use q_model::{Address, Addresses, Event, NoMemory};
+use q_model::{Address, Addresses, Event, LAST_MOMENT, NoMemory};
 use q_text::{
     first_word, read_addresses, read_number, read_outcomes, read_sender, read_state, read_trigger,
 };
 use std::alloc::Global;
-
-/// The latest moment in input.
-const LATEST: u64 = 999_990_000_000;
 
 /// What a line says.
 #[derive(Debug, Drop)]
@@ -88,7 +85,7 @@ fn reply(alloc: Global, text: &[u8]) -> Result<Option<Command>, NoMemory>
 fn moment(text: &[u8]) -> Option<Command>
     ensures { result ≡ moment_of text.now }
 {
-    let moment = read_number(text, 0, LATEST)?;
+    let moment = read_number(text, 0, LAST_MOMENT)?;
     Some(Command::Plain(Event::At { moment }))
 }
 

@@ -9,15 +9,9 @@ ghost use Rattle.q_files.specs.declared.error.FileError.TheVariants.{TooBig, Too
 use crate::error::FileError;
 use q_host::{Host, HostError};
 use q_message::write_message;
-use q_model::{Addresses, Area, Head, Id, Spot, id_name};
+use q_model::{Addresses, Area, Head, Id, MOST_CONTENT_BYTES, MOST_RECIPIENTS, Spot, id_name};
 use q_store::store_file;
 use std::alloc::Global;
-
-/// How many bytes the content of a message may have.
-const MAX_CONTENT: usize = 20_000_000;
-
-/// How many recipients a message may have.
-const MAX_RECIPIENTS: usize = 50_000;
 
 /// The file is made before the disk is touched.
 fn store_new<H: Host>(
@@ -80,10 +74,10 @@ pub fn submit<H: Host>(
     ensures many_untouched { 50000 < length to.now → host.new ≡ host.old }
     ensures cause { SubmitCause (H.faults host.old) (H.faults host.new) result }
 {
-    if content.len() > MAX_CONTENT {
+    if content.len() > MOST_CONTENT_BYTES as usize {
         return Err(FileError::TooBig);
     }
-    if to.len() > MAX_RECIPIENTS {
+    if to.len() > MOST_RECIPIENTS as usize {
         return Err(FileError::TooMany);
     }
     match store_new(alloc, host, id, head, to, content) {

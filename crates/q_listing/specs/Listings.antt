@@ -15,7 +15,7 @@ use Rattle.q_model.specs.Text.{sender_text, spaced}
 use Rattle.q_model.specs.TextParts.{text_line}
 use Rattle.q_walk.specs.declared.walk.Found.{Found}
 use Rattle.q_walk.specs.Listed.{listed}
-use Rattle.q_words.specs.declared.request.Queues.{Queues}
+use Rattle.q_model.specs.declared.queues.Queues.{Queues}
 
 -- ---- lines
 

@@ -11,9 +11,9 @@ ghost use Rattle.q_walk.specs.Walks.{IsAhead, IsFound};
 use crate::lines::{add_message, add_total};
 use crate::recipients::tell_recipients;
 use q_host::{Host, HostError};
+use q_model::Queues;
 use q_telling::tell_text;
 use q_walk::{Found, Walk};
-use q_words::Queues;
 use std::alloc::Global;
 
 /// How many messages and pending recipients were told.

@@ -15,7 +15,7 @@ use crate::remaining::is_some_left;
 use crate::replies::reply;
 use q_engine::Engine;
 use q_host::{Host, HostError};
-use q_model::{Event, Moment, NoMemory};
+use q_model::{Event, LAST_MOMENT, Moment, NoMemory};
 use std::alloc::Global;
 
 /// How often the clock goes on at most.
@@ -23,9 +23,6 @@ const MOST_ROUNDS: u64 = 200;
 
 /// By how much it goes on, in seconds.
 const ROUND: Moment = 4_000;
-
-/// The last moment that an event may say. No load comes near.
-const LAST_MOMENT: Moment = 999_990_000_000;
 
 /// What makes the events of a load, behind the first: how many mails it has, how many events of each
 /// kind came, and what the last one was.

@@ -12,9 +12,8 @@ ghost use Rattle.q_walk.specs.Listed.{listed};
 ghost use Rattle.q_walk.specs.Walks.{IsAhead};
 
 use q_host::{Host, HostError};
-use q_model::NoMemory;
+use q_model::{NoMemory, Queues};
 use q_walk::Walk;
-use q_words::Queues;
 use std::alloc::Global;
 
 /// A walk over the messages of all queues.

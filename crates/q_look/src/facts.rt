@@ -14,11 +14,8 @@ use crate::failed::failed_at;
 use q_core::{FileFacts, Found};
 use q_host::{Host, HostError};
 use q_message::{MessageError, read_head};
-use q_model::{Area, DeferredName, FileHead, Id, Spot, id_name};
+use q_model::{Area, DeferredName, FileHead, Id, MOST_RECIPIENTS, Spot, id_name};
 use std::alloc::Global;
-
-/// The most recipients of a queue file.
-const MOST_RECIPIENTS: u32 = 50_000;
 
 /// What the reader of a queue file answers: nothing, where the file is none.
 pub(crate) fn unreadable<T: Drop>(error: MessageError) -> Result<Option<T>, HostError>

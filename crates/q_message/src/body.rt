@@ -2,17 +2,11 @@
 ghost use Rattle.std.specs.Prelude.{◌≡◌};
 ghost use Rattle.q_model.specs.QueueFile.{arrival_of, counts_of, recipient_of, sender_of};
 
-use q_model::{Address, Moment};
+use q_model::{Address, LAST_MOMENT, MOST_CONTENT_BYTES, MOST_RECIPIENTS, Moment};
 use std::marker::Model;
 
 /// The version of the format.
 pub(crate) const VERSION: u32 = 1;
-
-const MOST_RECIPIENTS: u32 = 50_000;
-
-const MOST_CONTENT: u32 = 20_000_000;
-
-const LAST_MOMENT: Moment = 999_990_000_000;
 
 /// The mark byte of a recipient that is done. Every other byte is that of a pending one.
 const DONE: u8 = b'D';
@@ -61,7 +55,9 @@ pub(crate) fn counts_in(body: &[u8]) -> Option<Counts>
     let version = u32::from_be_bytes([body[0], body[1], body[2], body[3]]);
     let recipients = u32::from_be_bytes([body[4], body[5], body[6], body[7]]);
     let content = u32::from_be_bytes([body[8], body[9], body[10], body[11]]);
-    let within_limits = recipients >= 1 && recipients <= MOST_RECIPIENTS && content <= MOST_CONTENT;
+    let within_limits = recipients >= 1
+        && recipients <= MOST_RECIPIENTS
+        && content <= MOST_CONTENT_BYTES;
     if version != VERSION || !within_limits {
         return None;
     }

@@ -10,11 +10,13 @@ mod file_head;
 mod hop;
 mod id;
 mod id_text;
+mod limits;
 mod name;
 mod names;
 mod no_memory;
 mod outcome;
 mod padded;
+mod queues;
 mod rows;
 mod sequence;
 mod site;
@@ -27,10 +29,15 @@ pub use file_head::{Batch, Cursor, FileHead, Head, Taken};
 pub use hop::Hop;
 pub use id::{Id, Moment};
 pub use id_text::{due_name, due_of, id_name, id_of};
+pub use limits::{
+    Bound, LAST_MOMENT, MOST_CONTENT_BYTES, MOST_DELIVERIES, MOST_MAIL_BYTES, MOST_RECIPIENTS,
+    MOST_RETURNED_BYTES,
+};
 pub use name::Name;
 pub use names::Names;
 pub use no_memory::NoMemory;
 pub use outcome::{Failure, Note, Outcome, SiteState, Why};
+pub use queues::Queues;
 pub use rows::{
     Admitted, DeferredName, Delivery, Health, Mark, Need, Place, Request, Row, Scan, Served,
     SiteRecord, Unsettled,

@@ -4,11 +4,8 @@ ghost use Rattle.q_notice.specs.NoticeTexts.{head_lines, IsNotice, notice_text, 
 
 use crate::failures::add_failures;
 use crate::lines::{add, add_line, add_number};
-use q_model::{Address, Addresses, Bytes, Id, NoMemory, Records, id_name};
+use q_model::{Address, Addresses, Bytes, Id, MOST_RETURNED_BYTES, NoMemory, Records, id_name};
 use std::alloc::Global;
-
-/// How many bytes of a message a notice has at most.
-const FRONT: u32 = 50_000;
 
 /// Adds the header, and the line in front of the failures.
 fn add_head(text: &mut Vec<u8>, id: Id, sender: &Address) -> Result<(), NoMemory>
@@ -28,7 +25,11 @@ fn add_head(text: &mut Vec<u8>, id: Id, sender: &Address) -> Result<(), NoMemory
 fn front_size(size: u32) -> u32
     ensures { result ≡ min size 50000 }
 {
-    if size < FRONT { size } else { FRONT }
+    if size < MOST_RETURNED_BYTES {
+        size
+    } else {
+        MOST_RETURNED_BYTES
+    }
 }
 
 /// Adds the lines that say how much of the message follows.

@@ -2,6 +2,8 @@
 ghost use Rattle.std.specs.Prelude.{◌≡◌};
 ghost use Rattle.q_record.specs.Kinds.{is_kind, is_length};
 
+use q_model::MOST_CONTENT_BYTES;
+
 /// Counts, arrival, sender, recipient, content and end.
 pub(crate) fn is_kind(kind: u8) -> bool
     ensures { result ≡ is_kind kind }
@@ -17,7 +19,7 @@ pub(crate) fn is_length(kind: u8, length: u32) -> bool
         b'T' => length == 8,
         b'S' => length == 0 || (length >= 3 && length <= 254),
         b'R' => length >= 4 && length <= 255,
-        b'N' => length <= 20_000_000,
+        b'N' => length <= MOST_CONTENT_BYTES,
         b'E' => length == 0,
         _ => false,
     }

@@ -6,7 +6,7 @@ use Rattle.q_engine.specs.Beginnings.{is_of_spool}
 use Rattle.q_engine.specs.Refusals.{is_of_host}
 use Rattle.q_engine.specs.declared.error.EngineError.{EngineError}
 use Rattle.q_engine.specs.declared.error.EngineError.TheVariants as engine_errors
-use Rattle.q_events.specs.declared.error.Bound.{Bound}
+use Rattle.q_model.specs.declared.limits.Bound.{Bound}
 use Rattle.q_events.specs.declared.error.EventError.{EventError}
 use Rattle.q_events.specs.declared.error.EventError.TheVariants as event_errors
 use Rattle.q_host.specs.Calls.{Stays}

@@ -23,8 +23,8 @@ use Rattle.q_entries.proofs.Playing.{plays_then}
 use Rattle.q_engine.specs.declared.error.EngineError.{EngineError}
 use Rattle.q_engine.specs.declared.error.EngineError.TheVariants as engine_errors
 use Rattle.q_entries.specs.Runs.{PlaysRun}
-use Rattle.q_events.specs.declared.error.Bound.{Bound}
-use Rattle.q_events.specs.declared.error.Bound.TheVariants.{Content, Deliveries, Generation, Input, Recipients, Serial}
+use Rattle.q_model.specs.declared.limits.Bound.{Bound}
+use Rattle.q_model.specs.declared.limits.Bound.TheVariants.{Content, Deliveries, Generation, Input, Recipients, Serial}
 use Rattle.q_events.specs.declared.item.Item.TheVariants.{End, Restart}
 use Rattle.q_host.specs.View.{View}
 use Rattle.q_host.specs.declared.error.HostError.{HostError}

@@ -17,7 +17,7 @@ use Rattle.q_events.specs.EventList.{found, first_item, leads, bad as bad_line, 
 use Rattle.q_events.specs.Readings.{is_list_end, reading}
 use Rattle.q_events.specs.States.{EventsState}
 use Rattle.q_events.specs.TextLines.{lines_from}
-use Rattle.q_events.specs.declared.error.Bound.TheVariants.{Input}
+use Rattle.q_model.specs.declared.limits.Bound.TheVariants.{Input}
 use Rattle.q_events.specs.declared.item.Item.{Item as ListItem}
 use Rattle.q_events.specs.declared.item.Item.TheVariants.{End, Restart}
 use Rattle.q_replay.specs.Listings.{Listing, gives, bad, past_limit, lines_of, listing}

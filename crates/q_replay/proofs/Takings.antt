@@ -18,8 +18,8 @@ use Rattle.q_engine.specs.declared.error.EngineError.TheVariants as engine_error
 use Rattle.q_entries.specs.Entries.{DoesEntry, IsWithinEntry, StopsEntry}
 use Rattle.q_entries.specs.Runs.{HaltsRun, IsLeftOfRun, PlaysRun}
 use Rattle.q_entries.proofs.Playing.{plays_given_up, plays_halts, plays_more, plays_none, plays_reads}
-use Rattle.q_events.specs.declared.error.Bound.{Bound}
-use Rattle.q_events.specs.declared.error.Bound.TheVariants.{Generation}
+use Rattle.q_model.specs.declared.limits.Bound.{Bound}
+use Rattle.q_model.specs.declared.limits.Bound.TheVariants.{Generation}
 use Rattle.q_events.specs.declared.item.Item.{Item as ListItem}
 use Rattle.q_events.specs.declared.item.Item.TheVariants.{End, Restart, Step}
 use Rattle.q_host.specs.Calls.{Stays}

@@ -9,7 +9,7 @@ use Rattle.q_drain.specs.Told.{events_of}
 use Rattle.q_drain.specs.Turned.{Outsides}
 use Rattle.q_drain.specs.Turns.{AllConnected, IsClocked}
 use Rattle.q_entries.specs.Runs.{PlaysRun}
-use Rattle.q_events.specs.declared.error.Bound.TheVariants.{Deliveries, Generation}
+use Rattle.q_model.specs.declared.limits.Bound.TheVariants.{Deliveries, Generation}
 use Rattle.q_host.specs.View.{View}
 use Rattle.q_host.specs.declared.error.HostError.{HostError}
 use Rattle.q_host.specs.declared.error.HostError.TheVariants as faults

@@ -4,8 +4,8 @@ use Rattle.std.specs.Prelude.{◌-◌, ◌^◌, ◌++◌, [], Bool, if◌then◌
 use Rattle.q_engine.specs.Refusals.{refused_event}
 use Rattle.q_engine.specs.declared.error.EngineError.{EngineError}
 use Rattle.q_engine.specs.declared.error.EngineError.TheVariants as errors
-use Rattle.q_events.specs.declared.error.Bound.{Bound}
-use Rattle.q_events.specs.declared.error.Bound.TheVariants.{Generation, Input}
+use Rattle.q_model.specs.declared.limits.Bound.{Bound}
+use Rattle.q_model.specs.declared.limits.Bound.TheVariants.{Generation, Input}
 use Rattle.q_events.specs.declared.item.Item.{Item as ListItem}
 use Rattle.q_events.specs.declared.item.Item.TheVariants.{End, Restart, Step}
 use Rattle.q_events.specs.Readings.{is_list_end}

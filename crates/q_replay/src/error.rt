@@ -3,8 +3,8 @@ ghost use Rattle.std.specs.Prelude.{◌≡◌, ◌≢◌};
 ghost use Rattle.q_replay.specs.Takings.{list_error, replay_error};
 
 use q_engine::EngineError;
-use q_events::{Bound, EventError};
-use q_model::{Area, Name};
+use q_events::EventError;
+use q_model::{Area, Bound, Name};
 use thiserror::Error;
 
 /// Why a replay didn't come to the end of its list. What was told before it stands on disk.

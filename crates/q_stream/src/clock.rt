@@ -4,9 +4,6 @@ ghost use Rattle.q_stream.specs.Clocks.{AddsMoment, last_moment};
 
 use q_model::Moment;
 
-/// The greatest moment that a clock gives, in seconds since the epoch.
-pub(crate) const LAST_MOMENT: Moment = 999_990_000_000;
-
 /// A clock of whole seconds since the epoch. It may go back, and it can't fail.
 pub trait Clock {
     /// The moments that it gave, in order, where the clock tells them; the machine's can't.

@@ -4,8 +4,7 @@ ghost use Rattle.q_stream.specs.Clocks.{AddsMoment, given_so_far, last_moment, m
 ghost use Rattle.q_stream.specs.Script.{counted};
 
 use crate::Clock;
-use crate::clock::LAST_MOMENT;
-use q_model::{Moment, NoMemory};
+use q_model::{LAST_MOMENT, Moment, NoMemory};
 use std::alloc::Global;
 use std::marker::Model;
 

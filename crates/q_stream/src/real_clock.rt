@@ -3,8 +3,7 @@ ghost use Rattle.std.specs.Prelude.{◌≡◌, ◌≤◌, None};
 ghost use Rattle.q_stream.specs.Clocks.{AddsMoment, last_moment};
 
 use crate::Clock;
-use crate::clock::LAST_MOMENT;
-use q_model::Moment;
+use q_model::{LAST_MOMENT, Moment};
 use std::io;
 use std::time::{Clock as SystemClock, SystemTime, UNIX_EPOCH};
 

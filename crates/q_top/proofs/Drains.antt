@@ -11,7 +11,7 @@ use Rattle.q_drain.specs.Standing.{Outside}
 use Rattle.q_drain.specs.Turned.{Outsides}
 use Rattle.q_entries.proofs.Playing.{plays_then}
 use Rattle.q_entries.specs.Runs.{PlaysRun}
-use Rattle.q_events.specs.declared.error.Bound.TheVariants as bounds
+use Rattle.q_model.specs.declared.limits.Bound.TheVariants as bounds
 use Rattle.q_host.specs.Calls.{Stays}
 use Rattle.q_host.specs.View.{View}
 use Rattle.q_host.specs.declared.error.HostError.{HostError}

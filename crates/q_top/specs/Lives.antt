@@ -2,7 +2,7 @@
 use Rattle.std.specs.Prelude.{◌≡◌, ◌<◌, ◌≤◌, ◌⊎◌, IfSome, length, List, Option, Result, ℕ}
 use Rattle.q_conf.specs.Confs.{at_fault, conf_of}
 use Rattle.q_conf.specs.declared.error.ConfFile.{ConfFile}
-use Rattle.q_events.specs.declared.error.Bound.TheVariants.{Content}
+use Rattle.q_model.specs.declared.limits.Bound.TheVariants.{Content}
 use Rattle.q_host.specs.Calls.{Stays}
 use Rattle.q_host.specs.View.{View}
 use Rattle.q_model.specs.Book.{Book}

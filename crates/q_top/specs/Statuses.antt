@@ -4,7 +4,7 @@ use Rattle.q_conf.specs.declared.error.ConfError.{ConfError}
 use Rattle.q_conf.specs.declared.error.ConfError.TheVariants as conf_errors
 use Rattle.q_conf.specs.declared.error.ConfFile.{ConfFile}
 use Rattle.q_conf.specs.declared.error.ConfFile.TheVariants as conf_files
-use Rattle.q_events.specs.declared.error.Bound.TheVariants as bounds
+use Rattle.q_model.specs.declared.limits.Bound.TheVariants as bounds
 use Rattle.q_host.specs.declared.error.HostError.{HostError}
 use Rattle.q_host.specs.declared.error.HostError.TheVariants as faults
 use Rattle.q_replay.specs.declared.deliveries.Delivered.{Delivered}

@@ -3,12 +3,9 @@ ghost use Rattle.std.specs.Prelude.{◌≡◌, ◌≤◌, IfErr, IfOk};
 ghost use Rattle.q_model.specs.FaultCounts.{Rose};
 ghost use Rattle.q_top.specs.Contents.{HasRead, IsNoContent};
 
-use q_model::Bytes;
+use q_model::{Bytes, MOST_MAIL_BYTES};
 use q_stream::{Source, Take};
 use std::alloc::Global;
-
-/// The most bytes of a message's content.
-const MOST_CONTENT: usize = 10_240_000;
 
 /// How many bytes are taken at once.
 const PIECE: usize = 65_536;
@@ -39,7 +36,7 @@ pub(crate) fn read_content<S: Source>(alloc: Global, source: &mut S) -> Result<B
             Take::End => return Ok(Bytes::from_vec(content)),
             Take::Failed => return Err(ContentError::Source),
         };
-        if content.len() + count > MOST_CONTENT {
+        if content.len() + count > MOST_MAIL_BYTES as usize {
             return Err(ContentError::TooLong);
         }
         let Ok(()) = content.extend_from_slice(&piece[..count]) else {

@@ -16,5 +16,5 @@ mod submitting;
 mod telling;
 
 pub use command::qmgr;
-pub use q_events::Bound;
+pub use q_model::Bound;
 pub use status::{InputFile, Status};

@@ -3,9 +3,8 @@ ghost use Rattle.std.specs.Prelude.{◌≡◌, ◌≢◌, ℕ};
 ghost use Rattle.q_top.specs.Statuses.{conf_status, delivery_status, input_of, replay_status, status_number, status_of, telling_status};
 
 use q_conf::{ConfError, ConfFile};
-use q_events::Bound;
 use q_host::HostError;
-use q_model::{Area, Name};
+use q_model::{Area, Bound, Name};
 use q_replay::{Delivered, ReplayError};
 use std::fmt;
 

@@ -6,12 +6,9 @@ ghost use Rattle.q_transport.specs.Routing.{table_of};
 use crate::fields::{id_field, number32_field, transport_field, why_field};
 use crate::kind::Kind;
 use crate::part_texts::id;
-use q_model::{Entry, Failure, Mode};
+use q_model::{Entry, Failure, LAST_MOMENT, Mode};
 use q_text::{cut, read_number, read_number32, read_trigger};
 use q_transport::Table;
-
-/// The greatest moment that is given.
-const LAST_MOMENT: u64 = 999_990_000_000;
 
 /// The greatest moment of twelve digits.
 const LAST_DUE: u64 = 999_999_999_999;

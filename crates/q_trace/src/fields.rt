@@ -7,12 +7,9 @@ ghost use Rattle.q_trace.specs.PartTexts.{hop_of, id_of, size_of, transport_of, 
 ghost use Rattle.q_transport.specs.Routing.{table_of};
 
 use crate::part_texts::{hop, id, transport, why};
-use q_model::{Address, Hop, Id, SiteState, Why};
+use q_model::{Address, Hop, Id, MOST_MAIL_BYTES, SiteState, Why};
 use q_text::{cut, read_number, read_number32, read_sender, read_state};
 use q_transport::Table;
-
-/// The most bytes of an arrived content.
-const MOST_CONTENT: u32 = 10_240_000;
 
 pub(crate) fn id_field(text: &[u8]) -> Option<(Id, &[u8])>
     ensures { option_map (λ f. (f.0, f.1.now)) result ≡ field id_of text.now }
@@ -40,7 +37,7 @@ pub(crate) fn size_field(text: &[u8]) -> Option<(u32, &[u8])>
     ensures { option_map (λ f. (f.0, f.1.now)) result ≡ field size_of text.now }
 {
     let (part, rest) = cut(text, b' ')?;
-    Some((read_number32(part, 0, MOST_CONTENT)?, rest))
+    Some((read_number32(part, 0, MOST_MAIL_BYTES)?, rest))
 }
 
 pub(crate) fn sender_field(text: &[u8]) -> Option<(Option<Address>, &[u8])>

@@ -4,18 +4,15 @@ ghost use Rattle.q_trace.specs.PartTexts.{addresses_of, outcomes_of, positions_o
 
 use crate::error::EntryError;
 use crate::parts::spaces;
-use q_model::{Addresses, Outcomes, Positions, SiteState};
+use q_model::{Addresses, MOST_RECIPIENTS, Outcomes, Positions, SiteState};
 use q_text::{read_addresses, read_outcomes, read_positions};
 use std::alloc::Global;
-
-/// The most addresses of a line.
-const MOST_ADDRESSES: usize = 50_000;
 
 /// 1 to 50,000 addresses.
 pub(crate) fn addresses(alloc: Global, text: &[u8]) -> Result<Addresses, EntryError>
     ensures { AnswersText result (addresses_of text.now) }
 {
-    if spaces(text) >= MOST_ADDRESSES {
+    if spaces(text) >= MOST_RECIPIENTS as usize {
         return Err(EntryError::BadEntry);
     }
     read_addresses(alloc, text)?.ok_or(EntryError::BadEntry)

@@ -25,7 +25,7 @@ use Rattle.q_walk.specs.declared.queue.Queue.TheVariants as queues
 use Rattle.q_walk.specs.Listed.{of_queue}
 use Rattle.q_walk.specs.Queues.{held_in, is_chosen, is_in, queue_area}
 use Rattle.q_walk.proofs.Ordered.{all_in_order, AreApart, AreInOrder, file_name, IsApart, IsOneOf, one_in_order, order_in_order, true_not_false}
-use Rattle.q_words.specs.declared.request.Queues.{Queues}
+use Rattle.q_model.specs.declared.queues.Queues.{Queues}
 
 -- ---- places of a queue
 

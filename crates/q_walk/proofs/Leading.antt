@@ -35,7 +35,7 @@ use Rattle.q_walk.specs.Walks.{GivesNext, is_behind, IsAhead, left}
 use Rattle.q_walk.proofs.Held.{all_held, held_order, in_area, in_sound, in_within, IsHeld, IsThisOf, message_there, not_none, one_held, read_file, same_bytes}
 use Rattle.q_walk.proofs.Ordered.{all_at, before_less, file_name, is_less, not_less, IsOneOf, left_all, left_none, left_skip, left_step}
 use Rattle.q_model.proofs.EachLaws.{each-both, each-same}
-use Rattle.q_words.specs.declared.request.Queues.{Queues}
+use Rattle.q_model.specs.declared.queues.Queues.{Queues}
 
 -- ---- queues, one behind another
 

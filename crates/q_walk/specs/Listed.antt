@@ -9,7 +9,7 @@ use Rattle.q_model.specs.Message.{Message}
 use Rattle.q_model.specs.Places.{due_of, is_active, is_incoming, place_eq}
 use Rattle.q_model.specs.SpoolFiles.{name_at}
 use Rattle.q_walk.specs.Orders.{in_order}
-use Rattle.q_words.specs.declared.request.Queues.{Queues}
+use Rattle.q_model.specs.declared.queues.Queues.{Queues}
 
 -- the name of the first file stands before that of the second
 abbrev pub comes_before : Message → Message → Bool

@@ -12,7 +12,7 @@ use Rattle.q_model.specs.SpoolFiles.{IsPlace, name_at}
 use Rattle.q_walk.specs.declared.queue.Queue.{Queue}
 use Rattle.q_walk.specs.declared.queue.Queue.TheVariants as queues
 use Rattle.q_walk.specs.Listed.{is_deferred, is_held, of_queue}
-use Rattle.q_words.specs.declared.request.Queues.{Queues}
+use Rattle.q_model.specs.declared.queues.Queues.{Queues}
 
 -- the area of its files
 abbrev pub queue_area : Queue → Area

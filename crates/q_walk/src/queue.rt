@@ -4,8 +4,7 @@ ghost use Rattle.q_model.specs.declared.id.Id.{Id};
 ghost use Rattle.q_model.specs.declared.rows.Place.{Place};
 ghost use Rattle.q_walk.specs.Queues.{is_chosen, IsNamed, queue_after, queue_area};
 
-use q_model::{Area, Id, Name, Place, due_of, id_of};
-use q_words::Queues;
+use q_model::{Area, Id, Name, Place, Queues, due_of, id_of};
 
 /// A queue of a walk. A walk comes to them in this order.
 #[derive(Clone, Copy, Debug, PartialEq, Eq)]

@@ -16,9 +16,8 @@ use crate::queue::{Queue, is_chosen, named_in, queue_after, queue_area};
 use q_books::file_spot;
 use q_host::{Host, HostError};
 use q_message::{MessageError, read_head};
-use q_model::{FileHead, Id, Moment, Name, NoMemory, Place, Spot};
+use q_model::{FileHead, Id, Moment, Name, NoMemory, Place, Queues, Spot};
 use q_scan::Scan;
-use q_words::Queues;
 use std::alloc::Global;
 
 /// The greatest moment that a name in deferred can say.

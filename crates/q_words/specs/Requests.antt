@@ -8,7 +8,7 @@ use Rattle.q_model.specs.Lists.{has_none}
 use Rattle.q_shape.specs.Buckets.{IsShape}
 use Rattle.q_text.specs.Pieces.{one_or_more}
 use Rattle.q_text.specs.ValueTexts.{address_of, sender_of_text}
-use Rattle.q_words.specs.declared.request.Queues.{Queues}
+use Rattle.q_model.specs.declared.queues.Queues.{Queues}
 use Rattle.q_words.specs.declared.request.Request.{Request}
 use Rattle.q_words.specs.declared.request.Request.TheVariants as requests
 use Rattle.q_words.specs.declared.request.TableRequest.{TableRequest}

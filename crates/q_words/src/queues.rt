@@ -3,7 +3,7 @@ ghost use Rattle.std.specs.Prelude.{◌≡◌, bytes_eq, map};
 ghost use Rattle.std.specs.List.{list_all, list_any};
 ghost use Rattle.q_words.specs.Requests.{is_queue, queues_of};
 
-use crate::request::Queues;
+use q_model::Queues;
 
 fn is_queue(word: &str) -> bool
     ensures { result ≡ is_queue word.now }

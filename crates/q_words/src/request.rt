@@ -1,5 +1,5 @@
 //! What the words of a command ask for.
-use q_model::{Address, Addresses};
+use q_model::{Address, Addresses, Queues};
 use q_shape::ShapeOptions;
 
 /// What the words of a command ask for.
@@ -33,13 +33,4 @@ pub struct TableRequest {
     pub senders: bool,
     pub queues: Queues,
     pub shape: ShapeOptions,
-}
-
-/// Which queues are told of.
-#[derive(Clone, Copy, Debug, PartialEq, Eq)]
-pub struct Queues {
-    pub incoming: bool,
-    pub active: bool,
-    pub deferred: bool,
-    pub hold: bool,
 }

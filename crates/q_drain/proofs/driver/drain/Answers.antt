@@ -6,7 +6,7 @@ use Rattle.q_drain.specs.declared.driver.Drained.{Drained}
 use Rattle.q_drain.specs.declared.driver.Drained.TheVariants.{Quiet, Unfinished}
 use Rattle.q_engine.proofs.Causes.{done_cause, made_cause}
 use Rattle.q_engine.specs.Refusals.{is_of_host}
-use Rattle.q_events.specs.declared.error.Bound.TheVariants.{Deliveries}
+use Rattle.q_model.specs.declared.limits.Bound.TheVariants.{Deliveries}
 use Rattle.q_drain.proofs.driver.drain.Goals as goal
 
 pub returns-in-Err-clause-ends : goal.returns-in-Err-clause-ends

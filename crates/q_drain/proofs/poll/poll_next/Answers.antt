@@ -84,8 +84,8 @@ returns-clause-polling g c = c.in_ok-next.ensures.polling
 pub returns-clause-some : goal.returns-clause-some
 returns-clause-some g c = busy_keeps c.args.served.busy c.in_ok-next.next.busy c.args.agent.now c.hear_report.new.agent c.in_ok-next.ensures.busy
 
-pub returns-then-last_number-ge-DELIVERIES-clause-ok : goal.returns-then-last_number-ge-DELIVERIES-clause-ok
-returns-then-last_number-ge-DELIVERIES-clause-ok g c t w l a clock early fs s known turns h =
+pub returns-then-last_number-ge-MOST_DELIVERIES-clause-ok : goal.returns-then-last_number-ge-MOST_DELIVERIES-clause-ok
+returns-then-last_number-ge-MOST_DELIVERIES-clause-ok g c t w l a clock early fs s known turns h =
     let u = g.H.Host.view c.args.host.now in
     let v = g.H.Host.view c.turn.new.host in
     let hops = g.N.Hops.view c.args.hops.now in
@@ -102,8 +102,8 @@ returns-then-last_number-ge-DELIVERIES-clause-ok g c t w l a clock early fs s kn
 pub returns-in_err-report-clause-cause : goal.returns-in_err-report-clause-cause
 returns-in_err-report-clause-cause g c = disk_passed (g.H.Host.faults c.args.host.now) (g.H.Host.faults c.turn.new.host) c.in_err-report.field-0.0 c.from_residual.result c.from_residual.ensures.1 c.in_err-report.ensures.cause
 
-pub returns-then-last_number-ge-DELIVERIES-clause-rests : goal.returns-then-last_number-ge-DELIVERIES-clause-rests
-returns-then-last_number-ge-DELIVERIES-clause-rests g c =
+pub returns-then-last_number-ge-MOST_DELIVERIES-clause-rests : goal.returns-then-last_number-ge-MOST_DELIVERIES-clause-rests
+returns-then-last_number-ge-MOST_DELIVERIES-clause-rests g c =
     turned_rests g.H.Host.tells (g.H.Host.view c.args.host.now) c.now.result (g.N.Hops.view c.args.hops.now) (g.N.Hops.view c.turn.new.hops) (next_polled c.args.agent.now) c.in_ok-report.field-0 c.args.agent.now c.turn.new.self c.in_ok-report.ensures.ok
 
 pub returns-clause-rests : goal.returns-clause-rests
@@ -126,8 +126,8 @@ returns-in_default-clause-cause g c =
     let turned = c.in_ok-report.ensures.cause in
     ok_host (g.H.Host.faults c.args.host.now) (g.H.Host.faults c.turn.new.host) _ turned.disk_later turned.tell_later
 
-pub returns-then-last_number-ge-DELIVERIES-clause-cause : goal.returns-then-last_number-ge-DELIVERIES-clause-cause
-returns-then-last_number-ge-DELIVERIES-clause-cause g c =
+pub returns-then-last_number-ge-MOST_DELIVERIES-clause-cause : goal.returns-then-last_number-ge-MOST_DELIVERIES-clause-cause
+returns-then-last_number-ge-MOST_DELIVERIES-clause-cause g c =
     let turned = c.in_ok-report.ensures.cause in
     ok_host (g.H.Host.faults c.args.host.now) (g.H.Host.faults c.turn.new.host) _ turned.disk_later turned.tell_later
 
