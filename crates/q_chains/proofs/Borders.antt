@@ -7,7 +7,8 @@ use Rattle.std.specs.List.{AllByRecursion}
 use Rattle.std.specs.Prelude.{◌==◌, if◌then◌else◌, nat_eq, not}
 use Rattle.q_chains.specs.Laid.{AreApart, Lacks, strung}
 use Rattle.q_chains.specs.Lists.{AllBelow, inserted, is_in, pushed, stands, without}
-use Rattle.q_chains.proofs.Places.{among_from, HasNext, inserted_here, inserted_lacking, inserted_there, IsAmong, other_test, without_there}
+use Rattle.q_chains.proofs.Numbers.{other_test}
+use Rattle.q_chains.proofs.Places.{among_from, HasNext, inserted_here, inserted_lacking, inserted_there, IsAmong, without_there}
 
 pub below_lacks : (numbers p : ℕ) (xs : List ℕ) → AllByRecursion (λ x. x < numbers) xs → numbers ≤ p → Lacks p xs
 below_lacks numbers p [] below h = tt

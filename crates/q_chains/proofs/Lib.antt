@@ -1,3 +1,4 @@
+pub mod Numbers
 pub mod Places
 pub mod Paths
 pub mod Borders
@@ -7,4 +8,7 @@ pub mod Calls
 pub mod Fresh
 pub mod Neighbours
 pub mod Once
+pub mod Chained
+pub mod Steps
+pub mod Slots
 mod ListRows

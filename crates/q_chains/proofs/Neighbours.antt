@@ -7,7 +7,8 @@ use Rattle.std.specs.Prelude.{nat_eq, not, slice_get}
 use Rattle.q_chains.specs.Laid.{AreApart, IsLaid, IsPath, number_at, strung}
 use Rattle.q_chains.specs.Lists.{AllBelow, ahead_from, ahead_of, behind, first_of, is_in, last_of, list_with, stands}
 use Rattle.q_chains.proofs.Borders.{apart_back, apart_front, stands_strung}
-use Rattle.q_chains.proofs.Places.{among_from, IsAmong, lacks_from, lacks_other, other_test}
+use Rattle.q_chains.proofs.Numbers.{other_test}
+use Rattle.q_chains.proofs.Places.{among_from, IsAmong, lacks_from, lacks_other}
 use Rattle.q_chains.proofs.Walks.{below_test, past_test, path_back}
 
 pub number_there : (numbers p : ℕ) → p < numbers → number_at numbers p ≡ Some p

@@ -4,6 +4,7 @@ use Rattle.std.proofs.lemmas.Bool.{eq-eqb, eqb-false, eqb-true}
 use Rattle.std.specs.Prelude.{◌==◌, nat_eq, not}
 use Rattle.q_chains.specs.Laid.{AreApart, Lacks}
 use Rattle.q_chains.specs.Lists.{inserted, is_in, without}
+use Rattle.q_chains.proofs.Numbers.{other_test}
 
 -- the place is one of these
 abbrev pub IsAmong : ℕ → List ℕ → Type 0
@@ -15,13 +16,6 @@ abbrev pub HasNext : ℕ → List ℕ → Type 0
 HasNext p [] = ⊥
 HasNext p (q ∷ []) = ⊥
 HasNext p (q ∷ r ∷ qs) = (p ≡ q) ⊎ HasNext p (r ∷ qs)
-
-other_step : (a b : ℕ) (t : Bool) → (a == b) ≡ t → a ≢ b → (a == b) ≡ false
-other_step a b true e h = absurd (h (eqb-true a b e))
-other_step a b false e h = e
-
-pub other_test : (a b : ℕ) → a ≢ b → (a == b) ≡ false
-other_test a b h = other_step a b (a == b) refl h
 
 pub other_way : (a b : ℕ) → a ≢ b → b ≢ a
 other_way a b h e = h (sym e)

@@ -8,7 +8,7 @@ use Rattle.std.specs.Prelude.{◌||◌, eqb, nat_lt}
 use Rattle.q_chains.specs.Lists.{AllBelow}
 use Rattle.q_chains.specs.Laid.{AreApart, IsPath, Lacks, lists_from, strung, walked}
 use Rattle.q_chains.proofs.Borders.{apart_back, apart_front}
-use Rattle.q_chains.proofs.Places.{other_test}
+use Rattle.q_chains.proofs.Numbers.{other_test}
 
 pub below_test : (p numbers : ℕ) → p < numbers → nat_lt p numbers ≡ true
 below_test p numbers h = grind (arith, common_steps, h)

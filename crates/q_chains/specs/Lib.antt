@@ -1,2 +1,4 @@
 pub mod Lists
 pub mod Laid
+pub mod Onward
+pub mod Slots

@@ -15,7 +15,7 @@ use Rattle.q_core.specs.Choosing.{is_fresh_among, is_fresh_in}
 use Rattle.q_core.specs.Loading.{can_join, joined_line, joined_within, joins_in}
 use Rattle.q_core.specs.Sending.{charged_job, preempted_line, started_job, with_charge, with_start}
 use Rattle.q_jobs.proofs.LineWalks.{flipped}
-use Rattle.q_peers.proofs.Numbers.{flipped as flipped_test}
+use Rattle.q_chains.proofs.Numbers.{flipped as flipped_test}
 use Rattle.q_turns.proofs.WithLine.{eq-self}
 use Rattle.q_jobs.specs.declared.job.Job.{Job}
 use Rattle.q_jobs.specs.Jobs.{AreOfOthers, behind_jobs, changed_job, fresh_job, is_job_of, is_job_of_another, moved_job}

@@ -6,7 +6,7 @@ use Rattle.std.specs.Prelude.{◌==◌, filter, find, nat_le, not}
 use Rattle.q_dest.specs.Sound.{Numbers, numbers_by, ranked_at, ranked_by}
 use Rattle.q_dest.specs.declared.dest.Dest.{Dest}
 use Rattle.q_keyed.specs.Numbered.{AreApart, first_such, has_number, item_at, Items, Numbered, put_at, without_number}
-use Rattle.q_peers.proofs.Numbers.{flipped}
+use Rattle.q_chains.proofs.Numbers.{flipped}
 use Rattle.q_register.specs.Entries.{changed, has_key, lacks_key, ranks_within}
 use Rattle.q_register.specs.declared.entry.Entry.{Entry}
 

@@ -8,7 +8,7 @@ use Rattle.q_chains.proofs.Borders.{stands_below}
 use Rattle.q_chains.specs.Lists.{is_in}
 use Rattle.q_marked.specs.Marks.{is_marked}
 use Rattle.q_model.specs.declared.rows.Row.{Row}
-use Rattle.q_peers.proofs.Numbers.{flipped, or_right}
+use Rattle.q_chains.proofs.Numbers.{flipped, or_right}
 use Rattle.q_peers.specs.Numbered as peers
 use Rattle.q_peers.specs.Numbered.{has_number, Numbered, row_at}
 use Rattle.q_held.proofs.Plain.{rows_plain}

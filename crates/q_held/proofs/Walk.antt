@@ -8,7 +8,7 @@ use Rattle.q_chains.specs.Lists.{is_in}
 use Rattle.q_model.proofs.IdLaws.{site_eq-true}
 use Rattle.q_model.specs.declared.rows.Row.{Row}
 use Rattle.q_model.specs.Values.{Site}
-use Rattle.q_peers.proofs.Numbers.{other_test, own_test}
+use Rattle.q_chains.proofs.Numbers.{other_test, own_test}
 use Rattle.q_peers.proofs.Peers.{next_behind}
 use Rattle.q_peers.proofs.Rests.{next_rest, rest}
 use Rattle.q_peers.specs.Numbered.{AreApart, first_such, has_number, is_at, next_such, Numbered, row_at}

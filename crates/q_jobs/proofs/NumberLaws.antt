@@ -7,7 +7,7 @@ use Rattle.std.specs.Prelude.{◌==◌, ◌||◌, find, nat_eq, not, option_map}
 use Rattle.q_chains.specs.Lists.{inserted, is_in, without}
 use Rattle.q_keyed.proofs.Inserted.{inserted_head, inserted_tail}
 use Rattle.q_keyed.specs.Numbered.{AreApart, first_such, has_number, inserted_at, Numbered, put_at, without_number}
-use Rattle.q_peers.proofs.Numbers.{flipped, head_in, or_right}
+use Rattle.q_chains.proofs.Numbers.{flipped, head_in, or_right}
 use Rattle.q_jobs.specs.declared.job.Job.{Job}
 use Rattle.q_jobs.specs.Sound.{numbers_of}
 

@@ -8,7 +8,7 @@ use Rattle.q_keyed.specs.Numbered.{AreApart, first_such, has_number, inserted_at
 use Rattle.q_model.proofs.IdLaws.{id_eq-true}
 use Rattle.q_model.specs.declared.id.Id.{Id}
 use Rattle.q_model.specs.Ids.{id_eq}
-use Rattle.q_peers.proofs.Numbers.{flipped, or_parts}
+use Rattle.q_chains.proofs.Numbers.{flipped, or_parts}
 use Rattle.q_ranks.specs.Ranking.{RiseAbove}
 use Rattle.q_jobs.specs.declared.job.Job.{Job}
 use Rattle.q_jobs.specs.Jobs.{is_job_of, rank_of, RiseFrom}

@@ -6,9 +6,9 @@ use Rattle.std.specs.Option.{is_some}
 use Rattle.std.specs.Prelude.{◌==◌, filter}
 use Rattle.q_chains.proofs.Borders.{stands_below}
 use Rattle.q_chains.specs.Lists.{inserted, is_in, last_of, Lists, pushed, StandOnce, without}
-use Rattle.q_peers.proofs.Chained.{at_pushed_other, at_pushed_own, at_without, gone, in_last, in_more, in_without, length_pushed, length_without, without_lacking}
-use Rattle.q_peers.proofs.Numbers.{not_first, not_second, once_at, stands_in}
-use Rattle.q_peers.proofs.Walks.{once_in}
+use Rattle.q_chains.proofs.Chained.{at_pushed_other, at_pushed_own, at_without, gone, in_last, in_more, in_without, length_pushed, length_without, moved, without_lacking}
+use Rattle.q_chains.proofs.Numbers.{not_first, not_second, once_at, other_there, stands_in}
+use Rattle.q_chains.proofs.Steps.{once_in}
 use Rattle.q_keyed.proofs.Filed.{filed_come, filed_go, filed_put, found_there, unlike_set}
 use Rattle.q_keyed.proofs.Inserted.{at_inserted, in_inserted, in_own, inserted_lacking, length_inserted}
 use Rattle.q_keyed.proofs.Items.{first_item, items_alike, items_left, items_more}
@@ -16,23 +16,13 @@ use Rattle.q_keyed.proofs.Moves.{items_inserted, items_last, items_put, lone_abs
 use Rattle.q_keyed.proofs.Places.{got_within, last_in, last_none}
 use Rattle.q_keyed.proofs.Standing.{count, held}
 use Rattle.q_keyed.specs.Numbered.{first_such, has_number, inserted_at, moved_last, Numbered, put_at, without_number}
-use Rattle.q_keyed.specs.Slots.{items_of, passes, passes_in}
+use Rattle.q_chains.specs.Slots.{passes, passes_in}
+use Rattle.q_keyed.specs.Slots.{items_of}
 use Rattle.q_keyed.specs.Sound.{IsSound}
 
--- the lists of used and of free numbers, with the number at the end of this one
-abbrev pub moved : ℕ → ℕ → Lists → Lists
-moved list n s = record s { lists = pushed list n (map (without n) s.lists) }
-
--- the same with the number before another
+-- the lists of used and of free numbers, with the number before another
 abbrev pub placed : ℕ → ℕ → Lists → Lists
 placed n at s = record s { lists = map (inserted n at) (map (without n) s.lists) }
-
--- a number that stands in a list isn't one that doesn't
-pub other_there : (m n : ℕ) (ns : List ℕ) → is_in n ns ≡ false → is_in m ns ≡ true → m ≡ n → ⊥
-other_there m n ns none h e =
-    let here : is_in n ns ≡ true = ap (λ k. is_in k ns) (sym e) ∙ h in
-    let gone : is_in n ns ≡ false = none in
-    cc
 
 none_of : {X : Type 0} → (o : Option X) → false ≡ is_some o → o ≡ None
 none_of None h = refl

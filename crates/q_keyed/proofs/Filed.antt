@@ -5,9 +5,10 @@ use Rattle.std.proofs.lemmas.List.{get_or-set_other, get_or-set_same, length-map
 use Rattle.std.specs.Option.{is_some}
 use Rattle.std.specs.Prelude.{◌==◌, ◌||◌, find, nat_eq}
 use Rattle.q_chains.specs.Lists.{is_in, Lists, pushed, stands, without}
-use Rattle.q_peers.proofs.Chained.{at_pushed_other, at_pushed_own, at_without, gone, in_last, in_more, in_without, length_pushed}
-use Rattle.q_peers.proofs.Numbers.{stands_not}
-use Rattle.q_keyed.specs.Slots.{is_in_bucket, passes, passes_in}
+use Rattle.q_chains.proofs.Chained.{at_pushed_other, at_pushed_own, at_without, gone, in_last, in_more, in_without, length_pushed}
+use Rattle.q_chains.proofs.Numbers.{stands_not}
+use Rattle.q_chains.proofs.Slots.{passes_alike, passes_own}
+use Rattle.q_chains.specs.Slots.{is_in_bucket, passes, passes_in}
 use Rattle.q_keyed.specs.Sound.{AreFiled, AreUnlike}
 
 -- What a test finds, where one number at most passes.
@@ -51,17 +52,6 @@ pub find_sole : (p : ℕ → Bool) (xs ys : List ℕ) → ((n m : ℕ) → p n �
 find_sole p xs ys sole left right = same_step p xs ys sole left right (find p xs) (find p ys) refl refl
 
 module _ {T : Type 0} where
-  -- another item under a number, or none
-  pub passes_alike : (p : T → Bool) (items : List (Option T)) (n m : ℕ) (o : Option T) → (m ≡ n → ⊥) → passes p (set items n o) m ≡ passes p items m
-  passes_alike p items n m o h = ap (passes_in p) (get_or-set_other items n m o None h)
-
-  pub passes_own : (p : T → Bool) (items : List (Option T)) (n : ℕ) (o : Option T) → n < length items → passes p (set items n o) n ≡ passes_in p o
-  passes_own p items n o h = ap (passes_in p) (get_or-set_same items n o None h)
-
-  pub passes_only : (p q : T → Bool) (o : Option T) → ((x : T) → p x ≡ true → q x ≡ true) → passes_in p o ≡ true → passes_in q o ≡ true
-  passes_only p q None only h = cc
-  passes_only p q (Some x) only h = only x h
-
   module _ (hash : T → ℕ) (items : List (Option T)) (room : ℕ) (buckets : Lists) (filed : AreFiled hash items room buckets) where
     -- a number without an item stands in no bucket
     pub lacks_filed : (n : ℕ) → get_or items n None ≡ None → stands n buckets.lists ≡ false

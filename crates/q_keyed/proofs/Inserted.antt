@@ -3,7 +3,7 @@ use Rattle.std.proofs.Common.{◌≡◌, ◌∙◌, ◌∷◌, ◌++◌, ◌+◌
 use Rattle.std.proofs.lemmas.Bool.{eqb-true}
 use Rattle.std.specs.Prelude.{◌==◌, ◌||◌, nat_eq}
 use Rattle.q_chains.specs.Lists.{inserted, is_in, stands}
-use Rattle.q_peers.proofs.Numbers.{AreOnce, flipped, or_parts, or_right, other_test, own_test}
+use Rattle.q_chains.proofs.Numbers.{AreOnce, flipped, or_parts, or_right, other_test, own_test}
 
 -- one step of the list
 abbrev come : ℕ → ℕ → Bool → List ℕ → List ℕ

@@ -6,10 +6,11 @@ use Rattle.std.specs.List.{cons_option}
 use Rattle.std.specs.Option.{is_some}
 use Rattle.std.specs.Prelude.{◌==◌, ◌||◌, find, nat_eq, not}
 use Rattle.q_chains.specs.Lists.{first_of, is_in, without}
-use Rattle.q_peers.specs.Slots.{after}
-use Rattle.q_peers.proofs.Numbers.{AreOnce, flipped, head_in, or_right}
+use Rattle.q_chains.specs.Onward.{after}
+use Rattle.q_chains.proofs.Numbers.{AreOnce, flipped, head_in, or_right}
 use Rattle.q_keyed.specs.Numbered.{AreApart, first_number, first_such, has_number, item_at, next_number, Numbered, without_number}
-use Rattle.q_keyed.specs.Slots.{items_of, numbered_in, passes, passes_in}
+use Rattle.q_chains.specs.Slots.{passes, passes_in}
+use Rattle.q_keyed.specs.Slots.{items_of, numbered_in}
 
 absent_parts : (n m : ℕ) (ns : List ℕ) (t : Bool) → nat_eq n m ≡ t → (t || is_in n ns) ≡ false → ((m == n) ≡ false) × (is_in n ns ≡ false)
 absent_parts n m ns true e h = cc

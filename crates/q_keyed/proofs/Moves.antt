@@ -6,7 +6,7 @@ use Rattle.std.specs.List.{cons_option}
 use Rattle.std.specs.Option.{is_some}
 use Rattle.std.specs.Prelude.{◌==◌, ◌||◌, filter, nat_eq}
 use Rattle.q_chains.specs.Lists.{inserted, is_in, without}
-use Rattle.q_peers.proofs.Numbers.{AreOnce, flipped, head_in, or_parts, own_test}
+use Rattle.q_chains.proofs.Numbers.{AreOnce, flipped, head_in, or_parts, own_test}
 use Rattle.q_keyed.proofs.Inserted.{inserted_head, inserted_tail}
 use Rattle.q_keyed.proofs.Items.{AreFilled, filled_rest, items_left, items_more}
 use Rattle.q_keyed.specs.Numbered.{has_number, inserted_at, moved_last, Numbered, put_at, without_number}

@@ -7,7 +7,8 @@ use Rattle.std.specs.Prelude.{Bool, nat_eq, slice_get}
 use Rattle.q_chains.specs.Lists.{is_in, last_of, Lists}
 use Rattle.q_keyed.proofs.Items.{items_alike}
 use Rattle.std.specs.Option.{is_some}
-use Rattle.q_keyed.specs.Slots.{is_in_bucket, items_of, passes_in, with_places}
+use Rattle.q_chains.specs.Slots.{is_in_bucket, passes_in}
+use Rattle.q_keyed.specs.Slots.{items_of, with_places}
 use Rattle.q_keyed.specs.Sound.{IsSound}
 
 -- ---- the number at the end of a list

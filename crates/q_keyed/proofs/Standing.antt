@@ -1,18 +1,20 @@
 -- What calls tell of items that are kept soundly.
-use Rattle.std.proofs.Common.{◌≡◌, ◌∙◌, ◌∷◌, ◌%◌, ◌<◌, ◌≤◌, [], ap, arith, Bool, cond, false, get_or, length, List, map, None, Option, refl, Some, subst, sym, true, ℕ}
+use Rattle.std.proofs.Common.{◌≡◌, ◌∙◌, ◌∷◌, ◌%◌, ◌<◌, ◌≤◌, [], ap, arith, Bool, cond, false, get_or, length, List, map, None, Option, refl, Some, sym, true, ℕ}
 use Rattle.std.proofs.lemmas.Bool.{eq-eqb}
 use Rattle.std.specs.List.{cons_option}
 use Rattle.std.specs.Option.{is_some}
-use Rattle.std.specs.Prelude.{◌||◌, find, IfSome, nat_eq}
+use Rattle.std.specs.Prelude.{◌||◌, find, nat_eq}
 use Rattle.q_chains.specs.Lists.{behind, first_of, is_in, list_with, Lists, StandOnce, stands, without}
-use Rattle.q_peers.specs.Slots.{after, from_on}
-use Rattle.q_peers.proofs.Chained.{in_without}
-use Rattle.q_peers.proofs.Numbers.{AreOnce, behind_is, first_stands, flipped, from_first, head_in, list_is, once_at, or_parts, or_right, stands_in}
-use Rattle.q_peers.proofs.Walks.{once_in}
-use Rattle.q_keyed.proofs.Filed.{find_sole, passes_only, sole}
+use Rattle.q_chains.specs.Onward.{after, from_on}
+use Rattle.q_chains.proofs.Chained.{in_without}
+use Rattle.q_chains.proofs.Numbers.{AreOnce, behind_is, flipped, from_first, head_in, list_is, once_at, or_parts, or_right, stands_in}
+use Rattle.q_chains.proofs.Steps.{once_in}
+use Rattle.q_chains.proofs.Slots.{passes_only}
+use Rattle.q_keyed.proofs.Filed.{find_sole, sole}
 use Rattle.q_keyed.proofs.Items.{AreFilled, apart_items, count_items, first_item, first_numbers, item_is, next_numbers}
 use Rattle.q_keyed.specs.Numbered.{AreApart, AreKeysApart, first_number, first_such, item_at, next_number}
-use Rattle.q_keyed.specs.Slots.{is_in_bucket, items_of, numbered_in, passes, passes_in}
+use Rattle.q_chains.specs.Slots.{is_in_bucket, passes, passes_in}
+use Rattle.q_keyed.specs.Slots.{items_of, numbered_in}
 use Rattle.q_keyed.specs.Sound.{IsSound}
 
 lacking : (n : ℕ) (ms : List ℕ) → is_in n ms ≡ false → after n ms ≡ []
@@ -120,10 +122,3 @@ module _ {K T : Type 0} (eq : K → K → Bool) (key : T → K) (hash : K → �
         ap (find (passes (λ x. eq (key x) k) items)) (from_first b buckets.lists (once_in buckets once))
         ∙ find_sole (passes (λ x. eq (key x) k) items) (get_or buckets.lists b []) ns (sole eq key is_same is_own items sound.unlike k) in_bucket in_order
         ∙ sym (first_item (λ x. eq (key x) k) items ns)
-
--- where walks begin
-pub begins : (b : ℕ) (s : Lists) (from : Option ℕ) → from ≡ first_of (get_or s.lists b []) → IfSome from (λ n. stands n s.lists ≡ true)
-begins b s from h = subst (λ (o : Option ℕ). IfSome o (λ n. stands n s.lists ≡ true)) (sym h) (first_stands b s.lists)
-
-pub bucket_below : (h room : ℕ) → 1 ≤ room → h % room < room
-bucket_below h room k = omega (arith, k)

@@ -3,7 +3,7 @@ use Rattle.std.proofs.Common.{◌≡◌, ◌∙◌, ◌∷◌, ◌++◌, ◌+◌
 use Rattle.std.proofs.lemmas.Bool.{eq-eqb}
 use Rattle.std.proofs.lemmas.List.{map-append}
 use Rattle.std.specs.Prelude.{◌==◌, filter, find, not, option_and_then, slice_get}
-use Rattle.q_peers.proofs.Numbers.{flipped, own_test}
+use Rattle.q_chains.proofs.Numbers.{flipped, own_test}
 use Rattle.q_keyed.specs.Numbered.{AreApart, AreKeysApart, first_number, first_such, has_number, inserted_at, item_at, moved_last, next_number, Numbered, put_at, values_of, without_number}
 
 module _ {T : Type 0} where

@@ -1,21 +1,8 @@
 -- How items stand under their numbers.
-use Rattle.std.specs.Prelude.{◌%◌, ◌+◌, ◌-◌, ◌++◌, ◌==◌, Bool, false, filter_map, get_or, length, List, None, Option, replicate, Some, ℕ}
+use Rattle.std.specs.Prelude.{◌+◌, ◌-◌, ◌++◌, filter_map, get_or, length, List, None, Option, replicate, Some, ℕ}
 use Rattle.q_keyed.specs.Numbered.{Numbered}
 
 module _ {T : Type 0} where
-  -- an item stands there, and passes
-  abbrev pub passes_in : (T → Bool) → Option T → Bool
-  passes_in p None = false
-  passes_in p (Some t) = p t
-
-  -- an item stands under the number, and passes
-  abbrev pub passes : (T → Bool) → List (Option T) → ℕ → Bool
-  passes p items n = passes_in p (get_or items n None)
-
-  -- the item is of this one of so many buckets
-  abbrev pub is_in_bucket : (T → ℕ) → ℕ → ℕ → T → Bool
-  is_in_bucket hash buckets b t = hash t % buckets == b
-
   abbrev pub numbered_in : ℕ → Option T → Option (Numbered T)
   numbered_in n None = None
   numbered_in n (Some t) = Some (record { number = n; item = t })

@@ -2,7 +2,7 @@
 use Rattle.std.specs.Option.{is_some}
 use Rattle.std.specs.Prelude.{◌≡◌, ◌≤◌, ◌<◌, ◌+◌, ◌^◌, [], Bool, get_or, length, List, None, Option, Some, true, ℕ}
 use Rattle.q_chains.specs.Lists.{is_in, Lists}
-use Rattle.q_keyed.specs.Slots.{is_in_bucket, passes}
+use Rattle.q_chains.specs.Slots.{is_in_bucket, passes}
 
 module _ {T : Type 0} where
   -- the number of each item stands in the bucket of its key, and no other number in a bucket

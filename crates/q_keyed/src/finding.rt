@@ -2,8 +2,8 @@
 ghost use Rattle.std.specs.Prelude.{◌≡◌, ◌≤◌, ◌<◌, ◌%◌, find, IfSome, true};
 ghost use Rattle.q_chains.specs.Lists.{stands};
 ghost use Rattle.q_keyed.specs.Numbered.{first_number, first_such, next_number};
-ghost use Rattle.q_keyed.specs.Slots.{passes};
-ghost use Rattle.q_peers.specs.Slots.{from_on};
+ghost use Rattle.q_chains.specs.Slots.{passes};
+ghost use Rattle.q_chains.specs.Onward.{from_on};
 
 use crate::key::HasKey;
 use crate::keyed::Keyed;

@@ -11,16 +11,12 @@ use Rattle.q_peers.specs.Buckets.{peer_key, site_key}
 use Rattle.q_peers.specs.Numbered.{has_number, Numbered}
 use Rattle.q_peers.specs.Slots.{items_of}
 use Rattle.q_peers.specs.Sound.{AreFiled, IsSound}
-use Rattle.q_peers.proofs.Chained.{at_pushed_other, at_pushed_own, at_without, gone, in_last, in_more, in_without, length_pushed, length_without, without_lacking}
-use Rattle.q_peers.proofs.Filed.{filed_come, filed_go, other_there}
+use Rattle.q_chains.proofs.Chained.{at_pushed_other, at_pushed_own, at_without, gone, in_last, in_more, in_without, length_pushed, length_without, moved, without_lacking}
+use Rattle.q_peers.proofs.Filed.{filed_come, filed_go}
 use Rattle.q_peers.proofs.Items.{items_alike, items_left, items_more}
-use Rattle.q_peers.proofs.Numbers.{first_in, first_none, not_first, not_second, once_at, stands_in}
+use Rattle.q_chains.proofs.Numbers.{first_in, first_none, not_first, not_second, once_at, other_there, stands_in}
 use Rattle.q_peers.proofs.Standing.{count}
-use Rattle.q_peers.proofs.Walks.{once_in}
-
--- the lists of waiting and of free numbers, with the number at the end of this one
-abbrev pub moved : ℕ → ℕ → Lists → Lists
-moved list n s = record s { lists = pushed list n (map (without n) s.lists) }
+use Rattle.q_chains.proofs.Steps.{once_in}
 
 module _ (rows : List (Option Row)) (order peers sites : Lists) (live room : ℕ) (sound : IsSound rows order peers sites live room) where
   abbrev ns : List ℕ

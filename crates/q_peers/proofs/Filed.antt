@@ -1,34 +1,18 @@
 -- Numbers in buckets, as a row comes and as one goes, and walks along a bucket.
 use Rattle.std.proofs.Common.{◌≡◌, ◌∙◌, ◌∷◌, ◌++◌, ◌%◌, ◌<◌, [], ap, arith, Bool, cond, false, get_or, length, List, map, None, Option, refl, set, Some, sym, true, ℕ}
 use Rattle.std.proofs.lemmas.Bool.{eqb-false, eqb-true}
-use Rattle.std.proofs.lemmas.List.{append-nil, get_or-set_other, get_or-set_same, length-map}
+use Rattle.std.proofs.lemmas.List.{append-nil, length-map}
 use Rattle.std.proofs.lemmas.List.Elements.{filter-append}
 use Rattle.std.specs.List.{concat}
 use Rattle.std.specs.Prelude.{◌&&◌, ◌==◌, filter, find, not}
 use Rattle.q_chains.specs.Lists.{behind, first_of, is_in, list_with, Lists, pushed, stands, without}
 use Rattle.q_model.specs.declared.rows.Row.{Row}
-use Rattle.q_peers.specs.Slots.{after, from_on, is_in_bucket, passes, passes_in}
+use Rattle.q_chains.specs.Onward.{after, from_on}
+use Rattle.q_chains.specs.Slots.{is_in_bucket, passes}
 use Rattle.q_peers.specs.Sound.{AreFiled}
-use Rattle.q_peers.proofs.Numbers.{after_kept, AreOnce, find_kept, from_first, from_next, in_kept, kept_alike, kept_swapped, list_is, stands_not}
-use Rattle.q_peers.proofs.Chained.{at_pushed_other, at_pushed_own, at_without, gone, length_pushed}
-
--- a number that stands in a list isn't one that doesn't
-pub other_there : (m n : ℕ) (ns : List ℕ) → is_in n ns ≡ false → is_in m ns ≡ true → m ≡ n → ⊥
-other_there m n ns none h e =
-    let here : is_in n ns ≡ true = ap (λ k. is_in k ns) (sym e) ∙ h in
-    let gone : is_in n ns ≡ false = none in
-    cc
-
--- another row under a number, or none
-pub passes_alike : (p : Row → Bool) (rows : List (Option Row)) (n m : ℕ) (o : Option Row) → (m ≡ n → ⊥) → passes p (set rows n o) m ≡ passes p rows m
-passes_alike p rows n m o h = ap (passes_in p) (get_or-set_other rows n m o None h)
-
-passes_own : (p : Row → Bool) (rows : List (Option Row)) (n : ℕ) (r : Row) → n < length rows → passes p (set rows n (Some r)) n ≡ p r
-passes_own p rows n r h = ap (passes_in p) (get_or-set_same rows n (Some r) None h)
-
-passes_only : (p q : Row → Bool) (o : Option Row) → ((r : Row) → p r ≡ true → q r ≡ true) → passes_in p o ≡ true → passes_in q o ≡ true
-passes_only p q None only h = cc
-passes_only p q (Some r) only h = only r h
+use Rattle.q_chains.proofs.Numbers.{after_kept, AreOnce, find_kept, from_first, from_next, in_kept, kept_alike, kept_swapped, list_is, other_there, stands_not}
+use Rattle.q_chains.proofs.Slots.{passes_alike, passes_only, passes_own}
+use Rattle.q_chains.proofs.Chained.{at_pushed_other, at_pushed_own, at_without, gone, length_pushed}
 
 module _ (key : Row → ℕ) (rows : List (Option Row)) (ns : List ℕ) (room : ℕ) (buckets : Lists) (filed : AreFiled key rows ns room buckets) where
   -- what doesn't wait stands in no bucket
@@ -63,7 +47,7 @@ module _ (key : Row → ℕ) (rows : List (Option Row)) (ns : List ℕ) (room : 
       each = λ c k.
           come_step c (b == c) refl few k
           ∙ ap (λ ms. ms ++ cond (b == c) (n ∷ []) []) (sym (stay c))
-          ∙ ap (λ t. filter (passes (is_in_bucket key room c) (set rows n (Some r))) ns ++ cond t (n ∷ []) []) (ap (λ d. d == c) is ∙ sym (passes_own (is_in_bucket key room c) rows n r known))
+          ∙ ap (λ t. filter (passes (is_in_bucket key room c) (set rows n (Some r))) ns ++ cond t (n ∷ []) []) (ap (λ d. d == c) is ∙ sym (passes_own (is_in_bucket key room c) rows n (Some r) known))
           ∙ sym (filter-append (passes (is_in_bucket key room c) (set rows n (Some r))) ns (n ∷ []));
     }
 

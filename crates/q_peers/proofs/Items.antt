@@ -8,8 +8,10 @@ use Rattle.std.specs.Prelude.{◌==◌, ◌||◌, filter, find, nat_eq, not}
 use Rattle.q_chains.specs.Lists.{is_in, without}
 use Rattle.q_model.specs.declared.rows.Row.{Row}
 use Rattle.q_peers.specs.Numbered.{AreApart, first_such, has_number, next_such, Numbered, row_at, rows_of}
-use Rattle.q_peers.specs.Slots.{after, items_of, numbered_in, passes, passes_in}
-use Rattle.q_peers.proofs.Numbers.{AreOnce, flipped, head_in, or_right}
+use Rattle.q_chains.specs.Onward.{after}
+use Rattle.q_chains.specs.Slots.{passes, passes_in}
+use Rattle.q_peers.specs.Slots.{items_of, numbered_in}
+use Rattle.q_chains.proofs.Numbers.{AreOnce, flipped, head_in, or_right}
 
 first_found : (p : Row → Bool) (n : ℕ) (r : Row) (ks : List Numbered) (found : Option ℕ) (t : Bool) → first_such p ks ≡ found →
     option_map (λ (k : Numbered). k.number) (cond t (Some (record { number = n; row = r })) (find (λ k. p k.row) ks)) ≡ cond t (Some n) found

@@ -1,5 +1,5 @@
 -- The rows of one message to a site, and those of one site, are of one bucket.
-use Rattle.std.proofs.Common.{◌≡◌, ◌∙◌, ◌%◌, ◌<◌, ◌≤◌, ap, arith, Bool, false, refl, sym, true, ℕ}
+use Rattle.std.proofs.Common.{◌≡◌, ◌∙◌, ◌%◌, ap, Bool, false, refl, sym, true, ℕ}
 use Rattle.std.proofs.lemmas.Bool.{and_parts, eq-eqb}
 use Rattle.std.specs.Prelude.{◌&&◌}
 use Rattle.q_model.proofs.IdLaws.{id_eq-true, site_eq-true}
@@ -8,10 +8,7 @@ use Rattle.q_model.specs.declared.rows.Row.{Row}
 use Rattle.q_model.specs.Values.{Site}
 use Rattle.q_peers.specs.Buckets.{peer_hash, peer_key, site_hash, site_key}
 use Rattle.q_peers.specs.Numbered.{is_at, is_for, is_of}
-use Rattle.q_peers.specs.Slots.{is_in_bucket}
-
-pub bucket_below : (key room : ℕ) → 1 ≤ room → key % room < room
-bucket_below key room h = omega (arith, h)
+use Rattle.q_chains.specs.Slots.{is_in_bucket}
 
 pub site_bucket : (site : Site) (room b : ℕ) → b ≡ site_hash site % room → (r : Row) → is_at site r ≡ true → is_in_bucket site_key room b r ≡ true
 site_bucket site room b is r h =

@@ -1,6 +1,3 @@
-pub mod Numbers
-pub mod Walks
-pub mod Chained
 pub mod Items
 pub mod Filed
 pub mod Keys

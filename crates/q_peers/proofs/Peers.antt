@@ -5,7 +5,7 @@ use Rattle.std.specs.Prelude.{◌==◌, filter, find, not}
 use Rattle.q_model.specs.declared.rows.Row.{Row}
 use Rattle.q_model.specs.Lists.{drop_first}
 use Rattle.q_peers.specs.Numbered.{AreApart, first_such, has_number, next_such, Numbered, row_at, rows_of}
-use Rattle.q_peers.proofs.Numbers.{other_test, own_test}
+use Rattle.q_chains.proofs.Numbers.{other_test, own_test}
 
 abbrev number_of : Option Numbered → Option ℕ
 number_of o = option_map (λ (k : Numbered). k.number) o

@@ -5,7 +5,7 @@ use Rattle.std.specs.Prelude.{◌==◌, filter, find, if◌then◌else◌, IfSom
 use Rattle.q_model.proofs.EachLaws.{find-passes}
 use Rattle.q_model.specs.declared.rows.Row.{Row}
 use Rattle.q_peers.specs.Numbered.{AreApart, first_such, has_number, next_such, Numbered, row_at, rows_of}
-use Rattle.q_peers.proofs.Numbers.{flipped}
+use Rattle.q_chains.proofs.Numbers.{flipped}
 use Rattle.q_peers.proofs.Peers.{row_found}
 
 -- the rows from this number on

@@ -1,16 +1,18 @@
 -- What calls tell of rows that are kept soundly.
-use Rattle.std.proofs.Common.{◌≡◌, ◌∙◌, ◌∷◌, ◌%◌, ◌<◌, ◌≤◌, [], ap, arith, Bool, cond, false, get_or, length, List, None, Option, refl, Some, subst, sym, true, ℕ}
+use Rattle.std.proofs.Common.{◌≡◌, ◌∙◌, ◌∷◌, ◌%◌, ◌<◌, ◌≤◌, [], ap, arith, Bool, cond, false, get_or, length, List, None, Option, refl, Some, sym, true, ℕ}
 use Rattle.std.specs.Option.{is_some}
-use Rattle.std.specs.Prelude.{find, IfSome}
+use Rattle.std.specs.Prelude.{find}
 use Rattle.q_chains.specs.Lists.{behind, first_of, is_in, list_with, Lists, StandOnce, stands}
 use Rattle.q_model.specs.declared.rows.Row.{Row}
 use Rattle.q_peers.specs.Numbered.{any_row, AreApart, first_such, next_such, row_at}
-use Rattle.q_peers.specs.Slots.{after, from_on, is_in_bucket, items_of, passes, passes_in}
+use Rattle.q_chains.specs.Onward.{after, from_on}
+use Rattle.q_chains.specs.Slots.{is_in_bucket, passes, passes_in}
+use Rattle.q_peers.specs.Slots.{items_of}
 use Rattle.q_peers.specs.Sound.{AreFiled, IsSound}
 use Rattle.q_peers.proofs.Filed.{first_filed, in_filed, next_filed}
 use Rattle.q_peers.proofs.Items.{apart_items, count_items, first_item, next_item, next_none, row_item}
-use Rattle.q_peers.proofs.Numbers.{behind_is, first_stands, head_in, in_after, list_is, next_stands, once_at, own_test, stands_in}
-use Rattle.q_peers.proofs.Walks.{once_in}
+use Rattle.q_chains.proofs.Numbers.{behind_is, head_in, in_after, list_is, once_at, own_test, stands_in}
+use Rattle.q_chains.proofs.Steps.{once_in}
 
 any_step : (o : Option Row) → true ≡ is_some o → passes_in any_row o ≡ true
 any_step None h = cc
@@ -20,13 +22,6 @@ any_step (Some r) h = refl
 first_any : (rows : List (Option Row)) (ns : List ℕ) → ((n : ℕ) → is_in n ns ≡ true → true ≡ is_some (get_or rows n None)) → find (passes any_row rows) ns ≡ first_of ns
 first_any rows [] h = refl
 first_any rows (n ∷ ns) h = ap (λ t. cond t (Some n) (find (passes any_row rows) ns)) (any_step (get_or rows n None) (h n (head_in n ns)))
-
--- where walks begin
-pub begins : (b : ℕ) (s : Lists) (from : Option ℕ) → from ≡ first_of (get_or s.lists b []) → IfSome from (λ n. stands n s.lists ≡ true)
-begins b s from h = subst (λ (o : Option ℕ). IfSome o (λ n. stands n s.lists ≡ true)) (sym h) (first_stands b s.lists)
-
-pub goes_on : (n : ℕ) (s : Lists) (from : Option ℕ) → from ≡ behind n (list_with n s.lists) → IfSome from (λ n. stands n s.lists ≡ true)
-goes_on n s from h = subst (λ (o : Option ℕ). IfSome o (λ n. stands n s.lists ≡ true)) (sym h) (next_stands n s.lists)
 
 module _ (rows : List (Option Row)) (order peers sites : Lists) (live room : ℕ) (sound : IsSound rows order peers sites live room) where
   abbrev ns : List ℕ

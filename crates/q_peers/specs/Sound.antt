@@ -4,7 +4,7 @@ use Rattle.std.specs.Prelude.{◌≡◌, ◌≤◌, ◌<◌, ◌+◌, ◌^◌, [
 use Rattle.q_chains.specs.Lists.{is_in, Lists}
 use Rattle.q_model.specs.declared.rows.Row.{Row}
 use Rattle.q_peers.specs.Buckets.{peer_key, site_key}
-use Rattle.q_peers.specs.Slots.{is_in_bucket, passes}
+use Rattle.q_chains.specs.Slots.{is_in_bucket, passes}
 
 -- the numbers of rows that wait stand in the buckets of their rows, in the same order
 pub record AreFiled (key : Row → ℕ) (rows : List (Option Row)) (waiting : List ℕ) (room : ℕ)

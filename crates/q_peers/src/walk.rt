@@ -4,7 +4,8 @@ ghost use Rattle.q_chains.specs.Lists.{stands};
 ghost use Rattle.q_model.specs.Ids.{id_eq};
 ghost use Rattle.q_model.specs.Sites.{site_eq};
 ghost use Rattle.q_peers.specs.Numbered.{is_at, is_for};
-ghost use Rattle.q_peers.specs.Slots.{from_on, passes};
+ghost use Rattle.q_chains.specs.Onward.{from_on};
+ghost use Rattle.q_chains.specs.Slots.{passes};
 
 use q_chains::Chains;
 use q_model::{Id, Site};

@@ -4,7 +4,8 @@ use Rattle.std.proofs.lemmas.Bool.{eq-eqb}
 use Rattle.std.specs.Prelude.{◌==◌, not, slice_get}
 use Rattle.q_chains.specs.Laid.{Lacks}
 use Rattle.q_chains.specs.Lists.{ahead_from, inserted, last_of, without}
-use Rattle.q_chains.proofs.Places.{inserted_here, inserted_lacking, inserted_there, IsAmong, lacks_other, other_test, other_way}
+use Rattle.q_chains.proofs.Numbers.{other_test}
+use Rattle.q_chains.proofs.Places.{inserted_here, inserted_lacking, inserted_there, IsAmong, lacks_other, other_way}
 use Rattle.q_ranks.specs.Ranking.{rank_of, RiseAbove}
 
 pub rise_lower : (low rank : ℕ) (ranks ns : List ℕ) → low ≤ rank → RiseAbove rank ranks ns → RiseAbove low ranks ns

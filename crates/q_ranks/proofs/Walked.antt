@@ -8,7 +8,8 @@ use Rattle.std.specs.List.{AllByRecursion}
 use Rattle.std.specs.Prelude.{nat_eq, slice_get}
 use Rattle.q_chains.specs.Laid.{AreApart}
 use Rattle.q_chains.specs.Lists.{behind, first_of, is_in, list_with, Lists, StandOnce, stands}
-use Rattle.q_chains.proofs.Places.{among_from, IsAmong, lacks_other, other_test}
+use Rattle.q_chains.proofs.Numbers.{other_test}
+use Rattle.q_chains.proofs.Places.{among_from, IsAmong, lacks_other}
 use Rattle.q_chains.proofs.Walks.{distinct}
 use Rattle.q_ranks.proofs.Alone.{apart_alone, below_alone, list_alone, stands_alone}
 

@@ -6,8 +6,8 @@ use Rattle.std.proofs.lemmas.List.Elements.{filter-append}
 use Rattle.std.specs.Prelude.{◌==◌, ◌||◌, filter, find, IfSome}
 use Rattle.q_chains.specs.Lists.{is_in, Lists, pushed, stands, without}
 use Rattle.q_keyed.specs.Numbered.{AreApart, has_number, item_at, Numbered, put_at, without_number}
-use Rattle.q_peers.proofs.Chained.{at_pushed_other, at_pushed_own, at_without, length_pushed}
-use Rattle.q_peers.proofs.Numbers.{flipped, stands_not}
+use Rattle.q_chains.proofs.Chained.{at_pushed_other, at_pushed_own, at_without, length_pushed}
+use Rattle.q_chains.proofs.Numbers.{flipped, stands_not}
 use Rattle.q_rounds.specs.declared.peer.Peer.{Peer}
 use Rattle.q_rounds.specs.Listing.{AreListed, enlisted, is_list, listed}
 use Rattle.q_rounds.proofs.Lookups.{here_at, later_at}

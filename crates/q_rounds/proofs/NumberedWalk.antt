@@ -6,7 +6,7 @@ use Rattle.std.specs.Option.{is_some}
 use Rattle.std.specs.Prelude.{◌==◌, find, IfSome}
 use Rattle.q_model.proofs.EachLaws.{find-any}
 use Rattle.q_keyed.specs.Numbered.{AreApart, first_number, has_number, item_at, next_number, Numbered}
-use Rattle.q_peers.proofs.Numbers.{flipped, own_test}
+use Rattle.q_chains.proofs.Numbers.{flipped, own_test}
 
 module _ {T : Type 0} where
   -- the item of this number and those behind it

@@ -6,7 +6,7 @@ use Rattle.std.specs.Prelude.{◌==◌, find}
 use Rattle.q_keyed.specs.Numbered.{AreApart, first_number, has_number, item_at, next_number, Numbered, put_at, values_of}
 use Rattle.q_model.specs.declared.id.Id.{Id}
 use Rattle.q_model.specs.Ids.{id_eq}
-use Rattle.q_peers.proofs.Numbers.{flipped, own_test}
+use Rattle.q_chains.proofs.Numbers.{flipped, own_test}
 use Rattle.q_rounds.proofs.NumberedWalk.{from_on, one_on}
 use Rattle.q_schedule.specs.declared.ranked.Ranked.{Ranked}
 use Rattle.q_schedule.specs.Ranking.{anew, anew_from, ranked_at, with_rank}

@@ -1,6 +1,6 @@
 use Rattle.std.proofs.Common.{◌∙◌, sym}
-use Rattle.q_peers.proofs.Walks.{found_behind, shorter, still_there}
-use Rattle.q_keyed.specs.Slots.{passes}
+use Rattle.q_chains.proofs.Steps.{found_behind, shorter, still_there}
+use Rattle.q_chains.specs.Slots.{passes}
 use Rattle.q_keyed.proofs.finding.find_from.Goals as goal
 
 pub loop-at-smaller : goal.loop-at-smaller

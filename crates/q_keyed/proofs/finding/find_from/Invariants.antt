@@ -1,8 +1,8 @@
 use Rattle.std.proofs.Common.{◌≡◌, length, true}
 use Rattle.std.specs.Prelude.{find, IfSome}
 use Rattle.q_chains.specs.Lists.{stands}
-use Rattle.q_peers.specs.Slots.{from_on}
-use Rattle.q_keyed.specs.Slots.{passes}
+use Rattle.q_chains.specs.Onward.{from_on}
+use Rattle.q_chains.specs.Slots.{passes}
 use Rattle.q_keyed.proofs.finding.find_from.Given as goal
 
 abbrev pub decreases-loop-at : goal.decreases-loop-at

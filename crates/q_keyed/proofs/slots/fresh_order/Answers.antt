@@ -1,7 +1,7 @@
 use Rattle.std.proofs.Common.{◌≡◌, ◌∙◌, ◌∷◌, ◌++◌, ◌+◌, ◌-◌, [], ap, arith, get_or, length, List, ℕ}
 use Rattle.std.proofs.lemmas.List.{length-append}
 use Rattle.q_chains.specs.Lists.{Lists, pushed, stands}
-use Rattle.q_peers.proofs.Chained.{at_pushed_other, at_pushed_own, length_pushed, stands_pushed}
+use Rattle.q_chains.proofs.Chained.{at_pushed_other, at_pushed_own, length_pushed, stands_pushed}
 use Rattle.q_keyed.proofs.slots.fresh_order.Goals as goal
 
 pub loop-used-preserved : goal.loop-used-preserved

@@ -2,7 +2,8 @@ use Rattle.std.proofs.Common.{◌≡◌, length, true}
 use Rattle.std.specs.Prelude.{find, IfSome}
 use Rattle.q_chains.specs.Lists.{stands}
 use Rattle.q_peers.specs.Numbered.{is_at}
-use Rattle.q_peers.specs.Slots.{from_on, passes}
+use Rattle.q_chains.specs.Onward.{from_on}
+use Rattle.q_chains.specs.Slots.{passes}
 use Rattle.q_peers.proofs.walk.first_at_from.Given as goal
 
 abbrev pub decreases-loop-at : goal.decreases-loop-at

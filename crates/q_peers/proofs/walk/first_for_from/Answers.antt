@@ -1,7 +1,7 @@
 use Rattle.std.proofs.Common.{◌∙◌, sym}
 use Rattle.q_peers.specs.Numbered.{is_for}
-use Rattle.q_peers.specs.Slots.{passes}
-use Rattle.q_peers.proofs.Walks.{found_behind, shorter, still_there}
+use Rattle.q_chains.specs.Slots.{passes}
+use Rattle.q_chains.proofs.Steps.{found_behind, shorter, still_there}
 use Rattle.q_peers.proofs.walk.first_for_from.Goals as goal
 
 pub loop-at-smaller : goal.loop-at-smaller

@@ -1,9 +1,9 @@
 use Rattle.std.proofs.Common.{◌≡◌, ◌∙◌, ap, Option, subst, sym, true, ℕ}
 use Rattle.std.specs.Prelude.{find, IfSome}
 use Rattle.q_chains.specs.Lists.{stands}
-use Rattle.q_peers.proofs.Numbers.{first_stands, from_first}
-use Rattle.q_peers.proofs.Walks.{found_behind, once_in, shorter, still_there}
-use Rattle.q_peers.specs.Slots.{from_on}
+use Rattle.q_chains.proofs.Numbers.{first_stands, from_first}
+use Rattle.q_chains.proofs.Steps.{found_behind, once_in, shorter, still_there}
+use Rattle.q_chains.specs.Onward.{from_on}
 use Rattle.q_rounds.specs.Listing.{space_in}
 use Rattle.q_rounds.proofs.walking.first_fresh.Goals as goal
 

@@ -1,7 +1,7 @@
 use Rattle.std.proofs.Common.{◌≡◌, [], get_or, length, true}
 use Rattle.std.specs.Prelude.{find, IfSome}
 use Rattle.q_chains.specs.Lists.{stands}
-use Rattle.q_peers.specs.Slots.{from_on}
+use Rattle.q_chains.specs.Onward.{from_on}
 use Rattle.q_rounds.specs.Listing.{space_in}
 use Rattle.q_rounds.proofs.walking.first_fresh.Given as goal
 

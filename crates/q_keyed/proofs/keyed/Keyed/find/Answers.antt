@@ -1,9 +1,10 @@
 use Rattle.std.proofs.Common.{◌∙◌, ◌%◌, ap}
 use Rattle.std.specs.Prelude.{find}
-use Rattle.q_peers.specs.Slots.{from_on}
+use Rattle.q_chains.specs.Onward.{from_on}
 use Rattle.q_keyed.specs.Numbered.{first_such, Items}
-use Rattle.q_keyed.specs.Slots.{passes}
-use Rattle.q_keyed.proofs.Standing.{begins, found}
+use Rattle.q_chains.specs.Slots.{passes}
+use Rattle.q_chains.proofs.Steps.{begins}
+use Rattle.q_keyed.proofs.Standing.{found}
 use Rattle.q_keyed.proofs.keyed.Keyed.find.Goals as goal
 
 pub find_from-requires : goal.find_from-requires

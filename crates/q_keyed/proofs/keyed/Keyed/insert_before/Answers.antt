@@ -2,7 +2,7 @@ use Rattle.std.proofs.Common.{◌≡◌, ◌∙◌, ◌%◌, ◌<◌, [], ap, ar
 use Rattle.std.specs.Option.{is_some}
 use Rattle.std.specs.Prelude.{find}
 use Rattle.q_chains.specs.Lists.{Lists, inserted, stands}
-use Rattle.q_peers.proofs.Chained.{gone_from_all}
+use Rattle.q_chains.proofs.Chained.{gone_from_all}
 use Rattle.q_keyed.specs.Numbered.{first_such, has_number, inserted_at, item_at, Items, Numbered}
 use Rattle.q_keyed.specs.Slots.{items_of, with_places}
 use Rattle.q_keyed.proofs.Places.{got_more, inside_more, items_more_places, sound_more}

@@ -2,10 +2,10 @@ use Rattle.std.proofs.Common.{◌≡◌, ◌∙◌, [], ap, false, get_or, List,
 use Rattle.std.specs.Borrow.{Bor}
 use Rattle.std.specs.Option.{is_some, option_copied}
 use Rattle.q_chains.specs.Lists.{Lists, pushed, stands}
-use Rattle.q_peers.proofs.Chained.{gone_from_all}
+use Rattle.q_chains.proofs.Chained.{gone_from_all, moved}
 use Rattle.q_keyed.specs.Numbered.{Items, moved_last, Numbered}
 use Rattle.q_keyed.specs.Slots.{items_of}
-use Rattle.q_keyed.proofs.Changes.{items_moved, moved, moved_stay, some_of, sound_moved}
+use Rattle.q_keyed.proofs.Changes.{items_moved, moved_stay, some_of, sound_moved}
 use Rattle.q_keyed.proofs.keyed.Keyed.move_last.Goals as goal
 
 copied : {X : Type 0} → (o : Option (Bor X)) → is_some (option_copied o) ≡ is_some o

@@ -1,11 +1,11 @@
 use Rattle.std.proofs.Common.{◌≡◌, ◌∙◌, ◌∷◌, ◌++◌, ◌%◌, ◌<◌, [], ap, arith, get_or, length, List, subst, sym, Option, Some, set, ◌+◌, ◌-◌}
 use Rattle.std.specs.Prelude.{find}
 use Rattle.q_chains.specs.Lists.{Lists, pushed, stands}
-use Rattle.q_peers.proofs.Chained.{gone_from_all}
+use Rattle.q_chains.proofs.Chained.{gone_from_all, moved}
 use Rattle.q_keyed.specs.Numbered.{first_such, has_number, Items, Numbered}
 use Rattle.q_keyed.specs.Slots.{items_of, with_places}
 use Rattle.q_keyed.proofs.Places.{got_more, inside_more, items_more_places, sound_more}
-use Rattle.q_keyed.proofs.Changes.{empty, has_free, items_come, known, lacks, moved, sound_last}
+use Rattle.q_keyed.proofs.Changes.{empty, has_free, items_come, known, lacks, sound_last}
 use Rattle.q_keyed.proofs.Filed.{lacks_filed}
 use Rattle.q_keyed.proofs.Items.{absent_item}
 use Rattle.q_keyed.proofs.keyed.Keyed.push.Goals as goal

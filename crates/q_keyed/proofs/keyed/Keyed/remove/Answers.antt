@@ -2,10 +2,10 @@ use Rattle.std.proofs.Common.{◌≡◌, ◌∙◌, [], ap, arith, false, get_or
 use Rattle.std.specs.Borrow.{Bor}
 use Rattle.std.specs.Option.{is_some, option_copied}
 use Rattle.q_chains.specs.Lists.{Lists, pushed, stands}
-use Rattle.q_peers.proofs.Chained.{gone_from_all}
+use Rattle.q_chains.proofs.Chained.{gone_from_all, moved}
 use Rattle.q_keyed.specs.Numbered.{item_at, Items, Numbered, without_number}
 use Rattle.q_keyed.specs.Slots.{items_of}
-use Rattle.q_keyed.proofs.Changes.{items_go, items_stay, moved, some_of, sound_go}
+use Rattle.q_keyed.proofs.Changes.{items_go, items_stay, some_of, sound_go}
 use Rattle.q_keyed.proofs.Places.{got_within}
 use Rattle.q_keyed.proofs.Standing.{item}
 use Rattle.q_keyed.proofs.keyed.Keyed.remove.Goals as goal

@@ -1,10 +1,12 @@
 use Rattle.std.proofs.Common.{◌∙◌, ap}
 use Rattle.q_peers.specs.Buckets.{site_key}
 use Rattle.std.specs.Prelude.{find}
-use Rattle.q_peers.specs.Slots.{from_on, passes}
+use Rattle.q_chains.specs.Onward.{from_on}
+use Rattle.q_chains.specs.Slots.{passes}
 use Rattle.q_peers.specs.Numbered.{first_such, is_at, Items}
 use Rattle.q_peers.proofs.Keys.{site_bucket}
-use Rattle.q_peers.proofs.Standing.{begins, first_in_bucket}
+use Rattle.q_chains.proofs.Steps.{begins}
+use Rattle.q_peers.proofs.Standing.{first_in_bucket}
 use Rattle.q_peers.proofs.waiting.Waiting.first_at.Goals as goal
 
 pub first_at_from-requires : goal.first_at_from-requires

@@ -1,10 +1,12 @@
 use Rattle.std.proofs.Common.{◌∙◌, ap}
 use Rattle.q_peers.specs.Buckets.{peer_key}
 use Rattle.std.specs.Prelude.{find}
-use Rattle.q_peers.specs.Slots.{from_on, passes}
+use Rattle.q_chains.specs.Onward.{from_on}
+use Rattle.q_chains.specs.Slots.{passes}
 use Rattle.q_peers.specs.Numbered.{first_such, is_for, Items}
 use Rattle.q_peers.proofs.Keys.{bucket_for}
-use Rattle.q_peers.proofs.Standing.{begins, first_in_bucket}
+use Rattle.q_chains.proofs.Steps.{begins}
+use Rattle.q_peers.proofs.Standing.{first_in_bucket}
 use Rattle.q_peers.proofs.waiting.Waiting.first_for.Goals as goal
 
 pub first_for_from-requires : goal.first_for_from-requires

@@ -4,9 +4,12 @@ use Rattle.q_model.specs.declared.rows.Row.{Row}
 use Rattle.q_positions.specs.Rows.{row_shown}
 use Rattle.q_peers.specs.Buckets.{site_key}
 use Rattle.q_peers.specs.Numbered.{is_at, Items, next_such}
-use Rattle.q_peers.specs.Slots.{from_on, passes}
-use Rattle.q_peers.proofs.Keys.{bucket_below, site_bucket}
-use Rattle.q_peers.proofs.Standing.{goes_on, next_in_bucket, no_row, stands_filed}
+use Rattle.q_chains.specs.Onward.{from_on}
+use Rattle.q_chains.specs.Slots.{passes}
+use Rattle.q_chains.proofs.Slots.{bucket_below}
+use Rattle.q_chains.proofs.Steps.{goes_on}
+use Rattle.q_peers.proofs.Keys.{site_bucket}
+use Rattle.q_peers.proofs.Standing.{next_in_bucket, no_row, stands_filed}
 use Rattle.q_peers.proofs.waiting.Waiting.next_at.Goals as goal
 
 pub returns-in_err-row : goal.returns-in_err-row

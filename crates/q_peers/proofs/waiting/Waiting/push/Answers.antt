@@ -6,8 +6,8 @@ use Rattle.q_positions.specs.Rows.{row_shown, Slots}
 use Rattle.q_peers.specs.Buckets.{peer_key, site_key}
 use Rattle.q_peers.specs.Numbered.{has_number, Items, Numbered, rows_of}
 use Rattle.q_peers.specs.Slots.{items_of}
-use Rattle.q_peers.proofs.Changes.{has_free, items_come, known, lacks, moved, sound_come}
-use Rattle.q_peers.proofs.Chained.{gone_from_all}
+use Rattle.q_peers.proofs.Changes.{has_free, items_come, known, lacks, sound_come}
+use Rattle.q_chains.proofs.Chained.{gone_from_all, moved}
 use Rattle.q_peers.proofs.Filed.{lacks_filed}
 use Rattle.q_peers.proofs.Items.{absent_item}
 use Rattle.q_peers.proofs.waiting.Waiting.push.Goals as goal

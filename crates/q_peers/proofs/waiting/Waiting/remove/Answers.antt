@@ -7,8 +7,8 @@ use Rattle.q_positions.specs.Rows.{row_shown, Slots}
 use Rattle.q_positions.specs.declared.row_ref.RowRef.{RowRef}
 use Rattle.q_peers.specs.Numbered.{AreApart, has_number, Items, Numbered, row_at, rows_of}
 use Rattle.q_peers.specs.Slots.{items_of}
-use Rattle.q_peers.proofs.Changes.{items_go, items_stay, moved, sound_go}
-use Rattle.q_peers.proofs.Chained.{gone_from_all}
+use Rattle.q_peers.proofs.Changes.{items_go, items_stay, sound_go}
+use Rattle.q_chains.proofs.Chained.{gone_from_all, moved}
 use Rattle.q_peers.proofs.Peers.{drops}
 use Rattle.q_peers.proofs.Standing.{apart, row}
 use Rattle.q_peers.proofs.waiting.Waiting.remove.Goals as goal

@@ -2,8 +2,12 @@
 use Rattle.std.proofs.Common.{◌≡◌, ◌∙◌, ◌∷◌, ◌++◌, ◌+◌, ◌<◌, [], ap, arith, Bool, cond, false, get_or, length, List, map, refl, suc, sym, true, zero, ℕ}
 use Rattle.std.proofs.lemmas.Bool.{eq-eqb, eqb-true}
 use Rattle.std.specs.Prelude.{◌&&◌, ◌==◌, ◌||◌, nat_eq, not}
-use Rattle.q_chains.specs.Lists.{is_in, pushed, stands, without}
-use Rattle.q_peers.proofs.Numbers.{and_false, and_true, AreOnce, head_in, in_kept, or_parts, or_true, other_test, own_test}
+use Rattle.q_chains.specs.Lists.{is_in, Lists, pushed, stands, without}
+use Rattle.q_chains.proofs.Numbers.{and_false, and_true, AreOnce, head_in, in_kept, or_parts, or_true, other_test, own_test}
+
+-- the lists with the number at the end of this one, and in no other
+abbrev pub moved : ℕ → ℕ → Lists → Lists
+moved list n s = record s { lists = pushed list n (map (without n) s.lists) }
 
 pub at_pushed_own : (b n : ℕ) (xss : List (List ℕ)) → b < length xss → get_or (pushed b n xss) b [] ≡ get_or xss b [] ++ n ∷ []
 at_pushed_own b n [] h = absurd (omega arith)

@@ -1,13 +1,21 @@
--- A step of a walk along a list, from a number to the one right behind it.
-use Rattle.std.proofs.Common.{◌≡◌, ◌∙◌, ◌<◌, ap, arith, Bool, cond, false, length, Option, Some, subst, suc, sym, true, ℕ}
+-- Where a walk along a list begins, and a step of it, from a number to the one right behind it.
+use Rattle.std.proofs.Common.{◌≡◌, ◌∙◌, ◌<◌, [], ap, arith, Bool, cond, false, get_or, length, Option, Some, subst, suc, sym, true, ℕ}
 use Rattle.std.specs.List.{concat}
 use Rattle.std.specs.Prelude.{find, IfSome}
-use Rattle.q_chains.specs.Lists.{behind, list_with, Lists, StandOnce, stands}
-use Rattle.q_peers.specs.Slots.{after, from_on}
-use Rattle.q_peers.proofs.Numbers.{AreOnce, from_next, next_stands, once_from}
+use Rattle.q_chains.specs.Lists.{behind, first_of, list_with, Lists, StandOnce, stands}
+use Rattle.q_chains.specs.Onward.{after, from_on}
+use Rattle.q_chains.proofs.Numbers.{AreOnce, first_stands, from_next, next_stands, once_from}
 
 pub once_in : (s : Lists) → StandOnce s → AreOnce (concat s.lists)
 once_in s h = once_from (concat s.lists) h.once
+
+-- a walk begins
+pub begins : (b : ℕ) (s : Lists) (from : Option ℕ) → from ≡ first_of (get_or s.lists b []) → IfSome from (λ n. stands n s.lists ≡ true)
+begins b s from h = subst (λ (o : Option ℕ). IfSome o (λ n. stands n s.lists ≡ true)) (sym h) (first_stands b s.lists)
+
+-- it goes on behind a number
+pub goes_on : (n : ℕ) (s : Lists) (from : Option ℕ) → from ≡ behind n (list_with n s.lists) → IfSome from (λ n. stands n s.lists ≡ true)
+goes_on n s from h = subst (λ (o : Option ℕ). IfSome o (λ n. stands n s.lists ≡ true)) (sym h) (next_stands n s.lists)
 
 module _ (s : Lists) (once : StandOnce s) (n : ℕ) (at next : Option ℕ) (here : at ≡ Some n) (is : next ≡ behind n (list_with n s.lists)) where
   from_there : from_on next s.lists ≡ after n (list_with n s.lists)

@@ -7,7 +7,7 @@ use Rattle.std.specs.List.{AllByRecursion, concat, IsDistinct}
 use Rattle.std.specs.Option.{unwrap_or}
 use Rattle.std.specs.Prelude.{◌&&◌, ◌==◌, ◌||◌, filter, find, IfSome, nat_eq, Option}
 use Rattle.q_chains.specs.Lists.{behind, first_of, is_in, list_with, stands}
-use Rattle.q_peers.specs.Slots.{after, from_on}
+use Rattle.q_chains.specs.Onward.{after, from_on}
 
 -- no number stands twice
 abbrev pub AreOnce : List ℕ → Type 0
@@ -300,3 +300,10 @@ first_in n (x ∷ xs) h = let same : x ≡ n = cc in ap (λ t. t || is_in n xs) 
 pub first_none : (xs : List ℕ) → first_of xs ≡ None → length xs ≡ 0
 first_none [] h = refl
 first_none (x ∷ xs) h = cc
+
+-- a number that stands in a list isn't one that doesn't
+pub other_there : (m n : ℕ) (ns : List ℕ) → is_in n ns ≡ false → is_in m ns ≡ true → m ≡ n → ⊥
+other_there m n ns none h e =
+    let here : is_in n ns ≡ true = ap (λ k. is_in k ns) (sym e) ∙ h in
+    let gone : is_in n ns ≡ false = none in
+    cc
