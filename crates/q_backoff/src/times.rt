@@ -3,7 +3,7 @@ ghost use Rattle.std.specs.Prelude.{◌≤◌};
 ghost use Rattle.q_backoff.specs.Ages.{IsDue, IsExpiry};
 
 use q_model::Moment;
-use q_params::Params;
+use q_settings::Params;
 
 /// When a message that arrived then is due again: its age from now on, which is taken as at least
 /// the minimal and at most the maximal back-off. The age of a message that arrives later is 0.

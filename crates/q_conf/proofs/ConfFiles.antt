@@ -10,7 +10,7 @@ use Rattle.q_host.specs.Reads.{IsRead}
 use Rattle.q_host.specs.View.{View}
 use Rattle.q_model.specs.Settings.{Settings}
 use Rattle.q_params.specs.ParameterFile.{settings_of_file as params_of}
-use Rattle.q_params.specs.Ranges.{IsInRange}
+use Rattle.q_settings.specs.Ranges.{IsInRange}
 use Rattle.q_params.specs.declared.error.ParamError.{ParamError}
 use Rattle.q_transport.specs.TableFile.{table_of_file as contents_of}
 use Rattle.q_conf.specs.ConfReads.{GivesParams, GivesTable}

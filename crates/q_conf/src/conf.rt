@@ -9,7 +9,7 @@ ghost use Rattle.q_host.specs.Calls.{Stays};
 ghost use Rattle.q_host.specs.Faults.{DiskCause};
 ghost use Rattle.q_model.specs.FaultCounts.{Rose};
 ghost use Rattle.q_params.specs.ParameterFile.{settings_of_file as params_of};
-ghost use Rattle.q_params.specs.Ranges.{IsInRange};
+ghost use Rattle.q_settings.specs.Ranges.{IsInRange};
 ghost use Rattle.q_transport.specs.TableFile.{table_of_file as contents_of};
 ghost use Rattle.q_conf.specs.Confs.{conf_bytes, conf_of, goes_by, IsConfFault, world_of};
 ghost use Rattle.q_conf.specs.ConfReads.{GivesParams, GivesTable};
@@ -17,7 +17,8 @@ ghost use Rattle.q_conf.specs.ConfReads.{GivesParams, GivesTable};
 use crate::error::{ConfError, ConfFile, host_error};
 use q_host::{Host, HostError};
 use q_model::{Area, Name};
-use q_params::{Params, read_params};
+use q_params::read_params;
+use q_settings::Params;
 use q_transport::{Table, TableError, read_table};
 use std::alloc::Global;
 

@@ -11,7 +11,7 @@ use Rattle.q_core.specs.declared.state.Seen.TheVariants.{Unknown}
 use Rattle.q_core.specs.declared.state.Question.TheVariants.{Nothing}
 use Rattle.q_laws.specs.Consistency.{IsUsable}
 use Rattle.q_laws.specs.SitesConsistency.{IsOpen}
-use Rattle.q_params.specs.Ranges.{IsInRange}
+use Rattle.q_settings.specs.Ranges.{IsInRange}
 use Rattle.q_model.specs.Book.{Book}
 use Rattle.q_model.specs.Ledger.{Ledger, opening}
 use Rattle.q_model.specs.Past.{is_living}

@@ -5,7 +5,7 @@ ghost use Rattle.q_core.specs.Beginning.{AreEmpty, AreNew, AreUnread, first_stat
 ghost use Rattle.q_core.specs.Changes.{is_looked_at};
 ghost use Rattle.q_core.specs.Deciding.{is_answered};
 ghost use Rattle.q_core.specs.Rooms.{most_flights};
-ghost use Rattle.q_params.specs.Ranges.{IsInRange};
+ghost use Rattle.q_settings.specs.Ranges.{IsInRange};
 
 use crate::clock::Clock;
 use crate::state::{Core, Question, Seen};
@@ -15,11 +15,11 @@ use q_flights::Flights;
 use q_held::Rows;
 use q_model::{Mode, NoMemory, Site, Unsettled};
 use q_open_rows::OpenRows;
-use q_params::Params;
 use q_pool::Pool;
 use q_positions::{Lists, RowList};
 use q_queue::Queue;
 use q_schedule::Schedule;
+use q_settings::Params;
 use std::alloc::Global;
 
 /// The sites, the messages, and their schedule.

@@ -13,9 +13,9 @@ ghost use Rattle.q_turns.specs.Turns.{line_at, may_wait, with_line};
 use q_dest::Sites;
 use q_held::Rows;
 use q_model::{Id, Site};
-use q_params::Params;
 use q_positions::RowList;
 use q_schedule::Schedule;
+use q_settings::Params;
 
 /// The site of the row at a place.
 fn site_at(rows: &RowList, i: usize) -> &Site

@@ -5,7 +5,7 @@ ghost use Rattle.std.specs.Option.{option_map_or};
 ghost use Rattle.q_core.specs.Choosing.{pays_in};
 
 use q_jobs::Job;
-use q_params::Params;
+use q_settings::Params;
 
 /// The greatest need of which each delivery costs so much that fits in all, beside what is used.
 /// None where that is more than all.

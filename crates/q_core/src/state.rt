@@ -11,11 +11,11 @@ use q_flights::Flights;
 use q_held::Rows;
 use q_model::{Id, Mode, Moment, Request, Scan, Site, Unsettled};
 use q_open_rows::OpenRows;
-use q_params::Params;
 use q_pool::{Pool, Slot};
 use q_positions::{Lists, RowList};
 use q_queue::Queue;
 use q_schedule::Schedule;
+use q_settings::Params;
 use std::marker::Model;
 
 /// What a look has shown, while it holds.

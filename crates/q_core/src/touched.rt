@@ -8,8 +8,8 @@ ghost use Rattle.q_model.specs.Ids.{id_eq};
 use crate::names::same_id;
 use crate::tidy::unread;
 use q_model::Id;
-use q_params::Params;
 use q_pool::Pool;
+use q_settings::Params;
 
 /// What entries touched: more than one is everything.
 #[derive(Debug, Drop)]

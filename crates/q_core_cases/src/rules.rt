@@ -2,7 +2,7 @@
 use q_core::laws::{n1, n2, n3, n4, n5, n6, n7, n8};
 use q_core::{Core, Decision, FileFacts, Found, Heard};
 use q_model::{Id, LAST_MOMENT, Mode, Moment, Place, Trigger};
-use q_params::Params;
+use q_settings::Params;
 use std::alloc::Global;
 
 /// Puts a value in a box.

@@ -6,8 +6,8 @@ ghost use Rattle.q_dest.specs.Ranks.{dead_rank, time_rank};
 use crate::site_record::WideSiteRecord;
 use q_keyed::HasKey;
 use q_model::{Health, Moment, Site, SiteState};
-use q_params::Params;
 use q_peers::site_hash;
+use q_settings::Params;
 
 /// What is known of a site, and what goes to it.
 #[derive(Clone, Copy, Debug)]

@@ -6,7 +6,7 @@ ghost use Rattle.q_model.specs.Lists.{drop_first};
 use crate::dest::Dest;
 use crate::sites::Sites;
 use q_model::{Moment, Site, SiteState};
-use q_params::Params;
+use q_settings::Params;
 
 impl Sites {
     /// One row more waits for the site, which comes behind all others where it wasn't known.

@@ -4,7 +4,7 @@ ghost use Rattle.q_dest.specs.Dests.{is_kept, revived_when_dead, revived_when_du
 
 use crate::sites::Sites;
 use q_model::Moment;
-use q_params::Params;
+use q_settings::Params;
 
 impl Sites {
     /// The sites whose time has come are alive again; those of them that are unused are forgotten.

@@ -7,7 +7,7 @@ ghost use Rattle.q_model.specs.SiteRecords.{is_alive, new_record};
 ghost use Rattle.q_model.specs.Windows.{revived};
 
 use q_model::{Health, Moment, Site};
-use q_params::Params;
+use q_settings::Params;
 use std::marker::Model;
 
 /// What is known of a site, in numbers wide enough for any feedback. A contract sees it as

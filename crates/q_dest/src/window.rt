@@ -6,7 +6,7 @@ ghost use Rattle.q_model.specs.SiteRecords.{is_alive};
 
 use crate::site_record::WideSiteRecord;
 use q_model::{Health, Moment, SiteState};
-use q_params::Params;
+use q_settings::Params;
 
 /// A whole cohort, in parts that each window divides.
 const PARTS: u64 = 5_342_931_457_063_200;

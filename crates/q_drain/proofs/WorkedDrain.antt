@@ -25,7 +25,7 @@ use Rattle.q_model.specs.Step.{after, after_all}
 use Rattle.q_model.specs.Values.{Site}
 use Rattle.q_link.specs.Records.{Closed}
 use Rattle.q_link.specs.Routes.{has_route}
-use Rattle.q_text.specs.Pieces.{cut}
+use Rattle.q_numbers.specs.Pieces.{cut}
 use Rattle.q_smtp.specs.Replies.{codes_from}
 use Rattle.q_smtp.specs.ContentLines.{crlf, sent_content}
 use Rattle.q_smtp.specs.Dialogue.{Settled, dialogue, after_ehlo, after_helo, after_mail, rcpts, after_rcpt, after_data, after_content, ehlo_line, mail_line, rcpt_line, data_line, quit_line}

@@ -21,7 +21,7 @@ ghost use Rattle.q_model.specs.declared.entry.Entry.TheVariants as entries;
 ghost use Rattle.q_model.specs.declared.id.Id.{Id as Ids};
 ghost use Rattle.q_model.specs.declared.spot.Area.{Area as Areas};
 ghost use Rattle.q_places.specs.Kept.{kept_file};
-ghost use Rattle.q_params.specs.Ranges.{IsInRange};
+ghost use Rattle.q_settings.specs.Ranges.{IsInRange};
 ghost use Rattle.q_restart.specs.Damages.{IsDamage, IsNextGeneration, IsSpent};
 ghost use Rattle.q_transport.specs.Routing.{table_of};
 
@@ -31,9 +31,9 @@ use q_core::Core;
 use q_entries::tell;
 use q_host::Host;
 use q_model::{Bound, Entry, Mode};
-use q_params::Params;
 use q_places::Places;
 use q_restart::{OpenError, open_spool};
+use q_settings::Params;
 use q_transport::Table;
 use std::alloc::Global;
 

@@ -2,12 +2,13 @@
 ghost use Rattle.std.specs.Prelude.{IfOk, IfSome};
 ghost use Rattle.q_engine.specs.Stands.{IsReady};
 ghost use Rattle.q_events.specs.Forms.{IsItemInForm};
-ghost use Rattle.q_params.specs.Ranges.{IsInRange};
+ghost use Rattle.q_settings.specs.Ranges.{IsInRange};
 
 use q_engine::{Engine, EngineError, begin};
 use q_events::{EventError, Events, Item};
 use q_model::{Mode, NoMemory};
-use q_params::{Params, read_params};
+use q_params::read_params;
+use q_settings::Params;
 use q_silent_host::SilentHost;
 use q_stream::MemSource;
 use q_transport::{Table, read_table};

@@ -11,8 +11,8 @@ use Rattle.q_model.specs.declared.outcome.SiteState.{SiteState}
 use Rattle.q_model.specs.Lists.{has_none}
 use Rattle.q_model.specs.Texts.{is_address}
 use Rattle.q_model.specs.declared.event.Event.TheVariants as events
-use Rattle.q_text.specs.Numbers.{is_number, number_within}
-use Rattle.q_text.specs.Pieces.{each_some, one_or_more, words_in}
+use Rattle.q_numbers.specs.Numbers.{is_number, number_within}
+use Rattle.q_numbers.specs.Pieces.{each_some, one_or_more, words_in}
 use Rattle.q_text.specs.ValueForms.{HasAddressForm, IsListOf, IsOutcomeAt}
 use Rattle.q_text.specs.ValueTexts.{address_of, outcome_of, sender_of_text, state_of_text, trigger_of}
 use Rattle.q_text.proofs.OutcomeReads.{exact_outcome}

@@ -4,8 +4,8 @@ use Rattle.std.specs.Prelude.{◌-◌, ◌==◌, ◌^◌, [], Bool, bytes_eq, co
 use Rattle.q_model.specs.declared.event.Event.TheVariants as events
 use Rattle.q_model.specs.declared.outcome.Outcome.{Outcome}
 use Rattle.q_model.specs.declared.outcome.SiteState.{SiteState}
-use Rattle.q_text.specs.Numbers.{number_within}
-use Rattle.q_text.specs.Pieces.{one_or_more, words_in}
+use Rattle.q_numbers.specs.Numbers.{number_within}
+use Rattle.q_numbers.specs.Pieces.{one_or_more, words_in}
 use Rattle.q_text.specs.ValueTexts.{address_of, outcome_of, sender_of_text, state_of_text, trigger_of}
 use Rattle.q_events.specs.declared.line.Line.{Line}
 use Rattle.q_events.specs.declared.line.Line.TheVariants.{Body, Passed, Told}

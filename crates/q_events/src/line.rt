@@ -1,12 +1,11 @@
 //! What the lines of an event list say.
 ghost use Rattle.std.specs.Prelude.{◌≡◌, IfOk};
-ghost use Rattle.q_text.specs.Pieces.{words_in};
+ghost use Rattle.q_numbers.specs.Pieces.{words_in};
 ghost use Rattle.q_events.specs.EventLines.{command_of, is_body, is_passed, meaning_of_line, mail_in, moment_of, reply_in, reply_to, single_of, trigger_command};
 
 use q_model::{Address, Addresses, Event, LAST_MOMENT, NoMemory};
-use q_text::{
-    first_word, read_addresses, read_number, read_outcomes, read_sender, read_state, read_trigger,
-};
+use q_numbers::{first_word, read_number};
+use q_text::{read_addresses, read_outcomes, read_sender, read_state, read_trigger};
 use std::alloc::Global;
 
 /// What a line says.

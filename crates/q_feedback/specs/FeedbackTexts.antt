@@ -1,8 +1,8 @@
 -- The texts of feedbacks (postconf(5): default_destination_concurrency_positive_feedback).
 use Rattle.std.specs.Option.{option_map_or}
 use Rattle.std.specs.Prelude.{bytes_eq, codes, false, if◌then◌else◌, List, Option, option_and_then, option_map, true, ℕ}
-use Rattle.q_text.specs.Numbers.{number_within}
-use Rattle.q_text.specs.Pieces.{cut}
+use Rattle.q_numbers.specs.Numbers.{number_within}
+use Rattle.q_numbers.specs.Pieces.{cut}
 use Rattle.q_model.specs.Settings.{Feedback}
 
 -- p over q

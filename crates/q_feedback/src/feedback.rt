@@ -4,7 +4,7 @@ ghost use Rattle.q_feedback.specs.FeedbackForms.{IsFeedback};
 ghost use Rattle.q_feedback.specs.FeedbackTexts.{feedback_of, fraction, per_window, whole};
 ghost use Rattle.q_model.specs.Feedbacks.{amount, parts, unit};
 
-use q_text::{cut, read_number};
+use q_numbers::{cut, read_number};
 use std::marker::Model;
 
 /// The least common multiple of 1 to 40, so that each window divides it.

@@ -6,7 +6,7 @@ use q_drain::{Drained, drain};
 use q_engine::begin;
 use q_folder_host::FolderHost;
 use q_model::Mode;
-use q_params::Params;
+use q_settings::Params;
 use q_stream::MemClock;
 use q_tcp_hops::TcpHops;
 use q_transport::Table;

@@ -5,8 +5,8 @@ ghost use Rattle.q_events.specs.Forms.{IsMailInForm};
 use crate::delivering::Spool;
 use anyhow::{Context, Result};
 use q_model::{Address, Addresses, Bytes, Moment};
-use q_params::Params;
 use q_replay::{Letter, submit};
+use q_settings::Params;
 use q_transport::read_table;
 use std::alloc::Global;
 

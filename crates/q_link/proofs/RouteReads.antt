@@ -5,8 +5,8 @@ use Rattle.std.specs.List.{list_all}
 use Rattle.std.specs.Prelude.{◌&&◌, ◌==◌, if◌then◌else◌}
 use Rattle.std.proofs.lemmas.Bool.{ne_eqb}
 use Rattle.std.proofs.lemmas.List.Splits.{length-slice_split}
-use Rattle.q_text.specs.Pieces.{cut, each_some, is_byte, pieces}
-use Rattle.q_text.proofs.PieceLaws.{cut_back, pieces_at, pieces_none}
+use Rattle.q_numbers.specs.Pieces.{cut, each_some, is_byte, pieces}
+use Rattle.q_numbers.proofs.PieceLaws.{cut_back, pieces_at, pieces_none}
 use Rattle.q_link.specs.Routes.{host_of, octet_of}
 
 -- the host, where the pieces are these

@@ -1,7 +1,7 @@
 -- Next hops with a route and without one.
 use Rattle.std.proofs.Common.{◌≡◌, [], ◌∷◌, Some, false, refl}
 use Rattle.std.specs.Prelude.{codes}
-use Rattle.q_text.specs.Pieces.{cut}
+use Rattle.q_numbers.specs.Pieces.{cut}
 use Rattle.q_link.specs.Routes.{has_route, route_of}
 
 loopback : route_of (codes "[127.0.0.1]:25") ≡ Some (record { host = 127 ∷ 0 ∷ 0 ∷ 1 ∷ []; port = 25 })

@@ -1,7 +1,7 @@
 -- Next hops to which a connection can be opened.
 use Rattle.std.specs.Prelude.{◌==◌, [], ◌∷◌, Bool, if◌then◌else◌, is_some, length, List, None, Option, option_and_then, option_map, ℕ}
-use Rattle.q_text.specs.Numbers.{number_within}
-use Rattle.q_text.specs.Pieces.{cut, each_some, pieces}
+use Rattle.q_numbers.specs.Numbers.{number_within}
+use Rattle.q_numbers.specs.Pieces.{cut, each_some, pieces}
 
 -- the numbers of an IPv4 address, and a port
 pub record Route : Type 0 where

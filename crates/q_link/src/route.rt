@@ -2,12 +2,12 @@
 //! hop of another form has no address.
 ghost use Rattle.std.specs.Prelude.{◌≡◌, ◌∷◌, [], is_some, option_map};
 ghost use Rattle.std.specs.Net.Addr.{ipv4_octets};
-ghost use Rattle.q_text.specs.Pieces.{each_some};
+ghost use Rattle.q_numbers.specs.Pieces.{each_some};
 ghost use Rattle.q_link.specs.Addresses.{route_at};
 ghost use Rattle.q_link.specs.Routes.{has_route, host_and_port, host_of, octet_of, port_of, route_of};
 
 use q_model::Hop;
-use q_text::{cut, read_number32};
+use q_numbers::{cut, read_number32};
 use std::net::{Ipv4Addr, SocketAddrV4};
 
 fn read_octet(text: &[u8]) -> Option<u8>

@@ -17,7 +17,7 @@ use q_engine::{Engine, EngineError, begin};
 use q_host::{Host, HostError};
 use q_mem_host::MemHost;
 use q_model::{Event, Mode, Moment, NoMemory};
-use q_params::Params;
+use q_settings::Params;
 use q_transport::Table;
 use std::alloc::Global;
 

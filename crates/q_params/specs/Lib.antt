@@ -1,5 +1,3 @@
-pub mod Ranges
-pub mod Fields
 pub mod Parameters
 pub mod Times
 pub mod Values

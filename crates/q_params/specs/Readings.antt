@@ -5,7 +5,7 @@ use Rattle.std.specs.Prelude.{◌==◌, ◌≡◌, bytes_eq, Err, find, if◌the
 use Rattle.q_model.specs.Settings.{Settings}
 use Rattle.q_params.specs.Parameters.{all_parameters, name_of, place_of}
 use Rattle.q_text.specs.Blanks.{is_passed_over, is_text_byte, trimmed}
-use Rattle.q_text.specs.Pieces.{cut}
+use Rattle.q_numbers.specs.Pieces.{cut}
 use Rattle.q_params.specs.Values.{set_to}
 use Rattle.q_params.specs.declared.error.ParamCause.{ParamCause}
 use Rattle.q_params.specs.declared.error.ParamCause.TheVariants.{BadValue, NoEquals, NotText, Twice, UnknownName}

@@ -1,7 +1,7 @@
 -- Times in a text: a number and a unit, or a number alone (postconf(5)).
 use Rattle.std.specs.Option.{option_map_or}
 use Rattle.std.specs.Prelude.{◌&&◌, ◌*◌, ◌-◌, ◌==◌, if◌then◌else◌, length, List, nat_le, None, Option, option_and_then, slice_get, Some, take, ℕ}
-use Rattle.q_text.specs.Numbers.{number_within}
+use Rattle.q_numbers.specs.Numbers.{number_within}
 
 -- how many seconds `s`, `m`, `h`, `d` and `w` count
 abbrev pub unit_of : ℕ → Option ℕ

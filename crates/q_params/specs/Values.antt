@@ -1,7 +1,7 @@
 -- What the text of a value makes of the settings, for each parameter (postconf(5)).
 use Rattle.std.specs.Prelude.{◌==◌, if◌then◌else◌, List, None, Option, option_and_then, option_map, Some, ℕ}
 use Rattle.q_feedback.specs.FeedbackTexts.{feedback_of}
-use Rattle.q_text.specs.Numbers.{number_within}
+use Rattle.q_numbers.specs.Numbers.{number_within}
 use Rattle.q_model.specs.Settings.{Feedback, Settings}
 use Rattle.q_params.specs.Times.{seconds_within}
 use Rattle.q_params.specs.declared.parameter.Parameter.{Parameter}

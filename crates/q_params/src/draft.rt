@@ -7,10 +7,11 @@ ghost use Rattle.q_params.specs.Values.{cost_of};
 
 use crate::error::{ParamCause, ParamError};
 use crate::parameter::Parameter;
-use crate::params::Params;
 use crate::times::seconds;
 use q_feedback::Feedback;
-use q_text::{cut, is_passed_over, is_text, read_number32, trim};
+use q_numbers::{cut, read_number32};
+use q_settings::Params;
+use q_text::{is_passed_over, is_text, trim};
 use std::marker::Model;
 
 /// The seconds of a day.

@@ -9,10 +9,9 @@
 mod draft;
 mod error;
 mod parameter;
-mod params;
 mod reader;
 mod times;
 
 pub use error::{ParamCause, ParamError};
-pub use params::Params;
+pub use q_settings::Params;
 pub use reader::read_params;

@@ -1,11 +1,11 @@
 //! The parameter file.
 ghost use Rattle.std.specs.Prelude.{◌≡◌, IfOk};
 ghost use Rattle.q_params.specs.ParameterFile.{settings_of_file, read_lines};
-ghost use Rattle.q_params.specs.Ranges.{IsInRange};
+ghost use Rattle.q_settings.specs.Ranges.{IsInRange};
 
 use crate::draft::Draft;
 use crate::error::{ParamCause, ParamError};
-use crate::params::Params;
+use q_settings::Params;
 use q_text::first_line;
 
 fn read_lines(bytes: &[u8]) -> Result<Draft, ParamError>

@@ -2,7 +2,7 @@
 ghost use Rattle.std.specs.Prelude.{◌≡◌, ◌<◌, ◌≤◌, IfSome, length, OnSome};
 ghost use Rattle.q_params.specs.Times.{counted_in_units, last_unit, seconds_within, unit_of};
 
-use q_text::read_number32;
+use q_numbers::read_number32;
 
 /// The longest time, in seconds.
 const LONGEST: u32 = 9_999_999;

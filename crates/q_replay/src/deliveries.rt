@@ -2,7 +2,7 @@
 ghost use Rattle.std.specs.Prelude.{◌≡◌, ◌≢◌, IsErrOf, IsTrue, Ok, ℕ};
 ghost use Rattle.q_drain.specs.Drained.{CountsRests};
 ghost use Rattle.q_host.specs.View.{Told};
-ghost use Rattle.q_params.specs.Ranges.{IsInRange};
+ghost use Rattle.q_settings.specs.Ranges.{IsInRange};
 ghost use Rattle.q_replay.specs.DamagedSpools.{FindsDamage, NamesOnlyDamage};
 ghost use Rattle.q_replay.specs.Deliveries.{DeliveryEnds};
 ghost use Rattle.q_replay.specs.ReplayEnds.{ForOrderly, IsFitSpool};
@@ -15,7 +15,7 @@ use q_drain::{Drained, drain};
 use q_host::Host;
 use q_link::{Hops, Link};
 use q_model::Mode;
-use q_params::Params;
+use q_settings::Params;
 use q_stream::Clock;
 use q_transport::Table;
 use std::alloc::Global;

@@ -3,7 +3,7 @@ ghost use Rattle.std.specs.Prelude.{◌≤◌, IsErrOf, IsTrue};
 ghost use Rattle.q_events.specs.Forms.{IsMailInForm};
 ghost use Rattle.q_host.specs.View.{Told};
 ghost use Rattle.q_model.specs.declared.event.Mode.TheVariants as modes;
-ghost use Rattle.q_params.specs.Ranges.{IsInRange};
+ghost use Rattle.q_settings.specs.Ranges.{IsInRange};
 ghost use Rattle.q_replay.specs.DamagedSpools.{FindsDamage, NamesOnlyDamage};
 ghost use Rattle.q_replay.specs.ReplayEnds.{ForOrderly, IsFitSpool};
 ghost use Rattle.q_replay.specs.RunEnds.{RunEnds};
@@ -14,7 +14,7 @@ use crate::error::ReplayError;
 use crate::taking::{begin_life, end, hear};
 use q_host::Host;
 use q_model::{Address, Addresses, Bytes, Event, Mode, Moment};
-use q_params::Params;
+use q_settings::Params;
 use q_transport::Table;
 use std::alloc::Global;
 

@@ -6,7 +6,7 @@ ghost use Rattle.q_events.specs.Forms.{IsInForm, IsItemInForm};
 ghost use Rattle.q_events.specs.Readings.{is_list_end};
 ghost use Rattle.q_events.specs.declared.item.Item.TheVariants as items;
 ghost use Rattle.q_host.specs.View.{Told};
-ghost use Rattle.q_params.specs.Ranges.{IsInRange};
+ghost use Rattle.q_settings.specs.Ranges.{IsInRange};
 ghost use Rattle.q_restart.specs.Damages.{IsUndamaged};
 ghost use Rattle.q_replay.specs.DamagedSpools.{FindsDamage, NamesOnlyDamage};
 ghost use Rattle.q_replay.specs.Takings.{BeginsAnew, GivesUpItem, GivesUpNext, NeverBegins, ReplayCause, TakesItem, TakesNext};
@@ -16,7 +16,7 @@ use q_engine::{Engine, begin};
 use q_events::Item;
 use q_host::Host;
 use q_model::{Event, Mode};
-use q_params::Params;
+use q_settings::Params;
 use q_transport::Table;
 use std::alloc::Global;
 

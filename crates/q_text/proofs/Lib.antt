@@ -1,5 +1,3 @@
-pub mod NumberLaws
-pub mod PieceLaws
 pub mod LineLaws
 pub mod WordLists
 pub mod Exactness

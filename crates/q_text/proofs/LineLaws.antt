@@ -3,8 +3,8 @@ use Rattle.std.proofs.Common.{◌≡◌, ◌+◌, ℕ, zero, suc, List, [], leng
 use Rattle.std.specs.List.{enumerate_from, fold}
 use Rattle.std.proofs.lemmas.List.{drop_all}
 use Rattle.q_text.specs.Lines.{IsFirstLine, through_lines}
-use Rattle.q_text.specs.Pieces.{cut}
-use Rattle.q_text.proofs.PieceLaws.{pieces_at, pieces_none}
+use Rattle.q_numbers.specs.Pieces.{cut}
+use Rattle.q_numbers.proofs.PieceLaws.{pieces_at, pieces_none}
 
 pub first_at : (text line rest : List ℕ) → Some (line, rest) ≡ cut 10 text → IsFirstLine text line rest
 first_at text line rest e = inl (pieces_at 10 text line rest (sym e))

@@ -5,11 +5,11 @@ use Rattle.std.specs.Str.Parse.{digits_value}
 use Rattle.std.proofs.lemmas.Bool.{and_parts, cond-true, leb-true}
 use Rattle.std.proofs.lemmas.Option.{cond_some}
 use Rattle.q_model.specs.Texts.{is_address}
-use Rattle.q_text.specs.Numbers.{is_number, number_within, number32_of, number64_of}
+use Rattle.q_numbers.specs.Numbers.{is_number, number_within, number32_of, number64_of}
 use Rattle.q_text.specs.ValueForms.{FitsBits, HasAddressForm}
 use Rattle.q_text.specs.ValueTexts.{address_of}
 use Rattle.q_text.proofs.Exactness.{ExactPart}
-use Rattle.q_text.proofs.NumberLaws.{decimal_is_read, read_decimal}
+use Rattle.q_numbers.proofs.NumberLaws.{decimal_is_read, read_decimal}
 use Rattle.q_text.proofs.SolidTexts.{address_is_solid, decimal_solid}
 
 -- a number from low to high

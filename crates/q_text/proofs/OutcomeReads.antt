@@ -6,8 +6,8 @@ use Rattle.std.specs.Prelude.{◌==◌, bytes_eq, codes, decimal, if◌then◌el
 use Rattle.std.proofs.lemmas.Bool.{ne_eqb}
 use Rattle.std.proofs.lemmas.List.{take-append-drop}
 use Rattle.std.proofs.lemmas.Slice.Eq.{bytes_eq-Decides}
-use Rattle.q_text.specs.Numbers.{number_within}
-use Rattle.q_text.proofs.NumberLaws.{decimal_is_read}
+use Rattle.q_numbers.specs.Numbers.{number_within}
+use Rattle.q_numbers.proofs.NumberLaws.{decimal_is_read}
 use Rattle.q_model.proofs.RecordLaws.{map_some}
 use Rattle.q_model.specs.declared.outcome.Outcome.{Outcome}
 use Rattle.q_model.specs.declared.outcome.SiteState.{SiteState}

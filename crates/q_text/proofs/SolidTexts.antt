@@ -13,7 +13,7 @@ use Rattle.q_model.specs.IdTexts.{id_text}
 use Rattle.q_model.specs.declared.id.Id.{Id}
 use Rattle.q_model.specs.Texts.{is_address, is_address_byte, is_hop, is_hop_byte, is_name_byte, domain_from}
 use Rattle.q_model.proofs.IdLaws.{is_name-id_text}
-use Rattle.q_text.specs.Pieces.{is_space}
+use Rattle.q_numbers.specs.Pieces.{is_space}
 
 -- a byte within a word
 abbrev pub is_solid : ℕ → Bool

@@ -2,7 +2,7 @@
 use Rattle.std.proofs.Common.{◌≡◌, ℕ, Bool, true, false, cond, List, [], ◌∷◌, ◌++◌, Option, Some, None, refl, sym, ap, ◌∙◌, append_assoc}
 use Rattle.std.specs.Prelude.{option_and_then, option_map}
 use Rattle.std.specs.List.{onto_first, slice_split}
-use Rattle.q_text.specs.Pieces.{each_some, is_space, one_or_more, words_in}
+use Rattle.q_numbers.specs.Pieces.{each_some, is_space, one_or_more, words_in}
 
 -- there is a word in each text
 onto_some : {B : Type 0} (f : List ℕ → Option B) (x : ℕ) (parts : List (List ℕ)) → one_or_more f (onto_first x parts) ≡ each_some f (onto_first x parts)

@@ -1,5 +1,3 @@
-pub mod Numbers
-pub mod Pieces
 pub mod Lines
 pub mod Blanks
 pub mod ValueForms

@@ -1,7 +1,7 @@
 -- The lines of a text, and its first one.
 use Rattle.std.specs.List.{enumerate_from, fold}
 use Rattle.std.specs.Prelude.{◌≡◌, ◌⊎◌, [], List, ℕ, ◌∷◌}
-use Rattle.q_text.specs.Pieces.{pieces}
+use Rattle.q_numbers.specs.Pieces.{pieces}
 
 -- the lines of a text without their ends; behind the last end stands an empty one
 abbrev pub lines_in : List ℕ → List (List ℕ)

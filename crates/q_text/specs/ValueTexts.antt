@@ -7,7 +7,7 @@ use Rattle.q_model.specs.declared.outcome.Outcome.{Outcome}
 use Rattle.q_model.specs.declared.outcome.SiteState.{SiteState}
 use Rattle.q_model.specs.declared.outcome.SiteState.TheVariants.{Down, Up}
 use Rattle.q_model.specs.Texts.{is_address}
-use Rattle.q_text.specs.Numbers.{number_within}
+use Rattle.q_numbers.specs.Numbers.{number_within}
 use Rattle.q_model.specs.declared.event.Trigger.TheVariants as triggers
 use Rattle.q_model.specs.declared.outcome.Outcome.TheVariants as outcomes
 

@@ -1,6 +1,6 @@
-//! Texts of lines, read: numbers, words, blanks, lines, and the values that stand as words in
-//! event lists and traces. Each is read here alone, so that files, event lists and traces agree
-//! on what a number, a word or an outcome is.
+//! Texts of lines, read: blanks, lines, and the values that stand as words in event lists and
+//! traces. Each is read here alone, so that files, event lists and traces agree on what a line, a
+//! list or an outcome is.
 //!
 //! Nothing here is an error to call: a text that isn't of a form gives `None`, and a list gives
 //! `NoMemory` where memory runs out.
@@ -9,13 +9,9 @@
 mod blanks;
 mod lines;
 mod lists;
-mod numbers;
-mod pieces;
 mod values;
 
 pub use blanks::{is_blank, is_passed_over, is_text, trim, trim_start};
 pub use lines::first_line;
 pub use lists::{read_addresses, read_outcomes, read_positions};
-pub use numbers::{read_number, read_number32};
-pub use pieces::{cut, first_word};
 pub use values::{read_outcome, read_sender, read_state, read_trigger};

@@ -2,7 +2,7 @@
 ghost use Rattle.std.specs.Prelude.{◌<◌, length};
 ghost use Rattle.q_text.specs.Lines.{IsFirstLine};
 
-use crate::pieces::cut;
+use q_numbers::cut;
 
 /// The first line without its end, and what follows that. A last line may lack its end.
 pub fn first_line(text: &[u8]) -> (&[u8], &[u8])

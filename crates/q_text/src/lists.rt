@@ -1,13 +1,12 @@
 //! Lists of values: the words of a text, if each is one.
 ghost use Rattle.std.specs.Prelude.{◌≡◌, IfOk};
-ghost use Rattle.q_text.specs.Numbers.{number32_of};
-ghost use Rattle.q_text.specs.Pieces.{one_or_more, words_in};
+ghost use Rattle.q_numbers.specs.Numbers.{number32_of};
+ghost use Rattle.q_numbers.specs.Pieces.{one_or_more, words_in};
 ghost use Rattle.q_text.specs.ValueTexts.{address_of, outcome_of};
 
-use crate::numbers::read_number32;
-use crate::pieces::first_word;
 use crate::values::read_outcome;
 use q_model::{Address, Addresses, NoMemory, Outcomes, Positions, SiteState};
+use q_numbers::{first_word, read_number32};
 use std::alloc::Global;
 
 /// The addresses that a text lists, at least one.

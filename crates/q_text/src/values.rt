@@ -2,8 +2,8 @@
 ghost use Rattle.std.specs.Prelude.{◌≡◌};
 ghost use Rattle.q_text.specs.ValueTexts.{code_behind, later_of, never_of, outcome_of, sender_of_text, state_of_text, trigger_of};
 
-use crate::numbers::read_number;
 use q_model::{Address, Outcome, SiteState, Trigger};
+use q_numbers::read_number;
 
 /// An address, or `<>` for the null sender.
 pub fn read_sender(text: &[u8]) -> Option<Option<Address>>

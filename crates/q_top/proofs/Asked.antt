@@ -7,7 +7,7 @@ use Rattle.std.specs.Prelude.{bytes_eq, codes, IfSome, length, option_map}
 use Rattle.clap.specs.Words.{first_of, matches_of, Row}
 use Rattle.q_events.specs.Forms.{IsMailInForm}
 use Rattle.q_model.specs.Texts.{is_address}
-use Rattle.q_text.specs.Pieces.{each_some, one_or_more}
+use Rattle.q_numbers.specs.Pieces.{each_some, one_or_more}
 use Rattle.q_text.specs.ValueTexts.{address_of, sender_of_text}
 use Rattle.q_top.specs.Qmgr.{HasForm}
 use Rattle.q_words.specs.Commands.{submit_app}

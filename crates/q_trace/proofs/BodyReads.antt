@@ -1,7 +1,7 @@
 -- What stands behind the first word of a line, in both directions.
 use Rattle.std.proofs.Common.{◌≡◌, ◌≤◌, ◌<◌, ◌^◌, ◌∙◌, ℕ, true, Option, Some, List, [], ◌∷◌, ◌++◌, map, ap, subst, arith}
 use Rattle.std.specs.Prelude.{decimal, option_map}
-use Rattle.q_text.specs.Numbers.{number32_of, number64_of, number_within}
+use Rattle.q_numbers.specs.Numbers.{number32_of, number64_of, number_within}
 use Rattle.q_text.specs.ValueForms.{FitsBits, IsListOf, IsOutcomeAt, IsSender}
 use Rattle.q_text.specs.ValueTexts.{sender_of_text, state_of_text}
 use Rattle.q_text.proofs.Exactness.{Exact, exact_last}

@@ -4,11 +4,11 @@ use Rattle.std.specs.Prelude.{bytes_eq, codes, decimal, flat_map, if◌then◌el
 use Rattle.std.specs.Option.{option_map_or}
 use Rattle.std.proofs.lemmas.List.{append-nil, length-map, length-replicate}
 use Rattle.std.proofs.lemmas.Slice.Eq.{bytes_eq-Decides}
-use Rattle.q_text.specs.Numbers.{number_within}
+use Rattle.q_numbers.specs.Numbers.{number_within}
 use Rattle.q_text.specs.ValueForms.{FitsBits}
-use Rattle.q_text.specs.Pieces.{cut}
+use Rattle.q_numbers.specs.Pieces.{cut}
 use Rattle.q_text.proofs.Exactness.{Exact, exact_last}
-use Rattle.q_text.proofs.PieceLaws.{cut_back}
+use Rattle.q_numbers.proofs.PieceLaws.{cut_back}
 use Rattle.q_text.proofs.NumberReads.{exact_number}
 use Rattle.q_text.proofs.WordReads.{exact_trigger, guarded, word_or}
 use Rattle.q_model.proofs.EachLaws.{find-passes}

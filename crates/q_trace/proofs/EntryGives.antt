@@ -19,7 +19,7 @@ use Rattle.q_model.specs.declared.outcome.Why.{Why}
 use Rattle.q_model.specs.Text.{joined, outcome_text, sender_text, state_text, transport_text, trigger_text, words}
 use Rattle.q_trace.specs.declared.kind.Kind.{Kind}
 use Rattle.q_text.specs.ValueForms.{FitsBits}
-use Rattle.q_text.specs.Pieces.{cut}
+use Rattle.q_numbers.specs.Pieces.{cut}
 use Rattle.q_text.proofs.SolidTexts.{decimal_solid, is_solid}
 use Rattle.q_text.proofs.Exactness.{exact_last}
 use Rattle.q_text.proofs.WordReads.{exact_trigger}

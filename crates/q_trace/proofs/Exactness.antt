@@ -5,10 +5,10 @@ use Rattle.std.specs.Prelude.{option_map}
 use Rattle.std.proofs.lemmas.List.{length-map}
 use Rattle.q_model.proofs.RecordLaws.{bind_some, map_some}
 use Rattle.q_model.specs.Text.{joined}
-use Rattle.q_text.specs.Pieces.{cut, each_some, one_or_more, words_in}
+use Rattle.q_numbers.specs.Pieces.{cut, each_some, one_or_more, words_in}
 use Rattle.q_text.specs.ValueForms.{IsListOf}
 use Rattle.q_text.proofs.Exactness.{Exact, ExactPart}
-use Rattle.q_text.proofs.PieceLaws.{cut_back}
+use Rattle.q_numbers.proofs.PieceLaws.{cut_back}
 use Rattle.q_text.proofs.SolidTexts.{is_solid}
 use Rattle.q_text.proofs.WordLists.{some_word}
 use Rattle.q_trace.specs.Parts.{field, then_read}

@@ -6,8 +6,8 @@ use Rattle.std.proofs.lemmas.Bool.{eqb-true}
 use Rattle.std.proofs.lemmas.List.{append-nil}
 use Rattle.std.proofs.lemmas.List.Splits.{length-slice_split}
 use Rattle.q_model.specs.Text.{joined, spaced}
-use Rattle.q_text.specs.Pieces.{is_space, words_in}
-use Rattle.q_text.proofs.PieceLaws.{pieces_at, pieces_none}
+use Rattle.q_numbers.specs.Pieces.{is_space, words_in}
+use Rattle.q_numbers.proofs.PieceLaws.{pieces_at, pieces_none}
 use Rattle.q_text.proofs.SolidTexts.{is_solid}
 use Rattle.q_trace.proofs.PartLaws.{cut_at, cut_none}
 

@@ -5,7 +5,7 @@ use Rattle.std.specs.Option.{ok_or}
 use Rattle.std.specs.Prelude.{nat_le}
 use Rattle.std.proofs.lemmas.Bool.{le-leb, lt-leb}
 use Rattle.std.proofs.lemmas.List.Splits.{length-slice_split}
-use Rattle.q_text.specs.Pieces.{is_space, one_or_more, words_in}
+use Rattle.q_numbers.specs.Pieces.{is_space, one_or_more, words_in}
 use Rattle.q_text.specs.ValueTexts.{address_of}
 use Rattle.q_trace.specs.Answers.{AnswersText}
 use Rattle.q_trace.specs.declared.error.EntryError.TheVariants.{BadEntry}

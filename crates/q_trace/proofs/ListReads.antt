@@ -5,7 +5,7 @@ use Rattle.std.proofs.lemmas.Bool.{cond-true, le-leb, leb-true}
 use Rattle.std.proofs.lemmas.List.{map-id}
 use Rattle.q_model.specs.declared.outcome.SiteState.{SiteState}
 use Rattle.q_model.specs.Text.{joined, outcome_text}
-use Rattle.q_text.specs.Pieces.{one_or_more, words_in}
+use Rattle.q_numbers.specs.Pieces.{one_or_more, words_in}
 use Rattle.q_text.specs.ValueForms.{FitsBits, HasAddressForm, IsListOf, IsOutcomeAt}
 use Rattle.q_text.specs.ValueTexts.{address_of}
 use Rattle.q_text.proofs.Exactness.{Exact}

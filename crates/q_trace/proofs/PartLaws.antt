@@ -4,7 +4,7 @@ use Rattle.std.specs.List.{list_all, position_or_len}
 use Rattle.std.specs.Prelude.{nat_lt}
 use Rattle.std.proofs.lemmas.Bool.{and_parts, le-ltb, lt-ltb, not-true}
 use Rattle.std.proofs.lemmas.List.{drop-drop, drop_at, take_at}
-use Rattle.q_text.specs.Pieces.{cut, is_space}
+use Rattle.q_numbers.specs.Pieces.{cut, is_space}
 use Rattle.q_text.proofs.SolidTexts.{is_solid}
 
 -- the place of the space behind a text without spaces

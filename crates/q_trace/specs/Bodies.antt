@@ -1,8 +1,8 @@
 -- What stands behind the first word of a line.
 use Rattle.std.specs.Option.{option_map_or}
 use Rattle.std.specs.Prelude.{bytes_eq, codes, find, if◌then◌else◌, List, None, Option, option_and_then, option_map, replicate, Some, ℕ}
-use Rattle.q_text.specs.Numbers.{number32_of, number64_of, number_within}
-use Rattle.q_text.specs.Pieces.{cut}
+use Rattle.q_numbers.specs.Numbers.{number32_of, number64_of, number_within}
+use Rattle.q_numbers.specs.Pieces.{cut}
 use Rattle.q_text.specs.ValueTexts.{sender_of_text, state_of_text, trigger_of}
 use Rattle.q_model.specs.declared.entry.Entry.{Entry}
 use Rattle.q_model.specs.declared.event.Mode.{Mode}

@@ -9,8 +9,8 @@ use Rattle.q_model.specs.declared.outcome.Why.TheVariants.{Expired, Refused}
 use Rattle.q_model.specs.IdTexts.{id_text}
 use Rattle.q_model.specs.Settings.{Table}
 use Rattle.q_model.specs.Texts.{is_hop}
-use Rattle.q_text.specs.Numbers.{number32_of, number_within}
-use Rattle.q_text.specs.Pieces.{one_or_more, words_in}
+use Rattle.q_numbers.specs.Numbers.{number32_of, number_within}
+use Rattle.q_numbers.specs.Pieces.{one_or_more, words_in}
 use Rattle.q_text.specs.ValueTexts.{address_of, outcome_of}
 
 -- the number of bytes of an arrived content

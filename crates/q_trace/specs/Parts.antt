@@ -1,6 +1,6 @@
 -- The fields of a line, which stand before spaces.
 use Rattle.std.specs.Prelude.{List, Option, option_and_then, option_map, ℕ}
-use Rattle.q_text.specs.Pieces.{cut}
+use Rattle.q_numbers.specs.Pieces.{cut}
 
 -- the value before the first space, and what stands behind it
 abbrev pub field : {A : Type 0} → (List ℕ → Option A) → List ℕ → Option (A × List ℕ)

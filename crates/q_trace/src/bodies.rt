@@ -7,7 +7,8 @@ use crate::fields::{id_field, number32_field, transport_field, why_field};
 use crate::kind::Kind;
 use crate::part_texts::id;
 use q_model::{Entry, Failure, LAST_MOMENT, Mode};
-use q_text::{cut, read_number, read_number32, read_trigger};
+use q_numbers::{cut, read_number, read_number32};
+use q_text::read_trigger;
 use q_transport::Table;
 
 /// The greatest moment of twelve digits.

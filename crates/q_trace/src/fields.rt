@@ -1,14 +1,15 @@
 //! A value before a space, and what stands behind it.
 ghost use Rattle.std.specs.Prelude.{◌≡◌, option_map};
 ghost use Rattle.q_trace.specs.Parts.{field};
-ghost use Rattle.q_text.specs.Numbers.{number32_of, number64_of};
+ghost use Rattle.q_numbers.specs.Numbers.{number32_of, number64_of};
 ghost use Rattle.q_text.specs.ValueTexts.{sender_of_text, state_of_text};
 ghost use Rattle.q_trace.specs.PartTexts.{hop_of, id_of, size_of, transport_of, why_of_text};
 ghost use Rattle.q_transport.specs.Routing.{table_of};
 
 use crate::part_texts::{hop, id, transport, why};
 use q_model::{Address, Hop, Id, MOST_MAIL_BYTES, SiteState, Why};
-use q_text::{cut, read_number, read_number32, read_sender, read_state};
+use q_numbers::{cut, read_number, read_number32};
+use q_text::{read_sender, read_state};
 use q_transport::Table;
 
 pub(crate) fn id_field(text: &[u8]) -> Option<(Id, &[u8])>

@@ -2,7 +2,7 @@
 ghost use Rattle.std.specs.Prelude.{◌≡◌, ◌≢◌, IfNone, IfSome, List, ℕ};
 ghost use Rattle.std.specs.List.{count_by};
 ghost use Rattle.q_model.specs.TextParts.{text_line};
-ghost use Rattle.q_text.specs.Pieces.{is_space};
+ghost use Rattle.q_numbers.specs.Pieces.{is_space};
 
 pub(crate) fn spaces(text: &[u8]) -> usize
     ensures { result ≡ count_by is_space text.now }

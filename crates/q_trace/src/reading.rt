@@ -15,7 +15,7 @@ use crate::kind::Kind;
 use crate::lists::{addresses, outcomes, positions};
 use crate::parts::without_end;
 use q_model::{Bytes, Entry, NoMemory, Site};
-use q_text::cut;
+use q_numbers::cut;
 use q_transport::Table;
 use std::alloc::Global;
 

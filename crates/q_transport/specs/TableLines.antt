@@ -5,7 +5,7 @@ use Rattle.std.specs.Prelude.{◌==◌, ◌≡◌, drop, if◌then◌else◌, Li
 use Rattle.q_model.specs.Lists.{has_none}
 use Rattle.q_model.specs.Texts.{is_hop}
 use Rattle.q_text.specs.Blanks.{is_blank, is_text_byte, trimmed_start}
-use Rattle.q_text.specs.Pieces.{cut}
+use Rattle.q_numbers.specs.Pieces.{cut}
 use Rattle.q_transport.specs.Texts.{is_transport}
 
 -- a pattern, the name of a transport, and a next hop; none is the domain of the recipient

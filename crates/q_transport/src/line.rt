@@ -6,7 +6,8 @@ ghost use Rattle.q_transport.specs.Texts.{is_transport};
 
 use crate::text::{blank, is_transport};
 use q_model::Hop;
-use q_text::{cut, is_text, trim_start};
+use q_numbers::cut;
+use q_text::{is_text, trim_start};
 
 /// A pattern, the name of a transport, and a next hop; none is the domain of the recipient.
 #[derive(Debug, Drop)]

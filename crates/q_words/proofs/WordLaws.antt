@@ -9,7 +9,7 @@ use Rattle.std.specs.Str.Parse.{ParsesUnsigned}
 use Rattle.clap.specs.Matches.{ReadsOne}
 use Rattle.clap.specs.Words.{one_of, Row, Text}
 use Rattle.q_model.specs.Lists.{has_none}
-use Rattle.q_text.specs.Pieces.{each_some}
+use Rattle.q_numbers.specs.Pieces.{each_some}
 use Rattle.q_words.specs.Requests.{IsNumber, queues_of}
 
 -- the texts behind words

@@ -6,7 +6,7 @@ use Rattle.std.specs.Str.Parse.{digits_value, without_leading_plus}
 use Rattle.clap.specs.Words.{all_of, first_of, matches_of, one_of, Row, Text}
 use Rattle.q_model.specs.Lists.{has_none}
 use Rattle.q_shape.specs.Buckets.{IsShape}
-use Rattle.q_text.specs.Pieces.{one_or_more}
+use Rattle.q_numbers.specs.Pieces.{one_or_more}
 use Rattle.q_text.specs.ValueTexts.{address_of, sender_of_text}
 use Rattle.q_model.specs.declared.queues.Queues.{Queues}
 use Rattle.q_words.specs.declared.request.Request.{Request}

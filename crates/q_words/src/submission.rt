@@ -1,7 +1,7 @@
 //! The words of `submit`.
 ghost use Rattle.std.specs.Prelude.{◌≡◌, IfOk, map, string_bytes};
 ghost use Rattle.clap.specs.Words.{found_of, matches_of, rows_of};
-ghost use Rattle.q_text.specs.Pieces.{each_some, one_or_more};
+ghost use Rattle.q_numbers.specs.Pieces.{each_some, one_or_more};
 ghost use Rattle.q_text.specs.ValueTexts.{address_of};
 ghost use Rattle.q_words.specs.Commands.{submit_app};
 ghost use Rattle.q_words.specs.Requests.{IsSubmit, sender_in, to_in};

@@ -1,5 +1,5 @@
 use Rattle.std.proofs.Common.{rules, ◌≡◌, sym, ◌∙◌, None, Some}
-use Rattle.q_text.specs.Pieces.{cut}
+use Rattle.q_numbers.specs.Pieces.{cut}
 use Rattle.q_link.proofs.RouteReads.{four_pieces, one_piece, three_pieces, two_pieces}
 use Rattle.q_link.proofs.route.read_host.Goals as goal
 

@@ -1,5 +1,5 @@
 use Rattle.std.proofs.Common.{sym}
-use Rattle.q_text.specs.Numbers.{number32_of}
+use Rattle.q_numbers.specs.Numbers.{number32_of}
 use Rattle.q_text.proofs.WordLists.{nothing_listed, one_listed}
 use Rattle.q_text.proofs.lists.read_positions.Goals as goal
 

@@ -1,5 +1,5 @@
 use Rattle.std.proofs.Common.{length}
-use Rattle.q_text.specs.Numbers.{number32_of}
+use Rattle.q_numbers.specs.Numbers.{number32_of}
 use Rattle.q_text.proofs.WordLists.{IsListed}
 use Rattle.q_text.proofs.lists.read_positions.Given as goal
 

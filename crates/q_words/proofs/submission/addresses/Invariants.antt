@@ -1,5 +1,5 @@
 use Rattle.std.proofs.Common.{◌≡◌, ◌++◌, drop, option_map}
-use Rattle.q_text.specs.Pieces.{each_some}
+use Rattle.q_numbers.specs.Pieces.{each_some}
 use Rattle.q_text.specs.ValueTexts.{address_of}
 use Rattle.q_words.proofs.WordLaws.{texts}
 use Rattle.q_words.proofs.submission.addresses.Given as goal

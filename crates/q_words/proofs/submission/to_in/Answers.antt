@@ -2,7 +2,7 @@ use Rattle.std.proofs.Common.{◌≡◌, ◌∙◌, ap, subst}
 use Rattle.std.specs.Prelude.{codes, IfOk}
 use Rattle.clap.specs.Words.{all_of, found_of, rows_of}
 use Rattle.clap.proofs.WalkLemmas.{raw_values-rows}
-use Rattle.q_text.specs.Pieces.{one_or_more}
+use Rattle.q_numbers.specs.Pieces.{one_or_more}
 use Rattle.q_text.specs.ValueTexts.{address_of}
 use Rattle.q_words.proofs.WordLaws.{words-none, words-some}
 use Rattle.q_words.proofs.submission.to_in.Goals as goal

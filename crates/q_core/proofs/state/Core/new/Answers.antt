@@ -6,7 +6,7 @@ use Rattle.q_core.specs.declared.state.Core.{Core}
 use Rattle.q_laws.proofs.Beginnings.{begins_consistent}
 use Rattle.q_laws.proofs.SiteEntries.{sites_at_life}
 use Rattle.q_model.specs.Ledger.{opening}
-use Rattle.q_params.specs.Ranges.{IsInRange}
+use Rattle.q_settings.specs.Ranges.{IsInRange}
 use Rattle.q_core.proofs.state.Core.new.Goals as goal
 
 pub returns-clause-consistent : goal.returns-clause-consistent

@@ -1,6 +1,6 @@
 //! The pieces of a text between the bytes that divide it.
 ghost use Rattle.std.specs.Prelude.{◌≡◌, ◌<◌, ◌∷◌, IfSome, length, option_map, position};
-ghost use Rattle.q_text.specs.Pieces.{cut, is_byte, words_behind, words_in};
+ghost use Rattle.q_numbers.specs.Pieces.{cut, is_byte, words_behind, words_in};
 
 fn place_of(text: &[u8], byte: u8) -> Option<usize>
     ensures exact { result ≡ position (is_byte byte) text.now }

@@ -7,7 +7,7 @@ use Rattle.std.proofs.lemmas.List.Splits.{slice_split_first}
 use Rattle.std.proofs.lemmas.List.Sums.{passes_at_first, split_at_first}
 use Rattle.std.proofs.lemmas.Option.{cond_some}
 use Rattle.q_model.proofs.RecordLaws.{map_some}
-use Rattle.q_text.specs.Pieces.{cut, is_byte, pieces}
+use Rattle.q_numbers.specs.Pieces.{cut, is_byte, pieces}
 
 -- where a text is cut
 record Place (byte : ℕ) (text front back : List ℕ) : Type 0 where

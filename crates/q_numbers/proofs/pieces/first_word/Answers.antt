@@ -1,6 +1,6 @@
 use Rattle.std.proofs.Common.{sym}
-use Rattle.q_text.proofs.PieceLaws.{pieces_at, pieces_none}
-use Rattle.q_text.proofs.pieces.first_word.Goals as goal
+use Rattle.q_numbers.proofs.PieceLaws.{pieces_at, pieces_none}
+use Rattle.q_numbers.proofs.pieces.first_word.Goals as goal
 
 pub returns-in-Some-clause-words : goal.returns-in-Some-clause-words
 returns-in-Some-clause-words c = pieces_at 32 c.args.text.now _ _ (sym c.in-Some.ensures.exact)

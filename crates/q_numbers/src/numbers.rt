@@ -3,7 +3,7 @@ ghost use Rattle.std.specs.Prelude.{◌≡◌, ◌≤◌, ◌<◌, ◌^◌, deci
 ghost use Rattle.std.specs.Char.{is_ascii_digit};
 ghost use Rattle.std.specs.List.{list_all};
 ghost use Rattle.std.specs.Str.Parse.{digits_value};
-ghost use Rattle.q_text.specs.Numbers.{is_number, number_within};
+ghost use Rattle.q_numbers.specs.Numbers.{is_number, number_within};
 
 use std::str;
 

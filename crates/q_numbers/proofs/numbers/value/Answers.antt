@@ -1,5 +1,5 @@
-use Rattle.q_text.proofs.NumberLaws.{number_is_utf8, parsed}
-use Rattle.q_text.proofs.numbers.value.Goals as goal
+use Rattle.q_numbers.proofs.NumberLaws.{number_is_utf8, parsed}
+use Rattle.q_numbers.proofs.numbers.value.Goals as goal
 
 pub returns-in-Ok : goal.returns-in-Ok
 returns-in-Ok c =

@@ -1,7 +1,7 @@
 //! The parameters of a queue manager.
 ghost use Rattle.std.specs.Prelude.{◌≡◌};
 ghost use Rattle.q_model.specs.Settings.{defaults};
-ghost use Rattle.q_params.specs.Ranges.{IsInRange};
+ghost use Rattle.q_settings.specs.Ranges.{IsInRange};
 
 use q_feedback::Feedback;
 use std::marker::Model;
@@ -38,8 +38,8 @@ impl Model for Params {
 
     ghost Value = { Settings };
 
-    ghost use Rattle.q_params.specs.Fields.{settings_of};
-    ghost use Rattle.q_params.specs.Ranges.{IsInRange};
+    ghost use Rattle.q_settings.specs.Fields.{settings_of};
+    ghost use Rattle.q_settings.specs.Ranges.{IsInRange};
 
     ghost view = { settings_of };
 

@@ -1,6 +1,6 @@
 -- The parameters of a program as the numbers that the rules go by.
 use Rattle.q_model.specs.Settings.{Settings}
-use Rattle.q_params.specs.declared.params.Params.TheInside.{Inside}
+use Rattle.q_settings.specs.declared.params.Params.TheInside.{Inside}
 
 -- each parameter under its short name
 abbrev pub settings_of : Inside → Settings
