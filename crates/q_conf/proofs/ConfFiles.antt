@@ -1,12 +1,8 @@
--- A file of conf is read piece by piece, and what its bytes say is what a command goes by.
-use Rattle.std.proofs.Common.{◌≡◌, ◌≤◌, ◌<◌, ℕ, List, [], ◌∷◌, ◌++◌, length, take, drop, Option, Some, None, Result, Ok, Err, refl, sym, ap, ◌∙◌, subst, append_assoc, append-nil, arith, IsTrue, length-append, Bool}
-use Rattle.std.specs.Option.{IfSome, IsSome, option_map_or}
+-- What the bytes of the files of conf say is what a command goes by.
+use Rattle.std.proofs.Common.{◌≡◌, ℕ, List, Result, Ok, Err, sym, ap, ◌∙◌, subst, IsTrue, Bool}
 use Rattle.std.specs.Prelude.{codes}
-use Rattle.std.proofs.Math.Seq.{drop-append_seam}
-use Rattle.std.proofs.lemmas.List.{take-append-drop}
 use Rattle.q_host.specs.Calls.{Stays}
 use Rattle.q_model.specs.SpoolFiles.{Files}
-use Rattle.q_host.specs.Reads.{IsRead}
 use Rattle.q_host.specs.View.{View}
 use Rattle.q_model.specs.Settings.{Settings}
 use Rattle.q_params.specs.ParameterFile.{settings_of_file as params_of}
@@ -18,35 +14,6 @@ use Rattle.q_conf.specs.Confs.{at_fault, conf_bytes, conf_of, goes_by, IsConfFau
 use Rattle.q_conf.specs.declared.conf.Conf.{Conf}
 use Rattle.q_conf.specs.declared.error.ConfError.{ConfError}
 use Rattle.q_conf.specs.declared.error.ConfError.TheVariants as errors
-
--- these bytes are the first of the file
-abbrev pub ReadSo : Option (List ℕ) → List ℕ → Type 0
-ReadSo o bytes = IfSome o (λ file. (rest : List ℕ) × (file ≡ bytes ++ rest))
-
-pub read_none : (o : Option (List ℕ)) (bytes : List ℕ) → bytes ≡ [] → ReadSo o bytes
-read_none None bytes h = tt
-read_none (Some file) bytes h = (file, sym (ap (λ (x : List ℕ). x ++ file) h))
-
-pub read_more : (o : Option (List ℕ)) (bytes more old new : List ℕ) (n : ℕ) → IfSome o (λ file. IsRead file (length bytes) old new n) → more ≡ take n new → ReadSo o bytes → ReadSo o (bytes ++ more)
-read_more None bytes more old new n r is so = tt
-read_more (Some file) bytes more old new n r is (rest, all) =
-    let reading_behind : drop (length bytes) file ≡ rest = ap (drop (length bytes)) all ∙ drop-append_seam bytes rest in
-    let same : more ≡ take n rest = is ∙ r.bytes ∙ ap (take n) reading_behind in
-    (drop n rest, all ∙ ap (λ (x : List ℕ). bytes ++ x) (sym (take-append-drop n rest)) ∙ sym (append_assoc bytes (take n rest) (drop n rest)) ∙ ap (λ (x : List ℕ). (bytes ++ x) ++ drop n rest) (sym same))
-
-nothing_left : (bytes rest file : List ℕ) (size : ℕ) → file ≡ bytes ++ rest → size ≡ length file → size ≤ length bytes → rest ≡ []
-nothing_left bytes [] file size all is le = refl
-nothing_left bytes (b ∷ rest) file size all is le = absurd (omega (arith, is, le, ap length all, length-append bytes (b ∷ rest)))
-
-pub read_all : (o : Option (List ℕ)) (bytes : List ℕ) (size : ℕ) → IsSome o → IfSome o (λ file. size ≡ length file) → size ≤ length bytes → ReadSo o bytes → bytes ≡ option_map_or (λ x. x) o []
-read_all None bytes size there is le so = absurd cc
-read_all (Some file) bytes size there is le (rest, all) = sym (all ∙ ap (λ (x : List ℕ). bytes ++ x) (nothing_left bytes rest file size all is le) ∙ append-nil bytes)
-
-pub read_stuck : (o : Option (List ℕ)) (bytes old new : List ℕ) (size n : ℕ) → IsSome o → IfSome o (λ file. size ≡ length file) → length bytes < size → 0 < length old → n ≡ 0 → IfSome o (λ file. IsRead file (length bytes) old new n) → ⊥
-read_stuck None bytes old new size n there is less some none r = cc
-read_stuck (Some file) bytes old new size n there is less some none r = omega (arith, is, less, some, none, r.count)
-
--- ---- what the two files say
 
 pub params_fault : (tells : Bool) (f : Files) (bytes : List ℕ) (error : ConfError) → GivesParams (Err error) (params_of bytes) → (IsTrue tells → bytes ≡ conf_bytes f (codes "params")) → IsConfFault tells (conf_of f) error
 unfolding conf_of

@@ -1,5 +1,5 @@
 -- What the files of conf say: the parameters and the transport table.
-use Rattle.std.specs.Option.{option_map_or}
+use Rattle.std.specs.Option.{unwrap_or}
 use Rattle.std.specs.Prelude.{◌≡◌, ℕ, Bool, List, [], Result, Ok, Err, codes, IsTrue}
 use Rattle.q_model.specs.declared.spot.Area.TheVariants.{Conf as ConfArea}
 use Rattle.q_model.specs.Settings.{Settings, World}
@@ -21,7 +21,7 @@ use Rattle.q_host.specs.declared.error.HostError.TheVariants as faults
 
 -- the bytes of a file of conf; a missing one says as much as an empty one
 abbrev pub conf_bytes : Files → List ℕ → List ℕ
-conf_bytes f name = option_map_or (λ bytes. bytes) (f ConfArea name) []
+conf_bytes f name = unwrap_or (f ConfArea name) []
 
 -- what the ledger goes by, or the first fault of the two files
 pub data Sayings : Type 0 where

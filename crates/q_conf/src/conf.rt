@@ -3,77 +3,28 @@
 //!
 //! It is an error where a line of one of them breaks its form: the parameters are read first, and
 //! the first faulty line is named. Nothing is written.
-ghost use Rattle.std.specs.Prelude.{◌≡◌, ◌≤◌, [], codes, length, IfErr, IfOk, IfSome, IsSome, IsTrue, OnOk, Err};
-ghost use Rattle.q_model.specs.declared.spot.Area.TheVariants as areas;
+ghost use Rattle.std.specs.Prelude.{◌≡◌, ◌≤◌, codes, IfErr, IfOk, IsTrue, Err};
 ghost use Rattle.q_host.specs.Calls.{Stays};
-ghost use Rattle.q_host.specs.Faults.{DiskCause};
 ghost use Rattle.q_model.specs.FaultCounts.{Rose};
 ghost use Rattle.q_params.specs.ParameterFile.{settings_of_file as params_of};
 ghost use Rattle.q_settings.specs.Ranges.{IsInRange};
 ghost use Rattle.q_transport.specs.TableFile.{table_of_file as contents_of};
-ghost use Rattle.q_conf.specs.Confs.{conf_bytes, conf_of, goes_by, IsConfFault, world_of};
+ghost use Rattle.q_conf.specs.Confs.{conf_of, goes_by, IsConfFault, world_of};
 ghost use Rattle.q_conf.specs.ConfReads.{GivesParams, GivesTable};
 
 use crate::error::{ConfError, ConfFile, host_error};
-use q_host::{Host, HostError};
+use q_host::{Host, read_file};
 use q_model::{Area, Name};
 use q_params::read_params;
 use q_settings::Params;
 use q_transport::{Table, TableError, read_table};
 use std::alloc::Global;
 
-/// How many bytes are read at once.
-const PIECE: usize = 4096;
-
 /// The parameters and the table; `world_of` them is what the ledger goes by.
 #[derive(Drop)]
 pub struct Conf {
     pub params: Params,
     pub table: Table,
-}
-
-/// Reads what is left of a file of conf behind these bytes, of which it has so many.
-fn read_on<H: Host>(
-    host: &mut H,
-    name: Name,
-    size: u64,
-    bytes: &mut Vec<u8>,
-) -> Result<(), HostError>
-    requires there { IsTrue H.tells → IsSome ((H.view host.old).files areas.Conf name) }
-    requires size { IsTrue H.tells → IfSome ((H.view host.old).files areas.Conf name) (λ file. size
-        ≡ length file) }
-    requires none { bytes.old.items ≡ [] }
-    ensures bytes { OnOk result (IsTrue H.tells
-        → bytes.new.items ≡ conf_bytes (H.view host.old).files name) }
-    ensures stays { IsTrue H.tells → Stays (H.view host.old) (H.view host.new) }
-    ensures cause { DiskCause (H.faults host.old) (H.faults host.new) result }
-{
-    let mut piece = [0; PIECE];
-    while (bytes.len() as u64) < size {
-        let count = host.read(Area::Conf, name, bytes.len() as u64, &mut piece)?;
-        if count == 0 {
-            break;
-        }
-        let Ok(()) = bytes.extend_from_slice(&piece[..count]) else {
-            return Err(HostError::NoMemory);
-        };
-    }
-    Ok(())
-}
-
-/// All bytes of a file of conf, none where it is missing.
-fn whole<H: Host>(alloc: Global, host: &mut H, name: Name) -> Result<Vec<u8>, HostError>
-    ensures bytes { IfOk result (λ bytes. IsTrue H.tells
-        → bytes.items ≡ conf_bytes (H.view host.old).files name) }
-    ensures stays { IsTrue H.tells → Stays (H.view host.old) (H.view host.new) }
-    ensures cause { DiskCause (H.faults host.old) (H.faults host.new) result }
-{
-    let mut bytes = Vec::new(alloc);
-    if host.has(Area::Conf, name)? {
-        let size = host.size(Area::Conf, name)?;
-        read_on(host, name, size, &mut bytes)?;
-    }
-    Ok(bytes)
 }
 
 /// The name of the parameter file.
@@ -141,7 +92,7 @@ pub fn read_conf<H: Host>(alloc: Global, host: &mut H) -> Result<Conf, ConfError
     ensures disk { result ≡ Err ConfError.Disk → Rose (H.faults host.old).disk
         (H.faults host.new).disk }
 {
-    let bytes = match whole(alloc, host, params_name()) {
+    let bytes = match read_file(alloc, host, Area::Conf, params_name()) {
         Ok(bytes) => bytes,
         Err(error) => return Err(host_error(error)),
     };
@@ -149,7 +100,7 @@ pub fn read_conf<H: Host>(alloc: Global, host: &mut H) -> Result<Conf, ConfError
         Ok(params) => params,
         Err(error) => return Err(error),
     };
-    let bytes = match whole(alloc, host, table_name()) {
+    let bytes = match read_file(alloc, host, Area::Conf, table_name()) {
         Ok(bytes) => bytes,
         Err(error) => return Err(host_error(error)),
     };

@@ -1,23 +1,13 @@
 -- A call that reads, and one that takes a file away.
-use Rattle.std.proofs.Common.{◌≡◌, ◌∙◌, ⊎_elim, ℕ, List, None, ap, arith, inl, inr, refl, subst, sym}
+use Rattle.std.proofs.Common.{◌≡◌, ◌∙◌, ⊎_elim, ℕ, List, None, ap, arith, inl, inr, subst, sym}
 use Rattle.q_model.specs.declared.spot.Area.{Area}
 use Rattle.q_model.specs.SpoolFiles.{Files}
 use Rattle.q_host.specs.Calls.{Changes, MayRemove, Removes, Stays}
 use Rattle.q_host.specs.Files.{without_file}
 use Rattle.q_host.specs.Steps.{Become, Stay}
 use Rattle.q_host.specs.View.{CountsNow, Remains, View}
-use Rattle.q_host.proofs.Moments.{goes_nowhere, goes_on}
 use Rattle.q_host.proofs.Puts.{put-here}
-
-pub stays_none : (v : View) → Stays v v
-stays_none v = record { files = refl; told = refl; goes = goes_nowhere Stay Stay v (λ x. refl) }
-
-pub stays_on : (u v w : View) → Stays u v → Stays v w → Stays u w
-stays_on u v w p q = record {
-  files = q.files ∙ p.files;
-  told = q.told ∙ p.told;
-  goes = goes_on Stay Stay p.goes q.goes (λ x y z a b. b ∙ a) (λ x y h. h) (λ x y z a b. b ∙ a);
-}
+use Rattle.q_host.proofs.Stays.{stays_on}
 
 -- what a crash may leave at once counts as what it may have left before
 pub stays_changes : (change : Files → Files) (u v w : View) → CountsNow u → Stays u v → Changes change v w → Changes change u w

@@ -1,7 +1,6 @@
 //! Storing a failure in the log of its message.
-ghost use Rattle.std.specs.Prelude.{◌≡◌, ◌∷◌, ◌++◌, [], Some, true, unwrap_or, IfOk, IsSome, IsTrue, OnErr, OnOk};
+ghost use Rattle.std.specs.Prelude.{◌≡◌, ◌∷◌, ◌++◌, [], true, IfOk, IsTrue, OnErr, OnOk};
 ghost use Rattle.std.specs.List.{AllByRecursion};
-ghost use Rattle.q_host.specs.Calls.{Stays};
 ghost use Rattle.q_host.specs.Faults.{DiskCause};
 ghost use Rattle.q_model.specs.declared.spot.Area.TheVariants as areas;
 ghost use Rattle.q_model.specs.FailureLog.{IsFailure, is_log_code, log_records};
@@ -12,51 +11,10 @@ ghost use Rattle.q_logfile.specs.HasRecords.{HasRecords};
 ghost use Rattle.q_books.specs.HostStands.{KeepsNotes, TakesBy, TriesBy};
 ghost use Rattle.q_files.specs.Changes.{AddsFailure};
 
-use q_host::{Host, HostError};
+use q_host::{Host, HostError, read_file};
 use q_logfile::{records, replace};
-use q_model::{Area, Failure, Id, Name, NoMemory, Records, Spot, id_name};
+use q_model::{Area, Failure, Id, NoMemory, Records, Spot, id_name};
 use std::alloc::Global;
-
-/// How many bytes of a log are read at once.
-const PIECE: usize = 4096;
-
-/// All bytes of a file, read in pieces.
-fn read_file<H: Host>(
-    alloc: Global,
-    host: &mut H,
-    area: Area,
-    name: Name,
-) -> Result<Vec<u8>, HostError>
-    requires { IsTrue H.tells → IsSome ((H.view host.old).files area name) }
-    ensures bytes { IfOk result (λ bytes. IsTrue H.tells
-        → (H.view host.old).files area name ≡ Some bytes.items) }
-    ensures stays { IsTrue H.tells → Stays (H.view host.old) (H.view host.new) }
-    ensures cause { DiskCause (H.faults host.old) (H.faults host.new) result }
-{
-    let mut bytes = Vec::new(alloc);
-    let mut piece = [0; PIECE];
-    for _ in 0..u64::MAX {
-        let count = host.read(area, name, bytes.len() as u64, &mut piece)?;
-        bytes.extend_from_slice(&piece[..count])?;
-        if count < PIECE {
-            return Ok(bytes);
-        }
-    }
-    Err(HostError::NoMemory)
-}
-
-/// The bytes of a failure log, none where it is missing.
-fn log_file<H: Host>(alloc: Global, host: &mut H, name: Name) -> Result<Vec<u8>, HostError>
-    ensures bytes { IfOk result (λ log. IsTrue H.tells
-        → log.items ≡ unwrap_or ((H.view host.old).files areas.Bounce name) []) }
-    ensures stays { IsTrue H.tells → Stays (H.view host.old) (H.view host.new) }
-    ensures cause { DiskCause (H.faults host.old) (H.faults host.new) result }
-{
-    if host.has(Area::Bounce, name)? {
-        return read_file(alloc, host, Area::Bounce, name);
-    }
-    Ok(Vec::new(alloc))
-}
 
 /// The records of a log, whatever their positions, and one more behind them.
 fn one_more(alloc: Global, log: &[u8], failure: Failure) -> Result<Records, NoMemory>
@@ -95,7 +53,7 @@ pub fn store_failure<H: Host>(
     ensures cause { DiskCause (H.faults host.old) (H.faults host.new) result }
 {
     let name = id_name(id);
-    let log = log_file(alloc, host, name)?;
+    let log = read_file(alloc, host, Area::Bounce, name)?;
     let records = one_more(alloc, &log, failure)?;
     let area = Area::Bounce;
     replace(alloc, host, Spot { area, name }, &records)

@@ -1,4 +1,6 @@
 pub mod Moments
+pub mod Stays
 pub mod Puts
 pub mod Sequences
 pub mod Told
+pub mod ReadPieces

@@ -5,7 +5,9 @@
 
 mod error;
 mod host;
+mod reading;
 
 pub use error::HostError;
 pub use host::Host;
 pub use q_model::Area;
+pub use reading::read_file;

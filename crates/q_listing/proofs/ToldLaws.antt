@@ -3,7 +3,7 @@ use Rattle.std.proofs.Common.{◌≡◌, ◌∙◌, ◌++◌, ◌∷◌, [], Err
 use Rattle.std.specs.Prelude.{flat_map}
 use Rattle.std.proofs.lemmas.Grind.{flat_map-append}
 use Rattle.q_host.specs.View.{View}
-use Rattle.q_message.proofs.WindowLaws.{stays_here}
+use Rattle.q_host.proofs.Stays.{stays_here}
 use Rattle.q_telling.specs.Telling.{TellsFront, TellsMore}
 use Rattle.q_telling.proofs.TellingLaws.{OnlyNow, front_more, front_none, front_on, tells_none, tells_on}
 

@@ -7,6 +7,5 @@ pub mod Listings
 pub mod Naming
 pub mod LookLaws
 pub mod NumberedOrder
-pub mod ReadPieces
 pub mod UnmarkedLaws
 pub mod UnreadableFiles

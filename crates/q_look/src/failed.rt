@@ -11,8 +11,7 @@ ghost use Rattle.q_model.specs.QueueFile.{queue_file};
 ghost use Rattle.q_model.specs.SpoolFiles.{logged_in};
 
 use crate::facts::unreadable;
-use crate::whole::whole;
-use q_host::{Host, HostError};
+use q_host::{Host, HostError, read_file};
 use q_logfile::records;
 use q_message::read_recipients;
 use q_model::{Area, Batch, Cursor, Failure, FileHead, Id, Records, Spot, id_name};
@@ -59,7 +58,7 @@ pub fn log_of<H: Host>(alloc: Global, host: &mut H, id: Id) -> Result<Records, H
     ensures stays { IsTrue H.tells → Stays (H.view host.old) (H.view host.new) }
     ensures cause { DiskCause (H.faults host.old) (H.faults host.new) result }
 {
-    let bytes = whole(alloc, host, Area::Bounce, id_name(id))?;
+    let bytes = read_file(alloc, host, Area::Bounce, id_name(id))?;
     Ok(records(alloc, bytes.as_slice())?)
 }
 

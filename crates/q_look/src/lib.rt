@@ -14,7 +14,6 @@ mod failed;
 mod looks;
 mod names;
 mod wanted;
-mod whole;
 
 pub use failed::log_of;
 pub use looks::{look_active, look_deferred, look_incoming};

@@ -7,27 +7,11 @@ use Rattle.std.proofs.lemmas.List.{drop-drop, length-drop}
 use Rattle.std.proofs.lemmas.List.Sums.{sum_by-cons}
 use Rattle.q_model.specs.QueueFile.{FileRecipient}
 use Rattle.q_model.specs.Values.{Spot}
-use Rattle.q_host.specs.Calls.{Stays}
 use Rattle.q_model.specs.SpoolFiles.{Files}
-use Rattle.q_host.specs.Steps.{Stay}
-use Rattle.q_host.specs.View.{View}
-use Rattle.q_host.proofs.Moments.{goes_nowhere, goes_on}
 use Rattle.q_message.specs.Fronts.{IsFront, begins_record, front_body}
 use Rattle.q_message.specs.Readings.{Start, content_from, front_recipient, marks_counted, recipient_size, recipients_from, start_from, with_first}
 use Rattle.q_message.specs.Windows.{Seen, Shows, moved_on}
 use Rattle.q_message.proofs.FrontLaws.{begins_cut, drop_cut, front_cut_behind, GoesOn}
-
--- ---- calls that change nothing
-
-pub stays_on : (a b c : View) → Stays a b → Stays b c → Stays a c
-stays_on a b c p q = record {
-  files = q.files ∙ p.files;
-  told = q.told ∙ p.told;
-  goes = goes_on Stay Stay p.goes q.goes (λ x y z h k. k ∙ h) (λ x y h. h) (λ x y z h k. k ∙ h);
-}
-
-pub stays_here : (a : View) → Stays a a
-stays_here a = record { files = refl; told = refl; goes = goes_nowhere Stay Stay a (λ x. refl) }
 
 -- what a call said of a file that is still there
 pub size_of_file : (o : Option (List ℕ)) (file : List ℕ) (size : ℕ) → IfSome o (λ f. size ≡ length f) → o ≡ Some file → size ≡ length file

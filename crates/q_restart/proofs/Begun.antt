@@ -16,7 +16,7 @@ use Rattle.q_books.proofs.Joining.{kept_takes, kept_tries, reads_keep, reads_try
 use Rattle.q_restart.specs.Clearings.{Cleans, GoesBy, IsClean}
 use Rattle.q_restart.specs.Openings.{begun, Opens}
 use Rattle.q_restart.specs.Raises.{MayRaise, raised}
-use Rattle.q_restart.proofs.NameLists.{stays_here}
+use Rattle.q_host.proofs.Stays.{stays_here}
 use Rattle.q_restart.proofs.Opened.{clear-firm, clear-takes, log-same, raise-takes, raise-tries, standing-stands, stands-begun, stands-standing}
 use Rattle.q_restart.proofs.RaisedBooks.{raised-other}
 use Rattle.q_restart.proofs.Seen.{Sees}

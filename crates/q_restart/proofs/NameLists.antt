@@ -1,5 +1,5 @@
 -- A listing of an area goes on behind the names that came before.
-use Rattle.std.proofs.Common.{◌≡◌, ◌⊎◌, ◌<◌, ◌≤◌, ℕ, zero, suc, List, [], ◌∷◌, ◌++◌, length, Option, Some, None, inl, inr, ⊎_elim, refl, sym, subst, ◌∙◌, arith}
+use Rattle.std.proofs.Common.{◌≡◌, ◌⊎◌, ◌<◌, ◌≤◌, ℕ, zero, suc, List, [], ◌∷◌, ◌++◌, length, Option, Some, None, inl, inr, ⊎_elim, sym, subst, ◌∙◌, arith}
 use Rattle.std.specs.Cmp.Lexicographic.{nat_list_cmp_total, slice_cmp}
 use Rattle.std.specs.List.{Contains}
 use Rattle.std.specs.List.Sorted.{IsStrictlySortedBy}
@@ -9,25 +9,9 @@ use Rattle.std.specs.Prelude.{slice_get}
 use Rattle.std.specs.declared.cmp.Ordering.{Ordering}
 use Rattle.std.specs.declared.cmp.Ordering.TheVariants.{Less}
 use Rattle.std.proofs.lemmas.List.Elements.{Contains-append_cases, Contains-append_left, Contains-append_right}
-use Rattle.q_host.specs.Calls.{Stays}
 use Rattle.q_host.specs.Reads.{IsAfter, IsListing, Rise}
-use Rattle.q_host.specs.Steps.{Stay}
-use Rattle.q_host.specs.View.{View}
-use Rattle.q_host.proofs.Moments.{goes_nowhere, goes_on}
 use Rattle.q_restart.specs.Walks.{AreAllNames}
 use Rattle.q_restart.proofs.Lists.{each_has, has_at, has_cases, has_none, sorted_append}
-
--- ---- calls that only look
-
-pub stays_here : (v : View) → Stays v v
-stays_here v = record { files = refl; told = refl; goes = goes_nowhere Stay Stay v (λ x. refl) }
-
-pub stays_on : (u v w : View) → Stays u v → Stays v w → Stays u w
-stays_on u v w p q = record {
-  files = q.files ∙ p.files;
-  told = q.told ∙ p.told;
-  goes = goes_on Stay Stay p.goes q.goes (λ x y z a b. b ∙ a) (λ x y h. h) (λ x y z a b. b ∙ a);
-}
 
 -- ---- names that rise
 

@@ -34,7 +34,7 @@ use Rattle.q_replay.specs.declared.deliveries.Delivered.{Delivered}
 use Rattle.q_replay.specs.declared.deliveries.Delivered.TheVariants as deliveries
 use Rattle.q_replay.specs.declared.error.ReplayError.{ReplayError}
 use Rattle.q_replay.specs.declared.error.ReplayError.TheVariants as errors
-use Rattle.q_restart.proofs.NameLists.{stays_on}
+use Rattle.q_host.proofs.Stays.{stays_on}
 use Rattle.q_restart.specs.Damages.{IsDamage}
 use Rattle.q_top.proofs.FirstRefusals.{same_world, says_both, settings_of, table_by, unread_first}
 use Rattle.q_top.proofs.RunsBehind.{looked_first, none_yet, still_stands, told_behind}

@@ -25,7 +25,7 @@ use Rattle.q_replay.specs.declared.error.ReplayError.{ReplayError}
 use Rattle.q_replay.specs.declared.error.ReplayError.TheVariants as errors
 use Rattle.q_replay.specs.declared.letters.Letter.{Letter}
 use Rattle.q_restart.specs.Damages.{IsDamage}
-use Rattle.q_restart.proofs.NameLists.{stays_on}
+use Rattle.q_host.proofs.Stays.{stays_on}
 use Rattle.q_transport.specs.Routing.{table_of}
 use Rattle.q_top.specs.Courses.{Texts}
 use Rattle.q_top.specs.Lives.{EndsReplay, EndsSubmission, FindsDamage, IsGivenUp, RefusesFirst, Replays, SubmitsAt}

@@ -2,7 +2,7 @@
 use Rattle.std.proofs.Common.{◌≡◌, ◌<◌, ◌≤◌, ◌⊎◌, ap, arith, inl, inr, List, None, Option, refl, Some, subst, ℕ}
 use Rattle.std.specs.Prelude.{IfSome, length}
 use Rattle.q_host.specs.View.{View}
-use Rattle.q_restart.proofs.NameLists.{stays_here}
+use Rattle.q_host.proofs.Stays.{stays_here}
 use Rattle.q_stream.specs.Clocks.{AddsMoment}
 use Rattle.q_top.specs.Contents.{HasRead, IsNoContent, most_content}
 use Rattle.q_top.specs.Courses.{Moments, Texts}

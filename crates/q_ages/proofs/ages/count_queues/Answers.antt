@@ -1,7 +1,7 @@
 use Rattle.std.proofs.Common.{◌∙◌, arith, None, Some}
 use Rattle.q_ages.proofs.QueueLaws.{gives_now, queued_all, queued_first, queued_less}
 use Rattle.q_ages.specs.Counting.{counts_of}
-use Rattle.q_message.proofs.WindowLaws.{stays_here, stays_on}
+use Rattle.q_host.proofs.Stays.{stays_here, stays_on}
 use Rattle.q_walk.specs.Listed.{listed}
 use Rattle.q_ages.proofs.ages.count_queues.Goals as goal
 

@@ -1,7 +1,7 @@
 use Rattle.std.proofs.Common.{◌≡◌, ◌∙◌, [], ap, arith, List, map, subst, sym, ℕ}
 use Rattle.q_ages.proofs.AddingLaws.{adds_none, left_less, none_ahead, one_of}
 use Rattle.q_ages.specs.Adding.{Adds}
-use Rattle.q_message.proofs.WindowLaws.{stays_on}
+use Rattle.q_host.proofs.Stays.{stays_on}
 use Rattle.q_model.specs.SpoolFiles.{Files}
 use Rattle.q_model.specs.Texts.{domain_of}
 use Rattle.q_model.specs.Values.{Taken}

@@ -2,7 +2,7 @@ use Rattle.std.proofs.Common.{◌≡◌, ◌∙◌, ◌∷◌, [], None, Some, s
 use Rattle.q_books.proofs.Joining.{kept_takes, kept_tries, reads_keep, reads_try}
 use Rattle.q_books.proofs.Results.{on_ok}
 use Rattle.q_books.specs.HostStands.{TellsCrashes}
-use Rattle.q_message.proofs.WindowLaws.{stays_on}
+use Rattle.q_host.proofs.Stays.{stays_on}
 use Rattle.q_model.specs.Ids.{bounce_of}
 use Rattle.q_engine.proofs.Bounced.{adds_by, bounce_adds, either_way, notice_before, tried}
 use Rattle.q_engine.proofs.leaving.store_bounce.Goals as goal

@@ -2,7 +2,7 @@ use Rattle.std.proofs.Common.{◌≤◌, ◌∙◌, arith, min, subst, IsTrue}
 use Rattle.std.specs.Option.{IfSome}
 use Rattle.q_model.specs.SpoolFiles.{Files}
 use Rattle.q_message.specs.Pending.{AreTaken, IsPlaceBehind}
-use Rattle.q_message.proofs.WindowLaws.{stays_on}
+use Rattle.q_host.proofs.Stays.{stays_on}
 use Rattle.q_engine.proofs.OpenRecipients.{cursor_behind, leaves_from, passes_more}
 use Rattle.q_engine.proofs.seeking.place_from.Goals as goal
 

@@ -17,37 +17,37 @@ pub returns-in_err-log-clause-err : goal.returns-in_err-log-clause-err
 returns-in_err-log-clause-err g c = always_err c.from_residual.result (λ t b k h ch.
     let u = g.H.Host.view c.args.host.now in
     let lawful : TellsCrashes u = (record { only = g.met.H.Host.only_now c.args.host.now; told = g.met.H.Host.told_stays c.args.host.now }) in
-    reads_try b k u (g.H.Host.view c.log_file.new.host) lawful (c.log_file.ensures.stays t) h)
+    reads_try b k u (g.H.Host.view c.read_file.new.host) lawful (c.read_file.ensures.stays t) h)
 
 pub returns-in_err-records-clause-err : goal.returns-in_err-records-clause-err
 returns-in_err-records-clause-err g c = always_err c.from_residual-in_err-records.result (λ t b k h ch.
     let u = g.H.Host.view c.args.host.now in
     let lawful : TellsCrashes u = (record { only = g.met.H.Host.only_now c.args.host.now; told = g.met.H.Host.told_stays c.args.host.now }) in
-    reads_try b k u (g.H.Host.view c.log_file.new.host) lawful (c.log_file.ensures.stays t) h)
+    reads_try b k u (g.H.Host.view c.read_file.new.host) lawful (c.read_file.ensures.stays t) h)
 
 pub returns-clause-ok : goal.returns-clause-ok
 returns-clause-ok g c = on_ok c.replace.result (λ d t b k h ch.
     let u = g.H.Host.view c.args.host.now in
-    let v = g.H.Host.view c.log_file.new.host in
+    let v = g.H.Host.view c.read_file.new.host in
     let w = g.H.Host.view c.replace.new.host in
     let name = c.id_name-name.result in
     let fs = c.in_ok-records.records in
     let lawful : TellsCrashes u = (record { only = g.met.H.Host.only_now c.args.host.now; told = g.met.H.Host.told_stays c.args.host.now }) in
-    let then_lawful : TellsCrashes v = (record { only = g.met.H.Host.only_now c.log_file.new.host; told = g.met.H.Host.told_stays c.log_file.new.host }) in
+    let then_lawful : TellsCrashes v = (record { only = g.met.H.Host.only_now c.read_file.new.host; told = g.met.H.Host.told_stays c.read_file.new.host }) in
     let read = c.in_ok-records.ensures.records ∙ ap (λ (rs : List Failure). rs ++ c.args.failure ∷ []) (records_there u.files c.args.id name c.deref.result.now c.id_name-name.ensures (c.deref.ensures.value ∙ c.in_ok-log.ensures.bytes t)) in
-    fails (tmp_name areas.Bounce name) name c.args.id c.args.failure fs b k ch u v w lawful then_lawful c.id_name-name.ensures read c.in_ok-records.ensures.lawful (c.log_file.ensures.stays t) h (d t)) c.replace.ensures.ok
+    fails (tmp_name areas.Bounce name) name c.args.id c.args.failure fs b k ch u v w lawful then_lawful c.id_name-name.ensures read c.in_ok-records.ensures.lawful (c.read_file.ensures.stays t) h (d t)) c.replace.ensures.ok
 
 pub returns-clause-err : goal.returns-clause-err
 returns-clause-err g c = on_err c.replace.result (λ d t b k h ch.
     let u = g.H.Host.view c.args.host.now in
-    let v = g.H.Host.view c.log_file.new.host in
+    let v = g.H.Host.view c.read_file.new.host in
     let w = g.H.Host.view c.replace.new.host in
     let name = c.id_name-name.result in
     let fs = c.in_ok-records.records in
     let lawful : TellsCrashes u = (record { only = g.met.H.Host.only_now c.args.host.now; told = g.met.H.Host.told_stays c.args.host.now }) in
-    let then_lawful : TellsCrashes v = (record { only = g.met.H.Host.only_now c.log_file.new.host; told = g.met.H.Host.told_stays c.log_file.new.host }) in
+    let then_lawful : TellsCrashes v = (record { only = g.met.H.Host.only_now c.read_file.new.host; told = g.met.H.Host.told_stays c.read_file.new.host }) in
     let read = c.in_ok-records.ensures.records ∙ ap (λ (rs : List Failure). rs ++ c.args.failure ∷ []) (records_there u.files c.args.id name c.deref.result.now c.id_name-name.ensures (c.deref.ensures.value ∙ c.in_ok-log.ensures.bytes t)) in
-    may_fail (tmp_name areas.Bounce name) name c.args.id c.args.failure fs b k ch u v w lawful then_lawful c.id_name-name.ensures read c.in_ok-records.ensures.lawful (c.log_file.ensures.stays t) h (d t)) c.replace.ensures.err
+    may_fail (tmp_name areas.Bounce name) name c.args.id c.args.failure fs b k ch u v w lawful then_lawful c.id_name-name.ensures read c.in_ok-records.ensures.lawful (c.read_file.ensures.stays t) h (d t)) c.replace.ensures.err
 
 pub returns-clause-records : goal.returns-clause-records
 returns-clause-records g c = on_ok c.replace.result (λ d t.
@@ -59,9 +59,9 @@ returns-clause-records g c = on_ok c.replace.result (λ d t.
 
 pub returns-clause-notes : goal.returns-clause-notes
 returns-clause-notes g c t n =
-    let v = g.H.Host.view c.log_file.new.host in
+    let v = g.H.Host.view c.read_file.new.host in
     let w = g.H.Host.view c.replace.new.host in
     let name = c.id_name-name.result in
     let keep = stores_no_notes (tmp_name areas.Bounce name) areas.Bounce name (log_bytes c.in_ok-records.records) v w (λ e. cc) in
     either c.replace.result (λ d. keep (inr (d t)) n) (λ d. keep (d t) n) c.replace.ensures.ok c.replace.ensures.err
-    ∙ ap (λ (f : Files). f areas.Defer n) (c.log_file.ensures.stays t).files
+    ∙ ap (λ (f : Files). f areas.Defer n) (c.read_file.ensures.stays t).files

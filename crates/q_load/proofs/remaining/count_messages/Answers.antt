@@ -1,4 +1,4 @@
-use Rattle.q_message.proofs.WindowLaws.{stays_on}
+use Rattle.q_host.proofs.Stays.{stays_on}
 use Rattle.q_load.proofs.Places.{all_counted, gives_on, one_counted}
 use Rattle.q_load.proofs.remaining.count_messages.Goals as goal
 

@@ -1,6 +1,6 @@
 use Rattle.std.proofs.Common.{List, ℕ, arith, subst}
 use Rattle.q_host.specs.Reads.{IsListing}
-use Rattle.q_message.proofs.WindowLaws.{stays_here, stays_on}
+use Rattle.q_host.proofs.Stays.{stays_here, stays_on}
 use Rattle.q_model.specs.SpoolFiles.{Files}
 use Rattle.q_look.specs.FirstNames.{HasNone, IsFirstIn}
 use Rattle.q_look.proofs.Listings.{first_is, first_none, passed_last, passed_none, there_at}

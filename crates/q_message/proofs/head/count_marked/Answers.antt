@@ -3,7 +3,8 @@ use Rattle.q_model.specs.QueueFile.{FileRecipient}
 use Rattle.q_model.specs.SpoolFiles.{Files}
 use Rattle.q_message.specs.Readings.{front_recipient, recipient_size}
 use Rattle.q_message.specs.Windows.{Shows}
-use Rattle.q_message.proofs.WindowLaws.{moved_shows, one_if, stays_on, step_reads, stop_reads}
+use Rattle.q_host.proofs.Stays.{stays_on}
+use Rattle.q_message.proofs.WindowLaws.{moved_shows, one_if, step_reads, stop_reads}
 use Rattle.q_message.proofs.head.count_marked.Goals as goal
 use Rattle.q_message.proofs.head.count_marked.Goals.{then-recipient, else-recipient}
 

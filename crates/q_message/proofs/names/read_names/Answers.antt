@@ -7,7 +7,7 @@ use Rattle.q_message.specs.Names.{address_in}
 use Rattle.q_message.proofs.NameLaws.{fresh, names_begin, names_end, names_more, stands_before, stands_later, stands_same}
 use Rattle.q_message.specs.Windows.{Seen}
 use Rattle.q_message.proofs.PendingLaws.{recipients_few}
-use Rattle.q_message.proofs.WindowLaws.{stays_on}
+use Rattle.q_host.proofs.Stays.{stays_on}
 use Rattle.q_message.proofs.names.read_names.Goals as goal
 
 pub loop-position-preserved : goal.loop-position-preserved

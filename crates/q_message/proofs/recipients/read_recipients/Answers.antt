@@ -7,7 +7,8 @@ use Rattle.q_message.specs.Pending.{cursor_at, position_behind, taken_at, taken_
 use Rattle.q_message.specs.Readings.{front_recipient}
 use Rattle.q_message.specs.Windows.{Shows}
 use Rattle.q_message.proofs.PendingLaws.{IsLeft, cursor_is, cursor_with, each_told, few_more, left_end, left_marked, left_none, left_taken, next_at, recipient_is, recipient_missing, recipient_near, recipients_of, taken_is, taken_with, told}
-use Rattle.q_message.proofs.WindowLaws.{moved_shows, stays_on}
+use Rattle.q_host.proofs.Stays.{stays_on}
+use Rattle.q_message.proofs.WindowLaws.{moved_shows}
 use Rattle.q_message.proofs.recipients.read_recipients.Goals as goal
 use Rattle.q_message.proofs.recipients.read_recipients.Goals.{then-not-recipient, else-not-recipient, then-loop-position-test+else-len-max, else-loop-position-test}
 

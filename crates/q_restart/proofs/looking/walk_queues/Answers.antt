@@ -1,5 +1,5 @@
 use Rattle.std.proofs.Common.{arith}
-use Rattle.q_restart.proofs.NameLists.{stays_here, stays_on}
+use Rattle.q_host.proofs.Stays.{stays_here, stays_on}
 use Rattle.q_restart.proofs.Standings.{places-none, walk-end, walk-next, walk-none}
 use Rattle.q_restart.proofs.looking.walk_queues.Goals as goal
 

@@ -1,7 +1,8 @@
 use Rattle.std.proofs.Common.{◌<◌, ◌≤◌, ◌++◌, ◌∙◌, List, ℕ, ap, arith, length, subst}
 use Rattle.q_host.specs.Reads.{IsListing}
 use Rattle.q_model.specs.SpoolFiles.{Files}
-use Rattle.q_restart.proofs.NameLists.{front-all, front-more, front-none, stays_here, stays_on}
+use Rattle.q_host.proofs.Stays.{stays_here, stays_on}
+use Rattle.q_restart.proofs.NameLists.{front-all, front-more, front-none}
 use Rattle.q_restart.proofs.names.all_names.Goals as goal
 
 pub loop-init : goal.loop-init

@@ -1,6 +1,6 @@
 use Rattle.std.proofs.Common.{◌≡◌, ◌∙◌, ap, arith, Bool, false, List, None, Some, subst, sym, true}
 use Rattle.q_look.specs.Failures.{flag_at}
-use Rattle.q_message.proofs.WindowLaws.{stays_on}
+use Rattle.q_host.proofs.Stays.{stays_on}
 use Rattle.q_model.specs.SpoolFiles.{Files}
 use Rattle.q_model.specs.Values.{Taken}
 use Rattle.q_pending.proofs.ReadingLaws.{gives_none, gives_open, gives_same, passes_logged}

@@ -5,7 +5,7 @@ use Rattle.q_model.specs.SpoolFiles.{Files}
 use Rattle.q_scan.specs.Filled.{IsFilled}
 use Rattle.q_scan.specs.Fits.{IsFitOf, IsLater}
 use Rattle.q_scan.specs.Walks.{IsWalked, IsWithin, Walk}
-use Rattle.q_scan.proofs.Calls.{stays_here, stays_on}
+use Rattle.q_host.proofs.Stays.{stays_here, stays_on}
 use Rattle.q_scan.proofs.WalkLaws.{ended_empty, ended_later, exact_none, exact_some, first_of, HasWalked, left_none, left_some, none_first, same_first, stepped_behind, stepped_first, up_none, up_some, walked_filled, walked_nowhere, walked_over}
 use Rattle.q_scan.proofs.scan.Scan.next.Goals as goal
 

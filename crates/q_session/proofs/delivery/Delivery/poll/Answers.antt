@@ -2,7 +2,8 @@ use Rattle.std.proofs.Common.{arith, subst}
 use Rattle.q_model.specs.declared.outcome.SiteState.{SiteState}
 use Rattle.q_model.specs.declared.outcome.SiteState.TheVariants.{Down, Up}
 use Rattle.q_session.proofs.Polling.{along_step, awaits_along, over_down, over_late, over_up, same_on, same_site, steps_along}
-use Rattle.q_session.proofs.Standing.{stands_still, stays_on}
+use Rattle.q_host.proofs.Stays.{stays_on}
+use Rattle.q_session.proofs.Standing.{stands_still}
 use Rattle.q_session.specs.Mails.{Mail, StandsAt}
 use Rattle.q_session.specs.Polls.{IsOver}
 use Rattle.q_session.specs.Steps.{StaysSound, Steps}

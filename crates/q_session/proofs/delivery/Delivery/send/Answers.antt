@@ -1,6 +1,7 @@
 use Rattle.std.proofs.Common.{ap, sym, ◌∙◌, arith, Ok}
 use Rattle.q_session.proofs.Sendings.{not_filled, sending_filled, sending_flushed, sends_due, sends_short}
-use Rattle.q_session.proofs.Standing.{stands_still, stays_on}
+use Rattle.q_host.proofs.Stays.{stays_on}
+use Rattle.q_session.proofs.Standing.{stands_still}
 use Rattle.q_session.specs.declared.outbox.Sent.TheVariants as sent
 use Rattle.q_session.proofs.delivery.Delivery.send.Goals as goal
 

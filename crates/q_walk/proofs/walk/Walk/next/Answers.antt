@@ -1,5 +1,5 @@
 use Rattle.std.proofs.Common.{arith, subst}
-use Rattle.q_scan.proofs.Calls.{stays_on}
+use Rattle.q_host.proofs.Stays.{stays_on}
 use Rattle.q_walk.specs.Steps.{Leads}
 use Rattle.q_walk.proofs.Leading.{led}
 use Rattle.q_walk.proofs.walk.Walk.next.Goals as goal

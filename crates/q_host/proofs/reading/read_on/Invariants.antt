@@ -1,7 +1,7 @@
 use Rattle.std.proofs.Common.{◌≤◌, ◌-◌, length, IsTrue}
 use Rattle.q_host.specs.Calls.{Stays}
-use Rattle.q_look.proofs.ReadPieces.{IsFront}
-use Rattle.q_look.proofs.whole.read_on.Given as goal
+use Rattle.q_host.proofs.ReadPieces.{IsFront}
+use Rattle.q_host.proofs.reading.read_on.Given as goal
 
 abbrev pub invariant-loop-area : goal.invariant-loop-area
 invariant-loop-area g l =

@@ -1,4 +1,4 @@
--- Calls that change nothing.
+-- Calls that change nothing, one after another, and none.
 use Rattle.std.proofs.Common.{refl, ◌∙◌}
 use Rattle.q_host.specs.Calls.{Stays}
 use Rattle.q_host.specs.Steps.{Stay}

@@ -1,10 +1,10 @@
 use Rattle.std.proofs.Common.{arith, length, refl, subst, ℕ, ◌≡◌}
 use Rattle.std.specs.Option.{IfSome}
 use Rattle.q_host.specs.Reads.{IsRead}
-use Rattle.q_message.proofs.WindowLaws.{stays_here, stays_on}
+use Rattle.q_host.proofs.Stays.{stays_here, stays_on}
 use Rattle.q_model.specs.SpoolFiles.{Files}
-use Rattle.q_look.proofs.ReadPieces.{front_more, front_none}
-use Rattle.q_look.proofs.whole.read_on.Goals as goal
+use Rattle.q_host.proofs.ReadPieces.{front_more, front_none}
+use Rattle.q_host.proofs.reading.read_on.Goals as goal
 
 pub loop-area-init : goal.loop-area-init
 loop-area-init g c = record {

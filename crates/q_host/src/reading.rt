@@ -1,10 +1,9 @@
 //! Reading a whole file.
-ghost use Rattle.std.specs.Option.{option_map_or};
 ghost use Rattle.std.specs.Prelude.{◌≡◌, [], IfOk, IfSome, IsSome, IsTrue, length, OnOk, unwrap_or};
 ghost use Rattle.q_host.specs.Calls.{Stays};
 ghost use Rattle.q_host.specs.Faults.{DiskCause};
 
-use q_host::{Host, HostError};
+use crate::{Host, HostError};
 use q_model::{Area, Name};
 use std::alloc::Global;
 
@@ -42,7 +41,7 @@ fn read_on<H: Host>(
 }
 
 /// All bytes of a file, none where it is missing. They take as much memory as the file is long.
-pub(crate) fn whole<H: Host>(
+pub fn read_file<H: Host>(
     alloc: Global,
     host: &mut H,
     area: Area,
