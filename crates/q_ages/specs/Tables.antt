@@ -5,7 +5,7 @@ use Rattle.q_host.specs.View.{View}
 use Rattle.q_model.specs.Book.{Book}
 use Rattle.q_shape.specs.Tables.{IsTable}
 use Rattle.q_telling.specs.Telling.{TellsFront, TellsMore}
-use Rattle.q_words.specs.declared.request.TableRequest.{TableRequest}
+use Rattle.q_shape.specs.declared.request.TableRequest.{TableRequest}
 
 -- the table of what the request counts of the book was told
 pub record TellsTable (now : ℕ) (request : TableRequest) (b : Book) (u v : View) : Type 0 where

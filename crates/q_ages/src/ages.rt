@@ -14,10 +14,9 @@ ghost use Rattle.q_telling.specs.Telling.{TellingCause};
 use crate::counting::count_message;
 use q_host::{Host, HostError};
 use q_model::{Bytes, Moment};
-use q_shape::AgeTable;
+use q_shape::{AgeTable, TableRequest};
 use q_telling::tell_text;
 use q_walk::Walk;
-use q_words::TableRequest;
 use std::alloc::Global;
 
 /// Counts the messages of the queues that are asked for.

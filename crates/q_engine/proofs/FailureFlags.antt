@@ -6,8 +6,8 @@ use Rattle.std.proofs.lemmas.List.Elements.{All-cons, All-filter, filter_passes}
 use Rattle.q_model.specs.declared.outcome.Failure.{Failure}
 use Rattle.q_model.specs.FailureLog.{failures_of, first_of_each}
 use Rattle.q_model.proofs.FailuresLaws.{failures_of-push}
-use Rattle.q_look.specs.Failures.{AreFlags}
-use Rattle.q_look.proofs.FlagLaws.{failures_again, failures_have, failures_past, flags_more, set_again, set_outside}
+use Rattle.q_logfile.specs.Flags.{AreFlags}
+use Rattle.q_logfile.proofs.FlagLaws.{failures_again, failures_have, failures_past, flags_more, set_again, set_outside}
 use Rattle.q_engine.specs.BounceTexts.{AreKnown}
 
 module _ (n : ℕ) (fs : List Failure) (flags : List Bool) (gs : List Failure) (f : Failure) (h : AreKnown n fs flags gs) where

@@ -15,7 +15,7 @@ use Rattle.q_model.specs.QueueFileBytes.{IsFileOf}
 use Rattle.q_model.specs.SpoolFiles.{Files}
 use Rattle.q_model.specs.Values.{Spot}
 use Rattle.q_host.specs.View.{View}
-use Rattle.q_look.specs.Failures.{AreFlags}
+use Rattle.q_logfile.specs.Flags.{AreFlags}
 use Rattle.q_books.specs.HostStands.{HostStands}
 use Rattle.q_books.specs.Spots.{IsFileAt}
 

@@ -8,7 +8,7 @@ ghost use Rattle.q_model.specs.FailureLog.{failures_of};
 ghost use Rattle.q_model.specs.SpoolFiles.{logged_in};
 
 use q_host::{Host, HostError};
-use q_look::log_of;
+use q_logfile::log_of;
 use q_model::{Failure, Id, NoMemory, Positions, Records};
 use std::alloc::Global;
 

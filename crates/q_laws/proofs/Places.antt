@@ -1,5 +1,5 @@
 -- Positions of recipients: which of them are pending, logged without a mark, or marked for now.
-use Rattle.std.proofs.Common.{◌≡◌, ℕ, zero, suc, ◌+◌, Bool, true, false, List, [], ◌∷◌, map, Some, inl, inr, refl, sym, ap, ◌∙◌, subst, if◌then◌else◌, arith, ◌<◌, ◌≤◌, option_map, length}
+use Rattle.std.proofs.Common.{◌≡◌, ℕ, zero, suc, ◌+◌, ◌&&◌, filter, Bool, true, false, List, [], ◌∷◌, map, Some, inl, inr, refl, sym, ap, ◌∙◌, subst, if◌then◌else◌, arith, ◌<◌, ◌≤◌, option_map, length}
 use Rattle.std.specs.List.{enumerate_from}
 use Rattle.std.specs.Prelude.{slice_get}
 use Rattle.q_laws.proofs.Members.{IsIn}
@@ -120,3 +120,22 @@ only_place n p test (x ∷ xs) there only = one_place n p test xs (test n x) the
 pub length-numbered : {A B : Type 0} (f : (ℕ × A) → B) (n : ℕ) (xs : List A) → length (map f (enumerate_from n xs)) ≡ length xs
 length-numbered f n [] = refl
 length-numbered f n (x ∷ xs) = ap suc (length-numbered f (n + 1) xs)
+
+-- ---- places that pass another test too
+
+filter_by : (q : ℕ → Bool) (n : ℕ) (ps rest : List ℕ) → filter q ps ≡ rest → (s t : Bool) → q n ≡ t → filter q (if s then n ∷ ps else ps) ≡ (if s && t then n ∷ rest else rest)
+filter_by q n ps rest same true true e = rw e (ap (λ (xs : List ℕ). n ∷ xs) same)
+filter_by q n ps rest same true false e = rw e same
+filter_by q n ps rest same false t e = same
+
+pub filter_places : {A : Type 0} (p : ℕ → A → Bool) (q : ℕ → Bool) (n : ℕ) (xs : List A) → filter q (places_from n p xs) ≡ places_from n (λ i x. p i x && q i) xs
+filter_places p q n [] = refl
+filter_places p q n (x ∷ xs) = filter_by q n (places_from (n + 1) p xs) (places_from (n + 1) (λ i y. p i y && q i) xs) (filter_places p q (n + 1) xs) (p n x) (q n) refl
+
+pub places_within : {A : Type 0} (p q : ℕ → A → Bool) (n : ℕ) (xs : List A) → ((i : ℕ) (x : A) → i < n + length xs → p i x ≡ q i x) → places_from n p xs ≡ places_from n q xs
+places_within p q n [] same = refl
+places_within {A = A} p q n (x ∷ xs) same =
+    let here : p n x ≡ q n x = same n x (omega arith) in
+    let rest : places_from (n + 1) p xs ≡ places_from (n + 1) q xs = places_within p q (n + 1) xs (λ i y h. same i y (omega (arith, h))) in
+    ap (λ (t : Bool). if t then n ∷ places_from (n + 1) p xs else places_from (n + 1) p xs) here
+    ∙ ap (λ (ps : List ℕ). if q n x then n ∷ ps else ps) rest

@@ -1,2 +1,4 @@
 pub mod ReadingLaws
 pub mod WritingLaws
+pub mod LogLaws
+pub mod FlagLaws

@@ -1,4 +1,5 @@
 pub mod Codes
+pub mod Flags
 pub mod HasRecords
 pub mod OpenRecords
 pub mod StoredLogs

@@ -6,9 +6,13 @@
 //! The reason is `R` (refused) or `X` (expired) in a failure log, and `L` (later) in a deferral log.
 #![tactic(auto)]
 
+mod flags;
+mod log;
 mod reading;
 mod record;
 mod writing;
 
+pub use flags::{flags_of, is_set};
+pub use log::log_of;
 pub use reading::{notes, records};
 pub use writing::replace;

@@ -39,10 +39,11 @@ use Rattle.q_model.proofs.QueueFileLaws.{queue_file_again}
 use Rattle.q_model.proofs.SpotLaws.{place_eq-true}
 use Rattle.q_model.proofs.StandChanges.{any-same}
 use Rattle.q_model.proofs.StandRenames.{nowhere_else}
-use Rattle.q_look.specs.Failures.{failed_in, has_failed, unmarked_failed}
+use Rattle.q_logfile.specs.Flags.{has_failed}
+use Rattle.q_look.specs.Failures.{failed_in, unmarked_failed}
 use Rattle.q_look.specs.FileFacts.{facts_in, found_in, has_bounce_in, stands_alone_in}
-use Rattle.q_look.proofs.FlagLaws.{failures_have}
-use Rattle.q_look.proofs.UnmarkedLaws.{places_within}
+use Rattle.q_logfile.proofs.FlagLaws.{failures_have}
+use Rattle.q_laws.proofs.Places.{places_within}
 
 pub each_at : {A : Type 0} (P : A → Type 0) (x : A) (xs : List A) → AllByRecursion P xs → IsIn x xs → P x
 each_at P x [] each h = absurd h

@@ -1,6 +1,6 @@
 pub mod BookFacts
 pub mod DeferredLeasts
-pub mod FlagLaws
+pub mod FlagCounts
 pub mod HeadLaws
 pub mod Leasts
 pub mod Listings

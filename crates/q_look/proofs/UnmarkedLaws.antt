@@ -1,29 +1,21 @@
 -- Which failed recipient comes first of those that aren't marked, by the recipients that are taken.
-use Rattle.std.proofs.Common.{◌≡◌, ℕ, ◌<◌, ◌≤◌, ◌+◌, ◌-◌, Bool, true, false, cond, not, ◌&&◌, List, [], ◌∷◌, length, filter, map, take, if◌then◌else◌, Option, Some, None, refl, sym, ap, subst, ◌∙◌, arith, take_all, suc, zero}
-use Rattle.std.specs.Option.{IfSome, option_map_or}
-use Rattle.std.specs.Prelude.{count_by, find, slice_get, unwrap_or}
+use Rattle.std.proofs.Common.{◌≡◌, ℕ, ◌≤◌, ◌+◌, ◌-◌, Bool, true, false, cond, not, ◌&&◌, List, [], ◌∷◌, length, filter, map, take, if◌then◌else◌, Option, Some, None, refl, sym, ap, subst, ◌∙◌, arith, take_all, suc, zero}
+use Rattle.std.specs.Option.{IfSome}
+use Rattle.std.specs.Prelude.{count_by, find, slice_get}
 use Rattle.std.proofs.lemmas.List.Sums.{sum_by-cons}
 use Rattle.q_message.specs.FileHeads.{head_of, IsHead}
 use Rattle.q_message.specs.Pending.{taken_at, taken_from}
 use Rattle.q_model.specs.declared.outcome.Failure.{Failure}
-use Rattle.q_model.specs.FailureLog.{failures_of, log_records}
+use Rattle.q_model.specs.FailureLog.{failures_of}
 use Rattle.q_model.specs.Lists.{places_from}
 use Rattle.q_model.specs.QueueFile.{FileMessage, FileRecipient, queue_file}
 use Rattle.q_model.specs.Values.{FileHead, Taken}
-use Rattle.q_model.proofs.FailureLogLaws.{log_records-nil}
 use Rattle.q_model.proofs.RecordLaws.{map_some}
-use Rattle.q_look.specs.Failures.{AreFlags, failed_in, first_flagged, flag_at, has_failed, unmarked_failed}
+use Rattle.q_laws.proofs.Places.{filter_places, places_within}
+use Rattle.q_logfile.specs.Flags.{AreFlags, flag_at, has_failed}
+use Rattle.q_look.specs.Failures.{failed_in, first_flagged, unmarked_failed}
 
 -- ---- places in lists
-
-filter_by : (q : ℕ → Bool) (n : ℕ) (ps rest : List ℕ) → filter q ps ≡ rest → (s t : Bool) → q n ≡ t → filter q (if s then n ∷ ps else ps) ≡ (if s && t then n ∷ rest else rest)
-filter_by q n ps rest same true true e = rw e (ap (λ (xs : List ℕ). n ∷ xs) same)
-filter_by q n ps rest same true false e = rw e same
-filter_by q n ps rest same false t e = same
-
-pub filter_places : {A : Type 0} (p : ℕ → A → Bool) (q : ℕ → Bool) (n : ℕ) (xs : List A) → filter q (places_from n p xs) ≡ places_from n (λ i x. p i x && q i) xs
-filter_places p q n [] = refl
-filter_places p q n (x ∷ xs) = filter_by q n (places_from (n + 1) p xs) (places_from (n + 1) (λ i y. p i y && q i) xs) (filter_places p q (n + 1) xs) (p n x) (q n) refl
 
 find_by : (q : ℕ → Bool) (x : ℕ) (xs : List ℕ) → slice_get (filter q xs) 0 ≡ find q xs → (t : Bool) → slice_get (if t then x ∷ filter q xs else filter q xs) 0 ≡ (if t then Some x else find q xs)
 find_by q x xs same true = refl
@@ -32,14 +24,6 @@ find_by q x xs same false = same
 first_filtered : (q : ℕ → Bool) (xs : List ℕ) → slice_get (filter q xs) 0 ≡ find q xs
 first_filtered q [] = refl
 first_filtered q (x ∷ xs) = find_by q x xs (first_filtered q xs) (q x)
-
-pub places_within : {A : Type 0} (p q : ℕ → A → Bool) (n : ℕ) (xs : List A) → ((i : ℕ) (x : A) → i < n + length xs → p i x ≡ q i x) → places_from n p xs ≡ places_from n q xs
-places_within p q n [] same = refl
-places_within {A = A} p q n (x ∷ xs) same =
-    let here : p n x ≡ q n x = same n x (omega arith) in
-    let rest : places_from (n + 1) p xs ≡ places_from (n + 1) q xs = places_within p q (n + 1) xs (λ i y h. same i y (omega (arith, h))) in
-    ap (λ (t : Bool). if t then n ∷ places_from (n + 1) p xs else places_from (n + 1) p xs) here
-    ∙ ap (λ (ps : List ℕ). if q n x then n ∷ ps else ps) rest
 
 none_places : (n : ℕ) (rs : List FileRecipient) → places_from n (λ i r. not r.marked && false) rs ≡ []
 none_places n [] = refl
@@ -118,10 +102,6 @@ first_read o head flags max items found enough is reads taken =
     reads taken
 
 -- ---- what a log says
-
-pub log_read : (o : Option (List ℕ)) → log_records (unwrap_or o []) ≡ option_map_or log_records o []
-log_read None = log_records-nil
-log_read (Some bytes) = refl
 
 no_records : (fs : List Failure) → length fs ≡ 0 → fs ≡ []
 no_records [] h = refl

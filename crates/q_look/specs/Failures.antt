@@ -1,15 +1,11 @@
 -- What a failure log says of the recipients of a message.
-use Rattle.std.specs.List.{list_any}
-use Rattle.std.specs.Prelude.{◌&&◌, ◌<◌, ◌==◌, ◌≡◌, Bool, count_by, false, length, List, not, Option, slice_get, slice_index_or, ℕ}
+use Rattle.std.specs.Prelude.{◌&&◌, Bool, count_by, length, List, not, Option, slice_get, ℕ}
 use Rattle.q_look.specs.declared.failed.Failed.{Failed}
+use Rattle.q_logfile.specs.Flags.{flag_at, has_failed}
 use Rattle.q_model.specs.declared.outcome.Failure.{Failure}
 use Rattle.q_model.specs.FailureLog.{failures_of}
 use Rattle.q_model.specs.Lists.{places_from}
 use Rattle.q_model.specs.QueueFile.{FileMessage, FileRecipient}
-
--- the position failed
-abbrev pub has_failed : List Failure → ℕ → Bool
-has_failed fs position = list_any (λ f. f.position == position) fs
 
 -- the positions that failed and aren't marked
 abbrev pub unmarked_failed : List Failure → List FileRecipient → List ℕ
@@ -21,15 +17,6 @@ failed_in fs m = record {
   count = length (failures_of (length m.recipients) fs);
   unmarked = slice_get (unmarked_failed fs m.recipients) 0;
 }
-
--- the flag of a position
-abbrev pub flag_at : List Bool → ℕ → Bool
-flag_at flags position = slice_index_or flags position false
-
--- so many positions have a flag each, which is set where the position failed
-pub record AreFlags (n : ℕ) (fs : List Failure) (flags : List Bool) : Type 0 where
-  pub count : length flags ≡ n
-  pub each : (position : ℕ) → position < n → flag_at flags position ≡ has_failed fs position
 
 -- so many flags are set
 abbrev pub set_count : List Bool → ℕ

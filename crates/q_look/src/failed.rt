@@ -3,7 +3,8 @@
 ghost use Rattle.std.specs.Prelude.{◌<◌, ◌^◌, ◌≡◌, find, IfOk, IfSome, IsTrue, length, map, slice_set, true};
 ghost use Rattle.q_host.specs.Calls.{Stays};
 ghost use Rattle.q_host.specs.Faults.{DiskCause};
-ghost use Rattle.q_look.specs.Failures.{AreFlags, failed_in, first_flagged, flag_at, set_count};
+ghost use Rattle.q_logfile.specs.Flags.{AreFlags, flag_at};
+ghost use Rattle.q_look.specs.Failures.{failed_in, first_flagged, set_count};
 ghost use Rattle.q_message.specs.FileHeads.{IsHead};
 ghost use Rattle.q_message.specs.Told.{IsThere, TellsOf};
 ghost use Rattle.q_model.specs.FailureLog.{failures_of};
@@ -11,10 +12,10 @@ ghost use Rattle.q_model.specs.QueueFile.{queue_file};
 ghost use Rattle.q_model.specs.SpoolFiles.{logged_in};
 
 use crate::facts::unreadable;
-use q_host::{Host, HostError, read_file};
-use q_logfile::records;
+use q_host::{Host, HostError};
+use q_logfile::{is_set, log_of};
 use q_message::read_recipients;
-use q_model::{Area, Batch, Cursor, Failure, FileHead, Id, Records, Spot, id_name};
+use q_model::{Batch, Cursor, Failure, FileHead, Id, Spot};
 use std::alloc::{AllocError, Global};
 
 /// How many recipients of a message failed, and the least position of those that lack their mark.
@@ -51,17 +52,6 @@ impl Flags {
     }
 }
 
-/// The records of the failure log of an id; none, where there is no log.
-pub fn log_of<H: Host>(alloc: Global, host: &mut H, id: Id) -> Result<Records, HostError>
-    ensures records { IfOk result (λ records. IsTrue H.tells
-        → records ≡ logged_in (H.view host.old).files id) }
-    ensures stays { IsTrue H.tells → Stays (H.view host.old) (H.view host.new) }
-    ensures cause { DiskCause (H.faults host.old) (H.faults host.new) result }
-{
-    let bytes = read_file(alloc, host, Area::Bounce, id_name(id))?;
-    Ok(records(alloc, bytes.as_slice())?)
-}
-
 /// Which positions below `recipients` have a record. Others are passed over, and so is each record
 /// whose position an earlier one has.
 fn flags_of(alloc: Global, failures: &[Failure], recipients: u32) -> Result<Flags, AllocError>
@@ -75,16 +65,6 @@ fn flags_of(alloc: Global, failures: &[Failure], recipients: u32) -> Result<Flag
         flags.note(failure.position);
     }
     Ok(flags)
-}
-
-/// Whether the position has its flag.
-fn is_set(set: &[bool], position: u32) -> bool
-    ensures { result ≡ flag_at set.now position }
-{
-    if (position as usize) < set.len() {
-        return set[position as usize];
-    }
-    false
 }
 
 /// The first recipient in the batch whose position has its flag.

@@ -15,5 +15,4 @@ mod looks;
 mod names;
 mod wanted;
 
-pub use failed::log_of;
 pub use looks::{look_active, look_deferred, look_incoming};

@@ -1,9 +1,9 @@
 -- The pending positions of a message are those that aren't marked and have no flag of the log.
 use Rattle.std.proofs.Common.{◌≡◌, ◌∙◌, ℕ, ◌<◌, ◌&&◌, ◌||◌, Bool, true, false, not, eqb, List, length, filter, refl, sym, ap, arith}
 use Rattle.q_laws.proofs.Places.{places_mapped}
-use Rattle.q_look.proofs.FlagLaws.{failures_have}
-use Rattle.q_look.proofs.UnmarkedLaws.{filter_places, places_within}
-use Rattle.q_look.specs.Failures.{AreFlags, flag_at}
+use Rattle.q_logfile.proofs.FlagLaws.{failures_have}
+use Rattle.q_laws.proofs.Places.{filter_places, places_within}
+use Rattle.q_logfile.specs.Flags.{AreFlags, flag_at}
 use Rattle.q_message.specs.Pending.{unmarked_from}
 use Rattle.q_model.proofs.EachLaws.{any-map}
 use Rattle.q_model.proofs.FailuresLaws.{has_position}

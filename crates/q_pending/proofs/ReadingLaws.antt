@@ -3,7 +3,7 @@ use Rattle.std.proofs.Common.{◌≡◌, ◌∙◌, ℕ, zero, suc, ◌+◌, ◌
 use Rattle.std.specs.Option.{IfSome, option_map, option_map_or}
 use Rattle.std.proofs.lemmas.List.{drop_all, length-map, take-append-drop}
 use Rattle.std.proofs.lemmas.Option.{slice_get-map}
-use Rattle.q_look.specs.Failures.{AreFlags, flag_at}
+use Rattle.q_logfile.specs.Flags.{AreFlags, flag_at}
 use Rattle.q_message.specs.FileHeads.{head_of, IsHead}
 use Rattle.q_message.specs.Names.{address_in}
 use Rattle.q_message.specs.Pending.{AreTaken, cursor_at, IsPlaceBehind, position_behind, taken_at, taken_from, unmarked_from}

@@ -1,7 +1,7 @@
 -- What a reader of pending recipients gives.
 use Rattle.std.specs.Prelude.{◌++◌, ◌≡◌, ◌≤◌, ◌∷◌, [], drop, filter, IfSome, IsSome, List, map, None, not, Option, Some, ℕ}
 use Rattle.q_books.specs.Spots.{spot_of}
-use Rattle.q_look.specs.Failures.{flag_at}
+use Rattle.q_logfile.specs.Flags.{flag_at}
 use Rattle.q_message.specs.Pending.{HasCursor, taken_at, unmarked_from}
 use Rattle.q_model.specs.FilesStand.{file_message, MessageStands}
 use Rattle.q_model.specs.Message.{address_at, Message}

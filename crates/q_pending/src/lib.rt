@@ -5,7 +5,6 @@
 //! change the files of the message while it is read, and to go on after an error of its own.
 #![tactic(auto)]
 
-mod logged;
 mod pending;
 
 pub use pending::Pending;

@@ -7,9 +7,8 @@ ghost use Rattle.q_message.specs.Told.{IsThere, TellsOf};
 ghost use Rattle.q_model.specs.Message.{Message, pending};
 ghost use Rattle.q_pending.specs.Readings.{GivesPending, GivesUnmarked, HasNoneAhead, IsFileOfMessage, IsPendingAhead, IsReading, IsUnmarkedAhead, KeepsAhead};
 
-use crate::logged::{flags_of, is_set};
 use q_host::{Host, HostError};
-use q_look::log_of;
+use q_logfile::{flags_of, is_set, log_of};
 use q_message::{MessageError, read_recipients};
 use q_model::{Batch, Cursor, FileHead, Id, Spot, Taken};
 use std::alloc::Global;

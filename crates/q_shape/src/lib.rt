@@ -14,8 +14,10 @@ mod lines;
 mod numbers;
 mod options;
 mod ranks;
+mod request;
 mod table;
 
 pub use age_table::AgeTable;
 pub use options::ShapeOptions;
+pub use request::TableRequest;
 pub use table::shape;

@@ -14,7 +14,7 @@ use Rattle.q_top.specs.Courses.{Moments}
 use Rattle.q_top.specs.Lives.{IsGivenUp}
 use Rattle.q_top.specs.declared.status.Status.{Status}
 use Rattle.q_top.specs.declared.status.Status.TheVariants.{Done}
-use Rattle.q_words.specs.declared.request.TableRequest.{TableRequest}
+use Rattle.q_shape.specs.declared.request.TableRequest.{TableRequest}
 
 -- With Done all was told; else the host failed or memory ran out, and some first part was.
 abbrev pub EndsTelling : Type 0 → Type 0 → Status → Type 0

@@ -10,8 +10,8 @@ use crate::status::{Status, telling_status};
 use q_ages::tell_ages;
 use q_host::Host;
 use q_listing::tell_listing;
+use q_shape::TableRequest;
 use q_stream::Clock;
-use q_words::TableRequest;
 use std::alloc::Global;
 
 /// Tells the listing of the queues.

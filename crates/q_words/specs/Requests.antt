@@ -11,7 +11,7 @@ use Rattle.q_text.specs.ValueTexts.{address_of, sender_of_text}
 use Rattle.q_model.specs.declared.queues.Queues.{Queues}
 use Rattle.q_words.specs.declared.request.Request.{Request}
 use Rattle.q_words.specs.declared.request.Request.TheVariants as requests
-use Rattle.q_words.specs.declared.request.TableRequest.{TableRequest}
+use Rattle.q_shape.specs.declared.request.TableRequest.{TableRequest}
 use Rattle.q_words.specs.Commands.{drain_app, load_app, qshape_app, submit_app}
 
 -- all words of an argument

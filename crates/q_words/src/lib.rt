@@ -19,4 +19,4 @@ mod tables;
 
 pub use error::WordsError;
 pub use reading::read_words;
-pub use request::{Request, TableRequest};
+pub use request::Request;

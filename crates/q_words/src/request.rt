@@ -1,6 +1,6 @@
 //! What the words of a command ask for.
-use q_model::{Address, Addresses, Queues};
-use q_shape::ShapeOptions;
+use q_model::{Address, Addresses};
+use q_shape::TableRequest;
 
 /// What the words of a command ask for.
 #[derive(Debug, Drop)]
@@ -24,13 +24,4 @@ pub enum Request {
     Load {
         mails: u32,
     },
-}
-
-/// A table of ages.
-#[derive(Clone, Copy, Debug, PartialEq, Eq)]
-pub struct TableRequest {
-    /// Messages count under the domains of their senders, in place of recipients under their own.
-    pub senders: bool,
-    pub queues: Queues,
-    pub shape: ShapeOptions,
 }

@@ -9,9 +9,8 @@ ghost use Rattle.q_words.specs.Usages.{has_no_queue, is_qshape_usage, IsAnswer};
 use crate::commands::qshape_matches;
 use crate::error::{WordsError, refused};
 use crate::queues::{are_queues, queues_of};
-use crate::request::TableRequest;
 use clap::ArgMatches;
-use q_shape::ShapeOptions;
+use q_shape::{ShapeOptions, TableRequest};
 use std::alloc::Global;
 
 fn flag<'a>(matches: &ArgMatches<'a>, id: &str) -> bool

@@ -6,7 +6,8 @@ use Rattle.q_model.specs.QueueFile.{queue_file}
 use Rattle.q_model.specs.SpoolFiles.{Files, logged_in}
 use Rattle.q_model.specs.Values.{FileHead}
 use Rattle.q_message.specs.Told.{bytes_at}
-use Rattle.q_look.specs.Failures.{AreFlags, first_flagged}
+use Rattle.q_logfile.specs.Flags.{AreFlags}
+use Rattle.q_look.specs.Failures.{first_flagged}
 use Rattle.q_look.proofs.UnmarkedLaws.{failed_is, nothing_failed}
 use Rattle.q_look.proofs.failed.failed_at.Goals as goal
 

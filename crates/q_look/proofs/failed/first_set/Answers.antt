@@ -1,6 +1,6 @@
 use Rattle.std.proofs.Common.{ap, sym, ◌∙◌, ◌≡◌, map, slice_get, Some}
 use Rattle.q_model.specs.Values.{Taken}
-use Rattle.q_look.specs.Failures.{flag_at}
+use Rattle.q_logfile.specs.Flags.{flag_at}
 use Rattle.q_look.proofs.UnmarkedLaws.{find_here, find_none, position_at}
 use Rattle.q_look.proofs.failed.first_set.Goals as goal
 

@@ -1,6 +1,6 @@
 use Rattle.std.proofs.Common.{◌≡◌, None, take}
 use Rattle.std.specs.Prelude.{find, map}
-use Rattle.q_look.specs.Failures.{flag_at}
+use Rattle.q_logfile.specs.Flags.{flag_at}
 use Rattle.q_look.proofs.failed.first_set.Given as goal
 
 -- none so far

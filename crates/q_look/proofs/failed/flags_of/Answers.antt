@@ -4,8 +4,10 @@ use Rattle.std.specs.Prelude.{slice_index_or, slice_set}
 use Rattle.q_model.specs.declared.outcome.Failure.{Failure}
 use Rattle.q_model.specs.declared.outcome.Why.TheVariants.{Refused}
 use Rattle.q_model.specs.FailureLog.{failures_of}
-use Rattle.q_look.specs.Failures.{AreFlags, set_count}
-use Rattle.q_look.proofs.FlagLaws.{failures_more, flags_more}
+use Rattle.q_logfile.specs.Flags.{AreFlags}
+use Rattle.q_look.specs.Failures.{set_count}
+use Rattle.q_logfile.proofs.FlagLaws.{flags_more}
+use Rattle.q_look.proofs.FlagCounts.{failures_more}
 use Rattle.q_look.proofs.failed.flags_of.Goals as goal
 
 pub loop-failure-preserved : goal.loop-failure-preserved

@@ -1,5 +1,6 @@
 use Rattle.std.proofs.Common.{◌≡◌, length, take}
-use Rattle.q_look.specs.Failures.{AreFlags, set_count}
+use Rattle.q_logfile.specs.Flags.{AreFlags}
+use Rattle.q_look.specs.Failures.{set_count}
 use Rattle.q_model.specs.FailureLog.{failures_of}
 use Rattle.q_look.proofs.failed.flags_of.Given as goal
 

@@ -1,5 +1,5 @@
 use Rattle.std.proofs.Common.{◌<◌, arith, false, length, true}
-use Rattle.q_look.proofs.FlagLaws.{flag_read}
+use Rattle.q_logfile.proofs.FlagLaws.{flag_read}
 use Rattle.q_engine.proofs.FailureFlags.{known_again, known_more}
 use Rattle.q_engine.proofs.failures.Known.add.Goals as goal
 

@@ -1,7 +1,8 @@
 use Rattle.std.proofs.Common.{◌≡◌, ◌<◌, ◌≤◌, ℕ, false, true, length, arith, subst, length-set}
 use Rattle.std.specs.Prelude.{slice_index_or, slice_set}
 use Rattle.q_look.specs.Failures.{set_count}
-use Rattle.q_look.proofs.FlagLaws.{flag_read, set_few, set_more}
+use Rattle.q_logfile.proofs.FlagLaws.{flag_read}
+use Rattle.q_look.proofs.FlagCounts.{set_few, set_more}
 use Rattle.q_look.proofs.failed.Flags.note.Goals as goal
 
 pub overflow_add-self : goal.overflow_add-self

@@ -1,5 +1,5 @@
 use Rattle.std.proofs.Common.{◌≡◌, ◌∙◌, ap, List, length, ℕ, refl, subst}
-use Rattle.q_look.specs.Failures.{AreFlags}
+use Rattle.q_logfile.specs.Flags.{AreFlags}
 use Rattle.q_model.specs.declared.id.Id.{Id}
 use Rattle.q_model.specs.declared.outcome.Failure.{Failure}
 use Rattle.q_model.specs.SpoolFiles.{logged_in}

@@ -1,5 +1,5 @@
 use Rattle.std.proofs.Common.{◌≡◌, ◌∙◌, ap, arith, Bool, false, List, None, Some, subst, sym, true}
-use Rattle.q_look.specs.Failures.{flag_at}
+use Rattle.q_logfile.specs.Flags.{flag_at}
 use Rattle.q_host.proofs.Stays.{stays_on}
 use Rattle.q_model.specs.SpoolFiles.{Files}
 use Rattle.q_model.specs.Values.{Taken}

@@ -3,8 +3,8 @@ use Rattle.std.specs.Prelude.{unwrap_or}
 use Rattle.q_model.specs.declared.spot.Area.TheVariants as areas
 use Rattle.q_model.specs.FailureLog.{log_records}
 use Rattle.q_model.specs.IdTexts.{id_text}
-use Rattle.q_look.proofs.UnmarkedLaws.{log_read}
-use Rattle.q_look.proofs.failed.log_of.Goals as goal
+use Rattle.q_logfile.proofs.LogLaws.{log_read}
+use Rattle.q_logfile.proofs.log.log_of.Goals as goal
 
 pub returns-clause-records : goal.returns-clause-records
 returns-clause-records g c t =

@@ -1,17 +1,16 @@
 -- Which positions failed, as flags; and the failures of a message, record by record.
-use Rattle.std.proofs.Common.{◌≡◌, ℕ, ◌<◌, ◌≤◌, ◌+◌, ◌*◌, Bool, true, false, cond, not, eqb, ltb, ◌||◌, List, [], ◌∷◌, ◌++◌, length, filter, if◌then◌else◌, refl, sym, ap, subst, ◌∙◌, arith, append-nil, length-append, zero, suc}
+use Rattle.std.proofs.Common.{◌≡◌, ℕ, ◌<◌, ◌≤◌, ◌+◌, Bool, true, false, not, eqb, ltb, ◌||◌, List, [], ◌∷◌, ◌++◌, length, filter, if◌then◌else◌, refl, sym, ap, subst, ◌∙◌, arith, append-nil, zero, suc}
 use Rattle.std.specs.Prelude.{replicate, slice_index_or, slice_set}
 use Rattle.std.proofs.lemmas.Bool.{eqb-true, lt-ltb}
 use Rattle.std.proofs.lemmas.Bool.Decides.{nat_tests}
 use Rattle.std.proofs.lemmas.List.{get_or-replicate, get_or-set_other, get_or-set_same, length-replicate, length-set, set-get_or}
 use Rattle.std.proofs.lemmas.List.Elements.{filter-append}
-use Rattle.std.proofs.lemmas.List.Folds.{list_any-append, sum_by-replicate}
-use Rattle.std.proofs.lemmas.List.Sums.{count_by-le-length, sum_by-set}
+use Rattle.std.proofs.lemmas.List.Folds.{list_any-append}
 use Rattle.std.proofs.lemmas.Map.Views.{any-filter_same}
 use Rattle.q_model.specs.declared.outcome.Failure.{Failure}
 use Rattle.q_model.specs.FailureLog.{failures_of, first_of_each}
-use Rattle.q_model.proofs.FailuresLaws.{failures_of-push, has_position}
-use Rattle.q_look.specs.Failures.{AreFlags, has_failed, set_count}
+use Rattle.q_model.proofs.FailuresLaws.{has_position}
+use Rattle.q_logfile.specs.Flags.{AreFlags, has_failed}
 
 -- ---- the failures of a message
 
@@ -105,19 +104,6 @@ set_again flags p e = ap (slice_set flags p) (sym e) ∙ set-get_or flags p fals
 pub set_outside : (flags : List Bool) (p : ℕ) → length flags ≤ p → slice_set flags p true ≡ flags
 set_outside flags p past = set_past flags p past
 
--- a flag that is set anew is one more
-pub set_more : (flags : List Bool) (p : ℕ) → p < length flags → slice_index_or flags p false ≡ false → set_count (slice_set flags p true) ≡ set_count flags + 1
-set_more flags p here e =
-    let one : Bool → ℕ = λ t. cond t 1 0 in
-    let was : one (slice_index_or flags p false) ≡ 0 = ap one e in
-    omega (arith, sum_by-set one flags p true false here, was)
-
--- the flags of none
-pub none_set : (n : ℕ) → set_count (replicate n false) ≡ 0
-none_set n =
-    let nothing : n * 0 ≡ 0 = omega arith in
-    sum_by-replicate (λ (t : Bool). cond t 1 0) n false ∙ nothing
-
 pub none_failed : (n : ℕ) → AreFlags n [] (replicate n false)
 none_failed n = record { count = length-replicate n false; each = λ p here. get_or-replicate n p false false here }
 
@@ -151,26 +137,6 @@ flags_more n fs f flags are = record {
         let same : f.position ≡ p = eqb-true f.position p e in
         ap (λ (q : ℕ). slice_index_or (slice_set flags q true) p false) same ∙ get_or-set_same flags p true false (omega (arith, here, are.count)) ∙ or_true (has_failed fs p) ∙ ap (λ (t : Bool). has_failed fs p || t) (sym e)
     by p here false e = get_or-set_other flags f.position p true false (apart p e) ∙ are.each p here ∙ or_none (has_failed fs p) ∙ ap (λ (t : Bool). has_failed fs p || t) (sym e)
-
--- and so many failures more as flags
-pub failures_more : (n : ℕ) (fs : List Failure) (f : Failure) (flags : List Bool) → AreFlags n fs flags → set_count flags ≡ length (failures_of n fs) → set_count (slice_set flags f.position true) ≡ length (failures_of n (fs ++ f ∷ []))
-failures_more n fs f flags are same = by (ltb f.position n) refl
-  where
-    later : (t : Bool) → f.position < n → has_failed fs f.position ≡ t → set_count (slice_set flags f.position true) ≡ length (failures_of n (fs ++ f ∷ []))
-    later true here e = ap set_count (set_again flags f.position (are.each f.position here ∙ e)) ∙ same ∙ ap (λ (gs : List Failure). length gs) (sym (failures_again n fs f here e))
-    later false here e =
-        set_more flags f.position (omega (arith, here, are.count)) (are.each f.position here ∙ e) ∙ ap (λ (k : ℕ). k + 1) same
-        ∙ sym (ap (λ (gs : List Failure). length gs) (failures_of-push n fs f here (failures_have n f.position fs here ∙ e)) ∙ length-append (failures_of n fs) (f ∷ []))
-
-    by : (t : Bool) → ltb f.position n ≡ t → set_count (slice_set flags f.position true) ≡ length (failures_of n (fs ++ f ∷ []))
-    by true e = later (has_failed fs f.position) (grind (arith, nat_tests)) refl
-    by false e =
-        let past : n ≤ f.position = grind (arith, nat_tests) in
-        ap set_count (set_outside flags f.position (omega (arith, past, are.count))) ∙ same ∙ ap (λ (gs : List Failure). length gs) (sym (failures_past n fs f past))
-
--- there are no more of them than flags
-pub set_few : (flags : List Bool) → set_count flags ≤ length flags
-set_few flags = count_by-le-length (λ (t : Bool). t) flags
 
 -- a flag that was read, whatever is read past the end
 pub flag_read : (flags : List Bool) (p : ℕ) (t b : Bool) → p < length flags → t ≡ slice_index_or flags p t → t ≡ b → slice_index_or flags p false ≡ b

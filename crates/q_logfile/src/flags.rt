@@ -1,6 +1,6 @@
-//! Which positions of a message have a record in its failure log.
+//! Which positions of a message have a record in its failure log, as flags.
 ghost use Rattle.std.specs.Prelude.{◌≡◌, IfOk, slice_set, true};
-ghost use Rattle.q_look.specs.Failures.{AreFlags, flag_at};
+ghost use Rattle.q_logfile.specs.Flags.{AreFlags, flag_at};
 
 use q_model::Failure;
 use std::alloc::{AllocError, Global};
@@ -16,7 +16,7 @@ fn set_flag(flags: &mut [bool], position: u32)
 }
 
 /// Which positions below `recipients` have a record. Others are passed over.
-pub(crate) fn flags_of(
+pub fn flags_of(
     alloc: Global,
     failures: &[Failure],
     recipients: u32,
@@ -31,7 +31,7 @@ pub(crate) fn flags_of(
 }
 
 /// Whether the position has its flag.
-pub(crate) fn is_set(flags: &[bool], position: u32) -> bool
+pub fn is_set(flags: &[bool], position: u32) -> bool
     ensures { result ≡ flag_at flags.now position }
 {
     if (position as usize) < flags.len() {
