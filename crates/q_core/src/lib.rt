@@ -1,6 +1,8 @@
-//! The decision core of a queue manager: what is known of one life, held in plain lists, and what
-//! is to be done next (SCHEDULER_README, qmgr(8)). It sees ids, positions and counts, never a
-//! byte of a file.
+//! The decision core of a queue manager: what is known of one life, and what is to be done next
+//! (SCHEDULER_README, qmgr(8)). It sees ids, positions and counts, never a byte of a file.
+//!
+//! Contracts see what is known as plain lists (`State`). The core keeps it in parts whose room is
+//! made once, by `new`, and in which decisions find what they need.
 //!
 //! `event` hears what came from outside. Then `next_decision` is called until it answers None, and
 //! the next event may come. What it answers is
