@@ -10,8 +10,12 @@ mod fixture;
 #[cfg(test)]
 mod listing;
 #[cfg(test)]
+mod looking;
+#[cfg(test)]
 mod opening;
 #[cfg(test)]
 mod single_files;
 #[cfg(test)]
 mod streams;
+#[cfg(test)]
+mod writing;

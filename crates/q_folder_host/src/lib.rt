@@ -8,18 +8,28 @@
 //!   that a killed process left unsynced are not: opening a spool syncs failure logs, and the first
 //!   sync of a message left in active comes before anything rests on its marks.
 //! - Folders are made for their owner alone (mode 700). One that is there already keeps its mode.
-//! - One process at a time: the root is locked (flock(2)) as long as the host lives.
+//! - One process at a time: the root is locked (flock(2)) as long as the host lives, and a file
+//!   beside the folders has the number of the process. Who only looks is never kept out, locks
+//!   nothing and makes nothing.
+//! - No folder but a spool is changed, and none whose next ids stand already: the root is judged
+//!   before anything is made in it. A message comes into active only where its file can be written.
 //!
 //! It is an error to change the files of these folders by hand while a host is open: names that it
 //! has listed it goes on from, without a look at the folder.
 #![tactic(auto)]
 
+mod access;
 mod fault;
 mod folders;
 mod host;
+mod judging;
+mod locking;
+mod looking;
 mod names;
 mod opening;
+mod spool;
 mod system;
 
-pub use fault::OpenFault;
+pub use access::Access;
+pub use fault::{Call, Fault};
 pub use host::FolderHost;

@@ -1,12 +1,12 @@
-//! Making the folders of a spool ready.
-use crate::OpenFault;
-use crate::folders::Folder;
+//! Making the folders of a spool ready: to be changed, or to be looked at.
+use crate::fault::Fault;
+use crate::spool::{AREAS, Spool};
 use crate::system::System;
 use q_model::Area;
-use std::collections::BTreeSet;
 use std::fs::{DirBuilder, File, TryLockError};
 use std::os::unix::fs::DirBuilderExt;
 use std::rt::Files;
+use std::time::Clock;
 use std::{fs, io};
 
 /// The mode of a folder that is made: it is its owner's alone.
@@ -34,43 +34,59 @@ impl<F: Files<File = File> + Drop> System<F> {
         }
         File::open(&self.files, root)
     }
+}
 
-    /// Makes the root where it is missing, and locks it. The lock ends when the handle is closed,
-    /// at the end of the process at the latest.
-    pub(crate) fn lock_root(&mut self, root: &str) -> Result<File, OpenFault> {
-        let lock = self.open_root(root).map_err(OpenFault::Root)?;
-        match lock.try_lock() {
-            Ok(()) => Ok(lock),
-            Err(TryLockError::WouldBlock) => Err(OpenFault::InUse),
-            Err(TryLockError::Error(e)) => Err(OpenFault::Root(e)),
+impl<F: Files<File = File> + Clock + Drop> Spool<F> {
+    // Makes the folder of an area ready.
+    fn open_folder(&mut self, area: Area) -> Result<(), Fault> {
+        let folder = &mut self.folders[area as usize];
+        match self.system.ready(folder.path.as_str()) {
+            Ok(handle) => {
+                folder.handle = Some(handle);
+                Ok(())
+            }
+            Err(error) => Err(Fault::Folder { area, error }),
         }
     }
 
-    fn open_folder(&mut self, root: &str, area: Area) -> Result<Folder, OpenFault> {
-        let path = format!(in self.alloc; "{root}/{}", area.folder())?;
-        let ready = self.ready(path.as_str());
-        let handle = ready.map_err(|error| OpenFault::Folder { area, error })?;
-        Ok(Folder {
-            path,
-            handle,
-            is_listed: false,
-            names: BTreeSet::new(self.alloc),
-        })
+    // Makes the folders of all areas ready, and the root durable, and says whose the spool is.
+    fn open_folders(&mut self, root: &File) -> Result<(), Fault> {
+        for area in AREAS {
+            self.open_folder(area)?;
+        }
+        self.system.sync(root).map_err(Fault::Root)
     }
 
-    /// Makes the folders of all areas ready, in the order of the areas.
-    pub(crate) fn open_folders(&mut self, root: &str) -> Result<[Folder; 10], OpenFault> {
-        Ok([
-            self.open_folder(root, Area::Boot)?,
-            self.open_folder(root, Area::Conf)?,
-            self.open_folder(root, Area::Tmp)?,
-            self.open_folder(root, Area::Incoming)?,
-            self.open_folder(root, Area::Active)?,
-            self.open_folder(root, Area::Deferred)?,
-            self.open_folder(root, Area::Hold)?,
-            self.open_folder(root, Area::Corrupt)?,
-            self.open_folder(root, Area::Bounce)?,
-            self.open_folder(root, Area::Defer)?,
-        ])
+    /// Makes the folders ready that are to be changed, and locks the root. Nothing is made in a
+    /// folder that is no spool, or of another user.
+    pub(crate) fn open_to_change(&mut self, wait: u32) -> Result<(), Fault> {
+        let root = self
+            .system
+            .open_root(self.root.as_str())
+            .map_err(Fault::Root)?;
+        self.lock_root(&root, wait)?;
+        self.judge_root()?;
+        self.judge_owners()?;
+        self.open_folders(&root)?;
+        self.judge_boot()?;
+        self.judge_active()?;
+        self.name_holder();
+        self.lock = Some(root);
+        Ok(())
+    }
+
+    /// Looks whether the root is a spool, and who has it.
+    pub(crate) fn open_to_look(&mut self) -> Result<(), Fault> {
+        let root = File::open(&self.system.files, &self.root).map_err(Fault::Root)?;
+        self.judge_root()?;
+        // The lock is let go of at once: who looks keeps nobody out.
+        match root.try_lock_shared() {
+            Ok(()) => Ok(()),
+            Err(TryLockError::WouldBlock) => {
+                self.user = Some(self.holder());
+                Ok(())
+            }
+            Err(TryLockError::Error(e)) => Err(Fault::Root(e)),
+        }
     }
 }

@@ -21,6 +21,25 @@ pub(crate) struct System<F: Files<File = File> + Drop> {
     pub(crate) syncs: u64,
 }
 
+/// Reads from an offset on until the buffer is full or the file ends.
+pub(crate) fn read_from(file: &File, at: u64, buf: &mut [u8]) -> io::Result<usize>
+    ensures within { IfOk result (λ count. count ≤ length buf.new) }
+{
+    let mut done = 0;
+    for _ in 0..u64::MAX {
+        if done >= buf.len() {
+            break;
+        }
+        match file.read_at(&mut buf[done..], at.saturating_add(done as u64)) {
+            Ok(0) => break,
+            Ok(count) => done += count,
+            Err(e) if e.kind() == ErrorKind::Interrupted => {}
+            Err(e) => return Err(e),
+        }
+    }
+    Ok(done)
+}
+
 impl<F: Files<File = File> + Drop> System<F> {
     /// Makes durable what a file holds, or what was made, renamed and removed in a folder.
     pub(crate) fn sync(&mut self, file: &File) -> io::Result<()>
@@ -28,6 +47,14 @@ impl<F: Files<File = File> + Drop> System<F> {
     {
         self.syncs = self.syncs.saturating_add(1);
         file.sync_all()
+    }
+
+    /// Makes durable what was made, renamed and removed in a folder.
+    pub(crate) fn sync_folder(&mut self, folder: &Folder) -> io::Result<()> {
+        match &folder.handle {
+            Some(handle) => self.sync(handle),
+            None => Err(io::Error::from(ErrorKind::ReadOnlyFilesystem)),
+        }
     }
 
     /// Makes a file's bytes and its length durable.
@@ -42,25 +69,17 @@ impl<F: Files<File = File> + Drop> System<F> {
         ensures within { IfOk result (λ count. count ≤ length buf.new) }
     {
         let file = File::open(&self.files, path)?;
-        let mut done = 0;
-        for _ in 0..u64::MAX {
-            if done >= buf.len() {
-                break;
-            }
-            match file.read_at(&mut buf[done..], at.saturating_add(done as u64)) {
-                Ok(0) => break,
-                Ok(count) => done += count,
-                Err(e) if e.kind() == ErrorKind::Interrupted => {}
-                Err(e) => return Err(e),
-            }
-        }
-        Ok(done)
+        read_from(&file, at, buf)
+    }
+
+    /// Opens a file that is there to be written over.
+    pub(crate) fn open_for_writing(&self, path: &str) -> io::Result<File> {
+        OpenOptions::new().write(true).open(&self.files, path)
     }
 
     /// Writes all bytes from an offset on, over what is there. No file is made.
     pub(crate) fn write_at(&self, path: &str, at: u64, bytes: &[u8]) -> io::Result<()> {
-        let file = OpenOptions::new().write(true).open(&self.files, path)?;
-        file.write_all_at(bytes, at)
+        self.open_for_writing(path)?.write_all_at(bytes, at)
     }
 
     /// Reads the names that stand in a folder, where they aren't known.
@@ -75,13 +94,13 @@ impl<F: Files<File = File> + Drop> System<F> {
 
     /// Makes an empty file, in place of any. It is synced, so that what stood there is gone for
     /// sure; nothing rests on a file in tmp.
-    pub(crate) fn create(&mut self, area: Area, path: &str, folder: &File) -> io::Result<()> {
+    pub(crate) fn create(&mut self, area: Area, path: &str, folder: &Folder) -> io::Result<()> {
         let file = File::create(&self.files, path)?;
         if area == Area::Tmp {
             return Ok(());
         }
         self.sync(&file)?;
-        self.sync(folder)
+        self.sync_folder(folder)
     }
 
     /// Moves a file. The new folder is synced first: until both are, a crash may leave the file in
@@ -89,18 +108,18 @@ impl<F: Files<File = File> + Drop> System<F> {
     pub(crate) fn rename(
         &mut self,
         path: &str,
-        from: &File,
+        from: &Folder,
         onto: &str,
-        into: &File,
+        into: &Folder,
     ) -> io::Result<()> {
         fs::rename(&self.files, path, onto)?;
-        self.sync(into)?;
-        self.sync(from)
+        self.sync_folder(into)?;
+        self.sync_folder(from)
     }
 
     /// Takes a file away.
-    pub(crate) fn remove(&mut self, path: &str, folder: &File) -> io::Result<()> {
+    pub(crate) fn remove(&mut self, path: &str, folder: &Folder) -> io::Result<()> {
         fs::remove_file(&self.files, path)?;
-        self.sync(folder)
+        self.sync_folder(folder)
     }
 }

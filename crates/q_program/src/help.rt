@@ -2,7 +2,7 @@
 
 /// How the program is called.
 pub(crate) const USAGE: &str = "
-Usage: qmgr SPOOL COMMAND [WORD]...
+Usage: qmgr [-w SECONDS] SPOOL COMMAND [WORD]...
        qmgr --help | --version";
 
 /// What `--version` prints.
@@ -12,10 +12,12 @@ pub(crate) const VERSION: &str = "qmgr 0.1";
 pub(crate) const HELP: &str = "\
 qmgr, the queue manager of a mail server
 
-Usage: qmgr SPOOL COMMAND [WORD]...
+Usage: qmgr [-w SECONDS] SPOOL COMMAND [WORD]...
        qmgr --help | --version
 
-SPOOL is the folder of the spool. It is made where it is missing, and locked while a command runs.
+SPOOL is the folder of the spool. The first three commands make it where it is missing, and lock
+it; where another process has it, they wait for it, at most SECONDS (default 0). queue and qshape
+change nothing, and look beside a process that has it. load touches no folder.
 
 Commands:
   submit SENDER RECIPIENT...    take in one message, whose content is standard input; <> is the
@@ -40,4 +42,5 @@ The files conf/params and conf/transport of the spool say the parameters and the
 Exit status: 0 done, 1 wrong words, 2 bad input (the file and its line are named), 3 disk fault,
 4 output fault, 5 input fault, 6 damaged spool (the file is named), 7 RESTS were used up with
 deliveries in flight, 8 limit reached, 9 no memory.
-Standard error has one line of it, but for 0.";
+Standard error says why, with the place and the system's words. With 0 it may have warnings, and
+behind a drain a line of what it came to.";

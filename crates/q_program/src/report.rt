@@ -1,0 +1,105 @@
+//! How a command ended, on standard error.
+use crate::conf_causes::{cause_in_params, cause_in_table};
+use crate::event_causes::cause_in_events;
+use crate::heard::Heard;
+use crate::passed_over::warn_of_files;
+use crate::routes::warn_of_routes;
+use crate::running::Host;
+use crate::saying::say;
+use crate::tally::Sums;
+use crate::word_causes::cause_in_words;
+use q_host::Host as Files;
+use q_model::{Area, Moment, Names, due_of};
+use q_top::{InputFile, Status};
+use q_words::{Request, WordsError};
+use std::alloc::Global;
+use std::fmt::Display;
+
+/// Says how a command ended, and why where that is known.
+fn say_cause<D: Display + Drop>(rt: HostRuntime, status: Status, cause: Option<D>) {
+    match cause {
+        Some(cause) => say(rt, format_args!("{status}: {cause}")),
+        None => say(rt, status),
+    }
+}
+
+/// Says why words are refused.
+fn say_usage(rt: HostRuntime, words: &[String], error: &WordsError) {
+    say_cause(rt, Status::Usage, cause_in_words(rt.alloc(), words, error));
+    say(rt, format_args!("{error}"));
+}
+
+/// Why a line of the event list is refused.
+fn cause_in_list(alloc: Global, heard: &Heard, line: u64) -> Option<String> {
+    let lines = heard.lines.take()?;
+    let flights = heard.flights.take()?;
+    cause_in_events(alloc, &lines, &flights, line)
+}
+
+/// Says how a command ended that isn't done.
+fn say_end(rt: HostRuntime, host: &mut Host<'_>, status: Status, heard: &Heard) {
+    match status {
+        Status::Disk | Status::Tell => say_cause(rt, status, host.fault()),
+        Status::Source => say_cause(rt, status, heard.error.take()),
+        Status::BadInput { file, line } => {
+            let cause = match file {
+                InputFile::Events => cause_in_list(rt.alloc(), heard, line),
+                InputFile::Parameters => cause_in_params(rt.alloc(), host),
+                InputFile::Table => cause_in_table(rt.alloc(), host),
+            };
+            say_cause(rt, status, cause);
+        }
+        _ => say(rt, status),
+    }
+}
+
+/// The least moment at which a message in deferred is due.
+fn next_due(rt: HostRuntime, host: &mut Host<'_>) -> Option<Moment> {
+    let mut names = Names::new(rt.alloc()).ok()?;
+    host.list_after(Area::Deferred, None, &mut names).ok()?;
+    Some(due_of(*names.as_slice().first()?)?.0)
+}
+
+/// Says what a drain came to, and what of the table it couldn't reach.
+fn say_drained(rt: HostRuntime, host: &mut Host<'_>, status: Status, sums: Sums) {
+    let is_over = matches!(status, Status::Done | Status::Unfinished { .. });
+    if is_over {
+        warn_of_routes(rt, host);
+    }
+    if !is_over && sums.is_none() {
+        return;
+    }
+    match next_due(rt, host) {
+        Some(moment) => say(rt, format_args!("{sums}, next due {moment}")),
+        None => say(rt, format_args!("{sums}, none due")),
+    }
+}
+
+/// Says on standard error how a command ended, and what an operator may wonder about.
+pub(crate) fn report(
+    rt: HostRuntime,
+    words: &[String],
+    request: &Result<Request, WordsError>,
+    host: &mut Host<'_>,
+    status: Status,
+    heard: &Heard,
+) {
+    if let Some(user) = host.user() {
+        say(
+            rt,
+            format_args!("{user}: a message may be missing, or told twice"),
+        );
+    }
+    match request {
+        Err(error) if status == Status::Usage => return say_usage(rt, words, error),
+        _ => {}
+    }
+    if status != Status::Done {
+        say_end(rt, host, status, heard);
+    }
+    match request {
+        Ok(Request::Drain { .. }) => say_drained(rt, host, status, heard.sums.get()),
+        Ok(Request::Queue) if status == Status::Done => warn_of_files(rt, host),
+        _ => {}
+    }
+}

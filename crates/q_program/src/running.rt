@@ -1,0 +1,108 @@
+//! The program.
+use crate::call::{Call, read_call};
+use crate::heard::Heard;
+use crate::help::{HELP, USAGE, VERSION};
+use crate::noted::Noted;
+use crate::report::report;
+use crate::saying::say;
+use crate::tally::Counted;
+use q_folder_host::{Access, FolderHost};
+use q_stream::{RealClock, StdSource};
+use q_tcp_hops::TcpHops;
+use q_top::{Status, qmgr};
+use q_words::{Request, WordsError, read_words};
+use std::env;
+use std::fmt::Display;
+use std::io::ErrorKind;
+
+/// A host over the folders of a spool, whose output is counted.
+pub(crate) type Host<'a> = FolderHost<HostRuntime, Counted<'a>>;
+
+/// What a command may do with the spool: two of them look at it alone.
+fn access_of(request: &Result<Request, WordsError>, wait: u32) -> Access {
+    match request {
+        Ok(Request::Queue) | Ok(Request::Qshape(_)) => Access::Look,
+        _ => Access::Change { wait },
+    }
+}
+
+/// Says why a command can't be begun.
+fn refuse<D: Display + Drop>(rt: HostRuntime, status: Status, why: D) -> u8 {
+    say(rt, format_args!("{status}: {why}"));
+    status.number()
+}
+
+/// Runs the command of these words on the spool in a folder.
+fn run(rt: HostRuntime, wait: u32, folder: &str, words: &[String]) -> u8 {
+    let request = read_words(rt.alloc(), words);
+    let access = access_of(&request, wait);
+    let heard = Heard::new(rt.alloc(), matches!(request, Ok(Request::Replay)));
+    let output = Counted { rt, heard: &heard };
+    let reader = Noted {
+        reader: rt.reader(),
+        heard: &heard,
+    };
+    let Ok(mut host) = FolderHost::new(rt.alloc(), rt, output, folder, access) else {
+        return refuse(rt, Status::NoMemory, folder);
+    };
+    let mut hops = match TcpHops::new(rt.alloc(), rt) {
+        Ok(hops) => hops,
+        Err(error) => return refuse(rt, Status::Disk, error),
+    };
+    let mut source = StdSource::new(reader);
+    let mut clock = RealClock::new(rt);
+    let status = qmgr(
+        rt.alloc(),
+        words,
+        &mut source,
+        &mut host,
+        &mut clock,
+        &mut hops,
+    );
+    report(rt, words, &request, &mut host, status, &heard);
+    status.number()
+}
+
+/// Says what the program is, on standard output.
+fn tell(rt: HostRuntime, text: &str) -> u8 {
+    match println!(rt; "{text}") {
+        Ok(()) => Status::Done.number(),
+        Err(error) => refuse(rt, Status::Tell, error),
+    }
+}
+
+/// Runs what the words of the program say, and answers the exit status. Words are judged before
+/// anything is touched.
+pub fn program(rt: HostRuntime, words: &[String]) -> u8 {
+    match read_call(words) {
+        Call::Help => tell(rt, HELP),
+        Call::Version => tell(rt, VERSION),
+        Call::Run {
+            wait,
+            folder,
+            words,
+        } => run(rt, wait, folder.as_str(), words),
+        Call::Wrong(why) => {
+            say(rt, format_args!("{}: {why}\n{USAGE}", Status::Usage));
+            Status::Usage.number()
+        }
+    }
+}
+
+/// The words behind the name of the program; where they can't be had, the exit status.
+pub fn words_of(rt: HostRuntime) -> Result<Vec<String>, u8> {
+    let all = match env::args(&rt) {
+        Ok(all) => all,
+        Err(error) if error.kind() == ErrorKind::OutOfMemory => {
+            return Err(refuse(rt, Status::NoMemory, "the words"));
+        }
+        Err(_) => return Err(refuse(rt, Status::Usage, "a word isn't UTF-8")),
+    };
+    let mut words = Vec::new(rt.alloc());
+    for word in all.skip(1) {
+        if words.push(word).is_err() {
+            return Err(refuse(rt, Status::NoMemory, "the words"));
+        }
+    }
+    Ok(words)
+}

@@ -1,0 +1,133 @@
+//! The steps of a case.
+use crate::room::Room;
+use crate::running::{Running, Streams, run};
+use anyhow::{Context, Result, bail};
+use std::fs;
+use std::fs::read_dir;
+
+/// A case: its room, what the next command reads and writes, and the commands that run.
+#[derive(Drop)]
+pub(crate) struct Stage {
+    rt: HostRuntime,
+    room: Room,
+    streams: Streams,
+    first: Option<Running>,
+    second: Option<Running>,
+}
+
+fn no_streams(rt: HostRuntime) -> Streams {
+    Streams {
+        input: String::new(rt.alloc()),
+        input_from: None,
+        output_to: None,
+    }
+}
+
+/// A word, and what stands behind it.
+fn cut(text: &str) -> (&str, &str) {
+    text.split_once(' ').unwrap_or((text, ""))
+}
+
+impl Stage {
+    /// A case in this room, of which nothing is carried out yet.
+    pub(crate) fn new(rt: HostRuntime, room: Room) -> Stage {
+        Stage {
+            rt,
+            room,
+            streams: no_streams(rt),
+            first: None,
+            second: None,
+        }
+    }
+
+    /// Ends the case.
+    pub(crate) fn leave(self) -> Result<()> {
+        self.room.leave()
+    }
+
+    // Runs a command with the streams that were said.
+    fn run(&mut self, words: &str) -> Result<()> {
+        run(self.rt, &self.room, words, &self.streams)?;
+        self.streams = no_streams(self.rt);
+        Ok(())
+    }
+
+    // Shows the names in a folder, in order.
+    fn show_names(&self, folder: &str) -> Result<()> {
+        let path = self.room.inside(folder)?;
+        let mut names = Vec::new(self.rt.alloc());
+        for entry in read_dir(&self.rt, path)? {
+            let name = entry?;
+            names.push(format!(in self.rt.alloc(); "{}", name.file_name())?)?;
+        }
+        names.sort()?;
+        for name in &names {
+            println!(self.rt; "{name}")?;
+        }
+        Ok(())
+    }
+
+    // A step that changes what stands in the room.
+    fn change(&self, word: &str, text: &str) -> Result<()> {
+        let (name, behind) = cut(text);
+        let path = self.room.inside(name)?;
+        match word {
+            "write" => {
+                let line = format!(in self.rt.alloc(); "{behind}\n")?;
+                fs::write(&self.rt, &path, &line)?
+            }
+            "folder" => fs::create_dir(&self.rt, &path)?,
+            "remove" => fs::remove_file(&self.rt, &path)?,
+            "move" => fs::rename(&self.rt, &path, self.room.inside(behind)?)?,
+            _ => bail!("no step: {word} {text}"),
+        }
+        Ok(())
+    }
+
+    // The command that runs under this name.
+    fn running(&mut self, name: &str) -> &mut Option<Running> {
+        if name == "first" {
+            &mut self.first
+        } else {
+            &mut self.second
+        }
+    }
+
+    // A step of a command that runs beside others.
+    fn go_on(&mut self, word: &str, text: &str) -> Result<()> {
+        let (name, behind) = cut(text);
+        let rt = self.rt;
+        if word == "begin" {
+            let running = Running::new(rt, &self.room, behind)?;
+            *self.running(name) = Some(running);
+            return Ok(());
+        }
+        let mut running = self.running(name).take().context("no command runs")?;
+        match word {
+            "send" => running.send(behind)?,
+            "hear" => running.hear(rt)?,
+            _ => return running.end(rt),
+        }
+        *self.running(name) = Some(running);
+        Ok(())
+    }
+
+    /// Carries out a step, and shows it. Empty lines and those that begin with `#` say nothing.
+    pub(crate) fn carry_out(&mut self, line: &str) -> Result<()> {
+        let (word, text) = cut(line);
+        if line.is_empty() || line.starts_with("#") {
+            return Ok(());
+        }
+        println!(self.rt; "$ {line}")?;
+        match word {
+            "qmgr" => self.run(text)?,
+            "input" => self.streams.input = format!(in self.rt.alloc(); "{text}\n")?,
+            "input-from" => self.streams.input_from = Some(self.room.inside(text)?),
+            "output-to" => self.streams.output_to = Some(self.room.inside(text)?),
+            "names" => self.show_names(text)?,
+            "begin" | "send" | "hear" | "end" => self.go_on(word, text)?,
+            _ => self.change(word, text)?,
+        }
+        Ok(())
+    }
+}
