@@ -1,10 +1,10 @@
 //! A fault of disk or output in the midst of a command, at a call that is named by a line.
 use crate::command::run_on;
 use crate::flaw::Flaw;
-use crate::places::number_of;
+use crate::places::{number_of, spot_of};
 use crate::snapshot::Snapshot;
 use q_link::ScriptHops;
-use q_model::Moment;
+use q_model::{Moment, Spot};
 use q_silent_host::SilentHost;
 use q_stream::MemSource;
 use std::alloc::Global;
@@ -21,11 +21,21 @@ enum Place {
     Behind(u64),
 }
 
+/// What becomes of a call.
+#[derive(Clone, Copy)]
+pub(crate) enum Kind {
+    /// Neither it nor any behind it is carried out.
+    Stops,
+    /// It alone fails.
+    Fails,
+    /// With it the file at the spot rots.
+    Rots(Spot),
+}
+
 /// A fault at a call of a command.
 #[derive(Drop)]
 pub(crate) struct Fault {
-    /// Whether no call from there on is carried out, or this one alone fails.
-    stops: bool,
+    kind: Kind,
     place: Place,
     line: String,
 }
@@ -51,10 +61,18 @@ fn place_of(text: &str) -> Result<(Place, &str), Flaw> {
 }
 
 /// The fault at a place that is written so.
-pub(crate) fn fault_of(alloc: Global, stops: bool, text: &str) -> Result<Fault, Flaw> {
+pub(crate) fn fault_of(alloc: Global, kind: Kind, text: &str) -> Result<Fault, Flaw> {
     let (place, line) = place_of(text)?;
     let line = line.to_string(alloc)?;
-    Ok(Fault { stops, place, line })
+    Ok(Fault { kind, place, line })
+}
+
+/// The rot of a file, which is written before the place.
+pub(crate) fn rot_of(alloc: Global, text: &str) -> Result<Fault, Flaw> {
+    let Some((file, place)) = text.split_once(' ') else {
+        return Err(Flaw::NoStep("no file and place"));
+    };
+    fault_of(alloc, Kind::Rots(spot_of(file)?), place)
 }
 
 /// Whether the line is told where the command is stopped after so many calls.
@@ -98,10 +116,10 @@ impl Fault {
             Place::Before(calls) => told.saturating_sub(calls),
             Place::Behind(calls) => told.saturating_add(calls).saturating_add(1),
         };
-        if self.stops {
-            host.stop_after(call.saturating_sub(1));
-        } else {
-            host.fail_call(call);
+        match self.kind {
+            Kind::Stops => host.stop_after(call.saturating_sub(1)),
+            Kind::Fails => host.fail_call(call),
+            Kind::Rots(spot) => host.rot(call, spot),
         }
         Ok(())
     }

@@ -1,6 +1,6 @@
 //! What a case is carried out on: a spool and an output in memory, and what its next command is given.
 use crate::bytes::bytes_of;
-use crate::fault::{Fault, fault_of};
+use crate::fault::{Fault, Kind, fault_of, rot_of};
 use crate::flaw::Flaw;
 use crate::places::{number_of, numbers_of, spot_of};
 use crate::server::Act;
@@ -32,7 +32,7 @@ pub(crate) struct Stage {
     pub(crate) piece: usize,
     pub(crate) fails: Vec<u64>,
     pub(crate) servers: Vec<Vec<Act>>,
-    /// The fault of disk or output in its midst.
+    /// The fault of disk or output in its midst, or the file that rots there.
     pub(crate) fault: Option<Fault>,
     /// How the last command ended, unless the page has said it.
     pub(crate) ended: Option<Status>,
@@ -156,8 +156,9 @@ impl Stage {
             "clock" => self.moments = numbers_of(self.alloc, rest)?,
             "pieces" => self.piece = number_of(rest)? as usize,
             "input-fails" => self.fails = numbers_of(self.alloc, rest)?,
-            "fails" => self.fault = Some(fault_of(self.alloc, false, rest)?),
-            "stops" => self.fault = Some(fault_of(self.alloc, true, rest)?),
+            "fails" => self.fault = Some(fault_of(self.alloc, Kind::Fails, rest)?),
+            "stops" => self.fault = Some(fault_of(self.alloc, Kind::Stops, rest)?),
+            "rots" => self.fault = Some(rot_of(self.alloc, rest)?),
             _ => return Ok(false),
         }
         Ok(true)

@@ -16,7 +16,7 @@ use Rattle.q_drain.proofs.Turning.{at_entries, course_first, course_later, cours
 use Rattle.q_drain.proofs.UnderWay.{at_under_way, did_still, given_more, same_under_way}
 use Rattle.q_drain.specs.Drains.{IsOwnRun}
 use Rattle.q_drain.specs.Driving.{IsOnCourse}
-use Rattle.q_drain.specs.Faults.{fault_of}
+use Rattle.q_drain.specs.Faults.{stop_of}
 use Rattle.q_drain.specs.GivenUp.{GivesUp}
 use Rattle.q_drain.specs.Heard.{Heard, IsBetween, IsFirst}
 use Rattle.q_drain.specs.Opened.{IsServing}
@@ -30,6 +30,8 @@ use Rattle.q_engine.specs.Steps.{TookTurn}
 use Rattle.q_engine.specs.declared.engine.Engine.{Engine}
 use Rattle.q_engine.specs.declared.error.EngineError.{EngineError}
 use Rattle.q_engine.specs.declared.error.EngineError.TheVariants as errors
+use Rattle.q_engine.specs.declared.stop.Stop.TheVariants as stops
+use Rattle.q_host.specs.declared.error.HostError.TheVariants as faults
 use Rattle.q_entries.proofs.Playing.{plays_none}
 use Rattle.q_entries.specs.Runs.{HaltsRun, PlaysRun}
 use Rattle.q_host.specs.View.{View as HostView}
@@ -146,15 +148,19 @@ heard_part w l a old new hops u x engine early fs os s first t error f adds late
 
 -- ---- refusals
 
-pub host_fault : (error : EngineError) → is_of_host error ≡ true → error ≡ refusal_of (fault_of error)
-host_fault errors.Disk h = refl
-host_fault errors.Tell h = refl
-host_fault errors.NoMemory h = refl
-host_fault (errors.Unknown number) h = cc
-host_fault (errors.WrongCount number want got) h = cc
-host_fault errors.Untimed h = cc
-host_fault (errors.Limit bound) h = cc
-host_fault (errors.Damaged area name) h = cc
+same_host : (a b : HostError) → stops.Host a ≡ stops.Host b → refusal_of a ≡ refusal_of b
+same_host a b h = let same : a ≡ b = cc in ap refusal_of same
+
+pub host_fault : (why : EngineError) (error : HostError) → is_of_host why ≡ true → stop_of why ≡ stops.Host error → why ≡ refusal_of error
+host_fault errors.Disk error h is = same_host faults.Disk error is
+host_fault errors.Tell error h is = same_host faults.Tell error is
+host_fault errors.NoMemory error h is = same_host faults.NoMemory error is
+host_fault (errors.Unknown number) error h is = cc
+host_fault (errors.WrongCount number want got) error h is = cc
+host_fault errors.Untimed error h is = cc
+host_fault (errors.Limit bound) error h is = cc
+host_fault (errors.Damaged area name) error h is = cc
+host_fault (errors.Unreadable area name) error h is = cc
 
 -- a moment is never refused
 pub never_refused : (engine : Engine) (error : EngineError) (t : ℕ) (w : World) (l : Ledger) → (is_of_host error || is_of_event error) ≡ true

@@ -1,6 +1,6 @@
 -- How a drain ends, by what was told and done so far.
 use native.Mathlib.Omega.{arith}
-use Rattle.std.proofs.Common.{◌≡◌, ◌≢◌, ◌≤◌, ◌+◌, ℕ, Bool, false, true, List, [], ◌∷◌, ◌++◌, inl, length, map, not, Option, Some, None, refl, sym, ap, ◌∙◌, subst, append-nil}
+use Rattle.std.proofs.Common.{◌≡◌, ◌≢◌, ◌≤◌, ◌+◌, ℕ, Bool, false, true, List, [], ◌∷◌, ◌++◌, length, map, not, Option, Some, None, refl, sym, ap, ◌∙◌, subst, append-nil}
 use Rattle.std.proofs.lemmas.Bool.{ltb-false}
 use Rattle.std.proofs.lemmas.Option.{same_Some}
 use Rattle.std.specs.List.{AllByRecursion, list_any}
@@ -15,7 +15,7 @@ use Rattle.q_drain.proofs.Polls.{order_same}
 use Rattle.q_drain.proofs.Starting.{nothing}
 use Rattle.q_drain.proofs.TurnsOn.{between_busy, between_rest}
 use Rattle.q_drain.proofs.UnderWay.{starts_under_way}
-use Rattle.q_drain.specs.Drained.{CountsRests, DrainEnds, IsDrainError, RestsBehind}
+use Rattle.q_drain.specs.Drained.{CountsRests, DrainEnds, RestsBehind}
 use Rattle.q_drain.specs.Exits.{EndsEarly, EndsFull, EndsQuiet, EndsUnfinished, EndsWhole, IsAtStart}
 use Rattle.q_drain.specs.GivenUp.{GivesUp}
 use Rattle.q_drain.specs.Polling.{AreInOrder}
@@ -28,18 +28,20 @@ use Rattle.q_drain.specs.Works.{IsLinkBetween, IsLinkOf, IsSessionOf}
 use Rattle.q_drain.specs.declared.poll.Served.{Served}
 use Rattle.q_drain.proofs.Noting.{adds_then}
 use Rattle.q_engine.specs.KeptNotes.{AddsAllNotes}
-use Rattle.q_engine.specs.Refusals.{EngineCause, refusal_of}
+use Rattle.q_engine.specs.Refusals.{refusal_of}
+use Rattle.q_engine.specs.Stops.{stopped_by}
 use Rattle.q_engine.specs.Stands.{EngineStands}
 use Rattle.q_engine.specs.declared.engine.Engine.{Engine}
+use Rattle.q_engine.specs.declared.stop.Stop.{Stop}
+use Rattle.q_engine.specs.declared.stop.Stop.TheVariants as stops
 use Rattle.q_entries.proofs.Playing.{plays_none, plays_then, reads_none}
-use Rattle.q_entries.specs.Causes.{HostCause}
 use Rattle.q_entries.specs.Runs.{PlaysRun}
-use Rattle.q_host.specs.Faults.{Faults}
 use Rattle.q_host.specs.View.{View as HostView}
 use Rattle.q_host.specs.declared.error.HostError.{HostError}
 use Rattle.q_host.specs.declared.error.HostError.TheVariants as faults
 use Rattle.q_link.specs.Records.{HopsView}
 use Rattle.q_model.specs.declared.entry.Entry.{Entry}
+use Rattle.q_model.specs.declared.spot.Area.{Area}
 use Rattle.q_model.specs.Ledger.{Ledger}
 use Rattle.q_model.specs.Settings.{World}
 use Rattle.q_model.specs.Step.{after_all}
@@ -255,13 +257,7 @@ early_as w l o u v faults.Disk e = e
 early_as w l o u v faults.Tell e = e
 early_as w l o u v faults.NoMemory e = e
 
-pub host_kind : (error : HostError) → IsDrainError (refusal_of error)
-host_kind faults.Disk = inl refl
-host_kind faults.Tell = inl refl
-host_kind faults.NoMemory = inl refl
-
--- a fault of the host keeps its cause
-pub host_cause : {S T : Type 0} (before after : Faults) (error : HostError) → HostCause {T = S} before after (Err error) → EngineCause {T = T} before after (Err (refusal_of error))
-host_cause before after faults.Disk c = record { disk_later = c.disk_later; tell_later = c.tell_later; disk = λ is. c.disk refl; tell = λ is. cc }
-host_cause before after faults.Tell c = record { disk_later = c.disk_later; tell_later = c.tell_later; disk = λ is. cc; tell = λ is. c.tell refl }
-host_cause before after faults.NoMemory c = record { disk_later = c.disk_later; tell_later = c.tell_later; disk = λ is. cc; tell = λ is. cc }
+-- where the host tells, what stopped it is of the host
+pub stopped_as : (w : World) (l : Ledger) (o : Outsides) (u v : HostView) (stop : Stop) → ((error : HostError) → stop ≡ stops.Host error → EndsEarly w l o u v error) → ((area : Area) → (name : List ℕ) → stop ≡ stops.Unreadable area name → ⊥) → DrainEnds w l o u v (Err (stopped_by stop))
+stopped_as w l o u v (stops.Host error) early none = early_as w l o u v error (early error refl)
+stopped_as w l o u v (stops.Unreadable area name) early none = absurd (none area name refl)

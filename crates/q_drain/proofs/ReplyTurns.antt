@@ -6,10 +6,11 @@ use Rattle.std.specs.Prelude.{◌&&◌, ◌==◌, ◌||◌, replicate}
 use Rattle.q_agent.specs.Turns.{Counts}
 use Rattle.q_books.specs.HostStands.{HostStands, TellsCrashes}
 use Rattle.q_drain.proofs.ClockTurns.{host_fault}
-use Rattle.q_drain.specs.Faults.{fault_of}
+use Rattle.q_drain.specs.Faults.{stop_of}
 use Rattle.q_engine.specs.Refusals.{is_early, is_of_event, is_of_host, refusal_of, refused_event, refused_reply, told_count}
 use Rattle.q_engine.specs.declared.error.EngineError.{EngineError}
 use Rattle.q_engine.specs.declared.error.EngineError.TheVariants as errors
+use Rattle.q_engine.specs.declared.stop.Stop.TheVariants as stops
 use Rattle.q_entries.proofs.Playing.{plays_given_up, plays_none}
 use Rattle.q_entries.specs.Runs.{HaltsRun}
 use Rattle.q_host.specs.View.{View as HostView}
@@ -67,10 +68,10 @@ halts_nothing w l es error u lawful host = plays_given_up w l [] es error u u (p
 
 -- by a fault of the host some first part was done, and by another refusal nothing
 pub fault_halts : (w : World) (l : Ledger) (es : List Entry) (u x : HostView) (why : EngineError) (error : HostError) → TellsCrashes u → HostStands u l.book → (is_of_host why || is_of_event why) ≡ true
-    → ((fault : HostError) → why ≡ refusal_of fault → HaltsRun w l es fault u x) → (is_of_event why ≡ true → x ≡ u) → fault_of why ≡ error → HaltsRun w l es error u x
+    → ((fault : HostError) → why ≡ refusal_of fault → HaltsRun w l es fault u x) → (is_of_event why ≡ true → x ≡ u) → stop_of why ≡ stops.Host error → HaltsRun w l es error u x
 fault_halts w l es u x why error lawful host kinds halts untouched same = on (is_of_host why) (is_of_event why) refl refl kinds
   where
     on : (b c : Bool) → is_of_host why ≡ b → is_of_event why ≡ c → (b || c) ≡ true → HaltsRun w l es error u x
-    on true c of_host of_event h = halts error (host_fault why of_host ∙ ap refusal_of same)
+    on true c of_host of_event h = halts error (host_fault why error of_host same)
     on false true of_host of_event h = subst (λ (v : HostView). HaltsRun w l es error u v) (sym (untouched of_event)) (halts_nothing w l es error u lawful host)
     on false false of_host of_event h = cc

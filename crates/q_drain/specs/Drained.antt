@@ -6,7 +6,7 @@ use Rattle.q_drain.specs.Exits.{EndsEarly, EndsFull, EndsQuiet, EndsUnfinished, 
 use Rattle.q_drain.specs.Turned.{Outsides}
 use Rattle.q_drain.specs.declared.driver.Drained.{Drained}
 use Rattle.q_drain.specs.declared.driver.Drained.TheVariants.{Quiet, Unfinished}
-use Rattle.q_engine.specs.Refusals.{is_of_host}
+use Rattle.q_engine.specs.Refusals.{is_of_host, is_unreadable}
 use Rattle.q_engine.specs.declared.engine.Engine.{Engine}
 use Rattle.q_engine.specs.declared.error.EngineError.{EngineError}
 use Rattle.q_engine.specs.declared.error.EngineError.TheVariants as errors
@@ -38,12 +38,13 @@ EndsAs w l o u v (Some (Unfinished rests)) = EndsUnfinished w l o u v rests
 EndsAs w l o u v None = EndsFull w l o u v
 
 -- By each answer: it ended behind a turn, or within one by a fault of the host or for want of memory, or
--- with no number left for a delivery.
+-- with no number left for a delivery. Where the host tells, each queue file can be read.
 abbrev pub DrainEnds : World → Ledger → Outsides → HostView → HostView → Result Drained EngineError → Type 0
 DrainEnds w l o u v (Ok drained) = EndsAs w l o u v (Some drained)
 DrainEnds w l o u v (Err errors.Disk) = EndsEarly w l o u v faults.Disk
 DrainEnds w l o u v (Err errors.Tell) = EndsEarly w l o u v faults.Tell
 DrainEnds w l o u v (Err errors.NoMemory) = EndsEarly w l o u v faults.NoMemory
+DrainEnds w l o u v (Err (errors.Unreadable area name)) = ⊥
 DrainEnds w l o u v (Err error) = EndsFull w l o u v
 
 abbrev pub Drains : Engine → Outsides → Result Drained EngineError → HostView → HostView → Type 0
@@ -51,4 +52,5 @@ Drains engine o result u v = ForStarted engine u (λ w l. DrainEnds w l o u v re
 
 -- the refusals that there are
 abbrev pub IsDrainError : EngineError → Type 0
-IsDrainError error = (is_of_host error ≡ true) ⊎ (error ≡ errors.Limit Deliveries)
+IsDrainError error =
+    (is_of_host error ≡ true) ⊎ (error ≡ errors.Limit Deliveries) ⊎ (is_unreadable error ≡ true)

@@ -5,18 +5,16 @@ ghost use Rattle.q_agent.specs.Sessions.{is_turn_over, link_waits};
 ghost use Rattle.q_drain.specs.Drained.{CountsRests, Drains, EndsAs, IsDrainError, RestsBehind};
 ghost use Rattle.q_drain.specs.Exits.{EndsEarly, ForStarted, MayStart};
 ghost use Rattle.q_drain.specs.declared.driver.Drained.TheVariants.{Quiet, Unfinished};
-ghost use Rattle.q_engine.specs.Refusals.{EngineCause};
+ghost use Rattle.q_engine.specs.Refusals.{EngineCause, is_unreadable};
 ghost use Rattle.q_engine.specs.Stands.{IsReady};
-ghost use Rattle.q_engine.specs.Steps.{EachError};
+ghost use Rattle.q_engine.specs.Stops.{EachStop, FindsReadable, StopCause};
 ghost use Rattle.q_engine.specs.declared.engine.Engine.{Engine as Started};
-ghost use Rattle.q_entries.specs.Causes.{HostCause};
 ghost use Rattle.q_host.specs.View.{Told};
 
-use crate::fault::refusal_of;
 use crate::poll::Served;
 use crate::turn::{Turn, take_turn};
 use q_agent::Agent;
-use q_engine::{Engine, EngineError};
+use q_engine::{Engine, EngineError, Stop, stopped_by};
 use q_host::{Host, HostError};
 use q_link::{Hops, Link};
 use q_model::Bound;
@@ -69,7 +67,7 @@ fn take_turns<L: Link, H: Host, C: Clock, N: Hops<Link = L>>(
     clock: &mut C,
     hops: &mut N,
     rests: u64,
-) -> Result<Option<Drained>, HostError>
+) -> Result<Option<Drained>, Stop>
     requires ready { IsReady engine }
     requires stands { IsTrue H.tells → MayStart engine (H.view host.old) }
     ensures ok { IfOk result (λ end. Told H.tells H.view host.old host.new (λ u v.
@@ -80,12 +78,13 @@ fn take_turns<L: Link, H: Host, C: Clock, N: Hops<Link = L>>(
     ensures ready { IfOk result (λ end. (next : Started) → end ≡ Some (Quiet next) → IsReady next) }
     ensures unfinished { IfOk result (λ end. (n : ℕ) → end ≡ Some (Unfinished n)
         → (n ≡ rests) × CountsRests (N.view hops.old) (N.view hops.new) rests) }
-    ensures err { EachError result (λ error. Told H.tells H.view host.old host.new (λ u v.
+    ensures err { EachStop result (λ error. Told H.tells H.view host.old host.new (λ u v.
         ForStarted engine u (λ w l. EndsEarly w l (record {
           before = record { clock = C.given clock.old; hops = N.view hops.old };
           behind = record { clock = C.given clock.new; hops = N.view hops.new };
         }) u v error))) }
-    ensures cause { HostCause (H.faults host.old) (H.faults host.new) result }
+    ensures readable { FindsReadable H.tells result }
+    ensures cause { StopCause (H.faults host.old) (H.faults host.new) result }
 {
     let mut agent = Agent::new(alloc);
     let mut served = Served {
@@ -108,7 +107,7 @@ fn take_turns<L: Link, H: Host, C: Clock, N: Hops<Link = L>>(
         given = more;
         first = false;
     }
-    Err(HostError::NoMemory)
+    Err(Stop::Host(HostError::NoMemory))
 }
 
 /// Delivers the messages of a life that has just begun, by SMTP (RFC 5321), turn by turn, until no
@@ -118,7 +117,8 @@ fn take_turns<L: Link, H: Host, C: Clock, N: Hops<Link = L>>(
 ///
 /// `Quiet` comes behind a turn in which no session was open. `Unfinished` comes where all rests were
 /// given, and another is needed. `Disk` and `Tell` come where the host failed, `NoMemory` where memory
-/// ran out; then the turn of the last event was told in part. `Limit` of deliveries comes where a
+/// ran out; then the turn of the last event was told in part. `Unreadable` names a queue file of this
+/// life that can't be read any longer. `Limit` of deliveries comes where a
 /// session is over, and the life has begun 2^48 deliveries: its reply isn't told.
 pub fn drain<L: Link, H: Host, C: Clock, N: Hops<Link = L>>(
     alloc: Global,
@@ -139,6 +139,8 @@ pub fn drain<L: Link, H: Host, C: Clock, N: Hops<Link = L>>(
     ensures unfinished { (n : ℕ) → result ≡ Ok (Unfinished n)
         → (n ≡ rests) × CountsRests (N.view hops.old) (N.view hops.new) rests }
     ensures kinds { IfErr result IsDrainError }
+    // Where the host tells its files, each can be read.
+    ensures readable { IsTrue H.tells → IfErr result (λ error. is_unreadable error ≡ false) }
     ensures cause { EngineCause (H.faults host.old) (H.faults host.new) result }
 {
     match take_turns(alloc, engine, host, clock, hops, rests) {
@@ -146,6 +148,6 @@ pub fn drain<L: Link, H: Host, C: Clock, N: Hops<Link = L>>(
         Ok(None) => Err(EngineError::Limit {
             bound: Bound::Deliveries,
         }),
-        Err(error) => Err(refusal_of(error)),
+        Err(stop) => Err(stopped_by(stop)),
     }
 }

@@ -1,30 +1,19 @@
-//! Refusals of an engine and those of its host.
+//! What a refusal of an engine stops.
 ghost use Rattle.std.specs.Prelude.{◌≡◌};
-ghost use Rattle.q_drain.specs.Faults.{fault_of};
-ghost use Rattle.q_engine.specs.Refusals.{refusal_of};
+ghost use Rattle.q_drain.specs.Faults.{stop_of};
 
-use q_engine::EngineError;
+use q_engine::{EngineError, Stop};
 use q_host::HostError;
 
-/// An engine's refusal as one of its host. One of an event comes on hosts alone that don't tell their
-/// files, and is taken for want of memory.
-pub(crate) fn fault_of(error: EngineError) -> HostError
-    ensures { result ≡ fault_of error }
+/// What an engine's refusal stops. One of an event comes on hosts alone that don't tell their files,
+/// and is taken for want of memory.
+pub(crate) fn stop_of(error: EngineError) -> Stop
+    ensures { result ≡ stop_of error }
 {
     match error {
-        EngineError::Disk => HostError::Disk,
-        EngineError::Tell => HostError::Tell,
-        _ => HostError::NoMemory,
-    }
-}
-
-/// A refusal of the host, as one of an engine.
-pub(crate) fn refusal_of(error: HostError) -> EngineError
-    ensures { result ≡ refusal_of error }
-{
-    match error {
-        HostError::Disk => EngineError::Disk,
-        HostError::Tell => EngineError::Tell,
-        HostError::NoMemory => EngineError::NoMemory,
+        EngineError::Disk => Stop::Host(HostError::Disk),
+        EngineError::Tell => Stop::Host(HostError::Tell),
+        EngineError::Unreadable { area, name } => Stop::Unreadable { area, name },
+        _ => Stop::Host(HostError::NoMemory),
     }
 }

@@ -5,14 +5,14 @@ ghost use Rattle.q_drain.specs.Polling.{IsPolling, KeepsSome};
 ghost use Rattle.q_drain.specs.Reported.{GivesUpReport, HearsReport, MayOpenBehind};
 ghost use Rattle.q_drain.specs.Served.{GivesUpServing, MayServe, PollsOn};
 ghost use Rattle.q_engine.specs.Stands.{IsReady};
-ghost use Rattle.q_engine.specs.Steps.{EachError, StandsForSome};
-ghost use Rattle.q_entries.specs.Causes.{HostCause};
+ghost use Rattle.q_engine.specs.Steps.{StandsForSome};
+ghost use Rattle.q_engine.specs.Stops.{EachStop, FindsReadable, StopCause};
 ghost use Rattle.q_model.specs.Replies.{fits_state};
 
 use crate::opening::open_started;
 use crate::reply::tell_reply;
 use q_agent::{Agent, Report};
-use q_engine::Engine;
+use q_engine::{Engine, Stop};
 use q_host::{Host, HostError};
 use q_link::{Hops, Link};
 use q_model::MOST_DELIVERIES;
@@ -41,7 +41,7 @@ fn hear_report<L: Link, H: Host, N: Hops<Link = L>>(
     hops: &mut N,
     report: Report,
     known: u64,
-) -> Result<Served, HostError>
+) -> Result<Served, Stop>
     requires ready { IsReady engine }
     requires fits { fits_state report.site report.outcomes ≡ true }
     requires polling { IsPolling agent.old (known + 1) }
@@ -54,9 +54,10 @@ fn hear_report<L: Link, H: Host, N: Hops<Link = L>>(
     ensures polling { IfOk result (λ next. IsPolling agent.new (next.known + 1)) }
     ensures busy { IfOk result (λ next. next.busy ≡ true) }
     ensures rests { (N.view hops.new).rests ≡ (N.view hops.old).rests }
-    ensures err { EachError result (λ error. IsTrue H.tells → GivesUpReport H.view report engine
+    ensures err { EachStop result (λ error. IsTrue H.tells → GivesUpReport H.view report engine
         error host.old host.new (N.view hops.old) (N.view hops.new) agent.old known) }
-    ensures cause { HostCause (H.faults host.old) (H.faults host.new) result }
+    ensures readable { FindsReadable H.tells result }
+    ensures cause { StopCause (H.faults host.old) (H.faults host.new) result }
 {
     let engine = tell_reply(alloc, engine, host, report)?;
     let known = open_started(alloc, &engine, agent, host, hops, known)?;
@@ -77,7 +78,7 @@ fn poll_next<L: Link, H: Host, N: Hops<Link = L>>(
     agent: &mut Agent<L>,
     host: &mut H,
     hops: &mut N,
-) -> Result<Option<Served>, HostError>
+) -> Result<Option<Served>, Stop>
     requires ready { IsReady served.engine }
     requires over { is_turn_over agent.old ≡ false }
     requires polling { IsPolling agent.old (served.known + 1) }
@@ -90,9 +91,10 @@ fn poll_next<L: Link, H: Host, N: Hops<Link = L>>(
     ensures some { IfOk result (λ next. IfSome next (λ s. KeepsSome served.busy s.busy
         agent.old agent.new)) }
     ensures rests { (N.view hops.new).rests ≡ (N.view hops.old).rests }
-    ensures err { EachError result (λ error. IsTrue H.tells → GivesUpServing served error
+    ensures err { EachStop result (λ error. IsTrue H.tells → GivesUpServing served error
         (H.view host.old) (H.view host.new) (N.view hops.old) (N.view hops.new) agent.old) }
-    ensures cause { HostCause (H.faults host.old) (H.faults host.new) result }
+    ensures readable { FindsReadable H.tells result }
+    ensures cause { StopCause (H.faults host.old) (H.faults host.new) result }
 {
     let Served {
         engine,
@@ -121,7 +123,7 @@ pub(crate) fn poll_all<L: Link, H: Host, N: Hops<Link = L>>(
     agent: &mut Agent<L>,
     host: &mut H,
     hops: &mut N,
-) -> Result<Option<Served>, HostError>
+) -> Result<Option<Served>, Stop>
     requires ready { IsReady begun.engine }
     requires polling { IsPolling agent.old (begun.known + 1) }
     requires serves { IsTrue H.tells → (clock : Option (List ℕ))
@@ -134,9 +136,10 @@ pub(crate) fn poll_all<L: Link, H: Host, N: Hops<Link = L>>(
     ensures some { IfOk result (λ next. IfSome next (λ s. KeepsSome begun.busy s.busy
         agent.old agent.new)) }
     ensures rests { (N.view hops.new).rests ≡ (N.view hops.old).rests }
-    ensures err { EachError result (λ error. IsTrue H.tells → GivesUpServing begun error
+    ensures err { EachStop result (λ error. IsTrue H.tells → GivesUpServing begun error
         (H.view host.old) (H.view host.new) (N.view hops.old) (N.view hops.new) agent.old) }
-    ensures cause { HostCause (H.faults host.old) (H.faults host.new) result }
+    ensures readable { FindsReadable H.tells result }
+    ensures cause { StopCause (H.faults host.old) (H.faults host.new) result }
 {
     let mut served = begun;
     for _ in 0..POLLS {
@@ -148,5 +151,5 @@ pub(crate) fn poll_all<L: Link, H: Host, N: Hops<Link = L>>(
         };
         served = next;
     }
-    Err(HostError::NoMemory)
+    Err(Stop::Host(HostError::NoMemory))
 }

@@ -4,15 +4,15 @@ ghost use Rattle.std.specs.Prelude.{◌≡◌, IfOk, IsTrue, List, true};
 ghost use Rattle.q_drain.specs.Replied.{Replies, reply_event};
 ghost use Rattle.q_engine.specs.Heard.{has_log_code};
 ghost use Rattle.q_engine.specs.Stands.{IsReady};
-ghost use Rattle.q_engine.specs.Steps.{EachError, HaltsTurn, StandsForSome};
-ghost use Rattle.q_entries.specs.Causes.{HostCause};
+ghost use Rattle.q_engine.specs.Steps.{HaltsTurn, StandsForSome};
+ghost use Rattle.q_engine.specs.Stops.{EachStop, FindsReadable, StopCause};
 ghost use Rattle.q_host.specs.View.{Told};
 ghost use Rattle.q_model.specs.FailureLog.{is_log_code};
 ghost use Rattle.q_model.specs.Replies.{fits_state};
 
-use crate::fault::fault_of;
+use crate::fault::stop_of;
 use q_agent::Report;
-use q_engine::Engine;
+use q_engine::{Engine, Stop};
 use q_host::{Host, HostError};
 use q_model::{Event, Outcome};
 use std::alloc::Global;
@@ -48,16 +48,17 @@ pub(crate) fn tell_reply<H: Host>(
     engine: Engine,
     host: &mut H,
     report: Report,
-) -> Result<Engine, HostError>
+) -> Result<Engine, Stop>
     requires ready { IsReady engine }
     requires fits { fits_state report.site report.outcomes ≡ true }
     requires stands { IsTrue H.tells → StandsForSome engine (H.view host.old) }
     ensures ok { IfOk result (λ next. Told H.tells H.view host.old host.new
         (Replies report engine next)) }
     ensures ready { IfOk result (λ next. IsReady next) }
-    ensures err { EachError result (λ error. Told H.tells H.view host.old host.new
+    ensures err { EachStop result (λ error. Told H.tells H.view host.old host.new
         (HaltsTurn (reply_event report) engine error)) }
-    ensures cause { HostCause (H.faults host.old) (H.faults host.new) result }
+    ensures readable { FindsReadable H.tells result }
+    ensures cause { StopCause (H.faults host.old) (H.faults host.new) result }
 {
     let Report {
         number,
@@ -65,7 +66,7 @@ pub(crate) fn tell_reply<H: Host>(
         outcomes,
     } = report;
     if !have_log_codes(outcomes.as_slice()) {
-        return Err(HostError::NoMemory);
+        return Err(Stop::Host(HostError::NoMemory));
     }
     let event = Event::Reply {
         number,
@@ -74,6 +75,6 @@ pub(crate) fn tell_reply<H: Host>(
     };
     match engine.step(alloc, host, event) {
         Ok(next) => Ok(next),
-        Err(error) => Err(fault_of(error)),
+        Err(error) => Err(stop_of(error)),
     }
 }

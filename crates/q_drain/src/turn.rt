@@ -4,15 +4,14 @@ ghost use Rattle.q_agent.specs.Sessions.{is_turn_over};
 ghost use Rattle.q_drain.specs.Polling.{AreInOrder, IsPolling};
 ghost use Rattle.q_drain.specs.Turned.{GivesTurnUp, MayTurn, OfEngine, OfServed, TurnsTo};
 ghost use Rattle.q_engine.specs.Stands.{IsReady};
-ghost use Rattle.q_engine.specs.Steps.{EachError};
-ghost use Rattle.q_entries.specs.Causes.{HostCause};
+ghost use Rattle.q_engine.specs.Stops.{EachStop, FindsReadable, StopCause};
 
 use crate::hearing::hear_clock;
 use crate::opening::open_started;
 use crate::poll::{Served, poll_all};
 use q_agent::Agent;
-use q_engine::Engine;
-use q_host::{Host, HostError};
+use q_engine::{Engine, Stop};
+use q_host::Host;
 use q_link::{Hops, Link};
 use q_stream::Clock;
 use std::alloc::Global;
@@ -39,7 +38,7 @@ pub(crate) fn take_turn<L: Link, H: Host, C: Clock, N: Hops<Link = L>>(
     hops: &mut N,
     known: u64,
     first: bool,
-) -> Result<Turn, HostError>
+) -> Result<Turn, Stop>
     requires ready { IsReady engine }
     requires order { AreInOrder agent.old.listed (known + 1) }
     requires stands { IsTrue H.tells → MayTurn (record {
@@ -57,12 +56,13 @@ pub(crate) fn take_turn<L: Link, H: Host, C: Clock, N: Hops<Link = L>>(
     ensures some { IfOk result (λ turn. OfServed turn (λ served.
         served.busy ≡ false → agent.new.listed ≢ [])) }
     ensures rests { (N.view hops.new).rests ≡ (N.view hops.old).rests }
-    ensures err { EachError result (λ error. IsTrue H.tells → GivesTurnUp (record {
+    ensures err { EachStop result (λ error. IsTrue H.tells → GivesTurnUp (record {
       before = record { clock = C.given clock.old; hops = N.view hops.old };
       behind = record { clock = C.given clock.new; hops = N.view hops.new };
     })
         (H.view host.old) (H.view host.new) engine agent.old.listed known first error) }
-    ensures cause { HostCause (H.faults host.old) (H.faults host.new) result }
+    ensures readable { FindsReadable H.tells result }
+    ensures cause { StopCause (H.faults host.old) (H.faults host.new) result }
 {
     agent.next_turn();
     let engine = hear_clock(alloc, engine, host, clock, first)?;

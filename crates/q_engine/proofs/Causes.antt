@@ -1,12 +1,12 @@
 -- A refusal of the host becomes one of the engine, and has its cause.
-use Rattle.std.proofs.Common.{◌≡◌, ◌∙◌, ◌≤◌, ap, arith, Bool, false, None, Option, refl, Some, subst, sym, true}
+use Rattle.std.proofs.Common.{◌≡◌, ◌∙◌, ap, arith, Bool, false, None, Option, refl, Some, subst, sym, true}
 use Rattle.std.specs.Prelude.{◌||◌, Err, IsErrOf, Ok, Result}
 use Rattle.q_entries.specs.Causes.{HostCause}
 use Rattle.q_host.specs.Faults.{Faults, TellCause}
 use Rattle.q_host.specs.declared.error.HostError.{HostError}
 use Rattle.q_host.specs.declared.error.HostError.TheVariants as faults
 use Rattle.q_engine.specs.Beginnings.{is_of_spool}
-use Rattle.q_engine.specs.Refusals.{EngineCause, is_of_event, is_of_host, refusal_of}
+use Rattle.q_engine.specs.Refusals.{EngineCause, is_of_event, is_of_host, is_unreadable, refusal_of}
 use Rattle.q_engine.specs.declared.error.EngineError.{EngineError}
 use Rattle.q_engine.specs.declared.error.EngineError.TheVariants as errors
 
@@ -50,29 +50,14 @@ event_apart made inner event of =
     let same : made ≡ refusal_of inner = cc in
     let bad : true ≡ false = sym event ∙ ap is_of_event same ∙ not_of_event inner in cc
 
--- nor is one of the host one of an event
-pub host_apart : {T : Type 0} (made error : EngineError) (inner : HostError) → made ≡ refusal_of inner → IsErrOf {T = T} (Err made) error → is_of_event error ≡ true → ⊥
-host_apart made error inner is of event =
-    let same : error ≡ refusal_of inner = cc in
-    let bad : true ≡ false = sym event ∙ ap is_of_event same ∙ not_of_event inner in cc
+-- a refusal of an event is one of those that may come
+or_middle : (a b c : Bool) → b ≡ true → (a || (b || c)) ≡ true
+or_middle true b c h = refl
+or_middle false true c h = refl
+or_middle false false c h = absurd cc
 
--- a refusal of the host is one of those that may come
-of_host : (inner : HostError) → (is_of_host (refusal_of inner) || is_of_event (refusal_of inner)) ≡ true
-of_host faults.Disk = refl
-of_host faults.Tell = refl
-of_host faults.NoMemory = refl
-
-pub host_kind : {T : Type 0} (made error : EngineError) (inner : HostError) → made ≡ refusal_of inner → IsErrOf {T = T} (Err made) error → (is_of_host error || is_of_event error) ≡ true
-host_kind made error inner is of =
-    let same : error ≡ refusal_of inner = cc in
-    ap (λ e. is_of_host e || is_of_event e) same ∙ of_host inner
-
-or_right : (a b : Bool) → b ≡ true → (a || b) ≡ true
-or_right true b h = refl
-or_right false b h = h
-
-pub event_kind : {T : Type 0} (made error : EngineError) → is_of_event made ≡ true → IsErrOf {T = T} (Err made) error → (is_of_host error || is_of_event error) ≡ true
-event_kind made error event of = let same : error ≡ made = cc in or_right (is_of_host error) (is_of_event error) (ap is_of_event same ∙ event)
+pub event_kind : {T : Type 0} (made error : EngineError) → is_of_event made ≡ true → IsErrOf {T = T} (Err made) error → (is_of_host error || (is_of_event error || is_unreadable error)) ≡ true
+event_kind made error event of = let same : error ≡ made = cc in or_middle (is_of_host error) (is_of_event error) (is_unreadable error) (ap is_of_event same ∙ event)
 
 -- where nothing was done no count rose
 pub event_cause : {T : Type 0} (before : Faults) (made : EngineError) → is_of_event made ≡ true → EngineCause {T = T} before before (Err made)
@@ -82,10 +67,6 @@ event_cause before made event = record {
   disk = λ of. absurd (event_apart made faults.Disk event of);
   tell = λ of. absurd (event_apart made faults.Tell event of);
 }
-
--- where all was done there is no refusal
-pub done_cause : {T S : Type 0} (before after : Faults) (r : Result T HostError) (made : S) → HostCause before after r → EngineCause {T = S} before after (Ok made)
-done_cause before after r made h = record { disk_later = h.disk_later; tell_later = h.tell_later; disk = λ of. absurd cc; tell = λ of. absurd cc }
 
 -- what was refused is what the ledger refuses
 

@@ -9,6 +9,7 @@ pub mod ContentFronts
 pub mod Counting
 pub mod DecisionArms
 pub mod DecisionLoops
+pub mod DecisionMarks
 pub mod Delayed
 pub mod DoneMessages
 pub mod EndedLives
@@ -17,6 +18,7 @@ pub mod FailureFlags
 pub mod FirstOutcomes
 pub mod HeardEvents
 pub mod KeptPlaces
+pub mod KeptRows
 pub mod Layouts
 pub mod LoadedEntries
 pub mod Looking
@@ -31,6 +33,8 @@ pub mod QuietEvents
 pub mod SkippedEntries
 pub mod Speaking
 pub mod StartedEntries
+pub mod Stopping
 pub mod StoredNotes
 pub mod Turns
+pub mod Unread
 pub mod Causes

@@ -4,11 +4,14 @@ pub mod Delays
 pub mod Heard
 pub mod KeptNotes
 pub mod KeptPlaces
+pub mod KeptRows
 pub mod Loads
 pub mod Looks
 pub mod MarkOffsets
+pub mod Marks
 pub mod Pending
 pub mod ReadFaults
 pub mod Refusals
 pub mod Stands
 pub mod Steps
+pub mod Stops

@@ -32,6 +32,11 @@ is_of_host errors.Tell = true
 is_of_host errors.NoMemory = true
 is_of_host _ = false
 
+-- a file can't be read any longer
+abbrev pub is_unreadable : EngineError → Bool
+is_unreadable (errors.Unreadable area name) = true
+is_unreadable _ = false
+
 -- a count, of which no more than 2^32 - 1 is told
 abbrev pub told_count : ℕ → ℕ
 told_count n = min n (2 ^ 32 - 1)

@@ -1,15 +1,19 @@
 //! How each decision is carried out: the disk first, then its line.
+ghost use Rattle.q_engine.specs.KeptRows.{KeepsRow};
+ghost use Rattle.q_engine.specs.Marks.{mark_of};
 ghost use Rattle.q_engine.specs.Steps.{EachError};
+ghost use Rattle.q_engine.specs.Stops.{EachStop, FindsReadable, StopCause};
 ghost use Rattle.q_engine.specs.KeptPlaces.{IsForgotten, left_by};
 ghost use Rattle.q_places.specs.Kept.{IsFewer};
 ghost use Rattle.q_host.specs.View.{Told};
-ghost use Rattle.std.specs.Prelude.{◌≡◌, [], false, IsTrue, OnOk, true};
+ghost use Rattle.std.specs.Prelude.{◌≡◌, [], false, IsTrue, None, OnOk, true};
 ghost use Rattle.q_core.specs.Changes.{is_looked_at};
 ghost use Rattle.q_core.specs.Deciding.{is_answered, is_look, is_reading, question_of};
 ghost use Rattle.q_engine.specs.Steps.{CarriesOut, GivesDecisionUp, HasNext};
 ghost use Rattle.q_entries.specs.Causes.{HostCause};
 
 use crate::engine::Engine;
+use crate::stop::Stop;
 use q_core::Decision;
 use q_host::{Host, HostError};
 use q_model::Id;
@@ -27,6 +31,23 @@ fn left_by(decision: &Decision) -> Option<Id>
     }
 }
 
+/// A recipient that is to be marked.
+#[derive(Clone, Copy)]
+struct Marked {
+    id: Id,
+    position: u32,
+}
+
+/// The recipient that the decision marks.
+fn mark_of(decision: &Decision) -> Option<Marked>
+    ensures { result ≡ mark_of decision.now }
+{
+    match *decision {
+        Decision::Mark { id, position } => Some(Marked { id, position }),
+        _ => None,
+    }
+}
+
 impl Engine {
     /// What is kept of a message that leaves memory by the decision is forgotten.
     fn forget_left(&mut self, decision: &Decision)
@@ -40,7 +61,8 @@ impl Engine {
         self.places.forget(id);
     }
 
-    /// Carries a decision out of which nothing is kept that it makes untrue.
+    /// Carries a decision out that marks no recipient, and of which nothing is kept that it makes
+    /// untrue.
     fn dispatch<H: Host>(
         &mut self,
         alloc: Global,
@@ -52,7 +74,9 @@ impl Engine {
         requires no_look { is_look (question_of decision.now) ≡ false }
         requires reads { is_reading (question_of decision.now) ≡ true
             → (is_looked_at self.old.core.value ≡ true) × (self.old.core.value.named ≡ []) }
+        requires row { KeepsRow decision.now self.old.core.value }
         requires forgotten { IsForgotten decision.now self.old }
+        requires no_mark { mark_of decision.now ≡ None }
         ensures ok { OnOk result (Told H.tells H.view host.old host.new
             (CarriesOut decision.now self.old self.new)) }
         ensures answered { OnOk result (is_answered self.new.core.value.question ≡ true) }
@@ -62,7 +86,6 @@ impl Engine {
     {
         match *decision {
             Decision::Log { id, failure } => self.log(alloc, host, id, failure),
-            Decision::Mark { id, position } => self.mark(alloc, host, id, position),
             Decision::Sync { id } => self.sync(alloc, host, id),
             Decision::Skip { id, site, entry } => self.skip(alloc, host, id, site, entry),
             Decision::Defer { id, due } => self.defer(alloc, host, id, due),
@@ -79,10 +102,10 @@ impl Engine {
             } => self.preempt(alloc, host, child, parent, transport, need),
             Decision::Start { number, id, site } => self.start(alloc, host, number, id, site),
             Decision::Read { id, from, max } => self.load(alloc, host, id, from, max),
-            // Looks are answered before.
-            Decision::LookActive | Decision::LookIncoming | Decision::LookDeferred { .. } => {
-                Err(HostError::NoMemory)
-            }
+            Decision::Mark { .. }
+            | Decision::LookActive
+            | Decision::LookIncoming
+            | Decision::LookDeferred { .. } => unreachable!(),
         }
     }
 
@@ -92,20 +115,26 @@ impl Engine {
         alloc: Global,
         host: &mut H,
         decision: &Decision,
-    ) -> Result<(), HostError>
+    ) -> Result<(), Stop>
         requires decided { IsTrue H.tells → HasNext decision.now self.old (H.view host.old) }
         requires question { self.old.core.value.question ≡ question_of decision.now }
         requires no_look { is_look (question_of decision.now) ≡ false }
         requires reads { is_reading (question_of decision.now) ≡ true
             → (is_looked_at self.old.core.value ≡ true) × (self.old.core.value.named ≡ []) }
+        requires row { KeepsRow decision.now self.old.core.value }
         ensures ok { OnOk result (Told H.tells H.view host.old host.new
             (CarriesOut decision.now self.old self.new)) }
         ensures answered { OnOk result (is_answered self.new.core.value.question ≡ true) }
-        ensures err { EachError result (λ error. Told H.tells H.view host.old host.new
+        ensures err { EachStop result (λ error. Told H.tells H.view host.old host.new
             (GivesDecisionUp decision.now self.old error)) }
-        ensures cause { HostCause (H.faults host.old) (H.faults host.new) result }
+        ensures readable { FindsReadable H.tells result }
+        ensures cause { StopCause (H.faults host.old) (H.faults host.new) result }
     {
         self.forget_left(decision);
-        self.dispatch(alloc, host, decision)
+        let Some(mark) = mark_of(decision) else {
+            self.dispatch(alloc, host, decision)?;
+            return Ok(());
+        };
+        self.mark(alloc, host, mark.id, mark.position)
     }
 }

@@ -1,14 +1,14 @@
 //! The decisions that follow an event.
-ghost use Rattle.q_engine.specs.Steps.{EachError};
+ghost use Rattle.q_engine.specs.Stops.{EachStop, FindsReadable, StopCause};
 ghost use Rattle.q_host.specs.View.{Told};
 ghost use Rattle.std.specs.Prelude.{◌≡◌, IsErrOf, IsTrue, OnOk, true};
 ghost use Rattle.q_core.specs.Deciding.{is_answered};
 ghost use Rattle.q_engine.specs.Stands.{IsReady};
 ghost use Rattle.q_engine.specs.Steps.{DecidesAll, HaltsDeciding, StandsForSome};
-ghost use Rattle.q_entries.specs.Causes.{HostCause};
-ghost use Rattle.q_host.specs.declared.error.HostError.{HostError as Refusal};
+ghost use Rattle.q_engine.specs.declared.stop.Stop.{Stop as Stopped};
 
 use crate::engine::Engine;
+use crate::stop::Stop;
 use q_host::{Host, HostError};
 use std::alloc::Global;
 
@@ -17,19 +17,16 @@ const DECISIONS: u64 = 1 << 60;
 
 impl Engine {
     /// Carries out and tells the decisions that follow an event, until there is none.
-    pub(crate) fn decisions<H: Host>(
-        &mut self,
-        alloc: Global,
-        host: &mut H,
-    ) -> Result<(), HostError>
+    pub(crate) fn decisions<H: Host>(&mut self, alloc: Global, host: &mut H) -> Result<(), Stop>
         requires answered { is_answered self.old.core.value.question ≡ true }
         requires stands { IsTrue H.tells → StandsForSome self.old (H.view host.old) }
         ensures ok { OnOk result (Told H.tells H.view host.old host.new
             (DecidesAll self.old self.new)) }
         ensures ready { OnOk result (IsReady self.new) }
-        ensures err { EachError result (λ error. Told H.tells H.view host.old host.new
+        ensures err { EachStop result (λ error. Told H.tells H.view host.old host.new
             (HaltsDeciding self.old error)) }
-        ensures cause { HostCause (H.faults host.old) (H.faults host.new) result }
+        ensures readable { FindsReadable H.tells result }
+        ensures cause { StopCause (H.faults host.old) (H.faults host.new) result }
     {
         for _ in 0..DECISIONS {
             let Some(decision) = self.next_entry(alloc, host)? else {
@@ -37,18 +34,19 @@ impl Engine {
             };
             self.carry_out(alloc, host, &decision)?;
         }
-        Err(HostError::NoMemory)
+        Err(Stop::Host(HostError::NoMemory))
     }
 
     /// Where a moment came in this life, no scan waits for its next name once nothing is to be
     /// decided.
-    fn come_to_rest(&self) -> Result<(), HostError>
+    fn come_to_rest(&self) -> Result<(), Stop>
         ensures timed { OnOk result (self.now.core.value.timed ≡ true) }
-        ensures only_memory { (error : Refusal) → IsErrOf result error → error ≡ HostError.NoMemory }
+        ensures only_memory { (stop : Stopped) → IsErrOf result stop
+            → stop ≡ Stop.Host HostError.NoMemory }
     {
         if self.core.is_timed() {
             return Ok(());
         }
-        Err(HostError::NoMemory)
+        Err(Stop::Host(HostError::NoMemory))
     }
 }

@@ -1,7 +1,9 @@
 //! Why an engine gives up.
 ghost use Rattle.std.specs.Prelude.{◌≡◌, true};
 ghost use Rattle.q_engine.specs.Refusals.{is_of_host, refusal_of};
+ghost use Rattle.q_engine.specs.Stops.{stopped_by};
 
+use crate::stop::Stop;
 use q_host::HostError;
 use q_model::{Area, Bound, Name};
 use thiserror::Error;
@@ -28,6 +30,10 @@ pub enum EngineError {
     /// The spool can't be opened: this name in this area is at fault.
     #[error("damaged spool")]
     Damaged { area: Area, name: Name },
+    /// A queue file of this life can't be read any longer. It comes over a host alone that doesn't
+    /// tell its files.
+    #[error("unreadable file")]
+    Unreadable { area: Area, name: Name },
 }
 
 pub(crate) fn refusal_of(error: HostError) -> EngineError
@@ -38,5 +44,15 @@ pub(crate) fn refusal_of(error: HostError) -> EngineError
         HostError::Disk => EngineError::Disk,
         HostError::Tell => EngineError::Tell,
         HostError::NoMemory => EngineError::NoMemory,
+    }
+}
+
+/// The refusal of a life that was stopped.
+pub fn stopped_by(stop: Stop) -> EngineError
+    ensures { result ≡ stopped_by stop }
+{
+    match stop {
+        Stop::Host(error) => refusal_of(error),
+        Stop::Unreadable { area, name } => EngineError::Unreadable { area, name },
     }
 }

@@ -36,7 +36,9 @@ mod seeking;
 mod sending;
 mod skipping;
 mod step;
+mod stop;
 
 pub use beginning::begin;
 pub use engine::Engine;
-pub use error::EngineError;
+pub use error::{EngineError, stopped_by};
+pub use stop::Stop;

@@ -53,10 +53,6 @@ impl Engine {
         ensures answered { OnOk result (is_answered self.new.core.value.question ≡ true) }
     {
         self.name_sites(taken)?;
-        // Each has its site, so that this never comes.
-        if self.core.named() != taken.len() {
-            return Err(NoMemory);
-        }
         self.core.loaded(taken, next);
         Ok(())
     }

@@ -1,10 +1,12 @@
 //! The looks that the core asks for before a decision is known.
 ghost use Rattle.q_host.specs.View.{Told};
-ghost use Rattle.std.specs.Prelude.{◌≡◌, false, IfOk, IsTrue, None, OnErr, OnOk, true, []};
+ghost use Rattle.std.specs.Prelude.{◌≡◌, false, IfOk, IfSome, IsTrue, None, OnErr, OnOk, true, []};
 ghost use Rattle.q_books.specs.HostStands.{KeepsNotes};
 ghost use Rattle.q_core.specs.Agrees.{Agrees};
 ghost use Rattle.q_core.specs.Changes.{is_looked_at};
 ghost use Rattle.q_core.specs.Deciding.{is_answered, is_look, is_reading, question_for, question_of};
+ghost use Rattle.q_core.specs.Looking.{LeavesFewer};
+ghost use Rattle.q_engine.specs.KeptRows.{KeepsRow};
 ghost use Rattle.q_engine.specs.Looks.{AnswersLook, FindsNext, IsShown, StaysAtBook};
 ghost use Rattle.q_host.specs.Calls.{Stays};
 ghost use Rattle.q_host.specs.Faults.{DiskCause};
@@ -18,9 +20,6 @@ use q_host::{Host, HostError};
 use q_look::{look_active, look_deferred, look_incoming};
 use std::alloc::Global;
 
-/// At most four looks come in a row, and the entry behind them.
-const LOOKS: u8 = 5;
-
 /// What the queue that is looked at shows.
 fn look<H: Host>(
     alloc: Global,
@@ -28,6 +27,7 @@ fn look<H: Host>(
     core: &Core,
     decision: &Decision,
 ) -> Result<Found, HostError>
+    requires { is_look (question_of decision.now) ≡ true }
     ensures found { IfOk result (λ found. IsTrue H.tells → (w : World) → (l : Ledger)
         → Agrees w core.now l → Stands (H.view host.old).files l.book → IsShown decision.now found l) }
     ensures stays { IsTrue H.tells → Stays (H.view host.old) (H.view host.new) }
@@ -38,7 +38,7 @@ fn look<H: Host>(
         Decision::LookIncoming => look_incoming(alloc, host),
         Decision::LookDeferred { after, until } => look_deferred(alloc, host, *after, *until),
         // No other decision is a look.
-        _ => Err(HostError::NoMemory),
+        _ => unreachable!(),
     }
 }
 
@@ -55,6 +55,7 @@ impl Engine {
         ensures ok { OnOk result (Told H.tells H.view host.old host.new
             (AnswersLook decision.now self.old self.new)) }
         ensures answered { OnOk result (is_answered self.new.core.value.question ≡ true) }
+        ensures fewer { OnOk result (LeavesFewer self.old.core.value self.new.core.value) }
         ensures err { OnErr result (Told H.tells H.view host.old host.new (StaysAtBook self.old)) }
         ensures notes { IsTrue H.tells → KeepsNotes (H.view host.old) (H.view host.new) }
         ensures rest { self.new ≡ record self.old { core = self.new.core } }
@@ -65,7 +66,8 @@ impl Engine {
         Ok(())
     }
 
-    /// The next decision that has an entry; looks are answered before it.
+    /// The next decision that has an entry; looks are answered before it, of which at most four come
+    /// in a row.
     pub(crate) fn next_entry<H: Host>(
         &mut self,
         alloc: Global,
@@ -79,13 +81,14 @@ impl Engine {
         ensures no_look { IfOk result (λ d. is_look (question_for d) ≡ false) }
         ensures reads { IfOk result (λ d. is_reading (question_for d) ≡ true
             → (is_looked_at self.new.core.value ≡ true) × (self.new.core.value.named ≡ [])) }
+        ensures row { IfOk result (λ d. IfSome d (λ d. KeepsRow d self.new.core.value)) }
         ensures quiet { IfOk result (λ d. d ≡ None → self.new.core.value.timed ≡ true
             → is_looked_at self.new.core.value ≡ true) }
         ensures notes { IsTrue H.tells → KeepsNotes (H.view host.old) (H.view host.new) }
         ensures rest { self.new ≡ record self.old { core = self.new.core } }
         ensures cause { DiskCause (H.faults host.old) (H.faults host.new) result }
     {
-        for _ in 0..LOOKS {
+        loop {
             let Some(decision) = self.core.next_decision() else {
                 return Ok(None);
             };
@@ -94,6 +97,5 @@ impl Engine {
             }
             self.answer(alloc, host, &decision)?;
         }
-        Err(HostError::NoMemory)
     }
 }

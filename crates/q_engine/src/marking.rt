@@ -1,9 +1,10 @@
 //! Marks of recipients that are done, and what makes them sure.
 ghost use Rattle.q_engine.specs.Steps.{EachError};
+ghost use Rattle.q_engine.specs.Stops.{EachStop, FindsReadable, StopCause};
 ghost use Rattle.q_host.specs.View.{Told};
-ghost use Rattle.std.specs.Prelude.{◌≡◌, ◌⊎◌, IfOk, IsTrue, OnOk, Some};
+ghost use Rattle.std.specs.Prelude.{◌≡◌, ◌⊎◌, IfNone, IfOk, IfSome, IsTrue, OnOk, Some};
 ghost use Rattle.q_core.specs.declared.decision.Decision.TheVariants as decisions;
-ghost use Rattle.q_engine.specs.MarkOffsets.{FindsOffset};
+ghost use Rattle.q_engine.specs.MarkOffsets.{FindsOffset, HasBareMark};
 ghost use Rattle.q_engine.specs.Steps.{CarriesOut, GivesDecisionUp, HasNext};
 ghost use Rattle.q_entries.specs.Causes.{HostCause};
 ghost use Rattle.q_host.specs.Calls.{Stays};
@@ -11,41 +12,42 @@ ghost use Rattle.q_host.specs.Faults.{DiskCause};
 ghost use Rattle.q_message.specs.Told.{IsThere};
 
 use crate::engine::Engine;
-use crate::read_fault::read_fault;
+use crate::read_fault::{head_at, unless_damaged};
+use crate::stop::{Stop, unreadable};
 use q_books::file_spot;
 use q_entries::tell;
 use q_files::{mark, mark_place, sync_marks};
 use q_host::{Host, HostError};
-use q_message::read_head;
 use q_model::{Entry, Id, Place, Spot};
 use std::alloc::Global;
 
 /// The offset of a recipient's mark in the queue file at the spot: the one that was kept, or else
-/// it is read. Where the host tells its files and the mark isn't set, `NoMemory` is want of memory.
+/// it is read. None where it can't be read, or its file says that it is set: where the host tells its
+/// files, and it isn't, this never comes.
 fn mark_offset<H: Host>(
     alloc: Global,
     host: &mut H,
     spot: Spot,
     position: u32,
     kept: Option<u64>,
-) -> Result<u64, HostError>
-    requires { IsThere H.tells (H.view host.old) spot }
-    ensures offset { IfOk result (λ at. (kept ≡ Some at) ⊎ (IsTrue H.tells
-        → FindsOffset (H.view host.old) spot position at)) }
+) -> Result<Option<u64>, HostError>
+    requires there { IsThere H.tells (H.view host.old) spot }
+    requires bare { IsTrue H.tells → HasBareMark (H.view host.old) spot position }
+    ensures offset { IfOk result (λ o. IfSome o (λ at. (kept ≡ Some at) ⊎ (IsTrue H.tells
+        → FindsOffset (H.view host.old) spot position at))) }
+    ensures found { IfOk result (λ o. IfNone o (IsTrue H.tells → ⊥)) }
     ensures stays { IsTrue H.tells → Stays (H.view host.old) (H.view host.new) }
     ensures cause { DiskCause (H.faults host.old) (H.faults host.new) result }
 {
     if let Some(at) = kept {
-        return Ok(at);
+        return Ok(Some(at));
     }
-    let head = match read_head(host, spot) {
-        Ok(head) => head,
-        Err(error) => return Err(read_fault(error)),
+    let Some(head) = head_at(host, spot)? else {
+        return Ok(None);
     };
     match mark_place(alloc, host, spot, &head, position) {
-        Ok(Some(at)) => Ok(at),
-        Ok(None) => Err(HostError::NoMemory),
-        Err(error) => Err(read_fault(error)),
+        Ok(found) => Ok(found),
+        Err(error) => unless_damaged(error),
     }
 }
 
@@ -57,21 +59,25 @@ impl Engine {
         host: &mut H,
         id: Id,
         position: u32,
-    ) -> Result<(), HostError>
+    ) -> Result<(), Stop>
         requires { IsTrue H.tells
             → HasNext (decisions.Mark id position) self.old (H.view host.old) }
         ensures ok { OnOk result (Told H.tells H.view host.old host.new
             (CarriesOut (decisions.Mark id position) self.old self.new)) }
-        ensures err { EachError result (λ error. Told H.tells H.view host.old host.new
+        ensures err { EachStop result (λ error. Told H.tells H.view host.old host.new
             (GivesDecisionUp (decisions.Mark id position) self.old error)) }
+        ensures readable { FindsReadable H.tells result }
         ensures core { self.new.core ≡ self.old.core }
-        ensures cause { HostCause (H.faults host.old) (H.faults host.new) result }
+        ensures cause { StopCause (H.faults host.old) (H.faults host.new) result }
     {
         let spot = file_spot(Place::Active, id);
         let kept = self.places.take_mark(id, position);
-        let at = mark_offset(alloc, host, spot, position, kept)?;
+        let Some(at) = mark_offset(alloc, host, spot, position, kept)? else {
+            return Err(unreadable(spot));
+        };
         mark(host, spot, at)?;
-        tell(alloc, host, &self.table, &Entry::Mark { id, position })
+        tell(alloc, host, &self.table, &Entry::Mark { id, position })?;
+        Ok(())
     }
 
     /// Makes the marks of a message outlive every crash.

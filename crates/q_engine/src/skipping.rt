@@ -68,7 +68,9 @@ impl Engine {
         site: Site,
         entry: u32,
     ) -> Result<(), HostError>
-        requires { IsTrue H.tells → HasNext (decisions.Skip id site entry) self.now (H.view host.old) }
+        requires decided { IsTrue H.tells
+            → HasNext (decisions.Skip id site entry) self.now (H.view host.old) }
+        requires row { self.now.core.value.skips ≡ entry }
         ensures ok { OnOk result (Told H.tells H.view host.old host.new
             (CarriesOut (decisions.Skip id site entry) self.now self.now)) }
         ensures err { EachError result (λ error. Told H.tells H.view host.old host.new
@@ -76,7 +78,7 @@ impl Engine {
         ensures cause { HostCause (H.faults host.old) (H.faults host.new) result }
     {
         let Some(positions) = self.core.row_positions(entry) else {
-            return Err(HostError::NoMemory);
+            unreachable!()
         };
         let positions = copied(alloc, positions)?;
         self.note_row(alloc, host, id, positions.as_slice())?;

@@ -1,18 +1,20 @@
 //! One event, and the decisions that follow it.
 ghost use Rattle.q_engine.specs.Steps.{EachError, EachFault};
+ghost use Rattle.q_engine.specs.Stops.{EachStop, FindsReadable, StopCause};
 ghost use Rattle.q_host.specs.View.{Told};
-ghost use Rattle.std.specs.Prelude.{◌≡◌, ◌||◌, None, IfOk, IsErrOf, IsTrue, OnOk, Some, true};
+ghost use Rattle.std.specs.Prelude.{◌≡◌, ◌||◌, false, None, IfOk, IsErrOf, IsTrue, OnOk, Some, true};
 ghost use Rattle.q_core.specs.Deciding.{is_answered};
 ghost use Rattle.q_engine.specs.Heard.{HearsEvent, IsEventInForm, StopsHearing};
 ghost use Rattle.q_engine.specs.Looks.{ForStands};
-ghost use Rattle.q_engine.specs.Refusals.{EngineCause, ForAgreed, is_of_event, is_of_host, IsAdmissible, refusal_of, refused_event};
+ghost use Rattle.q_engine.specs.Refusals.{EngineCause, ForAgreed, is_of_event, is_of_host, is_unreadable, IsAdmissible, refused_event};
 ghost use Rattle.q_engine.specs.Stands.{IsReady};
 ghost use Rattle.q_engine.specs.Steps.{HaltsTurn, StandsForSome, TakesTurn};
 ghost use Rattle.q_entries.specs.Causes.{HostCause};
 ghost use Rattle.q_engine.specs.declared.error.EngineError.{EngineError as EngineRefusal};
 
 use crate::engine::Engine;
-use crate::error::{EngineError, refusal_of};
+use crate::error::{EngineError, stopped_by};
+use crate::stop::Stop;
 use q_host::{Host, HostError};
 use q_model::Event;
 use std::alloc::Global;
@@ -49,7 +51,7 @@ impl Engine {
     }
 
     /// The event's own entry and the decisions that follow it.
-    fn take<H: Host>(&mut self, alloc: Global, host: &mut H, event: Event) -> Result<(), HostError>
+    fn take<H: Host>(&mut self, alloc: Global, host: &mut H, event: Event) -> Result<(), Stop>
         requires ready { IsReady self.old }
         requires form { IsEventInForm event }
         requires admissible { IsAdmissible self.old event }
@@ -58,9 +60,10 @@ impl Engine {
         ensures ok { OnOk result (Told H.tells H.view host.old host.new
             (TakesTurn event self.old self.new)) }
         ensures ready { OnOk result (IsReady self.new) }
-        ensures err { EachError result (λ error. Told H.tells H.view host.old host.new
+        ensures err { EachStop result (λ error. Told H.tells H.view host.old host.new
             (HaltsTurn event self.old error)) }
-        ensures cause { HostCause (H.faults host.old) (H.faults host.new) result }
+        ensures readable { FindsReadable H.tells result }
+        ensures cause { StopCause (H.faults host.old) (H.faults host.new) result }
     {
         self.hear(alloc, host, event)?;
         self.decisions(alloc, host)
@@ -70,7 +73,8 @@ impl Engine {
     /// The engine is spent by a refusal.
     ///
     /// `Untimed`, `Unknown`, `WrongCount` and `Limit` come exactly where the event is one of these,
-    /// before anything is done; of `Limit` only Content, Recipients and Serial.
+    /// before anything is done; of `Limit` only Content, Recipients and Serial. `Unreadable` names a
+    /// queue file of this life that can't be read any longer.
     pub fn step<H: Host>(
         self,
         alloc: Global,
@@ -101,7 +105,10 @@ impl Engine {
 
         // No other refusal comes, so none of the spool.
         ensures kinds { (error : EngineRefusal) → IsErrOf result error
-            → (is_of_host error || is_of_event error) ≡ true }
+            → (is_of_host error || (is_of_event error || is_unreadable error)) ≡ true }
+        // Where the host tells its files, each can be read.
+        ensures readable { IsTrue H.tells → (error : EngineRefusal) → IsErrOf result error
+            → is_unreadable error ≡ false }
         ensures cause { EngineCause (H.faults host.old) (H.faults host.new) result }
     {
         let mut engine = self;
@@ -110,7 +117,7 @@ impl Engine {
         }
         match engine.take(alloc, host, event) {
             Ok(()) => Ok(engine),
-            Err(error) => Err(refusal_of(error)),
+            Err(stop) => Err(stopped_by(stop)),
         }
     }
 }

@@ -41,6 +41,6 @@ The files conf/params and conf/transport of the spool say the parameters and the
 
 Exit status: 0 done, 1 wrong words, 2 bad input (the file and its line are named), 3 disk fault,
 4 output fault, 5 input fault, 6 damaged spool (the file is named), 7 RESTS were used up with
-deliveries in flight, 8 limit reached, 9 no memory.
+deliveries in flight, 8 limit reached, 9 no memory, 12 unreadable file (which is named).
 Standard error says why, with the place and the system's words. With 0 it may have warnings, and
 behind a drain a line of what it came to.";

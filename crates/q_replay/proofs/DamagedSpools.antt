@@ -43,6 +43,7 @@ module _ (v x : View) (line : ℕ) (area : Area) (name : List ℕ) (damage : IsD
   begun_damaged (engine_errors.Unknown number) u = let bad : false ≡ true = u.kinds in absurd cc
   begun_damaged (engine_errors.WrongCount number want got) u = let bad : false ≡ true = u.kinds in absurd cc
   begun_damaged engine_errors.Untimed u = let bad : false ≡ true = u.kinds in absurd cc
+  begun_damaged (engine_errors.Unreadable a n) u = let bad : false ≡ true = u.kinds in absurd cc
   begun_damaged (engine_errors.Limit bound) u =
       let spent = u.spent bound refl in absurd (sound-undamaged v.files spent.boot spent.walk area name spent.shows spent.sound damage)
   begun_damaged (engine_errors.Damaged a n) u =
@@ -60,6 +61,7 @@ named_only v x line engine_errors.NoMemory u area name is = absurd cc
 named_only v x line (engine_errors.Unknown number) u area name is = absurd cc
 named_only v x line (engine_errors.WrongCount number want got) u area name is = absurd cc
 named_only v x line engine_errors.Untimed u area name is = absurd cc
+named_only v x line (engine_errors.Unreadable a n) u area name is = absurd cc
 named_only v x line (engine_errors.Limit bound) u area name is = absurd cc
 named_only v x line (engine_errors.Damaged a n) u area name is =
     let same_area : a ≡ area = cc in
@@ -85,6 +87,7 @@ untaken_only w l item line errors.NoMemory u v r area name is = absurd cc
 untaken_only w l item line errors.Source u v r area name is = absurd cc
 untaken_only w l item line (errors.BadEvent n) u v r area name is = absurd cc
 untaken_only w l item line (errors.Limit bound) u v r area name is = absurd cc
+untaken_only w l item line (errors.Unreadable a n) u v r area name is = absurd r
 untaken_only {T = T} w l item line (errors.Damaged a n) u v r area name is =
     let both = err_same {T = T} (errors.Damaged a n) (errors.Damaged area name) is in
     let same_area : a ≡ area = cc in
@@ -100,6 +103,7 @@ ends_only w mode b taken u v (Err errors.NoMemory) r area name is = absurd cc
 ends_only w mode b taken u v (Err errors.Source) r area name is = absurd cc
 ends_only w mode b taken u v (Err (errors.BadEvent n)) r area name is = absurd cc
 ends_only w mode b taken u v (Err (errors.Limit bound)) r area name is = absurd cc
+ends_only w mode b taken u v (Err (errors.Unreadable a n)) r area name is = absurd r
 ends_only w mode b taken u v (Err (errors.Damaged a n)) r area name is =
     let both = err_same {T = Unit {0}} (errors.Damaged a n) (errors.Damaged area name) is in
     let same_area : a ≡ area = cc in

@@ -231,23 +231,33 @@ module _ (w : World) (b : Book) (o : Outsides) (u v : View) (first : IsTold w De
   drain_failed x engine_errors.NoMemory kind e = stops_early x faults.NoMemory e
   drain_failed x (engine_errors.Limit Deliveries) kind e = (refl, has_no_number x e)
   drain_failed x (engine_errors.Limit Generation) (inl h) e = absurd cc
-  drain_failed x (engine_errors.Limit Generation) (inr h) e = absurd cc
+  drain_failed x (engine_errors.Limit Generation) (inr (inl h)) e = absurd cc
+  drain_failed x (engine_errors.Limit Generation) (inr (inr h)) e = absurd cc
   drain_failed x (engine_errors.Limit Content) (inl h) e = absurd cc
-  drain_failed x (engine_errors.Limit Content) (inr h) e = absurd cc
+  drain_failed x (engine_errors.Limit Content) (inr (inl h)) e = absurd cc
+  drain_failed x (engine_errors.Limit Content) (inr (inr h)) e = absurd cc
   drain_failed x (engine_errors.Limit Recipients) (inl h) e = absurd cc
-  drain_failed x (engine_errors.Limit Recipients) (inr h) e = absurd cc
+  drain_failed x (engine_errors.Limit Recipients) (inr (inl h)) e = absurd cc
+  drain_failed x (engine_errors.Limit Recipients) (inr (inr h)) e = absurd cc
   drain_failed x (engine_errors.Limit Serial) (inl h) e = absurd cc
-  drain_failed x (engine_errors.Limit Serial) (inr h) e = absurd cc
+  drain_failed x (engine_errors.Limit Serial) (inr (inl h)) e = absurd cc
+  drain_failed x (engine_errors.Limit Serial) (inr (inr h)) e = absurd cc
   drain_failed x (engine_errors.Limit Input) (inl h) e = absurd cc
-  drain_failed x (engine_errors.Limit Input) (inr h) e = absurd cc
+  drain_failed x (engine_errors.Limit Input) (inr (inl h)) e = absurd cc
+  drain_failed x (engine_errors.Limit Input) (inr (inr h)) e = absurd cc
   drain_failed x (engine_errors.Unknown n) (inl h) e = absurd cc
-  drain_failed x (engine_errors.Unknown n) (inr h) e = absurd cc
+  drain_failed x (engine_errors.Unknown n) (inr (inl h)) e = absurd cc
+  drain_failed x (engine_errors.Unknown n) (inr (inr h)) e = absurd cc
   drain_failed x (engine_errors.WrongCount n want got) (inl h) e = absurd cc
-  drain_failed x (engine_errors.WrongCount n want got) (inr h) e = absurd cc
+  drain_failed x (engine_errors.WrongCount n want got) (inr (inl h)) e = absurd cc
+  drain_failed x (engine_errors.WrongCount n want got) (inr (inr h)) e = absurd cc
   drain_failed x engine_errors.Untimed (inl h) e = absurd cc
-  drain_failed x engine_errors.Untimed (inr h) e = absurd cc
+  drain_failed x engine_errors.Untimed (inr (inl h)) e = absurd cc
+  drain_failed x engine_errors.Untimed (inr (inr h)) e = absurd cc
   drain_failed x (engine_errors.Damaged area name) (inl h) e = absurd cc
-  drain_failed x (engine_errors.Damaged area name) (inr h) e = absurd cc
+  drain_failed x (engine_errors.Damaged area name) (inr (inl h)) e = absurd cc
+  drain_failed x (engine_errors.Damaged area name) (inr (inr h)) e = absurd cc
+  drain_failed x (engine_errors.Unreadable area name) kind e = absurd e
 
   module _ (x : View) (engine : Engine) (e : EndsQuiet w l o v x engine) where
     abbrev story : Story
@@ -294,6 +304,7 @@ module _ (w : World) (b : Book) (o : Outsides) (u v : View) (first : IsTold w De
     never_ended y errors.Tell r = stops_ending y faults.Tell r
     never_ended y errors.NoMemory r = stops_ending y faults.NoMemory r
     never_ended y errors.Source r = absurd r
+    never_ended y (errors.Unreadable area name) r = absurd r
     never_ended y (errors.BadEvent line) r = let no : None ≡ Some r.why = r.refused in absurd cc
     never_ended y (errors.Limit bound) r = let no : None ≡ Some r.why = r.refused in absurd cc
     never_ended y (errors.Damaged area name) r = let no : None ≡ Some r.refused.0 = r.refused.1 in absurd cc
@@ -388,6 +399,7 @@ module _ (w : World) (b : Book) (u x : View) (lawful : TellsCrashes u) (host : H
       by errors.Tell r e = halted_first a faults.Tell e
       by errors.NoMemory r e = halted_first a faults.NoMemory e
       by errors.Source r e = absurd r
+      by (errors.Unreadable area name) r e = absurd r
       by (errors.BadEvent line) r e =
           let s = spent_by (is_spent (opening Deliver b)) r.why r.refused in
           let names : errors.BadEvent line ≡ errors.Limit Generation = r.names ∙ ap (replay_error 0) (sym s.1) in

@@ -1,6 +1,7 @@
 pub mod DamagedSpools
 pub mod Listings
 pub mod Modes
+pub mod Readable
 pub mod Readings
 pub mod Replaying
 pub mod Delivering

@@ -118,6 +118,7 @@ module _ (w : World) (b : Book) (u : View) (lawful : TellsCrashes u) (h : HostSt
       by (errors.BadEvent line) e = e
       by (errors.Limit bound) e = e
       by (errors.Damaged area name) e = e
+      by (errors.Unreadable area name) e = e
 
 -- ---- the items behind it
 
@@ -204,6 +205,7 @@ module _ (w : World) (b : Book) (left : Option (List ℕ)) (events : EventsState
         by (errors.BadEvent line) e = e
         by (errors.Limit bound) e = e
         by (errors.Damaged area name) e = e
+        by (errors.Unreadable area name) e = e
 
     -- the list ends as it should
     pub ends_done : (left' source : Option (List ℕ)) (events' : EventsState) (item : ListItem) (x : View) (done : Unit {0}) → ItemGiven events left events' left' item → is_list_end item ≡ true → TookItem w l item None v x → ReplayEnds w b bytes source u x (Ok done)

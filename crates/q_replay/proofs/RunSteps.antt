@@ -83,6 +83,7 @@ limit_names line engine_errors.NoMemory bound names = absurd cc
 limit_names line (engine_errors.Unknown number) bound names = absurd cc
 limit_names line (engine_errors.WrongCount number want got) bound names = absurd cc
 limit_names line engine_errors.Untimed bound names = absurd cc
+limit_names line (engine_errors.Unreadable area name) bound names = absurd cc
 limit_names line (engine_errors.Damaged area name) bound names = absurd cc
 
 bad_names : (line : ℕ) (why : EngineError) (n : ℕ) → errors.BadEvent n ≡ replay_error line why → refused_in line why ≡ faulty [] n
@@ -94,6 +95,7 @@ bad_names line (engine_errors.Unknown number) n names = let same : n ≡ line = 
 bad_names line (engine_errors.WrongCount number want got) n names = let same : n ≡ line = cc in ap (faulty []) (sym same)
 bad_names line engine_errors.Untimed n names = let same : n ≡ line = cc in ap (faulty []) (sym same)
 bad_names line (engine_errors.Damaged area name) n names = absurd cc
+bad_names line (engine_errors.Unreadable area name) n names = absurd cc
 
 -- ---- one item
 
@@ -154,6 +156,7 @@ module _ (w : World) (mode : Mode) (b : Book) (taken : TakenItems) (items : List
     untaken_ends x errors.Tell r = halted_at faults.Tell x (refusal_at l item) refl r
     untaken_ends x errors.NoMemory r = halted_at faults.NoMemory x (refusal_at l item) refl r
     untaken_ends x errors.Source r = absurd r
+    untaken_ends x (errors.Unreadable area name) r = absurd r
     untaken_ends x (errors.BadEvent line) r =
         (items, refused_taken r.why r.refused ∙ ap (reading_behind items) (bad_names n r.why line r.names) ∙ ap (λ (xs : List LifeEvent). faulty xs line) (append-nil items), told_still w mode b items u v x told r.stays r.files)
     untaken_ends x (errors.Limit bound) r =

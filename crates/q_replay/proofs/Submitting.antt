@@ -107,3 +107,4 @@ engine_passed before after line (engine_errors.WrongCount n want got) made r how
 engine_passed before after line engine_errors.Untimed made r how is h = record { disk_later = h.disk_later; tell_later = h.tell_later; disk = λ of. absurd cc; tell = λ of. absurd cc }
 engine_passed before after line (engine_errors.Limit bound) made r how is h = record { disk_later = h.disk_later; tell_later = h.tell_later; disk = λ of. absurd cc; tell = λ of. absurd cc }
 engine_passed before after line (engine_errors.Damaged area name) made r how is h = record { disk_later = h.disk_later; tell_later = h.tell_later; disk = λ of. absurd cc; tell = λ of. absurd cc }
+engine_passed before after line (engine_errors.Unreadable area name) made r how is h = record { disk_later = h.disk_later; tell_later = h.tell_later; disk = λ of. absurd cc; tell = λ of. absurd cc }

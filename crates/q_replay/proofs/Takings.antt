@@ -9,7 +9,7 @@ use Rattle.q_books.proofs.Joining.{reads_keep}
 use Rattle.q_engine.specs.Beginnings.{BeginsLife, EndsLife, first_entry, is_of_spool, StopsBeginning, StopsEnding}
 use Rattle.q_engine.proofs.StoredNotes.{files_keep, life_notes, plain_notes}
 use Rattle.q_engine.specs.KeptNotes.{AddsAllNotes}
-use Rattle.q_engine.specs.Refusals.{is_of_event, is_of_host, refusal_of, refused_event}
+use Rattle.q_engine.specs.Refusals.{is_of_event, is_of_host, is_unreadable, refusal_of, refused_event}
 use Rattle.q_engine.specs.Stands.{EngineStands}
 use Rattle.q_engine.specs.Steps.{HaltsTurn, TakesTurn}
 use Rattle.q_engine.specs.declared.engine.Engine.{Engine}
@@ -229,6 +229,7 @@ module _ (params : Settings) (table : Contents) (mode : Mode) (w : World) (l : L
   never_begins line (engine_errors.Unknown number) v h = let bad : false ≡ true = h.kinds in absurd cc
   never_begins line (engine_errors.WrongCount number want got) v h = let bad : false ≡ true = h.kinds in absurd cc
   never_begins line engine_errors.Untimed v h = let bad : false ≡ true = h.kinds in absurd cc
+  never_begins line (engine_errors.Unreadable area name) v h = let bad : false ≡ true = h.kinds in absurd cc
   never_begins line (engine_errors.Limit bound) v h =
       let none = refused_spent l (spent (engine_errors.Limit bound) refl h.orderly) in
       record {
@@ -255,7 +256,8 @@ module _ (w : World) (l : Ledger) (engine : Engine) (event : Event) (at : ℕ) (
 
   -- what a step says of its refusal
   pub record IsNeverHeard (error : EngineError) (v : View) : Type 1 where
-    pub kinds : (is_of_host error || is_of_event error) ≡ true
+    pub kinds : (is_of_host error || (is_of_event error || is_unreadable error)) ≡ true
+    pub readable : is_unreadable error ≡ false
     pub halts : (fault : HostError) → error ≡ refusal_of fault → HaltsTurn event engine fault u v
     pub refused : (why : EngineError) → refused_event l event ≡ Some why → v ≡ u
     pub only : is_of_event error ≡ true → refused_event l event ≡ Some error
@@ -289,6 +291,7 @@ module _ (w : World) (l : Ledger) (engine : Engine) (event : Event) (at : ℕ) (
   never_heard line engine_errors.Untimed v h = event_refused line engine_errors.Untimed v refl h
   never_heard line (engine_errors.Limit bound) v h = event_refused line (engine_errors.Limit bound) v refl h
   never_heard line (engine_errors.Damaged area name) v h = let bad : false ≡ true = h.kinds in absurd cc
+  never_heard line (engine_errors.Unreadable area name) v h = let bad : true ≡ false = h.readable in absurd cc
 
 -- ---- the end
 
@@ -311,6 +314,7 @@ module _ (w : World) (l : Ledger) (engine : Engine) (u : View) (stands : EngineS
   never_ends line (engine_errors.Unknown number) v of stops = let bad : false ≡ true = of in absurd cc
   never_ends line (engine_errors.WrongCount number want got) v of stops = let bad : false ≡ true = of in absurd cc
   never_ends line engine_errors.Untimed v of stops = let bad : false ≡ true = of in absurd cc
+  never_ends line (engine_errors.Unreadable area name) v of stops = let bad : false ≡ true = of in absurd cc
   never_ends line (engine_errors.Limit bound) v of stops = let bad : false ≡ true = of in absurd cc
   never_ends line (engine_errors.Damaged area name) v of stops = let bad : false ≡ true = of in absurd cc
 

@@ -16,6 +16,7 @@ NamesDamage area name u v errors.NoMemory = Unit {0}
 NamesDamage area name u v errors.Source = ⊥
 NamesDamage area name u v (errors.BadEvent line) = ⊥
 NamesDamage area name u v (errors.Limit bound) = ⊥
+NamesDamage area name u v (errors.Unreadable a n) = ⊥
 
 -- a life doesn't begin where a damage shows
 abbrev pub RefusesDamage : {T : Type 0} → Area → List ℕ → View → View → Result T ReplayError → Type 0

@@ -90,6 +90,7 @@ pub record HasNoNumber (w : World) (b : Book) (o : Outsides) (u v : View) : Type
   pub gave_up : GaveUp w (begun_on w b) o.before o.behind story
 
 -- By each answer; no generation was left, or the spool was found damaged, before anything was told.
+-- Where the host tells, each queue file can be read.
 abbrev pub DeliveryEnds : World → Book → Outsides → View → View → Result Delivered ReplayError → Type 0
 DeliveryEnds w b o u v (Ok All) = DeliversAll w b o u v
 DeliveryEnds w b o u v (Ok (Unfinished rests)) = LeavesSome w b o rests u v
@@ -102,4 +103,5 @@ DeliveryEnds w b o u v (Err (errors.Limit bound)) = (bound ≡ Deliveries) × Ha
 DeliveryEnds w b o u v (Err (errors.Damaged area name)) =
     IsTold w Deliver b [] u v × IsDamage v.files area name
 DeliveryEnds w b o u v (Err errors.Source) = ⊥
+DeliveryEnds w b o u v (Err (errors.Unreadable area name)) = ⊥
 DeliveryEnds w b o u v (Err (errors.BadEvent line)) = ⊥

@@ -53,7 +53,8 @@ HaltsIn w mode b taken fault u v =
     (items : List LifeEvent) × IsFrontOf taken items × IsToldInPart w mode b items fault u v
 
 -- By each answer: all items were taken through `end`, up to the line that is named, or up to the limit;
--- or the host gave up; or the spool that a life should begin on was found damaged.
+-- or the host gave up; or the spool that a life should begin on was found damaged. Where the host
+-- tells, each queue file can be read.
 abbrev pub RunEnds : World → Mode → Book → TakenItems → View → View → Result (Unit {0}) ReplayError → Type 0
 RunEnds w mode b taken u v (Ok done) =
     (items : List LifeEvent) × (taken ≡ ended items) × IsTold w mode b items u v
@@ -65,5 +66,6 @@ RunEnds w mode b taken u v (Err errors.Disk) = HaltsIn w mode b taken faults.Dis
 RunEnds w mode b taken u v (Err errors.Tell) = HaltsIn w mode b taken faults.Tell u v
 RunEnds w mode b taken u v (Err errors.NoMemory) = HaltsIn w mode b taken faults.NoMemory u v
 RunEnds w mode b taken u v (Err errors.Source) = ⊥
+RunEnds w mode b taken u v (Err (errors.Unreadable area name)) = ⊥
 RunEnds w mode b taken u v (Err (errors.Damaged area name)) = (items : List LifeEvent)
     × IsFrontOf taken items × IsTold w mode b items u v × IsDamage v.files area name

@@ -1,6 +1,6 @@
 -- What an item of an event list does to a life, or why it isn't taken.
 use Rattle.std.specs.Option.{option_map_or}
-use Rattle.std.specs.Prelude.{◌≡◌, ◌≤◌, [], IfSome, IsErrOf, List, None, Option, Result, Some, true, ℕ}
+use Rattle.std.specs.Prelude.{◌≡◌, ◌≤◌, [], Bool, false, IfSome, IsErrOf, List, None, Option, Result, Some, true, ℕ}
 use Rattle.q_books.specs.HostStands.{HostStands}
 use Rattle.q_engine.specs.KeptNotes.{AddsAllNotes}
 use Rattle.q_engine.specs.Looks.{ForStands}
@@ -44,6 +44,7 @@ replay_error line (engine_errors.WrongCount number want got) = errors.BadEvent l
 replay_error line engine_errors.Untimed = errors.BadEvent line
 replay_error line (engine_errors.Limit bound) = errors.Limit bound
 replay_error line (engine_errors.Damaged area name) = errors.Damaged area name
+replay_error line (engine_errors.Unreadable area name) = errors.Unreadable area name
 
 -- the entries of an item
 abbrev pub entries_at : World → Ledger → ListItem → List Entry
@@ -85,7 +86,7 @@ pub record FoundDamaged (w : World) (l : Ledger) (item : ListItem) (area : Area)
   pub stays : PlaysRun w l [] u v
   pub files : v.files ≡ u.files
 
--- the item wasn't taken, or not whole
+-- the item wasn't taken, or not whole; where the host tells, each queue file can be read
 abbrev pub NotTaken : World → Ledger → ListItem → ℕ → ReplayError → View → View → Type 0
 NotTaken w l item line errors.Disk u v = HaltsItem w l item faults.Disk u v
 NotTaken w l item line errors.Tell u v = HaltsItem w l item faults.Tell u v
@@ -94,6 +95,7 @@ NotTaken w l item line errors.Source u v = ⊥
 NotTaken w l item line (errors.Damaged area name) u v = FoundDamaged w l item area name u v
 NotTaken w l item line (errors.BadEvent n) u v = RefusedItem w l item line (errors.BadEvent n) u v
 NotTaken w l item line (errors.Limit bound) u v = RefusedItem w l item line (errors.Limit bound) u v
+NotTaken w l item line (errors.Unreadable area name) u v = ⊥
 
 -- of each ledger for which engine and host stand
 abbrev pub TakesItem : Engine → ListItem → Option Engine → View → View → Type 0
@@ -141,6 +143,11 @@ list_error event_errors.NoMemory = errors.NoMemory
 list_error event_errors.Source = errors.Source
 list_error (event_errors.BadEvent line) = errors.BadEvent line
 list_error (event_errors.Limit bound) = errors.Limit bound
+
+-- a queue file can't be read any longer
+abbrev pub is_unreadable : ReplayError → Bool
+is_unreadable (errors.Unreadable area name) = true
+is_unreadable _ = false
 
 -- no count of faults fell, and a fault of the host comes only where its count rose
 pub record ReplayCause {T : Type 0} (before after : Faults) (result : Result T ReplayError) : Type 0 where

@@ -1,12 +1,12 @@
 //! One life, whose messages are delivered by SMTP.
-ghost use Rattle.std.specs.Prelude.{◌≡◌, ◌≢◌, IsErrOf, IsTrue, Ok, ℕ};
+ghost use Rattle.std.specs.Prelude.{◌≡◌, ◌≢◌, IsErrOf, IsTrue, Ok, ℕ, IfErr, false};
 ghost use Rattle.q_drain.specs.Drained.{CountsRests};
 ghost use Rattle.q_host.specs.View.{Told};
 ghost use Rattle.q_settings.specs.Ranges.{IsInRange};
 ghost use Rattle.q_replay.specs.DamagedSpools.{FindsDamage, NamesOnlyDamage};
 ghost use Rattle.q_replay.specs.Deliveries.{DeliveryEnds};
 ghost use Rattle.q_replay.specs.ReplayEnds.{ForOrderly, IsFitSpool};
-ghost use Rattle.q_replay.specs.Takings.{ReplayCause};
+ghost use Rattle.q_replay.specs.Takings.{is_unreadable, ReplayCause};
 ghost use Rattle.q_replay.specs.declared.deliveries.Delivered.TheVariants.{Unfinished};
 
 use crate::error::{ReplayError, replay_error};
@@ -33,8 +33,9 @@ pub enum Delivered {
 /// in flight, and ends it. Each entry is told after the disk holds what it says.
 ///
 /// `Limit` comes where no generation is left, and where a session is over and the life has begun 2^48
-/// deliveries; `Damaged` for a spool that can't be opened, before anything is told. `Disk` and `Tell`
-/// come where the host failed, `NoMemory` where memory ran out.
+/// deliveries; `Damaged` for a spool that can't be opened, before anything is told. `Unreadable` names
+/// a queue file that can't be read any longer. `Disk` and `Tell` come where the host failed, `NoMemory`
+/// where memory ran out.
 pub fn deliver<L: Link, H: Host, C: Clock, N: Hops<Link = L>>(
     alloc: Global,
     host: &mut H,
@@ -60,6 +61,8 @@ pub fn deliver<L: Link, H: Host, C: Clock, N: Hops<Link = L>>(
     // A spool that shows a damage is found so, and nothing is changed; only a damage is called one.
     ensures damaged { Told H.tells H.view host.old host.new (λ u v. FindsDamage u v result) }
     ensures only_damaged { IsTrue H.tells → NamesOnlyDamage (H.view host.new) result }
+    // Where the host tells its files, each queue file can be read.
+    ensures readable { IsTrue H.tells → IfErr result (λ error. is_unreadable error ≡ false) }
     ensures cause { ReplayCause (H.faults host.old) (H.faults host.new) result }
 {
     let begun = begin_life(alloc, host, params, table, Mode::Deliver, 0)?;

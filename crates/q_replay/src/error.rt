@@ -30,6 +30,10 @@ pub enum ReplayError {
     /// The spool can't be opened: this name in this area is at fault.
     #[error("damaged spool")]
     Damaged { area: Area, name: Name },
+    /// A queue file of a life can't be read any longer. It comes over a host alone that doesn't tell
+    /// its files.
+    #[error("unreadable file")]
+    Unreadable { area: Area, name: Name },
 }
 
 /// The refusal of the engine at an item in this line.
@@ -46,6 +50,7 @@ pub(crate) fn replay_error(line: u64, error: EngineError) -> ReplayError
         EngineError::Untimed => ReplayError::BadEvent { line },
         EngineError::Limit { bound } => ReplayError::Limit { bound },
         EngineError::Damaged { area, name } => ReplayError::Damaged { area, name },
+        EngineError::Unreadable { area, name } => ReplayError::Unreadable { area, name },
     }
 }
 

@@ -1,5 +1,5 @@
 //! One intake life, which takes one message.
-ghost use Rattle.std.specs.Prelude.{◌≤◌, IsErrOf, IsTrue};
+ghost use Rattle.std.specs.Prelude.{◌≤◌, IsErrOf, IsTrue, IfErr, false, ◌≡◌};
 ghost use Rattle.q_events.specs.Forms.{IsMailInForm};
 ghost use Rattle.q_host.specs.View.{Told};
 ghost use Rattle.q_model.specs.declared.event.Mode.TheVariants as modes;
@@ -8,7 +8,7 @@ ghost use Rattle.q_replay.specs.DamagedSpools.{FindsDamage, NamesOnlyDamage};
 ghost use Rattle.q_replay.specs.ReplayEnds.{ForOrderly, IsFitSpool};
 ghost use Rattle.q_replay.specs.RunEnds.{RunEnds};
 ghost use Rattle.q_replay.specs.Submissions.{submitted};
-ghost use Rattle.q_replay.specs.Takings.{ReplayCause};
+ghost use Rattle.q_replay.specs.Takings.{is_unreadable, ReplayCause};
 
 use crate::error::ReplayError;
 use crate::taking::{begin_life, end, hear};
@@ -53,6 +53,8 @@ pub fn submit<H: Host>(
     // A spool that shows a damage is found so, and nothing is changed; only a damage is called one.
     ensures damaged { Told H.tells H.view host.old host.new (λ u v. FindsDamage u v result) }
     ensures only_damaged { IsTrue H.tells → NamesOnlyDamage (H.view host.new) result }
+    // Where the host tells its files, each queue file can be read.
+    ensures readable { IsTrue H.tells → IfErr result (λ error. is_unreadable error ≡ false) }
     ensures cause { ReplayCause (H.faults host.old) (H.faults host.new) result }
 {
     let begun = begin_life(alloc, host, params, table, Mode::Intake, 0)?;

@@ -1,12 +1,12 @@
 //! Lives on a spool that take the events of a list.
-ghost use Rattle.std.specs.Prelude.{◌≡◌, Err, IfSome, IsTrue};
+ghost use Rattle.std.specs.Prelude.{◌≡◌, Err, IfSome, IsTrue, IfErr, false};
 ghost use Rattle.q_events.specs.Forms.{IsItemInForm};
 ghost use Rattle.q_host.specs.View.{Told};
 ghost use Rattle.q_model.specs.FaultCounts.{Rose};
 ghost use Rattle.q_settings.specs.Ranges.{IsInRange};
 ghost use Rattle.q_replay.specs.DamagedSpools.{FindsDamage, NamesOnlyDamage};
 ghost use Rattle.q_replay.specs.ReplayEnds.{ForOrderly, IsFitSpool, ReplayEnds};
-ghost use Rattle.q_replay.specs.Takings.{ReplayCause};
+ghost use Rattle.q_replay.specs.Takings.{is_unreadable, ReplayCause};
 
 use crate::error::{ReplayError, list_error};
 use crate::taking::{begin_life, take};
@@ -26,8 +26,9 @@ use std::alloc::Global;
 /// `BadEvent` names the first line that can't be taken. `Limit` comes for content above 10,240,000
 /// bytes, for more than 50,000 recipients, for a message beyond the last serial of its life, for a
 /// life beyond the last generation, and for a list that goes on behind its first 2^40 bytes.
-/// `Damaged` comes for a spool that can't be opened, before anything is told. `Disk`, `Tell` and
-/// `Source` come where the host or the source failed, `NoMemory` where memory ran out.
+/// `Damaged` comes for a spool that can't be opened, before anything is told. `Unreadable` names a
+/// queue file that can't be read any longer. `Disk`, `Tell` and `Source` come where the host or the
+/// source failed, `NoMemory` where memory ran out.
 pub fn replay<H: Host, S: Source>(
     alloc: Global,
     source: &mut S,
@@ -45,6 +46,8 @@ pub fn replay<H: Host, S: Source>(
     // A spool that shows a damage is found so, and nothing is changed; only a damage is called one.
     ensures damaged { Told H.tells H.view host.old host.new (λ u v. FindsDamage u v result) }
     ensures only_damaged { IsTrue H.tells → NamesOnlyDamage (H.view host.new) result }
+    // Where the host tells its files, each queue file can be read.
+    ensures readable { IsTrue H.tells → IfErr result (λ error. is_unreadable error ≡ false) }
     ensures cause { ReplayCause (H.faults host.old) (H.faults host.new) result }
     ensures source { result ≡ Err ReplayError.Source
         → Rose (S.faults source.old) (S.faults source.new) }

@@ -1,5 +1,5 @@
 //! One item of an event list, taken by a life.
-ghost use Rattle.std.specs.Prelude.{◌≡◌, IfErr, IfOk, IfSome, is_none, IsErrOf, IsTrue, None, Some, ℕ};
+ghost use Rattle.std.specs.Prelude.{◌≡◌, IfErr, IfOk, IfSome, is_none, IsErrOf, IsTrue, None, Some, ℕ, false};
 ghost use Rattle.q_engine.specs.Stands.{IsReady};
 ghost use Rattle.q_engine.specs.Steps.{StandsForSome};
 ghost use Rattle.q_events.specs.Forms.{IsInForm, IsItemInForm};
@@ -9,7 +9,7 @@ ghost use Rattle.q_host.specs.View.{Told};
 ghost use Rattle.q_settings.specs.Ranges.{IsInRange};
 ghost use Rattle.q_restart.specs.Damages.{IsUndamaged};
 ghost use Rattle.q_replay.specs.DamagedSpools.{FindsDamage, NamesOnlyDamage};
-ghost use Rattle.q_replay.specs.Takings.{BeginsAnew, GivesUpItem, GivesUpNext, NeverBegins, ReplayCause, TakesItem, TakesNext};
+ghost use Rattle.q_replay.specs.Takings.{BeginsAnew, GivesUpItem, GivesUpNext, is_unreadable, NeverBegins, ReplayCause, TakesItem, TakesNext};
 
 use crate::error::{ReplayError, replay_error};
 use q_engine::{Engine, begin};
@@ -39,6 +39,7 @@ pub(crate) fn begin_life<H: Host>(
     ensures damaged { Told H.tells H.view host.old host.new (λ u v. FindsDamage u v result) }
     ensures only_damaged { IsTrue H.tells → NamesOnlyDamage (H.view host.new) result }
     ensures no_source { IsErrOf result ReplayError.Source → ⊥ }
+    ensures readable { IsTrue H.tells → IfErr result (λ error. is_unreadable error ≡ false) }
     ensures cause { ReplayCause (H.faults host.old) (H.faults host.new) result }
 {
     match begin(alloc, host, params, table, mode) {
@@ -64,6 +65,7 @@ pub(crate) fn hear<H: Host>(
     ensures err { IfErr result (λ error. (at : ℕ) → Told H.tells H.view host.old host.new
         (GivesUpItem engine (items.Step event at) line error)) }
     ensures no_source { IsErrOf result ReplayError.Source → ⊥ }
+    ensures readable { IsTrue H.tells → IfErr result (λ error. is_unreadable error ≡ false) }
     ensures cause { ReplayCause (H.faults host.old) (H.faults host.new) result }
 {
     match engine.step(alloc, host, event) {
@@ -84,6 +86,7 @@ pub(crate) fn end<H: Host>(
     ensures err { IfErr result (λ error. Told H.tells H.view host.old host.new
         (GivesUpItem engine items.End line error)) }
     ensures no_source { IsErrOf result ReplayError.Source → ⊥ }
+    ensures readable { IsTrue H.tells → IfErr result (λ error. is_unreadable error ≡ false) }
     ensures cause { ReplayCause (H.faults host.old) (H.faults host.new) result }
 {
     match engine.finish(alloc, host) {
@@ -113,6 +116,7 @@ pub(crate) fn take<H: Host>(
     ensures err { IfErr result (λ error. Told H.tells H.view host.old host.new
         (GivesUpNext params engine item line error)) }
     ensures no_source { IsErrOf result ReplayError.Source → ⊥ }
+    ensures readable { IsTrue H.tells → IfErr result (λ error. is_unreadable error ≡ false) }
     ensures cause { ReplayCause (H.faults host.old) (H.faults host.new) result }
 {
     match item {

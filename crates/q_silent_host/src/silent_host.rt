@@ -7,7 +7,7 @@ ghost use Rattle.q_host.specs.Files.{same_place};
 
 use q_host::{Host, HostError};
 use q_mem_host::{MemHost, Rot};
-use q_model::{Area, Name, Names, NoMemory};
+use q_model::{Area, Name, Names, NoMemory, Spot};
 use std::alloc::Global;
 
 #[derive(Drop)]
@@ -15,6 +15,9 @@ pub struct SilentHost {
     host: MemHost,
     /// How many calls were made.
     calls: u64,
+    /// A file that rots with this call: from there on it reads as if it were empty.
+    rotten: Option<Spot>,
+    rots_with: u64,
 }
 
 impl SilentHost {
@@ -23,6 +26,8 @@ impl SilentHost {
         SilentHost {
             host: MemHost::new(alloc),
             calls: 0,
+            rotten: None,
+            rots_with: 0,
         }
     }
 
@@ -55,11 +60,29 @@ impl SilentHost {
         self.host.fail_call(call);
     }
 
+    /// With the call of that number from now, counted from 1, the file at the spot rots: it reads as
+    /// if it were empty.
+    pub fn rot(&mut self, call: u64, spot: Spot) {
+        self.rots_with = self.calls.saturating_add(call);
+        self.rotten = Some(spot);
+    }
+
+    fn is_rotten(&self, area: Area, name: Name) -> bool {
+        match &self.rotten {
+            Some(spot) => {
+                self.rots_with <= self.calls && is_same_place(area, name, spot.area, spot.name)
+            }
+            None => false,
+        }
+    }
+
     /// The host after a crash.
     pub fn crash(self, choice: Rot) -> SilentHost {
         SilentHost {
             host: self.host.crash(choice),
             calls: 0,
+            rotten: None,
+            rots_with: 0,
         }
     }
 
@@ -129,6 +152,9 @@ impl Host for SilentHost {
         buf: &mut [u8],
     ) -> Result<usize, HostError> {
         self.count();
+        if self.is_rotten(area, name) {
+            return Ok(0);
+        }
         if self.host.file(area, name).is_none() {
             return Err(HostError::NoMemory);
         }

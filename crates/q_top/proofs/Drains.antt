@@ -92,6 +92,7 @@ module _ (w : World) (b : Book) (o : Outsides) (u m v : View) (lawful : TellsCra
   delivery_behind (Err errors.Tell) d = stops_behind faults.Tell d
   delivery_behind (Err errors.NoMemory) d = stops_behind faults.NoMemory d
   delivery_behind (Err errors.Source) d = absurd d
+  delivery_behind (Err (errors.Unreadable area name)) d = absurd d
   delivery_behind (Err (errors.BadEvent line)) d = absurd d
   delivery_behind (Err (errors.Limit bounds.Generation)) d = (d.0, told_behind w Deliver b u m lawful stays h v [] d.1)
   delivery_behind (Err (errors.Limit bounds.Content)) d = (d.0, full_behind d.1)
@@ -125,6 +126,7 @@ module _ (conf : Conf) (u m v : View) (lawful : TellsCrashes u) (stays : Stays u
   found_here (Err errors.Tell) area name h = inr (inr (inl refl))
   found_here (Err errors.NoMemory) area name h = inr (inr (inr refl))
   found_here (Err errors.Source) area name h = absurd h
+  found_here (Err (errors.Unreadable a n)) area name h = absurd h
   found_here (Err (errors.BadEvent line)) area name h = absurd h
   found_here (Err (errors.Limit bound)) area name h = absurd h
   found_here (Err (errors.Damaged a n)) area name h =
@@ -137,6 +139,7 @@ module _ (conf : Conf) (u m v : View) (lawful : TellsCrashes u) (stays : Stays u
   named_damage (Err errors.Tell) area name is = absurd cc
   named_damage (Err errors.NoMemory) area name is = absurd cc
   named_damage (Err errors.Source) area name is = absurd cc
+  named_damage (Err (errors.Unreadable a n)) area name is = absurd cc
   named_damage (Err (errors.BadEvent line)) area name is = absurd cc
   named_damage (Err (errors.Limit bound)) area name is = absurd cc
   named_damage (Err (errors.Damaged a n)) area name is =
@@ -171,3 +174,4 @@ never_of_source (Err errors.NoMemory) never is = cc
 never_of_source (Err (errors.BadEvent line)) never is = cc
 never_of_source (Err (errors.Limit bound)) never is = cc
 never_of_source (Err (errors.Damaged area name)) never is = cc
+never_of_source (Err (errors.Unreadable area name)) never is = cc

@@ -106,6 +106,7 @@ module _ (conf : Conf) (u m v : View) (lawful : TellsCrashes u) (stays : Stays u
   found_here (Err errors.Tell) area name h = inr (inr (inl refl))
   found_here (Err errors.NoMemory) area name h = inr (inr (inr refl))
   found_here (Err errors.Source) area name h = absurd h
+  found_here (Err (errors.Unreadable a n)) area name h = absurd h
   found_here (Err (errors.BadEvent line)) area name h = absurd h
   found_here (Err (errors.Limit bound)) area name h = absurd h
   found_here (Err (errors.Damaged a n)) area name h =
@@ -117,6 +118,7 @@ module _ (conf : Conf) (u m v : View) (lawful : TellsCrashes u) (stays : Stays u
   named_damage (Err errors.Tell) area name is = absurd cc
   named_damage (Err errors.NoMemory) area name is = absurd cc
   named_damage (Err errors.Source) area name is = absurd cc
+  named_damage (Err (errors.Unreadable a n)) area name is = absurd cc
   named_damage (Err (errors.BadEvent line)) area name is = absurd cc
   named_damage (Err (errors.Limit bound)) area name is = absurd cc
   named_damage (Err (errors.Damaged a n)) area name is =
@@ -168,3 +170,4 @@ never_source (Err errors.NoMemory) never is = cc
 never_source (Err (errors.BadEvent line)) never is = cc
 never_source (Err (errors.Limit bound)) never is = cc
 never_source (Err (errors.Damaged area name)) never is = cc
+never_source (Err (errors.Unreadable area name)) never is = cc

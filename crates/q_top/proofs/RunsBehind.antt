@@ -72,6 +72,7 @@ module _ (w : World) (mode : Mode) (b : Book) (u m : View) (lawful : TellsCrashe
     run_behind taken (Err errors.Tell) r = halts_in_behind taken faults.Tell r
     run_behind taken (Err errors.NoMemory) r = halts_in_behind taken faults.NoMemory r
     run_behind taken (Err errors.Source) r = absurd r
+    run_behind taken (Err (errors.Unreadable area name)) r = absurd r
     run_behind taken (Err (errors.BadEvent line)) r = (r.0, r.1, told_behind r.0 r.2)
     run_behind taken (Err (errors.Limit bound)) r = (r.0, r.1, told_behind r.0 r.2)
     run_behind taken (Err (errors.Damaged area name)) r = (r.0, r.1, told_behind r.0 r.2, r.3)
@@ -86,3 +87,4 @@ module _ (w : World) (b : Book) (u m : View) (lawful : TellsCrashes u) (stays : 
   replay_behind v (Err (errors.BadEvent line)) r = run_behind w Deliver b u m lawful stays h v (read_text w b bytes) (Err (errors.BadEvent line)) r
   replay_behind v (Err (errors.Limit bound)) r = run_behind w Deliver b u m lawful stays h v (read_text w b bytes) (Err (errors.Limit bound)) r
   replay_behind v (Err (errors.Damaged area name)) r = run_behind w Deliver b u m lawful stays h v (read_text w b bytes) (Err (errors.Damaged area name)) r
+  replay_behind v (Err (errors.Unreadable area name)) r = absurd r

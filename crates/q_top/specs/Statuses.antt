@@ -1,5 +1,5 @@
 -- The number of each status, and the status by which a command ends.
-use Rattle.std.specs.Prelude.{Err, Ok, Result, ℕ}
+use Rattle.std.specs.Prelude.{Bool, Err, false, Ok, Result, true, ℕ}
 use Rattle.q_conf.specs.declared.error.ConfError.{ConfError}
 use Rattle.q_conf.specs.declared.error.ConfError.TheVariants as conf_errors
 use Rattle.q_conf.specs.declared.error.ConfFile.{ConfFile}
@@ -16,7 +16,7 @@ use Rattle.q_top.specs.declared.content.ContentError.TheVariants as content_erro
 use Rattle.q_top.specs.declared.status.InputFile.{InputFile}
 use Rattle.q_top.specs.declared.status.InputFile.TheVariants.{Events, Parameters, Table}
 use Rattle.q_top.specs.declared.status.Status.{Status}
-use Rattle.q_top.specs.declared.status.Status.TheVariants.{BadInput, Damaged, Disk, Done, Limit, NoMemory, Source, Tell, Unfinished, Usage}
+use Rattle.q_top.specs.declared.status.Status.TheVariants.{BadInput, Damaged, Disk, Done, Limit, NoMemory, Source, Tell, Unfinished, Unreadable, Usage}
 
 -- the exit status of a program
 abbrev pub status_number : Status → ℕ
@@ -30,6 +30,12 @@ status_number (Damaged area name) = 6
 status_number (Unfinished rests) = 7
 status_number (Limit bound) = 8
 status_number NoMemory = 9
+status_number (Unreadable area name) = 12
+
+-- a queue file can't be read any longer
+abbrev pub is_unreadable : Status → Bool
+is_unreadable (Unreadable area name) = true
+is_unreadable _ = false
 
 -- how a command ends whose lives ended so
 abbrev pub replay_status : ReplayError → Status
@@ -40,6 +46,7 @@ replay_status errors.NoMemory = NoMemory
 replay_status (errors.BadEvent line) = BadInput Events line
 replay_status (errors.Limit bound) = Limit bound
 replay_status (errors.Damaged area name) = Damaged area name
+replay_status (errors.Unreadable area name) = Unreadable area name
 
 -- how a command ends by how lives ended
 abbrev pub status_of : Result (Unit {0}) ReplayError → Status

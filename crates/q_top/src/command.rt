@@ -6,6 +6,7 @@ ghost use Rattle.q_top.specs.Causes.{HasHostCause, HasSourceCause};
 ghost use Rattle.q_top.specs.Courses.{Connections, Moments, Texts};
 ghost use Rattle.q_drain.specs.Drained.{CountsRests};
 ghost use Rattle.q_top.specs.Qmgr.{Does, HasForm, IsDrainOf, MayCarryOut, RefusesWords, texts_of, words_status};
+ghost use Rattle.q_top.specs.Statuses.{is_unreadable};
 ghost use Rattle.q_words.specs.declared.request.Request.TheVariants.{Drain};
 ghost use Rattle.q_words.specs.Requests.{IsRequest};
 ghost use Rattle.q_words.specs.Usages.{is_usage};
@@ -47,6 +48,7 @@ fn carry_out<L: Link, H: Host, S: Source, C: Clock, N: Hops<Link = L>>(
         (record { before = S.left source.old; after = S.left source.new })
         (record { before = C.given clock.old; after = C.given clock.new })
         (record { before = N.view hops.old; after = N.view hops.new }) result) }
+    ensures readable { IsTrue H.tells → is_unreadable result ≡ false }
     ensures host { HasHostCause (H.faults host.old) (H.faults host.new) result }
     ensures source { HasSourceCause (S.faults source.old) (S.faults source.new) result }
     ensures no_usage { result ≢ Status.Usage }
@@ -82,6 +84,7 @@ fn carry_out<L: Link, H: Host, S: Source, C: Clock, N: Hops<Link = L>>(
 /// limit an event passes, and of a drain that no number is left for a delivery. `Disk`, `Tell` and
 /// `Source` come where the host or the source failed, `NoMemory` where memory ran out. `Unfinished`
 /// comes where a drain has given all rests that its words allow, and deliveries are in flight still.
+/// `Unreadable` names a queue file of a life that can't be read any longer.
 /// What was told before a refusal stands on disk. With `Done` the deferral log of each message that
 /// `replay` admitted, and didn't remove since, reads as its delays since the last admission.
 pub fn qmgr<L: Link, H: Host, S: Source, C: Clock, N: Hops<Link = L>>(
@@ -108,6 +111,8 @@ pub fn qmgr<L: Link, H: Host, S: Source, C: Clock, N: Hops<Link = L>>(
     // Only a drain is left unfinished, and only where all rests were given that its words say.
     ensures unfinished { (n : ℕ) → result ≡ Status.Unfinished n → IsDrainOf (texts_of words.now) n
         × CountsRests (N.view hops.old) (N.view hops.new) n }
+    // Where the host tells its files, each queue file can be read.
+    ensures readable { IsTrue H.tells → is_unreadable result ≡ false }
     // A fault comes only where its count rose.
     ensures host { HasHostCause (H.faults host.old) (H.faults host.new) result }
     ensures source { HasSourceCause (S.faults source.old) (S.faults source.new) result }

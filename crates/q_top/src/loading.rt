@@ -2,8 +2,9 @@
 ghost use Rattle.q_host.specs.View.{Told};
 ghost use Rattle.q_telling.specs.Telling.{TellingCause};
 ghost use Rattle.q_top.specs.Causes.{HasHostCause};
+ghost use Rattle.q_top.specs.Statuses.{is_unreadable};
 ghost use Rattle.q_top.specs.Tellings.{IsLoadText, MayTellSummary, TellsLoad, TellsSummary};
-ghost use Rattle.std.specs.Prelude.{◌≢◌, IfOk, OnErr, OnOk, ℕ};
+ghost use Rattle.std.specs.Prelude.{◌≢◌, IfOk, OnErr, OnOk, ℕ, ◌≡◌, false};
 
 use crate::status::{Status, telling_status};
 use q_host::{Host, HostError};
@@ -33,6 +34,7 @@ fn tell_summary<H: Host>(alloc: Global, host: &mut H, mails: u32) -> Result<(), 
 /// Tells the summary of a load of so many mails. Nothing else is done to the host.
 pub(crate) fn tell_load<H: Host>(alloc: Global, host: &mut H, mails: u32) -> Status
     ensures tells { Told H.tells H.view host.old host.new (λ u v. TellsLoad mails u v result) }
+    ensures readable { is_unreadable result ≡ false }
     ensures host { HasHostCause (H.faults host.old) (H.faults host.new) result }
     ensures no_source { result ≢ Status.Source }
     ensures no_usage { result ≢ Status.Usage }

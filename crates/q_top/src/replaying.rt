@@ -1,7 +1,8 @@
 //! `replay`: the lives of an event list.
-ghost use Rattle.std.specs.Prelude.{◌≢◌, IsTrue, ℕ};
+ghost use Rattle.std.specs.Prelude.{◌≢◌, IsTrue, ℕ, ◌≡◌, false};
 ghost use Rattle.q_host.specs.View.{Told};
 ghost use Rattle.q_replay.specs.ReplayEnds.{IsFitSpool};
+ghost use Rattle.q_top.specs.Statuses.{is_unreadable};
 ghost use Rattle.q_top.specs.Causes.{HasHostCause, HasSourceCause};
 ghost use Rattle.q_top.specs.Courses.{Texts};
 ghost use Rattle.q_top.specs.Lives.{Replays};
@@ -18,6 +19,7 @@ pub(crate) fn replay_list<H: Host, S: Source>(alloc: Global, source: &mut S, hos
     requires spool { IsTrue H.tells → IsFitSpool (H.view host.old) }
     ensures replays { Told H.tells H.view host.old host.new (λ u v. Replays
         (record { before = S.left source.old; after = S.left source.new }) u v result) }
+    ensures readable { IsTrue H.tells → is_unreadable result ≡ false }
     ensures host { HasHostCause (H.faults host.old) (H.faults host.new) result }
     ensures source { HasSourceCause (S.faults source.old) (S.faults source.new) result }
     ensures no_usage { result ≢ Status.Usage }

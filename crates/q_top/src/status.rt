@@ -44,6 +44,9 @@ pub enum Status {
     Limit { bound: Bound },
     /// Memory ran out.
     NoMemory,
+    /// A queue file of a life can't be read any longer: this name in this area. It comes over a host
+    /// alone that doesn't tell its files.
+    Unreadable { area: Area, name: Name },
 }
 
 impl Status {
@@ -62,6 +65,7 @@ impl Status {
             Status::Unfinished { .. } => 7,
             Status::Limit { .. } => 8,
             Status::NoMemory => 9,
+            Status::Unreadable { .. } => 12,
         }
     }
 }
@@ -83,6 +87,7 @@ fn replay_status(error: ReplayError) -> Status
         },
         ReplayError::Limit { bound } => Status::Limit { bound },
         ReplayError::Damaged { area, name } => Status::Damaged { area, name },
+        ReplayError::Unreadable { area, name } => Status::Unreadable { area, name },
     }
 }
 
@@ -170,6 +175,10 @@ impl fmt::Display for Status {
             Status::Unfinished { rests } => write!(f, "unfinished after {rests} rests"),
             Status::Limit { bound } => write!(f, "limit reached: {bound}"),
             Status::NoMemory => write!(f, "no memory"),
+            Status::Unreadable { area, name } => {
+                let folder = area.folder();
+                write!(f, "unreadable file: {folder}/{name}")
+            }
         }
     }
 }

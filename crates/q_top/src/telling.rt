@@ -2,9 +2,10 @@
 ghost use Rattle.q_host.specs.View.{Told};
 ghost use Rattle.q_shape.specs.Buckets.{IsShape};
 ghost use Rattle.q_top.specs.Causes.{HasHostCause};
+ghost use Rattle.q_top.specs.Statuses.{is_unreadable};
 ghost use Rattle.q_top.specs.Courses.{Moments};
 ghost use Rattle.q_top.specs.Tellings.{Lists, TellsAges};
-ghost use Rattle.std.specs.Prelude.{◌≢◌, ℕ};
+ghost use Rattle.std.specs.Prelude.{◌≢◌, ℕ, ◌≡◌, false};
 
 use crate::status::{Status, telling_status};
 use q_ages::tell_ages;
@@ -17,6 +18,7 @@ use std::alloc::Global;
 /// Tells the listing of the queues.
 pub(crate) fn list_queues<H: Host>(alloc: Global, host: &mut H) -> Status
     ensures lists { Told H.tells H.view host.old host.new (λ u v. Lists u v result) }
+    ensures readable { is_unreadable result ≡ false }
     ensures host { HasHostCause (H.faults host.old) (H.faults host.new) result }
     ensures no_source { result ≢ Status.Source }
     ensures no_usage { result ≢ Status.Usage }
@@ -35,6 +37,7 @@ pub(crate) fn table_ages<H: Host, C: Clock>(
     requires { IsShape request.now.shape }
     ensures tells { Told H.tells H.view host.old host.new (λ u v. TellsAges request.now
         (record { before = C.given clock.old; after = C.given clock.new }) u v result) }
+    ensures readable { is_unreadable result ≡ false }
     ensures host { HasHostCause (H.faults host.old) (H.faults host.new) result }
     ensures no_source { result ≢ Status.Source }
     ensures no_usage { result ≢ Status.Usage }

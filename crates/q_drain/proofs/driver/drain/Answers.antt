@@ -1,20 +1,24 @@
-use Rattle.std.proofs.Common.{◌≡◌, ◌∙◌, inl, Option, Some, ap, refl, subst}
-use Rattle.q_drain.proofs.Causes.{host_kind, limit_cause}
-use Rattle.q_drain.proofs.Exiting.{early_as}
-use Rattle.q_drain.specs.Drained.{EndsAs}
+use Rattle.std.proofs.Common.{◌≡◌, ◌∙◌, Option, Some, ap, refl, subst, sym}
+use Rattle.std.specs.Prelude.{Err}
+use Rattle.q_drain.proofs.Causes.{limit_cause, stop_kind}
+use Rattle.q_drain.proofs.Exiting.{stopped_as}
+use Rattle.q_drain.specs.Drained.{EndsAs, IsDrainError}
 use Rattle.q_drain.specs.declared.driver.Drained.{Drained}
 use Rattle.q_drain.specs.declared.driver.Drained.TheVariants.{Quiet, Unfinished}
-use Rattle.q_engine.proofs.Causes.{done_cause, made_cause}
-use Rattle.q_engine.specs.Refusals.{is_of_host}
+use Rattle.q_engine.proofs.Stopping.{done_cause, made_cause, made_readable}
+use Rattle.q_engine.specs.declared.error.EngineError.{EngineError}
+use Rattle.q_engine.specs.declared.stop.Stop.{Stop}
 use Rattle.q_model.specs.declared.limits.Bound.TheVariants.{Deliveries}
 use Rattle.q_drain.proofs.driver.drain.Goals as goal
 
 pub returns-in-Err-clause-ends : goal.returns-in-Err-clause-ends
 returns-in-Err-clause-ends g c t w l stands start =
-    rw c.refusal_of.ensures (early_as w l (record {
+    rw c.stopped_by.ensures (stopped_as w l (record {
       before = record { clock = g.C.Clock.given c.args.clock.now; hops = g.N.Hops.view c.args.hops.now };
       behind = record { clock = g.C.Clock.given c.take_turns.new.clock; hops = g.N.Hops.view c.take_turns.new.hops };
-    }) (g.H.Host.view c.args.host.now) (g.H.Host.view c.take_turns.new.host) c.in-Err.error (c.in-Err.ensures.err c.in-Err.error refl t w l stands start))
+    }) (g.H.Host.view c.args.host.now) (g.H.Host.view c.take_turns.new.host) c.in-Err.stop
+    (λ error same. c.in-Err.ensures.err error (ap (λ (s : Stop). Err s) same) t w l stands start)
+    (λ area name same. c.in-Err.ensures.readable t area name (ap (λ (s : Stop). Err s) same)))
 
 pub returns-in-Ok-Some-clause-ends : goal.returns-in-Ok-Some-clause-ends
 returns-in-Ok-Some-clause-ends g c t w l stands start =
@@ -47,7 +51,10 @@ pub returns-in-Ok-None-clause-cause : goal.returns-in-Ok-None-clause-cause
 returns-in-Ok-None-clause-cause g c = limit_cause (g.H.Host.faults c.args.host.now) (g.H.Host.faults c.take_turns.new.host) Deliveries c.take_turns.result c.take_turns.ensures.cause
 
 pub returns-in-Err-clause-kinds : goal.returns-in-Err-clause-kinds
-returns-in-Err-clause-kinds g c = inl (ap is_of_host c.refusal_of.ensures ∙ host_kind c.in-Err.error)
+returns-in-Err-clause-kinds g c = subst (λ (e : EngineError). IsDrainError e) (sym c.stopped_by.ensures) (stop_kind c.in-Err.stop)
+
+pub returns-in-Err-clause-readable : goal.returns-in-Err-clause-readable
+returns-in-Err-clause-readable g c t = made_readable {T = Drained} g.H.Host.tells c.stopped_by.result c.stopped_by.result c.in-Err.stop c.stopped_by.ensures c.in-Err.ensures.readable t refl
 
 pub returns-in-Err-clause-cause : goal.returns-in-Err-clause-cause
-returns-in-Err-clause-cause g c = made_cause (g.H.Host.faults c.args.host.now) (g.H.Host.faults c.take_turns.new.host) c.in-Err.error c.refusal_of.result c.take_turns.result c.in-Err.is c.refusal_of.ensures c.take_turns.ensures.cause
+returns-in-Err-clause-cause g c = made_cause (g.H.Host.faults c.args.host.now) (g.H.Host.faults c.take_turns.new.host) c.in-Err.stop c.stopped_by.result c.take_turns.result c.in-Err.is c.stopped_by.ensures c.take_turns.ensures.cause

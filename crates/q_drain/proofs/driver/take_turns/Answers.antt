@@ -1,7 +1,7 @@
 use Rattle.std.proofs.Common.{◌≡◌, ◌≢◌, ◌+◌, [], ap, arith, false, Option, refl, subst, sym, true, ℕ}
 use Rattle.q_agent.specs.Sessions.{Sessions, is_turn_over}
 use Rattle.q_books.specs.HostStands.{TellsCrashes}
-use Rattle.q_drain.proofs.Causes.{memory_host, ok_host, same_rests}
+use Rattle.q_drain.proofs.Causes.{same_rests}
 use Rattle.q_drain.proofs.Exiting.{DrainsSo, counted_behind, drains_first, drains_more, ends_early, ends_full, ends_quiet, ends_unfinished, given_behind, none_behind, order_behind, stops_between}
 use Rattle.q_drain.proofs.Polls.{all_wait}
 use Rattle.q_drain.specs.Drained.{CountsRests, RestsBehind}
@@ -11,7 +11,8 @@ use Rattle.q_drain.specs.Standing.{Outside}
 use Rattle.q_drain.specs.Turned.{OfEngine, OfServed, TurnsTo}
 use Rattle.q_drain.specs.declared.poll.Served.{Served}
 use Rattle.q_drain.specs.declared.turn.Turn.{Turn}
-use Rattle.q_engine.proofs.DecisionLoops.{same_error}
+use Rattle.q_engine.proofs.Stopping.{memory_stop, ok_stop, same_stop, stop_readable}
+use Rattle.q_engine.specs.declared.stop.Stop.TheVariants as stops
 use Rattle.q_engine.specs.Stands.{IsReady}
 use Rattle.q_events.proofs.LineParts.{rose_later}
 use Rattle.q_link.specs.Records.{HopsView}
@@ -55,7 +56,7 @@ returns-in_err-served-clause-err g c error is t w l stands start =
     let y : Outside = record { clock = g.C.Clock.given c.take_turn.new.clock; hops = g.N.Hops.view c.take_turn.new.hops } in
     let d = loop.invariant.so t w l stands start in
     ends_early w l a z y (view c.args.host.now) (view loop.host) (view c.take_turn.new.host) loop.served.engine loop.agent.listed loop.served.known loop.first loop.given d error
-    (c.in_err-served.ensures.err error (same_error c.from_residual.result c.in_err-served.field-0.0 error c.from_residual.ensures.1 is) t w l a d.story d.between)
+    (c.in_err-served.ensures.err error (same_stop c.from_residual.result c.in_err-served.field-0.0 (stops.Host error) c.from_residual.ensures.1 is) t w l a d.story d.between)
 
 pub returns-in_err-served-clause-cause : goal.returns-in_err-served-clause-cause
 returns-in_err-served-clause-cause g c =
@@ -65,8 +66,8 @@ returns-in_err-served-clause-cause g c =
     record {
       disk_later = omega (arith, later.disk_later, cause.disk_later);
       tell_later = omega (arith, later.tell_later, cause.tell_later);
-      disk = λ is. rose_later _ mid.disk _ later.disk_later (cause.disk (same_error c.from_residual.result c.in_err-served.field-0.0 _ c.from_residual.ensures.1 is));
-      tell = λ is. rose_later _ mid.tell _ later.tell_later (cause.tell (same_error c.from_residual.result c.in_err-served.field-0.0 _ c.from_residual.ensures.1 is));
+      disk = λ is. rose_later _ mid.disk _ later.disk_later (cause.disk (same_stop c.from_residual.result c.in_err-served.field-0.0 _ c.from_residual.ensures.1 is));
+      tell = λ is. rose_later _ mid.tell _ later.tell_later (cause.tell (same_stop c.from_residual.result c.in_err-served.field-0.0 _ c.from_residual.ensures.1 is));
     }
 
 pub returns-in-Idle-clause-ok : goal.returns-in-Idle-clause-ok
@@ -166,7 +167,7 @@ pub returns-in_default-clause-cause : goal.returns-in_default-clause-cause
 returns-in_default-clause-cause g c =
     let later = c.loop.invariant in
     let cause = c.in_ok-served.ensures.cause in
-    ok_host (g.H.Host.faults c.args.host.now) (g.H.Host.faults c.take_turn.new.host) _ (omega (arith, later.disk_later, cause.disk_later)) (omega (arith, later.tell_later, cause.tell_later))
+    ok_stop (g.H.Host.faults c.args.host.now) (g.H.Host.faults c.take_turn.new.host) _ (omega (arith, later.disk_later, cause.disk_later)) (omega (arith, later.tell_later, cause.tell_later))
 
 pub loop-preserved : goal.loop-preserved
 loop-preserved g c =
@@ -214,4 +215,7 @@ returns-clause-err g c error is t w l stands start =
 
 pub returns-clause-cause : goal.returns-clause-cause
 returns-clause-cause g c =
-    memory_host (g.H.Host.faults c.args.host.now) (g.H.Host.faults c.loop.host) c.loop.invariant.disk_later c.loop.invariant.tell_later
+    memory_stop (g.H.Host.faults c.args.host.now) (g.H.Host.faults c.loop.host) c.loop.invariant.disk_later c.loop.invariant.tell_later
+
+pub returns-in_err-served-clause-readable : goal.returns-in_err-served-clause-readable
+returns-in_err-served-clause-readable g c = stop_readable g.H.Host.tells c.from_residual.result c.in_err-served.field-0.0 c.from_residual.ensures.1 c.in_err-served.ensures.readable

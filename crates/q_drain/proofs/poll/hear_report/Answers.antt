@@ -1,6 +1,6 @@
 use Rattle.std.proofs.Common.{◌≤◌, arith, inl, inr, refl}
-use Rattle.q_drain.proofs.Causes.{cause_behind, disk_passed, host_passed, ok_host}
-use Rattle.q_engine.proofs.DecisionLoops.{same_error}
+use Rattle.q_engine.proofs.Stopping.{disk_stopped, host_readable, ok_stop, same_stop, stop_later, stop_passed, stop_readable}
+use Rattle.q_engine.specs.declared.stop.Stop.TheVariants as stops
 use Rattle.q_drain.proofs.poll.hear_report.Goals as goal
 
 pub open_started-requires-clause-stands : goal.open_started-requires-clause-stands
@@ -10,11 +10,11 @@ open_started-requires-clause-stands g c t =
 
 pub returns-in_err-engine-clause-err : goal.returns-in_err-engine-clause-err
 returns-in_err-engine-clause-err g c error is t =
-    inl (c.in_err-engine.ensures.err error (same_error c.from_residual.result c.in_err-engine.field-0.0 error c.from_residual.ensures.1 is) t, refl)
+    inl (c.in_err-engine.ensures.err error (same_stop c.from_residual.result c.in_err-engine.field-0.0 (stops.Host error) c.from_residual.ensures.1 is) t, refl)
 
 pub returns-in_err-engine-clause-cause : goal.returns-in_err-engine-clause-cause
 returns-in_err-engine-clause-cause g c =
-    host_passed (g.H.Host.faults c.args.host.now) (g.H.Host.faults c.tell_reply.new.host) c.in_err-engine.field-0.0 c.from_residual.result c.from_residual.ensures.1 c.in_err-engine.ensures.cause
+    stop_passed (g.H.Host.faults c.args.host.now) (g.H.Host.faults c.tell_reply.new.host) c.from_residual.result c.in_err-engine.field-0.0 c.from_residual.ensures.1 c.in_err-engine.ensures.cause
 
 pub returns-in_err-known-clause-err : goal.returns-in_err-known-clause-err
 returns-in_err-known-clause-err g c error is t =
@@ -29,8 +29,8 @@ pub returns-in_err-known-clause-cause : goal.returns-in_err-known-clause-cause
 returns-in_err-known-clause-cause g c =
     let b = g.H.Host.faults c.tell_reply.new.host in
     let replied = c.in_ok-engine.ensures.cause in
-    cause_behind (g.H.Host.faults c.args.host.now) b (g.H.Host.faults c.open_started.new.host) c.from_residual-in_err-known.result replied.disk_later replied.tell_later
-    (disk_passed b (g.H.Host.faults c.open_started.new.host) c.in_err-known.field-0.0 c.from_residual-in_err-known.result c.from_residual-in_err-known.ensures.1 c.in_err-known.ensures.cause)
+    stop_later (g.H.Host.faults c.args.host.now) b (g.H.Host.faults c.open_started.new.host) c.from_residual-in_err-known.result replied.disk_later replied.tell_later
+    (disk_stopped b (g.H.Host.faults c.open_started.new.host) c.from_residual-in_err-known.result c.in_err-known.field-0.0 c.from_residual-in_err-known.ensures.1 c.in_err-known.ensures.cause)
 
 pub returns-clause-ok : goal.returns-clause-ok
 returns-clause-ok g c t = record {
@@ -46,5 +46,11 @@ pub returns-clause-cause : goal.returns-clause-cause
 returns-clause-cause g c =
     let replied = c.in_ok-engine.ensures.cause in
     let opened = c.in_ok-known.ensures.cause in
-    ok_host (g.H.Host.faults c.args.host.now) (g.H.Host.faults c.open_started.new.host) _
+    ok_stop (g.H.Host.faults c.args.host.now) (g.H.Host.faults c.open_started.new.host) _
     (omega (arith, replied.disk_later, opened.disk_later)) (omega (arith, replied.tell_later, opened.tell_later))
+
+pub returns-in_err-engine-clause-readable : goal.returns-in_err-engine-clause-readable
+returns-in_err-engine-clause-readable g c = stop_readable g.H.Host.tells c.from_residual.result c.in_err-engine.field-0.0 c.from_residual.ensures.1 c.in_err-engine.ensures.readable
+
+pub returns-in_err-known-clause-readable : goal.returns-in_err-known-clause-readable
+returns-in_err-known-clause-readable g c = host_readable g.H.Host.tells c.from_residual-in_err-known.result c.in_err-known.field-0.0 c.from_residual-in_err-known.ensures.1

@@ -1,14 +1,14 @@
 use Rattle.std.proofs.Common.{◌+◌, ◌∙◌, arith, Option, refl, subst}
 use Rattle.std.specs.Prelude.{IfSome}
 use Rattle.q_books.specs.HostStands.{TellsCrashes}
-use Rattle.q_drain.proofs.Causes.{cause_behind, host_passed, memory_host, ok_host}
 use Rattle.q_drain.proofs.PollingAll.{fails_then, filled_then, may_serve, served_none, served_then, stops_serving}
 use Rattle.q_drain.proofs.Polls.{some_then}
 use Rattle.q_drain.specs.Polling.{IsPolling, KeepsSome}
 use Rattle.q_drain.specs.Served.{PollsOn}
 use Rattle.q_drain.specs.Standing.{Outside}
 use Rattle.q_drain.specs.declared.poll.Served.{Served}
-use Rattle.q_engine.proofs.DecisionLoops.{same_error}
+use Rattle.q_engine.proofs.Stopping.{memory_stop, ok_stop, same_stop, stop_later, stop_passed, stop_readable}
+use Rattle.q_engine.specs.declared.stop.Stop.TheVariants as stops
 use Rattle.q_engine.specs.Stands.{IsReady}
 use Rattle.q_drain.proofs.poll.poll_all.Goals as goal
 
@@ -46,7 +46,7 @@ returns-in_err-next-clause-err g c error is t w l a clock early fs s known turns
     let hops = g.N.Hops.view in
     let m = loop.invariant.on t w l a clock early fs s known turns h in
     fails_then w l a (record { clock = clock; hops = hops loop.hops }) (record { clock = clock; hops = hops c.poll_next.new.hops }) (view c.args.host.now) (view loop.host) (view c.poll_next.new.host) loop.served loop.agent s m error
-    (c.in_err-next.ensures.err error (same_error c.from_residual.result c.in_err-next.field-0.0 error c.from_residual.ensures.1 is) t w l a clock m.early m.flights m.story m.known_is m.turns m.serving)
+    (c.in_err-next.ensures.err error (same_stop c.from_residual.result c.in_err-next.field-0.0 (stops.Host error) c.from_residual.ensures.1 is) t w l a clock m.early m.flights m.story m.known_is m.turns m.serving)
 
 pub loop-preserved : goal.loop-preserved
 loop-preserved g c =
@@ -91,17 +91,20 @@ pub returns-in_err-next-clause-cause : goal.returns-in_err-next-clause-cause
 returns-in_err-next-clause-cause g c =
     let b = g.H.Host.faults c.loop.host in
     let before = c.loop.invariant in
-    cause_behind (g.H.Host.faults c.args.host.now) b (g.H.Host.faults c.poll_next.new.host) c.from_residual.result before.disk_later before.tell_later
-    (host_passed b (g.H.Host.faults c.poll_next.new.host) c.in_err-next.field-0.0 c.from_residual.result c.from_residual.ensures.1 c.in_err-next.ensures.cause)
+    stop_later (g.H.Host.faults c.args.host.now) b (g.H.Host.faults c.poll_next.new.host) c.from_residual.result before.disk_later before.tell_later
+    (stop_passed b (g.H.Host.faults c.poll_next.new.host) c.from_residual.result c.in_err-next.field-0.0 c.from_residual.ensures.1 c.in_err-next.ensures.cause)
 
 pub returns-in_default-clause-cause : goal.returns-in_default-clause-cause
 returns-in_default-clause-cause g c =
     let before = c.loop.invariant in
     let polled = c.in_ok-next.ensures.cause in
-    ok_host (g.H.Host.faults c.args.host.now) (g.H.Host.faults c.poll_next.new.host) _ (omega (arith, before.disk_later, polled.disk_later)) (omega (arith, before.tell_later, polled.tell_later))
+    ok_stop (g.H.Host.faults c.args.host.now) (g.H.Host.faults c.poll_next.new.host) _ (omega (arith, before.disk_later, polled.disk_later)) (omega (arith, before.tell_later, polled.tell_later))
 
 pub returns-clause-cause : goal.returns-clause-cause
-returns-clause-cause g c = memory_host (g.H.Host.faults c.args.host.now) (g.H.Host.faults c.loop.host) c.loop.invariant.disk_later c.loop.invariant.tell_later
+returns-clause-cause g c = memory_stop (g.H.Host.faults c.args.host.now) (g.H.Host.faults c.loop.host) c.loop.invariant.disk_later c.loop.invariant.tell_later
 
 pub returns-then-turn_over-clause-cause : goal.returns-then-turn_over-clause-cause
-returns-then-turn_over-clause-cause g c = ok_host (g.H.Host.faults c.args.host.now) (g.H.Host.faults c.loop.host) _ c.loop.invariant.disk_later c.loop.invariant.tell_later
+returns-then-turn_over-clause-cause g c = ok_stop (g.H.Host.faults c.args.host.now) (g.H.Host.faults c.loop.host) _ c.loop.invariant.disk_later c.loop.invariant.tell_later
+
+pub returns-in_err-next-clause-readable : goal.returns-in_err-next-clause-readable
+returns-in_err-next-clause-readable g c = stop_readable g.H.Host.tells c.from_residual.result c.in_err-next.field-0.0 c.from_residual.ensures.1 c.in_err-next.ensures.readable

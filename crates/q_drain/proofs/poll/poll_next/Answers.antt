@@ -5,10 +5,10 @@ use Rattle.q_agent.specs.Answers.{IsStanding, Turned}
 use Rattle.q_agent.specs.Sessions.{next_polled}
 use Rattle.q_agent.specs.declared.report.Report.{Report}
 use Rattle.q_books.specs.HostStands.{TellsCrashes}
-use Rattle.q_drain.proofs.Causes.{cause_behind, disk_passed, host_passed, ok_host}
 use Rattle.q_drain.proofs.PollTurns.{busy_keeps, ends_poll, fills_up, keeps_some, may_open_more, may_poll, poll_fails, polls_less, polls_on, reply_fits, report_fails, served_by_report, served_on, stands_still}
 use Rattle.q_drain.proofs.Polls.{some_unpolled, turned_over, turned_rests}
-use Rattle.q_engine.proofs.DecisionLoops.{same_error}
+use Rattle.q_engine.proofs.Stopping.{disk_stopped, host_readable, ok_stop, same_stop, stop_later, stop_passed, stop_readable}
+use Rattle.q_engine.specs.declared.stop.Stop.TheVariants as stops
 use Rattle.q_model.specs.Step.{after_all}
 use Rattle.q_drain.proofs.poll.poll_next.Goals as goal
 
@@ -100,7 +100,7 @@ returns-then-last_number-ge-MOST_DELIVERIES-clause-ok g c t w l a clock early fs
     fills_up w l a clock u v hops next engine agent early fs s o.0 c.in-Some.report e c.last_number.result c.last_number.ensures full
 
 pub returns-in_err-report-clause-cause : goal.returns-in_err-report-clause-cause
-returns-in_err-report-clause-cause g c = disk_passed (g.H.Host.faults c.args.host.now) (g.H.Host.faults c.turn.new.host) c.in_err-report.field-0.0 c.from_residual.result c.from_residual.ensures.1 c.in_err-report.ensures.cause
+returns-in_err-report-clause-cause g c = disk_stopped (g.H.Host.faults c.args.host.now) (g.H.Host.faults c.turn.new.host) c.from_residual.result c.in_err-report.field-0.0 c.from_residual.ensures.1 c.in_err-report.ensures.cause
 
 pub returns-then-last_number-ge-MOST_DELIVERIES-clause-rests : goal.returns-then-last_number-ge-MOST_DELIVERIES-clause-rests
 returns-then-last_number-ge-MOST_DELIVERIES-clause-rests g c =
@@ -114,7 +114,7 @@ pub returns-clause-cause : goal.returns-clause-cause
 returns-clause-cause g c =
     let turned = c.in_ok-report.ensures.cause in
     let heard = c.in_ok-next.ensures.cause in
-    ok_host (g.H.Host.faults c.args.host.now) (g.H.Host.faults c.hear_report.new.host) _
+    ok_stop (g.H.Host.faults c.args.host.now) (g.H.Host.faults c.hear_report.new.host) _
     (omega (arith, turned.disk_later, heard.disk_later)) (omega (arith, turned.tell_later, heard.tell_later))
 
 pub returns-in_default-clause-rests : goal.returns-in_default-clause-rests
@@ -124,12 +124,12 @@ returns-in_default-clause-rests g c =
 pub returns-in_default-clause-cause : goal.returns-in_default-clause-cause
 returns-in_default-clause-cause g c =
     let turned = c.in_ok-report.ensures.cause in
-    ok_host (g.H.Host.faults c.args.host.now) (g.H.Host.faults c.turn.new.host) _ turned.disk_later turned.tell_later
+    ok_stop (g.H.Host.faults c.args.host.now) (g.H.Host.faults c.turn.new.host) _ turned.disk_later turned.tell_later
 
 pub returns-then-last_number-ge-MOST_DELIVERIES-clause-cause : goal.returns-then-last_number-ge-MOST_DELIVERIES-clause-cause
 returns-then-last_number-ge-MOST_DELIVERIES-clause-cause g c =
     let turned = c.in_ok-report.ensures.cause in
-    ok_host (g.H.Host.faults c.args.host.now) (g.H.Host.faults c.turn.new.host) _ turned.disk_later turned.tell_later
+    ok_stop (g.H.Host.faults c.args.host.now) (g.H.Host.faults c.turn.new.host) _ turned.disk_later turned.tell_later
 
 pub hear_report-requires-clause-fits : goal.hear_report-requires-clause-fits
 hear_report-requires-clause-fits g c =
@@ -196,7 +196,7 @@ returns-in_err-next-clause-err g c error is t w l a clock early fs s known turns
     let made = (turned_over g.H.Host.tells u c.now.result hops next agent c.turn.new.self o.0 c.in-Some.report o.1 turned).1 in
     let e = ends_poll w l a clock u v hops next engine agent c.turn.new.self early fs s g.H.Host.tells c.now.result o.0 c.in-Some.report lawful (c.turn.ensures.stays t) o.1 t c.now.ensures.ledger turned h in
     report_fails w l a clock u v hops next engine agent early fs s o.0 c.in-Some.report e g.H.Host.view c.turn.new.host c.hear_report.new.host refl c.turn.new.self made (g.N.Hops.view c.hear_report.new.hops) c.args.served.known error known
-    (c.in_err-next.ensures.err error (same_error c.from_residual-in_err-next.result c.in_err-next.field-0.0 error c.from_residual-in_err-next.ensures.1 is) t)
+    (c.in_err-next.ensures.err error (same_stop c.from_residual-in_err-next.result c.in_err-next.field-0.0 (stops.Host error) c.from_residual-in_err-next.ensures.1 is) t)
 
 pub returns-in_err-next-clause-rests : goal.returns-in_err-next-clause-rests
 returns-in_err-next-clause-rests g c = c.hear_report.ensures.rests
@@ -206,5 +206,11 @@ pub returns-in_err-next-clause-cause : goal.returns-in_err-next-clause-cause
 returns-in_err-next-clause-cause g c =
     let b = g.H.Host.faults c.turn.new.host in
     let turned = c.in_ok-report.ensures.cause in
-    cause_behind (g.H.Host.faults c.args.host.now) b (g.H.Host.faults c.hear_report.new.host) c.from_residual-in_err-next.result turned.disk_later turned.tell_later
-    (host_passed b (g.H.Host.faults c.hear_report.new.host) c.in_err-next.field-0.0 c.from_residual-in_err-next.result c.from_residual-in_err-next.ensures.1 c.in_err-next.ensures.cause)
+    stop_later (g.H.Host.faults c.args.host.now) b (g.H.Host.faults c.hear_report.new.host) c.from_residual-in_err-next.result turned.disk_later turned.tell_later
+    (stop_passed b (g.H.Host.faults c.hear_report.new.host) c.from_residual-in_err-next.result c.in_err-next.field-0.0 c.from_residual-in_err-next.ensures.1 c.in_err-next.ensures.cause)
+
+pub returns-in_err-report-clause-readable : goal.returns-in_err-report-clause-readable
+returns-in_err-report-clause-readable g c = host_readable g.H.Host.tells c.from_residual.result c.in_err-report.field-0.0 c.from_residual.ensures.1
+
+pub returns-in_err-next-clause-readable : goal.returns-in_err-next-clause-readable
+returns-in_err-next-clause-readable g c = stop_readable g.H.Host.tells c.from_residual-in_err-next.result c.in_err-next.field-0.0 c.from_residual-in_err-next.ensures.1 c.in_err-next.ensures.readable

@@ -3,11 +3,13 @@ use Rattle.std.proofs.lemmas.Bool.{and_from}
 use Rattle.std.specs.List.{list_all}
 use Rattle.std.specs.Prelude.{Err}
 use Rattle.q_books.specs.HostStands.{TellsCrashes}
-use Rattle.q_drain.proofs.Causes.{engine_ok, engine_passed}
+use Rattle.q_drain.proofs.Causes.{engine_ok, engine_passed, engine_readable}
 use Rattle.q_drain.proofs.ReplyTurns.{accepted_may, fault_halts, halts_nothing, none_refused}
 use Rattle.q_drain.specs.Replied.{reply_event}
 use Rattle.q_engine.specs.Heard.{has_log_code}
+use Rattle.q_engine.proofs.Stopping.{told_kinds}
 use Rattle.q_engine.specs.Refusals.{refused_event}
+use Rattle.q_engine.specs.declared.stop.Stop.TheVariants as stops
 use Rattle.q_model.specs.Replies.{fits_state}
 use Rattle.q_model.specs.Run.{turn}
 use Rattle.q_model.specs.declared.event.LifeEvent.TheVariants.{Heard}
@@ -40,13 +42,16 @@ returns-in-Err-clause-err g c error is t w l stands =
     let x = g.H.Host.view c.step.new.host in
     let lawful : TellsCrashes u = record { only = g.met.H.Host.only_now c.args.host.now; told = g.met.H.Host.told_stays c.args.host.now } in
     let why = c.in-Err.error in
-    fault_halts w l (turn w l (Heard (reply_event c.args.report))) u x why error lawful stands.host (c.in-Err.ensures.kinds why refl)
+    fault_halts w l (turn w l (Heard (reply_event c.args.report))) u x why error lawful stands.host (told_kinds why (c.in-Err.ensures.kinds why refl) (c.in-Err.ensures.readable t why refl))
     (λ fault same. c.in-Err.ensures.err fault (ap (λ e. Err e) same) t w l stands)
     (λ of. let refused = c.in-Err.ensures.only_refused why refl of w l stands.core stands.counts in ap g.H.Host.view (c.in-Err.ensures.refused w l stands.core stands.counts why refused).1)
-    (let one : c.fault_of.result ≡ error = cc in sym c.fault_of.ensures ∙ one)
+    (let one : c.stop_of.result ≡ stops.Host error = cc in sym c.stop_of.ensures ∙ one)
 
 pub returns-in-Ok-clause-cause : goal.returns-in-Ok-clause-cause
 returns-in-Ok-clause-cause g c = engine_ok (g.H.Host.faults c.args.host.now) (g.H.Host.faults c.step.new.host) c.step.result c.in-Ok.next c.step.ensures.cause
 
 pub returns-in-Err-clause-cause : goal.returns-in-Err-clause-cause
-returns-in-Err-clause-cause g c = engine_passed (g.H.Host.faults c.args.host.now) (g.H.Host.faults c.step.new.host) c.in-Err.error c.fault_of.result c.step.result c.in-Err.is c.fault_of.ensures c.step.ensures.cause
+returns-in-Err-clause-cause g c = engine_passed (g.H.Host.faults c.args.host.now) (g.H.Host.faults c.step.new.host) c.in-Err.error c.stop_of.result c.step.result c.in-Err.is c.stop_of.ensures c.step.ensures.cause
+
+pub returns-in-Err-clause-readable : goal.returns-in-Err-clause-readable
+returns-in-Err-clause-readable g c t area name of = engine_readable c.in-Err.error c.stop_of.result area name c.stop_of.ensures (c.in-Err.ensures.readable t c.in-Err.error refl) of

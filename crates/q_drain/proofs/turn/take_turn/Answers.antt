@@ -2,7 +2,6 @@ use Rattle.std.proofs.Common.{◌+◌, ◌∙◌, Option, ap, arith, false, ltb-
 use Rattle.std.specs.Prelude.{nat_lt}
 use Rattle.q_agent.specs.Sessions.{Sessions}
 use Rattle.q_books.specs.HostStands.{TellsCrashes}
-use Rattle.q_drain.proofs.Causes.{cause_behind, disk_passed, host_passed}
 use Rattle.q_drain.proofs.PollingAll.{fails_then, filled_then, served_then}
 use Rattle.q_drain.proofs.Polls.{polling_anew}
 use Rattle.q_drain.proofs.TurnsOn.{idles_on, may_open, opening_given_up, served_heard}
@@ -10,7 +9,8 @@ use Rattle.q_drain.specs.Opened.{FailsToOpenAll, MayOpenAll, OpensAll}
 use Rattle.q_drain.specs.Polling.{IsPolling}
 use Rattle.q_drain.specs.Served.{PollsOn}
 use Rattle.q_drain.specs.declared.poll.Served.{Served}
-use Rattle.q_engine.proofs.DecisionLoops.{same_error}
+use Rattle.q_engine.proofs.Stopping.{disk_stopped, host_readable, same_stop, stop_later, stop_passed, stop_readable}
+use Rattle.q_engine.specs.declared.stop.Stop.TheVariants as stops
 use Rattle.q_model.specs.Step.{after_all}
 use Rattle.q_drain.proofs.turn.take_turn.Goals as goal
 
@@ -21,7 +21,7 @@ hear_clock-requires-clause-stands g c t =
 
 pub returns-in_err-engine-clause-err : goal.returns-in_err-engine-clause-err
 returns-in_err-engine-clause-err g c error is t w l a s b =
-    c.in_err-engine.ensures.err error (same_error c.from_residual.result c.in_err-engine.field-0.0 error c.from_residual.ensures.1 is) t w l a (g.N.Hops.view c.args.hops.now) b.early b.flights c.args.agent.now.listed s b.begins b.between
+    c.in_err-engine.ensures.err error (same_stop c.from_residual.result c.in_err-engine.field-0.0 (stops.Host error) c.from_residual.ensures.1 is) t w l a (g.N.Hops.view c.args.hops.now) b.early b.flights c.args.agent.now.listed s b.begins b.between
 
 pub open_started-requires-clause-polling : goal.open_started-requires-clause-polling
 open_started-requires-clause-polling g c = subst (λ (n : Sessions). IsPolling n (c.args.known + 1)) (sym c.next_turn.ensures) (polling_anew c.args.agent.now.listed (c.args.known + 1) (omega arith) c.requires.order)
@@ -97,7 +97,7 @@ returns-in_err-served-clause-err g c error is t w l a s b =
     let m = served_heard w l a old new u v hops c.args.engine c.in_ok-engine.engine c.args.agent.now.listed c.args.known c.args.first s b (c.in_ok-engine.ensures.ok t) x next agent opened busy (λ is. ltb-true c.args.known opened is)
     (subst (λ (n : Sessions). OpensAll c.in_ok-engine.engine v x hops next n agent c.args.known opened) c.next_turn.ensures (c.in_ok-opened.ensures.ok t)) in
     fails_then w l a (record { clock = new; hops = next }) (record { clock = new; hops = g.N.Hops.view c.poll_all.new.hops }) u x (g.H.Host.view c.poll_all.new.host) (record { engine = c.in_ok-engine.engine; known = opened; busy = busy }) agent s m error
-    (c.in_err-served.ensures.err error (same_error c.from_residual-in_err-served.result c.in_err-served.field-0.0 error c.from_residual-in_err-served.ensures.1 is) t w l a new m.early m.flights m.story m.known_is m.turns m.serving)
+    (c.in_err-served.ensures.err error (same_stop c.from_residual-in_err-served.result c.in_err-served.field-0.0 (stops.Host error) c.from_residual-in_err-served.ensures.1 is) t w l a new m.early m.flights m.story m.known_is m.turns m.serving)
 
 pub returns-in-Some-clause-ok : goal.returns-in-Some-clause-ok
 returns-in-Some-clause-ok g c t w l a s b =
@@ -167,8 +167,8 @@ pub returns-in_err-opened-clause-cause : goal.returns-in_err-opened-clause-cause
 returns-in_err-opened-clause-cause g c =
     let b = g.H.Host.faults c.hear_clock.new.host in
     let heard = c.in_ok-engine.ensures.cause in
-    cause_behind (g.H.Host.faults c.args.host.now) b (g.H.Host.faults c.open_started.new.host) c.from_residual-in_err-opened.result heard.disk_later heard.tell_later
-    (disk_passed b (g.H.Host.faults c.open_started.new.host) c.in_err-opened.field-0.0 c.from_residual-in_err-opened.result c.from_residual-in_err-opened.ensures.1 c.in_err-opened.ensures.cause)
+    stop_later (g.H.Host.faults c.args.host.now) b (g.H.Host.faults c.open_started.new.host) c.from_residual-in_err-opened.result heard.disk_later heard.tell_later
+    (disk_stopped b (g.H.Host.faults c.open_started.new.host) c.from_residual-in_err-opened.result c.in_err-opened.field-0.0 c.from_residual-in_err-opened.ensures.1 c.in_err-opened.ensures.cause)
 
 pub returns-then-is_empty-clause-cause : goal.returns-then-is_empty-clause-cause
 returns-then-is_empty-clause-cause g c =
@@ -186,10 +186,19 @@ returns-in_err-served-clause-cause g c =
     let b = g.H.Host.faults c.open_started.new.host in
     let heard = c.in_ok-engine.ensures.cause in
     let opened = c.in_ok-opened.ensures.cause in
-    cause_behind (g.H.Host.faults c.args.host.now) b (g.H.Host.faults c.poll_all.new.host) c.from_residual-in_err-served.result
+    stop_later (g.H.Host.faults c.args.host.now) b (g.H.Host.faults c.poll_all.new.host) c.from_residual-in_err-served.result
     (omega (arith, heard.disk_later, opened.disk_later)) (omega (arith, heard.tell_later, opened.tell_later))
-    (host_passed b (g.H.Host.faults c.poll_all.new.host) c.in_err-served.field-0.0 c.from_residual-in_err-served.result c.from_residual-in_err-served.ensures.1 c.in_err-served.ensures.cause)
+    (stop_passed b (g.H.Host.faults c.poll_all.new.host) c.from_residual-in_err-served.result c.in_err-served.field-0.0 c.from_residual-in_err-served.ensures.1 c.in_err-served.ensures.cause)
 
 pub returns-in_err-engine-clause-cause : goal.returns-in_err-engine-clause-cause
 returns-in_err-engine-clause-cause g c =
-    host_passed (g.H.Host.faults c.args.host.now) (g.H.Host.faults c.hear_clock.new.host) c.in_err-engine.field-0.0 c.from_residual.result c.from_residual.ensures.1 c.in_err-engine.ensures.cause
+    stop_passed (g.H.Host.faults c.args.host.now) (g.H.Host.faults c.hear_clock.new.host) c.from_residual.result c.in_err-engine.field-0.0 c.from_residual.ensures.1 c.in_err-engine.ensures.cause
+
+pub returns-in_err-engine-clause-readable : goal.returns-in_err-engine-clause-readable
+returns-in_err-engine-clause-readable g c = stop_readable g.H.Host.tells c.from_residual.result c.in_err-engine.field-0.0 c.from_residual.ensures.1 c.in_err-engine.ensures.readable
+
+pub returns-in_err-opened-clause-readable : goal.returns-in_err-opened-clause-readable
+returns-in_err-opened-clause-readable g c = host_readable g.H.Host.tells c.from_residual-in_err-opened.result c.in_err-opened.field-0.0 c.from_residual-in_err-opened.ensures.1
+
+pub returns-in_err-served-clause-readable : goal.returns-in_err-served-clause-readable
+returns-in_err-served-clause-readable g c = stop_readable g.H.Host.tells c.from_residual-in_err-served.result c.in_err-served.field-0.0 c.from_residual-in_err-served.ensures.1 c.in_err-served.ensures.readable

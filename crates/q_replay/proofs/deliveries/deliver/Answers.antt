@@ -1,4 +1,4 @@
-use Rattle.std.proofs.Common.{◌≡◌, ◌∙◌, ap, subst}
+use Rattle.std.proofs.Common.{◌≡◌, ◌∙◌, ap, subst, false}
 use Rattle.std.specs.Prelude.{Err, IfErr, Ok, Result}
 use Rattle.q_books.specs.HostStands.{TellsCrashes}
 use Rattle.q_drain.specs.Drained.{Drains, IsDrainError}
@@ -16,6 +16,11 @@ use Rattle.q_replay.proofs.Readings.{ledger_on}
 use Rattle.q_replay.proofs.Replaying.{IsGivenTo, may_begin, passed_as, some_given}
 use Rattle.q_replay.proofs.Submitting.{cause_on, engine_passed}
 use Rattle.q_replay.specs.Deliveries.{begun_on, DeliveryEnds, life_told}
+use Rattle.q_replay.specs.Takings.{is_unreadable}
+use Rattle.q_replay.specs.declared.error.ReplayError.{ReplayError}
+use Rattle.q_engine.specs.Refusals.{is_unreadable as is_engine_unreadable}
+use Rattle.q_replay.proofs.Readable.{engine_readable}
+use Rattle.q_replay.specs.declared.deliveries.Delivered.{Delivered}
 use Rattle.q_replay.proofs.deliveries.deliver.Goals as goal
 
 pub returns-in_err-begun-clause-ends : goal.returns-in_err-begun-clause-ends
@@ -169,3 +174,16 @@ returns-in-Err-clause-cause g c =
     let begun = c.in_ok-begun.ensures.cause in
     cause_on {S = Drained} (g.H.Host.faults c.args.host.now) b d c.replay_error.result begun.disk_later begun.tell_later
     (engine_passed b d 0 c.in-Err.error c.replay_error.result c.drain.result c.in-Err.is c.replay_error.ensures.exact c.drain.ensures.cause)
+
+pub returns-in_err-begun-clause-readable : goal.returns-in_err-begun-clause-readable
+returns-in_err-begun-clause-readable g c t =
+    passed_as c.from_residual.result c.in_err-begun.field-0.0 (λ (r : Result Delivered ReplayError). IfErr r (λ error. is_unreadable error ≡ false)) c.from_residual.ensures.1 (c.in_err-begun.ensures.readable t)
+
+pub returns-in_err-end-in-Ok-Quiet-clause-readable : goal.returns-in_err-end-in-Ok-Quiet-clause-readable
+returns-in_err-end-in-Ok-Quiet-clause-readable g c t =
+    passed_as c.from_residual-in_err-end-in-Ok-Quiet.result c.in_err-end-in-Ok-Quiet.field-0.0 (λ (r : Result Delivered ReplayError). IfErr r (λ error. is_unreadable error ≡ false)) c.from_residual-in_err-end-in-Ok-Quiet.ensures.1 (c.in_err-end-in-Ok-Quiet.ensures.readable t)
+
+pub returns-in-Err-clause-readable : goal.returns-in-Err-clause-readable
+returns-in-Err-clause-readable g c t =
+    let readable = subst (λ (r : Result Drained EngineError). IfErr r (λ error. is_engine_unreadable error ≡ false)) c.in-Err.is (c.drain.ensures.readable t) in
+    rw c.replay_error.ensures.exact (engine_readable 0 c.in-Err.error readable)

@@ -1,5 +1,5 @@
-use Rattle.std.proofs.Common.{arith, refl}
-use Rattle.std.specs.Prelude.{Result}
+use Rattle.std.proofs.Common.{arith, refl, ◌≡◌, false}
+use Rattle.std.specs.Prelude.{Result, IfErr}
 use Rattle.q_books.specs.HostStands.{TellsCrashes}
 use Rattle.q_events.specs.declared.item.Item.TheVariants.{End, Restart, Step}
 use Rattle.q_model.specs.Ledger.{opening}
@@ -8,7 +8,7 @@ use Rattle.q_model.specs.declared.event.Mode.TheVariants.{Intake}
 use Rattle.q_replay.specs.Listings.{bad, gives}
 use Rattle.q_replay.specs.RunEnds.{RunEnds}
 use Rattle.q_replay.specs.Submissions.{submitted}
-use Rattle.q_replay.specs.Takings.{ReplayCause}
+use Rattle.q_replay.specs.Takings.{ReplayCause, is_unreadable}
 use Rattle.q_replay.specs.declared.error.ReplayError.{ReplayError}
 use Rattle.q_replay.proofs.Readings.{ledger_on}
 use Rattle.q_replay.proofs.Replaying.{IsGivenTo, may_begin, passed_as, some_given}
@@ -167,3 +167,18 @@ returns-in_err-timed-clause-cause g c =
     let begun = c.begin_life.ensures.cause in
     passed_as c.from_residual-in_err-timed.result error (λ (r : Result (Unit {0}) ReplayError). ReplayCause a d r) c.from_residual-in_err-timed.ensures.1
     (cause_on a b d error begun.disk_later begun.tell_later c.in_err-timed.ensures.cause)
+
+pub returns-in_err-begun-clause-readable : goal.returns-in_err-begun-clause-readable
+returns-in_err-begun-clause-readable g c t =
+    passed_as c.from_residual.result c.in_err-begun.field-0.0 (λ (r : Result (Unit {0}) ReplayError). IfErr r (λ error. is_unreadable error ≡ false)) c.from_residual.ensures.1 (c.in_err-begun.ensures.readable t)
+
+pub returns-in_err-timed-clause-readable : goal.returns-in_err-timed-clause-readable
+returns-in_err-timed-clause-readable g c t =
+    passed_as c.from_residual-in_err-timed.result c.in_err-timed.field-0.0 (λ (r : Result (Unit {0}) ReplayError). IfErr r (λ error. is_unreadable error ≡ false)) c.from_residual-in_err-timed.ensures.1 (c.in_err-timed.ensures.readable t)
+
+pub returns-in_err-taken-clause-readable : goal.returns-in_err-taken-clause-readable
+returns-in_err-taken-clause-readable g c t =
+    passed_as c.from_residual-in_err-taken.result c.in_err-taken.field-0.0 (λ (r : Result (Unit {0}) ReplayError). IfErr r (λ error. is_unreadable error ≡ false)) c.from_residual-in_err-taken.ensures.1 (c.in_err-taken.ensures.readable t)
+
+pub returns-clause-readable : goal.returns-clause-readable
+returns-clause-readable g c t = c.end.ensures.readable t

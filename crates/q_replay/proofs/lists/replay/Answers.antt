@@ -1,5 +1,5 @@
 use Rattle.std.proofs.Common.{◌≡◌, ◌∙◌, ap, arith, false, None, Option, Some, subst, sym, true}
-use Rattle.std.specs.Prelude.{Err, is_none, Result}
+use Rattle.std.specs.Prelude.{Err, is_none, Result, IfErr}
 use Rattle.q_books.specs.HostStands.{TellsCrashes}
 use Rattle.q_engine.specs.declared.engine.Engine.{Engine}
 use Rattle.q_events.specs.Readings.{is_list_end}
@@ -8,13 +8,14 @@ use Rattle.q_events.specs.States.{EventsState, text_left, unread_list}
 use Rattle.q_model.specs.Ledger.{opening}
 use Rattle.q_model.specs.declared.event.Mode.TheVariants.{Deliver}
 use Rattle.q_replay.specs.ReplayEnds.{ReplayEnds}
-use Rattle.q_replay.specs.Takings.{NotTaken, ReplayCause, TookItem}
+use Rattle.q_replay.specs.Takings.{NotTaken, ReplayCause, TookItem, is_unreadable}
 use Rattle.q_replay.specs.declared.error.ReplayError.{ReplayError}
 use Rattle.q_replay.specs.declared.error.ReplayError.TheVariants as errors
 use Rattle.q_replay.proofs.Readings.{ledger_on}
 use Rattle.q_replay.proofs.Replaying.{delivers, ends_done, ends_unbegun, ends_unread, ends_untaken, for_each, for_text, IsGivenTo, may_begin, passed_as, same_new, some_given, went_begins, went_on}
 use Rattle.q_replay.proofs.Submitting.{cause_on, own_error, rose_later}
 use Rattle.q_replay.proofs.DamagedSpools.{none_only, only_passed, refused_passed, unread_only, untaken_only}
+use Rattle.q_replay.proofs.Readable.{list_readable}
 use Rattle.q_replay.proofs.lists.replay.Goals as goal
 
 pub loop-item-init : goal.loop-item-init
@@ -182,3 +183,14 @@ returns-in_err-next-clause-cause g c =
     let error = c.in_err-next.field-0.0 in
     passed_as c.from_residual-in_err-next.result error (λ (r : Result (Unit {0}) ReplayError). ReplayCause a d r) c.from_residual-in_err-next.ensures.1
     (cause_on a (g.H.Host.faults old.host) d error old.invariant.disk_later old.invariant.tell_later c.in_err-next.ensures.cause)
+
+pub returns-in_err-engine-clause-readable : goal.returns-in_err-engine-clause-readable
+returns-in_err-engine-clause-readable g c t =
+    passed_as c.from_residual.result c.in_err-engine.field-0.0 (λ (r : Result (Unit {0}) ReplayError). IfErr r (λ error. is_unreadable error ≡ false)) c.from_residual.ensures.1 (c.in_err-engine.ensures.readable t)
+
+pub returns-in_err-next-clause-readable : goal.returns-in_err-next-clause-readable
+returns-in_err-next-clause-readable g c t =
+    passed_as c.from_residual-in_err-next.result c.in_err-next.field-0.0 (λ (r : Result (Unit {0}) ReplayError). IfErr r (λ error. is_unreadable error ≡ false)) c.from_residual-in_err-next.ensures.1 (c.in_err-next.ensures.readable t)
+
+pub returns-in-Err-clause-readable : goal.returns-in-Err-clause-readable
+returns-in-Err-clause-readable g c t = rw c.list_error.ensures.exact (list_readable c.in-Err.error)

@@ -6,6 +6,7 @@ use Rattle.q_replay.proofs.DamagedSpools.{begun_damaged, begun_only, none_only, 
 use Rattle.q_replay.proofs.Takings.{error_is, never_begins, took_life}
 use Rattle.q_restart.proofs.OneSight.{sound-undamaged}
 use Rattle.q_replay.proofs.Submitting.{ok_lists}
+use Rattle.q_replay.proofs.Readable.{begun_readable}
 use Rattle.q_replay.proofs.taking.begin_life.Goals as goal
 
 pub returns-in-Ok-clause-ok : goal.returns-in-Ok-clause-ok
@@ -69,3 +70,6 @@ returns-in-Err-clause-only_damaged g c t =
 
 pub returns-in-Ok-clause-cause : goal.returns-in-Ok-clause-cause
 returns-in-Ok-clause-cause g c = ok_lists (g.H.Host.faults c.args.host.now) (g.H.Host.faults c.begin.new.host) c.in-Ok.engine c.begin.ensures.cause.disk_later c.begin.ensures.cause.tell_later
+
+pub returns-in-Err-clause-readable : goal.returns-in-Err-clause-readable
+returns-in-Err-clause-readable g c t = rw c.replay_error.ensures.exact (begun_readable c.args.line c.in-Err.error (c.in-Err.ensures.kinds c.in-Err.error refl))

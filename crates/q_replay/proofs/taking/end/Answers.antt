@@ -3,6 +3,7 @@ use Rattle.q_books.specs.HostStands.{TellsCrashes}
 use Rattle.q_engine.specs.Refusals.{refusal_of}
 use Rattle.q_replay.proofs.Submitting.{engine_passed, ok_lists}
 use Rattle.q_replay.proofs.Takings.{error_is, never_ends, took_end}
+use Rattle.q_replay.proofs.Readable.{ended_readable}
 use Rattle.q_replay.proofs.taking.end.Goals as goal
 
 pub returns-in-Ok-clause-ok : goal.returns-in-Ok-clause-ok
@@ -24,3 +25,6 @@ returns-in-Ok-clause-cause g c = ok_lists (g.H.Host.faults c.args.host.now) (g.H
 pub returns-in-Err-clause-cause : goal.returns-in-Err-clause-cause
 returns-in-Err-clause-cause g c =
     engine_passed (g.H.Host.faults c.args.host.now) (g.H.Host.faults c.finish.new.host) c.args.line c.in-Err.error c.replay_error.result c.finish.result c.in-Err.is c.replay_error.ensures.exact c.finish.ensures.cause
+
+pub returns-in-Err-clause-readable : goal.returns-in-Err-clause-readable
+returns-in-Err-clause-readable g c t = rw c.replay_error.ensures.exact (ended_readable c.args.line c.in-Err.error (c.in-Err.ensures.kinds c.in-Err.error refl))

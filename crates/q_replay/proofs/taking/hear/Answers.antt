@@ -4,6 +4,7 @@ use Rattle.q_engine.specs.Refusals.{refusal_of, refused_event}
 use Rattle.q_replay.proofs.Submitting.{engine_passed, ok_lists}
 use Rattle.q_replay.proofs.Takings.{error_is, heard, never_heard, not_refused}
 use Rattle.q_engine.proofs.EventForms.{form}
+use Rattle.q_replay.proofs.Readable.{engine_readable}
 use Rattle.q_replay.proofs.taking.hear.Goals as goal
 
 pub step-requires-clause-form : goal.step-requires-clause-form
@@ -23,6 +24,7 @@ returns-in-Err-clause-err g c at t w l h =
     let lawful : TellsCrashes v = record { only = g.met.H.Host.only_now c.args.host.now; told = g.met.H.Host.told_stays c.args.host.now } in
     rw c.replay_error.ensures.exact (never_heard w l c.args.engine c.args.event at v h lawful c.args.line error (g.H.Host.view c.step.new.host) (record {
       kinds = c.in-Err.ensures.kinds error refl;
+      readable = c.in-Err.ensures.readable t error refl;
       halts = λ fault is. c.in-Err.ensures.err fault (error_is error (refusal_of fault) is) t;
       refused = λ why is. ap g.H.Host.view (c.in-Err.ensures.refused w l h.core h.counts why is).1;
       only = λ of. c.in-Err.ensures.only_refused error refl of w l h.core h.counts;
@@ -35,3 +37,6 @@ returns-in-Ok-clause-cause g c =
 pub returns-in-Err-clause-cause : goal.returns-in-Err-clause-cause
 returns-in-Err-clause-cause g c =
     engine_passed (g.H.Host.faults c.args.host.now) (g.H.Host.faults c.step.new.host) c.args.line c.in-Err.error c.replay_error.result c.step.result c.in-Err.is c.replay_error.ensures.exact c.step.ensures.cause
+
+pub returns-in-Err-clause-readable : goal.returns-in-Err-clause-readable
+returns-in-Err-clause-readable g c t = rw c.replay_error.ensures.exact (engine_readable c.args.line c.in-Err.error (c.in-Err.ensures.readable t c.in-Err.error refl))

@@ -1,11 +1,11 @@
-use Rattle.std.proofs.Common.{arith, None, Option, Some}
-use Rattle.std.specs.Prelude.{Result}
+use Rattle.std.proofs.Common.{arith, None, Option, Some, ◌≡◌, false}
+use Rattle.std.specs.Prelude.{Result, IfErr}
 use Rattle.q_engine.specs.declared.engine.Engine.{Engine}
 use Rattle.q_events.specs.declared.item.Item.TheVariants.{End, Step}
 use Rattle.q_replay.proofs.Replaying.{passed_as}
 use Rattle.q_replay.proofs.Submitting.{cause_on, ok_lists}
 use Rattle.q_replay.proofs.Takings.{for_item, for_item_up, never_restarts, passed_on, restarts}
-use Rattle.q_replay.specs.Takings.{ReplayCause}
+use Rattle.q_replay.specs.Takings.{ReplayCause, is_unreadable}
 use Rattle.q_replay.specs.declared.error.ReplayError.{ReplayError}
 use Rattle.q_replay.proofs.taking.take.Goals as goal
 
@@ -72,3 +72,15 @@ returns-in_err-end-in-End-clause-cause g c =
 
 pub returns-in_ok-end-in-End-clause-cause : goal.returns-in_ok-end-in-End-clause-cause
 returns-in_ok-end-in-End-clause-cause g c = ok_lists (g.H.Host.faults c.args.host.now) (g.H.Host.faults c.end.new.host) _ c.end.ensures.cause.disk_later c.end.ensures.cause.tell_later
+
+pub returns-in_err-hear-in-Step-clause-readable : goal.returns-in_err-hear-in-Step-clause-readable
+returns-in_err-hear-in-Step-clause-readable g c t =
+    passed_as c.from_residual.result c.in_err-hear-in-Step.field-0.0 (λ (r : Result (Option Engine) ReplayError). IfErr r (λ error. is_unreadable error ≡ false)) c.from_residual.ensures.1 (c.in_err-hear-in-Step.ensures.readable t)
+
+pub returns-in_err-begin_life-in-Restart-clause-readable : goal.returns-in_err-begin_life-in-Restart-clause-readable
+returns-in_err-begin_life-in-Restart-clause-readable g c t =
+    passed_as c.from_residual-in_err-begin_life-in-Restart.result c.in_err-begin_life-in-Restart.field-0.0 (λ (r : Result (Option Engine) ReplayError). IfErr r (λ error. is_unreadable error ≡ false)) c.from_residual-in_err-begin_life-in-Restart.ensures.1 (c.in_err-begin_life-in-Restart.ensures.readable t)
+
+pub returns-in_err-end-in-End-clause-readable : goal.returns-in_err-end-in-End-clause-readable
+returns-in_err-end-in-End-clause-readable g c t =
+    passed_as c.from_residual-in_err-end-in-End.result c.in_err-end-in-End.field-0.0 (λ (r : Result (Option Engine) ReplayError). IfErr r (λ error. is_unreadable error ≡ false)) c.from_residual-in_err-end-in-End.ensures.1 (c.in_err-end-in-End.ensures.readable t)

@@ -3,6 +3,7 @@ use Rattle.q_top.proofs.Asked.{asked_form}
 use Rattle.q_top.specs.Qmgr.{texts_of}
 use Rattle.q_words.specs.declared.request.Request.{Request}
 use Rattle.q_words.specs.Requests.{IsRequest}
+use Rattle.q_top.proofs.Readable.{words_readable}
 use Rattle.q_top.proofs.command.qmgr.Goals as goal
 
 pub carry_out-requires-clause-form : goal.carry_out-requires-clause-form
@@ -13,3 +14,6 @@ returns-in-Ok-clause-unfinished g c n is =
     let words = texts_of c.args.words.now in
     let both = c.carry_out.ensures.unfinished n is in
     (subst (λ (r : Request). IsRequest words r) both.0 c.in-Ok.ensures.1, both.1)
+
+pub returns-in-Err-clause-readable : goal.returns-in-Err-clause-readable
+returns-in-Err-clause-readable g c t = rw c.words_status.ensures (words_readable c.in-Err.error)

@@ -1,6 +1,7 @@
 use Rattle.q_books.specs.HostStands.{TellsCrashes}
 use Rattle.q_top.proofs.Drains.{drained, never_of_source, unread_drain}
 use Rattle.q_top.proofs.RunsBehind.{still_fit}
+use Rattle.q_top.proofs.Readable.{conf_readable, delivered_readable}
 use Rattle.q_top.proofs.draining.drain_spool.Goals as goal
 
 pub returns-in-Ok-clause-drains : goal.returns-in-Ok-clause-drains
@@ -27,3 +28,9 @@ deliver-requires-clause-spool g c t =
 
 pub returns-in-Ok-clause-no_source : goal.returns-in-Ok-clause-no_source
 returns-in-Ok-clause-no_source g c is = never_of_source c.deliver.result c.deliver.ensures.no_source (rw c.delivery_status.ensures.exact at is)
+
+pub returns-in-Ok-clause-readable : goal.returns-in-Ok-clause-readable
+returns-in-Ok-clause-readable g c t = rw c.delivery_status.ensures.exact (delivered_readable c.deliver.result (c.deliver.ensures.readable t))
+
+pub returns-in-Err-clause-readable : goal.returns-in-Err-clause-readable
+returns-in-Err-clause-readable g c t = rw c.conf_status.ensures.exact (conf_readable c.in-Err.error)

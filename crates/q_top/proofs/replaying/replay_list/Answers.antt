@@ -2,6 +2,7 @@ use Rattle.std.proofs.Common.{refl}
 use Rattle.q_books.specs.HostStands.{TellsCrashes}
 use Rattle.q_top.proofs.FirstRefusals.{replayed, unread_replay}
 use Rattle.q_top.proofs.RunsBehind.{still_fit}
+use Rattle.q_top.proofs.Readable.{conf_readable, ended_readable}
 use Rattle.q_top.proofs.replaying.replay_list.Goals as goal
 
 pub returns-in-Ok-clause-replays : goal.returns-in-Ok-clause-replays
@@ -24,3 +25,9 @@ replay-requires-clause-spool g c t =
     let u = g.H.Host.view c.args.host.now in
     let lawful : TellsCrashes u = record { only = g.met.H.Host.only_now c.args.host.now; told = g.met.H.Host.told_stays c.args.host.now } in
     still_fit u (g.H.Host.view c.read_conf.new.host) lawful (c.read_conf.ensures.stays t) (c.requires.spool t)
+
+pub returns-in-Ok-clause-readable : goal.returns-in-Ok-clause-readable
+returns-in-Ok-clause-readable g c t = rw c.status_of.ensures.exact (ended_readable c.replay.result (c.replay.ensures.readable t))
+
+pub returns-in-Err-clause-readable : goal.returns-in-Err-clause-readable
+returns-in-Err-clause-readable g c t = rw c.conf_status.ensures.exact (conf_readable c.in-Err.error)

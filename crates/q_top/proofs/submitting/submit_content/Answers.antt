@@ -1,4 +1,5 @@
 use Rattle.q_top.proofs.Submissions.{no_content, with_content}
+use Rattle.q_top.proofs.Readable.{content_readable}
 use Rattle.q_top.proofs.submitting.submit_content.Goals as goal
 
 pub returns-in-Ok-clause-submits : goal.returns-in-Ok-clause-submits
@@ -14,3 +15,9 @@ returns-in-Err-clause-submits g c t =
     let given = g.C.Clock.given in
     rw c.content_status.ensures.exact (no_content c.args.sender c.args.to (record { before = left c.args.source.now; after = left c.read_content.new.source }) (record { before = given c.args.clock.now; after = given c.args.clock.now })
     (g.H.Host.view c.args.host.now) c.in-Err.error c.in-Err.ensures.error)
+
+pub returns-in-Ok-clause-readable : goal.returns-in-Ok-clause-readable
+returns-in-Ok-clause-readable g c t = c.submit_letter.ensures.readable t
+
+pub returns-in-Err-clause-readable : goal.returns-in-Err-clause-readable
+returns-in-Err-clause-readable g c t = rw c.content_status.ensures.exact (content_readable c.in-Err.error)

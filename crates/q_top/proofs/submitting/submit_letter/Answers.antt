@@ -1,6 +1,7 @@
 use Rattle.q_books.specs.HostStands.{TellsCrashes}
 use Rattle.q_top.proofs.FirstRefusals.{never_source, submitted_so, unread_submission}
 use Rattle.q_top.proofs.RunsBehind.{still_fit}
+use Rattle.q_top.proofs.Readable.{conf_readable, ended_readable}
 use Rattle.q_top.proofs.submitting.submit_letter.Goals as goal
 
 pub returns-in-Ok-clause-submits : goal.returns-in-Ok-clause-submits
@@ -24,3 +25,9 @@ submit-requires-clause-spool g c t =
 
 pub returns-in-Ok-clause-no_source : goal.returns-in-Ok-clause-no_source
 returns-in-Ok-clause-no_source g c is = never_source c.submit.result c.submit.ensures.no_source (rw c.status_of.ensures.exact at is)
+
+pub returns-in-Ok-clause-readable : goal.returns-in-Ok-clause-readable
+returns-in-Ok-clause-readable g c t = rw c.status_of.ensures.exact (ended_readable c.submit.result (c.submit.ensures.readable t))
+
+pub returns-in-Err-clause-readable : goal.returns-in-Err-clause-readable
+returns-in-Err-clause-readable g c t = rw c.conf_status.ensures.exact (conf_readable c.in-Err.error)

@@ -1,10 +1,12 @@
-use Rattle.std.proofs.Common.{subst, sym}
+use Rattle.std.proofs.Common.{◌∙◌, ap, subst, sym}
 use Rattle.q_books.proofs.Joining.{reads_keep}
 use Rattle.q_books.specs.HostStands.{TellsCrashes}
 use Rattle.q_engine.proofs.Counting.{counts_core}
 use Rattle.q_engine.proofs.Looking.{always_err, shown_answers}
 use Rattle.q_engine.proofs.Boxed.{lent_agrees}
 use Rattle.q_core.specs.Answers.{IsFound}
+use Rattle.q_core.specs.Deciding.{is_look}
+use Rattle.q_core.specs.Looking.{LeavesFewer}
 use Rattle.q_core.specs.declared.state.Core.{Core}
 use Rattle.q_engine.proofs.engine.Engine.answer.Goals as goal
 
@@ -25,3 +27,9 @@ returns-in_err-found-clause-err g c = always_err c.from_residual.result (λ t w 
     let x = g.H.Host.view c.look.new.host in
     let lawful : TellsCrashes v = (record { only = g.met.H.Host.only_now c.args.host.now; told = g.met.H.Host.told_stays c.args.host.now }) in
     reads_keep l.book l.book v x lawful (c.in_err-found.ensures.stays t) h.host)
+
+pub look-requires : goal.look-requires
+look-requires g c = ap is_look (sym c.requires.asked) ∙ c.requires.look
+
+pub returns-clause-fewer : goal.returns-clause-fewer
+returns-clause-fewer g c = subst (λ (k : Core). LeavesFewer k c.found.new.self) c.deref_mut.ensures.value c.found.ensures.fewer

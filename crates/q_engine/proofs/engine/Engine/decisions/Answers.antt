@@ -1,9 +1,13 @@
 use Rattle.std.proofs.Common.{arith, subst, Option}
+use Rattle.std.specs.Prelude.{IfSome}
+use Rattle.q_engine.specs.KeptRows.{KeepsRow}
 use Rattle.q_model.specs.Step.{after_all}
 use Rattle.q_books.proofs.Results.{on_ok}
 use Rattle.q_engine.specs.Stands.{IsNextEntry}
 use Rattle.q_core.specs.declared.decision.Decision.{Decision}
-use Rattle.q_engine.proofs.DecisionLoops.{halts_at, halts_here, halts_looking, same_error, went_all, went_more, went_none}
+use Rattle.q_engine.proofs.DecisionLoops.{halts_at, halts_here, halts_looking, went_all, went_more, went_none}
+use Rattle.q_engine.proofs.Stopping.{disk_stopped, host_readable, memory_readable, memory_stop, only_memory, same_stop, stop_later, stop_passed, stop_readable}
+use Rattle.q_engine.specs.declared.stop.Stop.TheVariants as stops
 use Rattle.q_engine.proofs.engine.Engine.decisions.Goals as goal
 
 pub loop-init : goal.loop-init
@@ -48,7 +52,7 @@ returns-in_err-carry_out-clause-err g c error is t w l h =
     let got = c.in_ok-decision.ensures.ok t w m so_far.stands in
     let one = subst (λ (d : Option Decision). IsNextEntry w m d c.next_entry.new.self (g.H.Host.view c.next_entry.new.host)) c.in-Some.is got.0 in
     halts_at w l c.loop.counter c.loop.self (g.H.Host.view c.args.host.now) (g.H.Host.view c.loop.host) (g.H.Host.view c.next_entry.new.host) (g.H.Host.view c.carry_out.new.host)
-    (omega (arith, c.loop-test.true)) so_far error got.1 (c.in_err-carry_out.ensures.err error (same_error c.from_residual-in_err-carry_out.result c.in_err-carry_out.field-0.0 error c.from_residual-in_err-carry_out.ensures.1 is) t w m one)
+    (omega (arith, c.loop-test.true)) so_far error got.1 (c.in_err-carry_out.ensures.err error (same_stop c.from_residual-in_err-carry_out.result c.in_err-carry_out.field-0.0 (stops.Host error) c.from_residual-in_err-carry_out.ensures.1 is) t w m one)
 
 pub loop-preserved : goal.loop-preserved
 loop-preserved g c = record {
@@ -67,3 +71,38 @@ loop-preserved g c = record {
 pub returns-clause-err : goal.returns-clause-err
 returns-clause-err g c error is t w l h =
     halts_here w l c.loop.counter c.loop.self (g.H.Host.view c.args.host.now) (g.H.Host.view c.loop.host) error (c.loop.invariant.went t w l h)
+
+pub returns-in_err-decision-clause-readable : goal.returns-in_err-decision-clause-readable
+returns-in_err-decision-clause-readable g c = host_readable g.H.Host.tells c.from_residual.result c.in_err-decision.field-0.0 c.from_residual.ensures.1
+
+pub returns-in_err-carry_out-clause-readable : goal.returns-in_err-carry_out-clause-readable
+returns-in_err-carry_out-clause-readable g c = stop_readable g.H.Host.tells c.from_residual-in_err-carry_out.result c.in_err-carry_out.field-0.0 c.from_residual-in_err-carry_out.ensures.1 c.in_err-carry_out.ensures.readable
+
+pub returns-in_default-clause-readable : goal.returns-in_default-clause-readable
+returns-in_default-clause-readable g c = memory_readable g.H.Host.tells c.come_to_rest.result c.come_to_rest.ensures.only_memory
+
+pub returns-in_err-decision-clause-cause : goal.returns-in_err-decision-clause-cause
+returns-in_err-decision-clause-cause g c =
+    let b = g.H.Host.faults c.loop.host in
+    let z = g.H.Host.faults c.next_entry.new.host in
+    let r = c.from_residual.result in
+    stop_later (g.H.Host.faults c.args.host.now) b z r c.loop.invariant.disk_later c.loop.invariant.tell_later (disk_stopped b z r c.in_err-decision.field-0.0 c.from_residual.ensures.1 c.in_err-decision.ensures.cause)
+
+pub returns-in_default-clause-cause : goal.returns-in_default-clause-cause
+returns-in_default-clause-cause g c =
+    let looked = c.in_ok-decision.ensures.cause in
+    only_memory (g.H.Host.faults c.args.host.now) (g.H.Host.faults c.next_entry.new.host) c.come_to_rest.result c.come_to_rest.ensures.only_memory (omega (arith, c.loop.invariant.disk_later, looked.disk_later)) (omega (arith, c.loop.invariant.tell_later, looked.tell_later))
+
+pub returns-in_err-carry_out-clause-cause : goal.returns-in_err-carry_out-clause-cause
+returns-in_err-carry_out-clause-cause g c =
+    let b = g.H.Host.faults c.next_entry.new.host in
+    let z = g.H.Host.faults c.carry_out.new.host in
+    let looked = c.in_ok-decision.ensures.cause in
+    let r = c.from_residual-in_err-carry_out in
+    stop_later (g.H.Host.faults c.args.host.now) b z r.result (omega (arith, c.loop.invariant.disk_later, looked.disk_later)) (omega (arith, c.loop.invariant.tell_later, looked.tell_later)) (stop_passed b z r.result c.in_err-carry_out.field-0.0 r.ensures.1 c.in_err-carry_out.ensures.cause)
+
+pub returns-clause-cause : goal.returns-clause-cause
+returns-clause-cause g c = memory_stop (g.H.Host.faults c.args.host.now) (g.H.Host.faults c.loop.host) c.loop.invariant.disk_later c.loop.invariant.tell_later
+
+pub carry_out-requires-clause-row : goal.carry_out-requires-clause-row
+carry_out-requires-clause-row g c = subst (λ (o : Option Decision). IfSome o (λ d. KeepsRow d c.next_entry.new.self.core.value)) c.in-Some.is c.in_ok-decision.ensures.row

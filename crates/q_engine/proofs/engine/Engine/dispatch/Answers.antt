@@ -1,4 +1,6 @@
-use Rattle.std.proofs.Common.{IsTrue, ap}
+use Rattle.std.proofs.Common.{IsTrue, ap, subst}
+use Rattle.q_core.specs.declared.decision.Decision.{Decision}
+use Rattle.q_engine.specs.KeptRows.{KeepsRow}
 use Rattle.q_engine.specs.KeptPlaces.{left_by}
 use Rattle.q_core.specs.declared.decision.Decision.TheVariants as decisions
 use Rattle.q_engine.proofs.DecisionArms.{arm_ok}
@@ -34,9 +36,6 @@ returns-in-Start-clause-ok g c = arm_ok c.start.result (IsTrue g.H.Host.tells) c
 pub returns-in-Log-clause-ok : goal.returns-in-Log-clause-ok
 returns-in-Log-clause-ok g c = arm_ok c.log.result (IsTrue g.H.Host.tells) c.args.decision.now (decisions.Log c.in-Log.id c.in-Log.failure) c.args.self.now c.args.self.now _ _ c.in-Log.is c.log.ensures.ok
 
-pub returns-in-Mark-clause-ok : goal.returns-in-Mark-clause-ok
-returns-in-Mark-clause-ok g c = arm_ok c.mark.result (IsTrue g.H.Host.tells) c.args.decision.now (decisions.Mark c.in-Mark.id c.in-Mark.position) c.args.self.now c.mark.new.self _ _ c.in-Mark.is c.mark.ensures.ok
-
 pub returns-in-Bounce-clause-ok : goal.returns-in-Bounce-clause-ok
 returns-in-Bounce-clause-ok g c = arm_ok c.bounce.result (IsTrue g.H.Host.tells) c.args.decision.now (decisions.Bounce c.in-Bounce.id) c.args.self.now c.args.self.now _ _ c.in-Bounce.is c.bounce.ensures.ok
 
@@ -45,3 +44,6 @@ returns-in-Read-clause-ok g c = arm_ok c.load.result (IsTrue g.H.Host.tells) c.a
 
 pub remove-requires-clause-forgotten : goal.remove-requires-clause-forgotten
 remove-requires-clause-forgotten g c = c.requires.forgotten c.in-Remove.id (ap left_by c.in-Remove.is)
+
+pub skip-requires-clause-row : goal.skip-requires-clause-row
+skip-requires-clause-row g c = subst (λ (d : Decision). KeepsRow d c.args.self.now.core.value) c.in-Skip.is c.requires.row

@@ -2,7 +2,6 @@ use Rattle.std.proofs.Common.{◌+◌, refl, subst, arith}
 use Rattle.q_books.proofs.Results.{on_ok}
 use Rattle.q_entries.proofs.Lines.{changed_does, changed_stops, may_stop}
 use Rattle.q_entries.specs.Entries.{StopsEntry}
-use Rattle.q_model.specs.Arrivals.{next_id}
 use Rattle.q_model.specs.Step.{after, change}
 use Rattle.q_model.specs.declared.entry.Entry.TheVariants as entries
 use Rattle.q_model.specs.declared.id.Id.{Id}
@@ -10,7 +9,7 @@ use Rattle.q_transport.specs.Routing.{table_of}
 use Rattle.q_engine.specs.declared.engine.Engine.{Engine}
 use Rattle.q_engine.specs.Heard.{WasDone}
 use Rattle.q_engine.proofs.Counting.{counts_arrival}
-use Rattle.q_engine.proofs.HeardEvents.{done, not_done, stopped}
+use Rattle.q_engine.proofs.HeardEvents.{done, stopped}
 use Rattle.q_engine.proofs.Mails.{adds_as, mail_adds, mail_allowed, mail_id, mail_next}
 use Rattle.q_engine.proofs.StoredNotes.{plain_told}
 use Rattle.q_engine.specs.Stands.{with_core}

@@ -6,7 +6,7 @@ use Rattle.q_entries.specs.Entries.{DoesEntry, StopsEntry}
 use Rattle.q_model.specs.declared.entry.Entry.TheVariants as entries
 use Rattle.q_transport.specs.Routing.{table_of}
 use Rattle.q_engine.proofs.Counting.{counts_core, counts_stay}
-use Rattle.q_engine.proofs.HeardEvents.{allowed_by, done, not_done, stopped}
+use Rattle.q_engine.proofs.HeardEvents.{allowed_by, done, stopped}
 use Rattle.q_engine.proofs.QuietEvents.{moment_book}
 use Rattle.q_engine.proofs.StoredNotes.{files_keep, plain_notes}
 use Rattle.q_engine.specs.Stands.{with_core}

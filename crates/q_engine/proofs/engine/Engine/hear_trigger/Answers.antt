@@ -2,7 +2,7 @@ use Rattle.std.proofs.Common.{◌∙◌, sym, refl}
 use Rattle.q_books.proofs.Results.{on_ok}
 use Rattle.q_model.specs.declared.entry.Entry.TheVariants as entries
 use Rattle.q_engine.proofs.Counting.{counts_core, counts_stay}
-use Rattle.q_engine.proofs.HeardEvents.{allowed_by, done, not_done, stopped}
+use Rattle.q_engine.proofs.HeardEvents.{allowed_by, done, stopped}
 use Rattle.q_engine.proofs.QuietEvents.{trigger_book}
 use Rattle.q_engine.proofs.StoredNotes.{files_keep, plain_notes}
 use Rattle.q_engine.specs.Stands.{with_core}

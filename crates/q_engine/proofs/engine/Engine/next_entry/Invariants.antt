@@ -3,12 +3,13 @@ use Rattle.q_model.specs.Ledger.{Ledger}
 use Rattle.q_model.specs.Settings.{World}
 use Rattle.q_books.specs.HostStands.{KeepsNotes, Takes}
 use Rattle.q_core.specs.Deciding.{is_answered}
+use Rattle.q_core.specs.Looking.{looks_left}
 use Rattle.q_engine.specs.Stands.{EngineStands}
 use Rattle.q_engine.proofs.engine.Engine.next_entry.Given as goal
 
 -- nothing but looks was done
-abbrev pub invariant-loop : goal.invariant-loop
-invariant-loop g l =
+abbrev pub invariant-loop-decision : goal.invariant-loop-decision
+invariant-loop-decision g l =
     let view = g.H.Host.view in
     let faults = g.H.Host.faults in
     record {
@@ -19,3 +20,7 @@ invariant-loop g l =
       disk_later : (faults l.fn.host).disk ≤ (faults l.host).disk;
       tell_later : (faults l.fn.host).tell ≤ (faults l.host).tell;
     }
+
+-- each answer leaves fewer looks
+abbrev pub decreases-loop-decision : goal.decreases-loop-decision
+decreases-loop-decision g l = looks_left l.self.core.value

@@ -1,0 +1,12 @@
+use Rattle.q_message.specs.Told.{bytes_at}
+use Rattle.q_message.specs.declared.error.MessageError.TheVariants.{NotAMessage}
+use Rattle.q_engine.proofs.Unread.{err_same, none_read, unless_none}
+use Rattle.q_engine.proofs.read_fault.head_at.Goals as goal
+
+pub returns-in-Err-clause-head : goal.returns-in-Err-clause-head
+returns-in-Err-clause-head g c = unless_none c.unless_damaged.result c.in-Err.error _ c.unless_damaged.ensures (λ place is. tt)
+
+pub returns-in-Err-clause-none : goal.returns-in-Err-clause-none
+returns-in-Err-clause-none g c =
+    unless_none c.unless_damaged.result c.in-Err.error _ c.unless_damaged.ensures (λ place is t.
+    none_read (bytes_at (g.H.Host.view c.args.host.now) c.args.spot) place (c.read_head.ensures.no_message place (err_same c.read_head.result c.in-Err.error (NotAMessage place) c.in-Err.is is) t))
