@@ -9,7 +9,7 @@ use Rattle.slab.specs.Slab.{get, Slab}
 use Rattle.q_link.specs.Views.{View}
 use Rattle.q_agent.specs.Places.{IsNext, Parts}
 use Rattle.q_model.proofs.EachLaws.{any-map}
-use Rattle.q_agent.specs.Sessions.{IsSound, OpenSession, Rises, Sessions, is_turn_over, next_polled}
+use Rattle.q_agent.specs.Sessions.{IsSound, OpenSession, Rises, Sessions, is_sweep_over, next_polled}
 use Rattle.q_agent.specs.Slots.{Holds, shown, shown_at}
 use Rattle.q_agent.specs.declared.held.Held.{Held}
 use Rattle.q_agent.specs.declared.slot.Slot.{Slot}
@@ -62,11 +62,11 @@ module _ {L : Type 0} (view : L → View) where
   rising slab slots ss holds same = nondecreasing (λ (e : Slot). e.number) ss (subst (λ (es : List Slot). Rises (map (λ (e : Slot). e.number) es)) (sym same) holds.rise)
 
   pub over_is : (slab : Slab (Held L)) (slots : List Slot) (polled place : ℕ) (s : Sessions) → record { listed = map (shown_at view slab) slots; polled = polled } ≡ s
-      → place ≤ length slots → Parts polled slots place → (place == length slots) ≡ is_turn_over s
+      → place ≤ length slots → Parts polled slots place → (place == length slots) ≡ is_sweep_over s
   over_is slab slots polled place s is within point =
       end_is (λ (e : Slot). nat_lt polled e.number) slots place within (none_before slots polled place within point) (all_from slots polled place point)
       ∙ ap not (sym (any-map (λ (o : OpenSession). nat_lt polled o.number) (shown_at view slab) slots))
-      ∙ ap is_turn_over is
+      ∙ ap is_sweep_over is
 
   -- the session of a slot, and the one that is polled next
   pub sound_at : (slab : Slab (Held L)) (slots : List Slot) (place : ℕ) (e : Slot) (h : Held L) → Holds view slab slots → slice_get slots place ≡ Some e → get slab e.key ≡ Some h → IsSound (shown view e.number h)
@@ -84,6 +84,6 @@ module _ {L : Type 0} (view : L → View) where
       ∙ ap Some (shown_there view slab e h there)
 
   pub over_same : (slab : Slab (Held L)) (slots ss : List Slot) (polled place : ℕ) (s : Sessions) → record { listed = map (shown_at view slab) slots; polled = polled } ≡ s → ss ≡ slots
-      → place ≤ length ss → Parts polled ss place → (place == length ss) ≡ is_turn_over s
+      → place ≤ length ss → Parts polled ss place → (place == length ss) ≡ is_sweep_over s
   over_same slab slots ss polled place s is same within point =
       over_is slab ss polled place s (ap (λ (es : List Slot). record { listed = map (shown_at view slab) es; polled = polled }) same ∙ is) within point

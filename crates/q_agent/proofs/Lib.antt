@@ -7,5 +7,5 @@ pub mod ReadingLaws
 pub mod Beginning
 pub mod Kept
 pub mod PollLaws
-pub mod TurnLaws
+pub mod NextPollLaws
 pub mod RequestLaws

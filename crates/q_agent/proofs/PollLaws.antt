@@ -18,7 +18,7 @@ use Rattle.q_model.specs.declared.outcome.Outcome.{Outcome}
 use Rattle.q_smtp.specs.Codes.{put_off}
 use Rattle.q_agent.specs.Polling.{Concluded, PollsOnce, PollsWork}
 use Rattle.q_agent.specs.Sessions.{IsSoundWork, Work}
-use Rattle.q_agent.specs.Turns.{Counts as CountsOutcomes, IsReportOf, IsTimely}
+use Rattle.q_agent.specs.NextPoll.{Counts as CountsOutcomes, IsReportOf, IsTimely}
 
 -- what is said of a poll, whatever it answered
 pub record Polls (tells : Bool) (host : HostView) (now : ℕ) (w v : Work) (r : Result Polled HostError) : Type 0 where

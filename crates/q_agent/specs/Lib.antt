@@ -1,6 +1,6 @@
 pub mod Sessions
 pub mod Requests
-pub mod Turns
+pub mod NextPoll
 pub mod Answers
 pub mod Rests
 pub mod Readings

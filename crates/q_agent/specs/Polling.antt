@@ -10,7 +10,7 @@ use Rattle.q_session.specs.Polls.{Counts}
 use Rattle.q_session.specs.declared.polled.Polled.{Polled}
 use Rattle.q_session.specs.declared.polled.Polled.TheVariants.{Over, Working}
 use Rattle.q_agent.specs.Sessions.{OpenSession, Work}
-use Rattle.q_agent.specs.Turns.{IsPolled, IsReportOf, IsWorking}
+use Rattle.q_agent.specs.NextPoll.{IsPolled, IsReportOf, IsWorking}
 use Rattle.q_agent.specs.declared.report.Report.{Report}
 
 -- a session was polled, and has its outcomes where it is over

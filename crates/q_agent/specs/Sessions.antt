@@ -16,7 +16,7 @@ pub record OpenSession : Type 0 where
   pub recipients : ℕ
   pub work : Option Work
 
--- the open sessions, in order of their numbers; those of at most this number were polled in this turn
+-- the open sessions, in order of their numbers; those of at most this number were polled in this sweep
 pub record Sessions : Type 0 where
   pub listed : List OpenSession
   pub polled : ℕ
@@ -38,14 +38,14 @@ abbrev pub Rises : List ℕ → Type 0
 Rises [] = Unit {0}
 Rises (n ∷ ns) = AllByRecursion (λ m. n < m) ns × Rises ns
 
--- the first that wasn't polled in this turn
+-- the first that wasn't polled in this sweep
 abbrev pub unpolled : Sessions → Option OpenSession
 unpolled s = find (λ o. nat_lt s.polled o.number) s.listed
 
-abbrev pub is_turn_over : Sessions → Bool
-is_turn_over s = not (list_any (λ o. nat_lt s.polled o.number) s.listed)
+abbrev pub is_sweep_over : Sessions → Bool
+is_sweep_over s = not (list_any (λ o. nat_lt s.polled o.number) s.listed)
 
--- the one that is polled next: where the turn is over, the next turn begins
+-- the one that is polled next: where the sweep is over, the next sweep begins
 abbrev pub next_polled : Sessions → Option OpenSession
 next_polled s = option_or (unpolled s) (slice_get s.listed 0)
 

@@ -5,10 +5,10 @@ ghost use Rattle.q_host.specs.Calls.{Stays};
 ghost use Rattle.q_host.specs.Faults.{DiskCause};
 ghost use Rattle.q_link.specs.Records.{AddsHops, Connects, Rests, StaysOpen, with_hop};
 ghost use Rattle.q_session.specs.Mails.{Mail, StandsAt};
-ghost use Rattle.q_agent.specs.Sessions.{OpenSession, Sessions, has_number, is_turn_over, link_waits, next_polled, with_session};
+ghost use Rattle.q_agent.specs.Sessions.{OpenSession, Sessions, has_number, is_sweep_over, link_waits, next_polled, with_session};
 ghost use Rattle.q_agent.specs.Requests.{IsReadable, Opens, TriesConnect, active_spot};
 ghost use Rattle.q_agent.specs.Rests.{RestsOne};
-ghost use Rattle.q_agent.specs.Answers.{IsStanding, Stopped, Turned};
+ghost use Rattle.q_agent.specs.Answers.{IsStanding, PollsNext, Stopped};
 
 use crate::held::Held;
 use crate::opening::begin;
@@ -22,14 +22,14 @@ use std::alloc::Global;
 use std::marker::Model;
 
 /// Open sessions, each with its link. A contract sees the list of them, in order of their numbers,
-/// with what is known of their links, and which of them this turn polled.
+/// with what is known of their links, and which of them this sweep polled.
 #[derive(Drop)]
 pub struct Agent<L: Link> {
     // in order of their numbers
     slots: Vec<Slot>,
     // A session is large, and stays where it is while others come and go.
     sessions: Slab<Held<L>>,
-    // This turn polled the sessions up to this number.
+    // This sweep polled the sessions up to this number.
     polled: u64,
 }
 
@@ -122,13 +122,13 @@ impl<L: Link> Agent<L> {
         Ok(())
     }
 
-    /// Polls the next session that this turn hasn't polled, in order of their numbers; where the
-    /// turn is over, this begins the next one. Where the session is over, its link is closed, and
+    /// Polls the next session that this sweep hasn't polled, in order of their numbers; where the
+    /// sweep is over, this begins the next one. Where the session is over, its link is closed, and
     /// it is reported. `None` comes where it goes on, and where no session is open.
     ///
-    /// After an error each delivery has its session still, and the turn has not gone on. Where
+    /// After an error each delivery has its session still, and the sweep has not gone on. Where
     /// closing its link took memory that wasn't there, the session has no link from then on.
-    pub fn turn<H: Host, N: Hops<Link = L>>(
+    pub fn poll_next<H: Host, N: Hops<Link = L>>(
         &mut self,
         alloc: Global,
         host: &mut H,
@@ -137,7 +137,7 @@ impl<L: Link> Agent<L> {
     ) -> Result<Option<Report>, HostError>
         requires there { IsTrue H.tells
             → AllByRecursion (IsStanding H.tells (H.view host.old)) self.old.listed }
-        ensures ok { IfOk result (λ r. Turned H.tells (H.view host.old) now
+        ensures ok { IfOk result (λ r. PollsNext H.tells (H.view host.old) now
             (N.view hops.old) (N.view hops.new) (next_polled self.old) r self.old self.new) }
         ensures err { OnErr result (Stopped (next_polled self.old) self.old self.new) }
         ensures unrecorded { OnErr result (StaysOpen (N.view hops.old) (N.view hops.new)) }
@@ -160,24 +160,24 @@ impl<L: Link> Agent<L> {
         Ok(Some(report))
     }
 
-    /// Begins the next turn without a poll.
-    pub fn next_turn(&mut self)
+    /// Begins the next sweep without a poll.
+    pub fn next_sweep(&mut self)
         ensures { self.new ≡ record self.old { polled = 0 } }
     {
         self.polled = 0;
     }
 
-    /// Whether this turn polled every open session.
-    pub fn turn_over(&self) -> bool
-        ensures { result ≡ is_turn_over self.now }
+    /// Whether this sweep polled every open session.
+    pub fn sweep_over(&self) -> bool
+        ensures { result ≡ is_sweep_over self.now }
     {
         place_above(&self.slots, self.polled) == self.slots.len()
     }
 
-    /// Gives one of the open links to the rest of these hops. The turn is over, a session is open,
+    /// Gives one of the open links to the rest of these hops. The sweep is over, a session is open,
     /// and the link of every open session waits.
     pub fn rest<N: Hops<Link = L>>(&mut self, hops: &mut N)
-        requires over { is_turn_over self.old ≡ true }
+        requires over { is_sweep_over self.old ≡ true }
         requires some { self.old.listed ≢ [] }
         requires waits { list_all link_waits self.old.listed ≡ true }
         ensures rests { RestsOne self.old self.new }

@@ -1,7 +1,7 @@
-//! The delivery agent: SMTP sessions (RFC 5321) by the numbers of their deliveries, polled in turns,
-//! with one report for each request.
+//! The delivery agent: SMTP sessions (RFC 5321) by the numbers of their deliveries, polled in
+//! sweeps, with one report for each request.
 //!
-//! A turn polls each open session once, in order of their numbers, by one call for each. A request
+//! A sweep polls each open session once, in order of their numbers, by one call for each. A request
 //! for which no connection comes about is reported too, at the poll of its session: its site is
 //! down, and its recipients are put off.
 //!

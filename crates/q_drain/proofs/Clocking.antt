@@ -5,7 +5,7 @@ use Rattle.std.specs.Prelude.{nat_lt}
 use Rattle.q_drain.proofs.Adding.{moments_added}
 use Rattle.q_drain.proofs.Silent.{AreInside, no_moments}
 use Rattle.q_drain.specs.Told.{moment_after, moment_behind, moment_of, moments_of}
-use Rattle.q_drain.specs.Turns.{rising, rising_past}
+use Rattle.q_drain.specs.Sweeps.{rising, rising_past}
 use Rattle.q_model.specs.declared.entry.Entry.{Entry}
 use Rattle.q_model.specs.declared.entry.Entry.TheVariants as entries
 

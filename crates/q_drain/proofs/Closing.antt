@@ -4,7 +4,7 @@ use native.Mathlib.Omega.{arith}
 use Rattle.std.specs.Prelude.{IfSome, nat_le}
 use Rattle.std.proofs.lemmas.Option.{same_Some}
 use Rattle.q_agent.specs.Sessions.{Work}
-use Rattle.q_agent.specs.Turns.{Concludes, Counts}
+use Rattle.q_agent.specs.NextPoll.{Concludes, Counts}
 use Rattle.q_drain.proofs.Replying.{longer}
 use Rattle.q_drain.proofs.Waiting.{waits_closed}
 use Rattle.q_model.specs.declared.entry.Entry.{Entry}

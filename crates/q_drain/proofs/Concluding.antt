@@ -6,7 +6,7 @@ use Rattle.std.proofs.lemmas.Option.{same_Some}
 use Rattle.std.specs.List.{AllByRecursion}
 use Rattle.std.specs.Prelude.{◌&&◌, ◌==◌, ◌||◌, nat_le, nat_lt}
 use Rattle.q_agent.specs.Sessions.{OpenSession, Rises, without}
-use Rattle.q_agent.specs.Turns.{IsReportOf}
+use Rattle.q_agent.specs.NextPoll.{IsReportOf}
 use Rattle.q_agent.specs.declared.report.Report.{Report}
 use Rattle.q_drain.proofs.Moments.{begun_behind, drives_retold}
 use Rattle.q_drain.proofs.Polling.{same_flag}
@@ -61,7 +61,7 @@ first_beside polled o x os true found is first above rest =
 first_beside polled o x os false found is first above rest =
     kept_beside (IsBeside polled o.number) x (without o.number os) (x.number == o.number) (λ e. inl (ltb-false polled x.number is)) (rest first)
 
--- where it is the first that this turn hasn't polled
+-- where it is the first that this sweep hasn't polled
 pub beside : (polled : ℕ) (o : OpenSession) (os : List OpenSession) → Rises (map (λ (x : OpenSession). x.number) os) → find (λ (q : OpenSession). nat_lt polled q.number) os ≡ Some o → AllByRecursion (IsBeside polled o.number) (without o.number os)
 beside polled o [] rises first = tt
 beside polled o (x ∷ os) rises first = first_beside polled o x os (nat_lt polled x.number) (find (λ (q : OpenSession). nat_lt polled q.number) os) refl first rises.0 (λ found. beside polled o os rises.1 found)

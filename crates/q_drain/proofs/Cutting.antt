@@ -11,7 +11,7 @@ use Rattle.q_drain.specs.Drains.{IsCut}
 use Rattle.q_drain.specs.Driving.{AreConnected, HasCases}
 use Rattle.q_drain.specs.Stories.{Story}
 use Rattle.q_drain.specs.Told.{Begun, begun, begun_from, ended, moment_after, moments_of}
-use Rattle.q_drain.specs.Turns.{SomeConnected, rising}
+use Rattle.q_drain.specs.Sweeps.{SomeConnected, rising}
 use Rattle.q_model.specs.declared.entry.Entry.{Entry}
 use Rattle.q_model.specs.declared.rows.Delivery.{Delivery}
 use Rattle.q_model.specs.Ledger.{Ledger}

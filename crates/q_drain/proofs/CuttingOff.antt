@@ -7,7 +7,7 @@ use Rattle.std.specs.List.{AllByRecursion, count_by}
 use Rattle.std.specs.Option.{is_some}
 use Rattle.std.specs.Prelude.{◌&&◌, ◌==◌}
 use Rattle.q_agent.specs.Sessions.{OpenSession, Rises, replaced, without}
-use Rattle.q_agent.specs.Turns.{GoesOn}
+use Rattle.q_agent.specs.NextPoll.{GoesOn}
 use Rattle.q_agent.specs.Sessions.{Work}
 use Rattle.q_drain.proofs.Pairing.{HasNumber}
 use Rattle.q_drain.proofs.Replying.{longer}

@@ -5,15 +5,15 @@ use Rattle.std.proofs.lemmas.List.{append-nil, length-map, map-append}
 use Rattle.q_agent.specs.Sessions.{OpenSession}
 use Rattle.q_drain.proofs.Pairing.{pairs_none}
 use Rattle.q_drain.proofs.Replying.{all_cases}
-use Rattle.q_drain.proofs.Waiting.{turns_end}
+use Rattle.q_drain.proofs.Waiting.{sweeps_end}
 use Rattle.q_drain.specs.Cases.{Case}
 use Rattle.q_drain.specs.Causes.{FewFailed}
 use Rattle.q_drain.specs.Drains.{Delivers, IsCut, IsQuiet, IsWhole}
 use Rattle.q_drain.specs.Driving.{AreConnected, Driving, FewCutOff, HasCases}
 use Rattle.q_drain.specs.Stories.{Story}
 use Rattle.q_drain.specs.Told.{Begun, begun}
-use Rattle.q_drain.specs.Turns.{AllConnected, SomeConnected}
-use Rattle.q_drain.specs.Waits.{Turns}
+use Rattle.q_drain.specs.Sweeps.{AllConnected, SomeConnected}
+use Rattle.q_drain.specs.Waits.{Sweeps}
 use Rattle.q_drain.specs.Works.{IsSessionOf}
 use Rattle.q_link.specs.Views.{Told}
 use Rattle.q_model.specs.declared.rows.Delivery.{Delivery}
@@ -64,15 +64,15 @@ all_connected s early c =
       hops = c.hops ∙ ap (λ (bs : List Begun). map (λ (b : Begun). b.site.hop) bs) (sym (append-nil early) ∙ sym c.begins);
     }
 
--- where no delivery waits for its connect, and its last turn did nothing
-pub drives_whole : (w : World) (l : Ledger) (Tells : Begun → Told → Type 0) (early : List Begun) (fs : List Delivery) (os : List OpenSession) (s : Story) → Driving w l Tells early [] fs os s → Turns 1 s → IsWhole w l s
-drives_whole w l Tells early fs os s d turns =
+-- where no delivery waits for its connect, and its last sweep did nothing
+pub drives_whole : (w : World) (l : Ledger) (Tells : Begun → Told → Type 0) (early : List Begun) (fs : List Delivery) (os : List OpenSession) (s : Story) → Driving w l Tells early [] fs os s → Sweeps 1 s → IsWhole w l s
+drives_whole w l Tells early fs os s d sweeps =
     let counted = d.opened.counted in
     let all = all_begun s early [] d.connected in
     record {
       told = d.course.run;
       clocked = d.course.clocked;
-      rested = turns_end s turns (omega (arith, counted, all));
+      rested = sweeps_end s sweeps (omega (arith, counted, all));
       connected = all_connected s early d.connected;
     }
 

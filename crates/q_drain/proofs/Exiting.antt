@@ -5,15 +5,15 @@ use Rattle.std.proofs.lemmas.Bool.{ltb-false}
 use Rattle.std.proofs.lemmas.Option.{same_Some}
 use Rattle.std.specs.List.{AllByRecursion, list_any}
 use Rattle.std.specs.Prelude.{◌||◌, Err, nat_lt}
-use Rattle.q_agent.specs.Sessions.{OpenSession, Sessions, is_turn_over}
+use Rattle.q_agent.specs.Sessions.{OpenSession, Sessions, is_sweep_over}
 use Rattle.q_books.specs.HostStands.{TellsCrashes}
 use Rattle.q_drain.proofs.Ending.{cases_deliver, drives_cut, drives_quiet, drives_whole}
 use Rattle.q_drain.proofs.GivingUp.{gives_up_looking, halts_after}
 use Rattle.q_drain.proofs.Pairing.{pairs_some}
-use Rattle.q_drain.proofs.PollTurns.{adds_looked}
+use Rattle.q_drain.proofs.NextPolls.{adds_looked}
 use Rattle.q_drain.proofs.Polls.{order_same}
 use Rattle.q_drain.proofs.Starting.{nothing}
-use Rattle.q_drain.proofs.TurnsOn.{between_busy, between_rest}
+use Rattle.q_drain.proofs.SweepsOn.{between_busy, between_rest}
 use Rattle.q_drain.proofs.UnderWay.{starts_under_way}
 use Rattle.q_drain.specs.Drained.{CountsRests, DrainEnds, RestsBehind}
 use Rattle.q_drain.specs.Exits.{EndsEarly, EndsFull, EndsQuiet, EndsUnfinished, EndsWhole, IsAtStart}
@@ -22,8 +22,8 @@ use Rattle.q_drain.specs.Polling.{AreInOrder}
 use Rattle.q_drain.specs.Served.{FilledUp, ServedOn}
 use Rattle.q_drain.specs.Standing.{Outside, counts_of}
 use Rattle.q_drain.specs.Stories.{Story}
-use Rattle.q_drain.specs.Turned.{IdlesOn, Outsides, StandsBetween}
-use Rattle.q_drain.specs.Waits.{Turns, idle}
+use Rattle.q_drain.specs.Swept.{IdlesOn, Outsides, StandsBetween}
+use Rattle.q_drain.specs.Waits.{Sweeps, idle}
 use Rattle.q_drain.specs.Works.{IsLinkBetween, IsLinkOf, IsSessionOf}
 use Rattle.q_drain.specs.declared.poll.Served.{Served}
 use Rattle.q_drain.proofs.Noting.{adds_then}
@@ -46,7 +46,7 @@ use Rattle.q_model.specs.Ledger.{Ledger}
 use Rattle.q_model.specs.Settings.{World}
 use Rattle.q_model.specs.Step.{after_all}
 
--- Between two turns of a call that began on the first host and outside: what it told and did.
+-- Between two sweeps of a call that began on the first host and outside: what it told and did.
 pub record DrainsSo (w : World) (l : Ledger) (a z : Outside) (u v : HostView) (engine : Engine) (os : List OpenSession) (known : ℕ) (first : Bool) (given : ℕ) : Type 0 where
   pub story : Story
   pub between : StandsBetween w l a z v engine os known first story
@@ -63,7 +63,7 @@ drains_first w l a u engine lawful stands start = record {
     flights = [];
     begins = (refl, refl);
     known_is = refl;
-    turns_taken = record { least = omega arith; most = omega arith };
+    sweeps_made = record { least = omega arith; most = omega arith };
     between = (
       (counts_of a nothing 0).rests,
       refl,
@@ -83,22 +83,22 @@ module _ (w : World) (l : Ledger) (a z y : Outside) (u v x : HostView) (engine :
   adds_more es story told p = subst (λ (xs : List Entry). AddsAllNotes w l xs u.files x.files) (sym told) (adds_then w l (d.story).told es u.files v.files x.files d.adds p)
 
   module _ (served : Served) (agent : Sessions) (m : ServedOn w l a y v x served agent d.story) where
-    pub turn_plays : PlaysRun w l (m.story).told u x
-    turn_plays = plays_more m.entries_told m.story m.told m.plays
+    pub sweep_plays : PlaysRun w l (m.story).told u x
+    sweep_plays = plays_more m.entries_told m.story m.told m.plays
 
-    pub turn_adds : AddsAllNotes w l (m.story).told u.files x.files
-    turn_adds = adds_more m.entries_told m.story m.told m.adds
+    pub sweep_adds : AddsAllNotes w l (m.story).told u.files x.files
+    sweep_adds = adds_more m.entries_told m.story m.told m.adds
 
-    pub turn_rests : (m.story).rests ≡ given
-    turn_rests = m.rests ∙ d.rests_given
+    pub sweep_rests : (m.story).rests ≡ given
+    sweep_rests = m.rests ∙ d.rests_given
 
-    -- behind a turn in which no delivery began or ended
+    -- behind a sweep in which no delivery began or ended
     abbrev ends_whole : served.busy ≡ false → EndsWhole w l (record { before = a; behind = y }) u x
     ends_whole busy = record {
       story = m.story;
-      plays = turn_plays;
-      adds = turn_adds;
-      whole = drives_whole w l (IsLinkOf (counts_of a m.story agent.polled)) m.early m.flights agent.listed m.story (m.serving).under_way.driving (subst (λ (b : Bool). Turns (idle b) m.story) busy m.turns);
+      plays = sweep_plays;
+      adds = sweep_adds;
+      whole = drives_whole w l (IsLinkOf (counts_of a m.story agent.polled)) m.early m.flights agent.listed m.story (m.serving).under_way.driving (subst (λ (b : Bool). Sweeps (idle b) m.story) busy m.sweeps);
       given = (m.serving).under_way.given;
       delivered = λ now told.
           let r = (m.serving).under_way.records now told in
@@ -113,7 +113,7 @@ module _ (w : World) (l : Ledger) (a z y : Outside) (u v x : HostView) (engine :
           ends = ends_whole busy;
           flies = λ none. pairs_some (IsSessionOf (after_all w l (m.story).told).book (m.story).told (IsLinkOf (counts_of a m.story agent.polled))) m.flights agent.listed o.sessions some
               (sym (append-nil m.flights) ∙ sym o.flights ∙ none);
-          rests_given = turn_rests;
+          rests_given = sweep_rests;
         }
 
   -- no session was open
@@ -156,11 +156,11 @@ module _ (w : World) (l : Ledger) (a z y : Outside) (u v x : HostView) (engine :
         gave_up = g.gave_up;
       }
 
--- ---- the next turn
+-- ---- the next sweep
 
 -- each session was polled
-turn_over_low : (s : Sessions) → is_turn_over s ≡ true → AllByRecursion (λ (o : OpenSession). o.number ≤ s.polled) s.listed
-turn_over_low s over = on s.listed (not_true (list_any (λ (o : OpenSession). nat_lt s.polled o.number) s.listed) over)
+sweep_over_low : (s : Sessions) → is_sweep_over s ≡ true → AllByRecursion (λ (o : OpenSession). o.number ≤ s.polled) s.listed
+sweep_over_low s over = on s.listed (not_true (list_any (λ (o : OpenSession). nat_lt s.polled o.number) s.listed) over)
   where
     not_true : (b : Bool) → not b ≡ true → b ≡ false
     not_true true h = cc
@@ -178,29 +178,29 @@ turn_over_low s over = on s.listed (not_true (list_any (λ (o : OpenSession). na
 
 pub drains_more : (w : World) (l : Ledger) (a z : Outside) (clock : Option (List ℕ)) (u v x : HostView) (hops rested : HopsView) (engine : Engine) (os : List OpenSession) (known : ℕ) (first : Bool) (given rests more : ℕ) (served : Served) (agent new : Sessions) (b : Bool)
     → (d : DrainsSo w l a z u v engine os known first given) → (m : ServedOn w l a (record { clock = clock; hops = hops }) v x served agent d.story)
-    → is_turn_over agent ≡ true → served.busy ≡ b → RestsBehind b given rests agent new hops rested (Some more)
+    → is_sweep_over agent ≡ true → served.busy ≡ b → RestsBehind b given rests agent new hops rested (Some more)
     → DrainsSo w l a (record { clock = clock; hops = rested }) u x served.engine new.listed served.known false more
 drains_more w l a z clock u v x hops rested engine os known first given rests more served agent new true d m over busy h =
     let y : Outside = record { clock = clock; hops = hops } in
     let still : DrainsSo w l a y u x served.engine agent.listed served.known false given = record {
       story = m.story;
       between = between_busy w l a y v x served agent d.story m busy;
-      plays = turn_plays w l a z y u v x engine os known first given d served agent m;
-      adds = turn_adds w l a z y u v x engine os known first given d served agent m;
-      rests_given = turn_rests w l a z y u v x engine os known first given d served agent m;
+      plays = sweep_plays w l a z y u v x engine os known first given d served agent m;
+      adds = sweep_adds w l a z y u v x engine os known first given d served agent m;
+      rests_given = sweep_rests w l a z y u v x engine os known first given d served agent m;
     } in
     subst (λ (n : ℕ). DrainsSo w l a (record { clock = clock; hops = rested }) u x served.engine new.listed served.known false n) (sym (same_Some more given h.0))
     (subst (λ (n : HopsView). DrainsSo w l a (record { clock = clock; hops = n }) u x served.engine new.listed served.known false given) (sym h.2)
     (subst (λ (n : Sessions). DrainsSo w l a y u x served.engine n.listed served.known false given) (sym h.1) still))
 drains_more w l a z clock u v x hops rested engine os known first given rests more served agent new false d m over busy h =
     let y : Outside = record { clock = clock; hops = hops } in
-    let rests_given = turn_rests w l a z y u v x engine os known first given d served agent m in
+    let rests_given = sweep_rests w l a z y u v x engine os known first given d served agent m in
     let one = h.0 in
     record {
       story = record m.story { rests = (m.story).rests + 1 };
-      between = between_rest w l a clock v x hops rested served agent new d.story m busy (turn_over_low agent over) h.2 h.3.0 (ap (λ (n : HopsView). n.connect_faults) h.3.1);
-      plays = turn_plays w l a z y u v x engine os known first given d served agent m;
-      adds = turn_adds w l a z y u v x engine os known first given d served agent m;
+      between = between_rest w l a clock v x hops rested served agent new d.story m busy (sweep_over_low agent over) h.2 h.3.0 (ap (λ (n : HopsView). n.connect_faults) h.3.1);
+      plays = sweep_plays w l a z y u v x engine os known first given d served agent m;
+      adds = sweep_adds w l a z y u v x engine os known first given d served agent m;
       rests_given = omega (arith, rests_given, one);
     }
 
@@ -232,12 +232,12 @@ pub given_behind : (b : Bool) (given rests more : ℕ) (agent new : Sessions) (h
 given_behind true given rests more agent new hops rested few h = let same = same_Some more given h.0 in omega (arith, few, same)
 given_behind false given rests more agent new hops rested few h = h.1
 
--- where no rest follows, the turn did nothing, and all rests were given
+-- where no rest follows, the sweep did nothing, and all rests were given
 pub none_behind : (b : Bool) (given rests : ℕ) (agent new : Sessions) (hops rested : HopsView) → RestsBehind b given rests agent new hops rested None → (b ≡ false) × (given ≡ rests) × (new ≡ agent) × (rested ≡ hops)
 none_behind true given rests agent new hops rested h = cc
 none_behind false given rests agent new hops rested h = (refl, h.0, h.1, h.2)
 
--- no turn more is taken
+-- no sweep more is made
 pub stops_between : (w : World) (l : Ledger) (a z : Outside) (u v : HostView) (engine : Engine) (os : List OpenSession) (known : ℕ) (first : Bool) (given : ℕ) (error : HostError) → TellsCrashes v → DrainsSo w l a z u v engine os known first given → EndsEarly w l (record { before = a; behind = z }) u v error
 stops_between w l a z u v engine os known first given error lawful d =
     let b = (d.between).between.2 in

@@ -36,9 +36,9 @@ pub mod Requested
 pub mod OpeningAll
 pub mod ClockTurns
 pub mod ReplyTurns
-pub mod PollTurns
+pub mod NextPolls
 pub mod PollingAll
-pub mod TurnsOn
+pub mod SweepsOn
 pub mod Exiting
 pub mod Causes
 mod WorkedDrain

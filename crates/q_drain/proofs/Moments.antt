@@ -13,7 +13,7 @@ use Rattle.q_drain.proofs.Ending.{all_begun}
 use Rattle.q_drain.proofs.Flying.{at_flights}
 use Rattle.q_drain.proofs.Numbering.{entry_starts}
 use Rattle.q_drain.proofs.Polling.{retold}
-use Rattle.q_drain.proofs.Replying.{in_turn_map, longer, none_added, with_more}
+use Rattle.q_drain.proofs.Replying.{each_behind_map, longer, none_added, with_more}
 use Rattle.q_drain.proofs.Silent.{decisions_inside, no_replies, same_moment}
 use Rattle.q_drain.proofs.Turning.{at_entries, connected_turn, with_moment}
 use Rattle.q_drain.specs.AllTold.{AllTold, IsTold}
@@ -43,7 +43,7 @@ pub all_same : (w : World) (l : Ledger) (s k : Story) (cs : List Case) → k.tol
 all_same w l s k cs told records a = record {
   replies = ap ended told ∙ a.replies;
   records = records ∙ a.records;
-  places = in_turn_map (IsTold w l s) (IsTold w l k)
+  places = each_behind_map (IsTold w l s) (IsTold w l k)
       (λ earlier c h. let p = h.place in record {
         place = record { told = told ∙ p.told; replies = p.replies; next = p.next; number = p.number; begins = p.begins; message = p.message; moment = p.moment };
         told = h.told;

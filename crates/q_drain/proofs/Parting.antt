@@ -3,7 +3,7 @@ use native.Mathlib.Omega.{arith}
 use Rattle.std.proofs.Common.{◌≡◌, ℕ, List, [], ◌∷◌, ◌++◌, length, map, Option, Some, refl, sym, ap, ◌∙◌, subst, le_refl, append-nil}
 use Rattle.std.specs.Option.{is_some}
 use Rattle.q_agent.specs.Sessions.{OpenSession, Rises, without}
-use Rattle.q_agent.specs.Turns.{IsReportOf}
+use Rattle.q_agent.specs.NextPoll.{IsReportOf}
 use Rattle.q_agent.specs.declared.report.Report.{Report}
 use Rattle.q_drain.proofs.Closing.{all_later, delivery_behind}
 use Rattle.q_drain.proofs.Cutting.{cut_turn, front_replies}
@@ -24,7 +24,7 @@ use Rattle.q_drain.specs.Opened.{GaveUp}
 use Rattle.q_drain.specs.Standing.{IsUnderWay, Outside, counts_of}
 use Rattle.q_drain.specs.Stories.{Story}
 use Rattle.q_drain.specs.Told.{Begun, begun, ended_of, moment_after, moments_of}
-use Rattle.q_drain.specs.Turns.{AllConnected, IsClocked, rising}
+use Rattle.q_drain.specs.Sweeps.{AllConnected, IsClocked, rising}
 use Rattle.q_drain.specs.Works.{IsLinkOf, IsSessionOf, Pairs}
 use Rattle.q_engine.specs.declared.engine.Engine.{Engine}
 use Rattle.q_host.specs.View.{View as HostView}

@@ -1,4 +1,4 @@
--- The sessions of a turn through polls, rests and the next moment.
+-- The sessions of a sweep through polls, rests and the next moment.
 use Rattle.std.proofs.Common.{◌≡◌, ◌≤◌, ◌<◌, ◌+◌, ℕ, Bool, true, false, if◌then◌else◌, List, [], ◌∷◌, find, map, Option, Some, None, refl, sym, ap, ◌∙◌, subst, ltb-true, le_refl, eq-eqb}
 use Rattle.std.proofs.lemmas.Bool.{le-leb, lt-leb, ltb-false, ne_eqb}
 use Rattle.q_laws.proofs.Members.{find_in}
@@ -8,7 +8,7 @@ use Rattle.std.specs.List.{AllByRecursion}
 use Rattle.std.specs.Prelude.{◌==◌, IfSome, nat_le, nat_lt}
 use Rattle.q_agent.specs.Requests.{active_spot}
 use Rattle.q_agent.specs.Sessions.{OpenSession, Rises, Work, replaced}
-use Rattle.q_agent.specs.Turns.{GoesOn, IsPolled, IsWorking}
+use Rattle.q_agent.specs.NextPoll.{GoesOn, IsPolled, IsWorking}
 use Rattle.q_drain.proofs.Waiting.{waits_between, waits_moment, waits_poll, waits_rest}
 use Rattle.q_drain.specs.Told.{Begun}
 use Rattle.q_drain.specs.Waits.{Waits}
@@ -52,9 +52,9 @@ same_flag n k start t rests moments flag h = record {
       (subst (Waits n.rests n.moments t.rests_before t.not_yets) (sym flag) h.waits));
 }
 
--- ---- turns
+-- ---- sweeps
 
--- a turn is over
+-- a sweep is over
 pub link_between : (n : Counts) (start : Begun) (t : Told) → IsLinkOf n start t → IsLinkBetween n.rests n.moments start t
 link_between n start t h = record { hop = h.hop; waits = waits_between n.rests n.moments t.rests_before t.not_yets (nat_le start.number n.polled) h.waits }
 
@@ -65,7 +65,7 @@ link_rest n start t flag h = record { hop = h.hop; waits = waits_rest n.rests n.
 none_polled : (number : ℕ) → 1 ≤ number → nat_le number 0 ≡ false
 none_polled number h = lt-leb number 0 (omega (arith, h))
 
--- the clock gave the moment of the next turn
+-- the clock gave the moment of the next sweep
 pub link_moment : (rests moments : ℕ) (start : Begun) (t : Told) → 1 ≤ start.number → IsLinkBetween rests moments start t → IsLinkOf (record { rests = rests; moments = moments + 1; polled = 0 }) start t
 link_moment rests moments start t positive h = record { hop = h.hop; waits = subst (Waits rests (moments + 1) t.rests_before t.not_yets) (sym (none_polled start.number positive)) (waits_moment rests moments t.rests_before t.not_yets h.waits) }
 
@@ -179,7 +179,7 @@ either_polled book told n host now f fs q os o p true found is first late above 
     (first_polled book told n host now f fs q os p above is file (subst (λ (x : OpenSession). IsWorking true host now x p) (sym same) w) h)
 either_polled book told n host now f fs q os o p false found is first late above file w h rest = next_polled book told n f fs q os o p is late w.same.number h.0 (rest first)
 
--- the first that wasn't polled in this turn was polled, and goes on
+-- the first that wasn't polled in this sweep was polled, and goes on
 pub pairs_polled : (book : Book) (told : List Entry) (n : Counts) (host : HostView) (now : ℕ) (fs : List Delivery) (os : List OpenSession) (o p : OpenSession) → Rises (map (λ (q : OpenSession). q.number) os)
     → find (λ (q : OpenSession). nat_lt n.polled q.number) os ≡ Some o → AllByRecursion (HasItsFile host book) fs → IsWorking true host now o p
     → Pairs (IsSessionOf book told (IsLinkOf n)) fs os → Pairs (IsSessionOf book told (IsLinkOf (record n { polled = o.number }))) fs (replaced p os)

@@ -3,7 +3,7 @@ use Rattle.std.proofs.Common.{◌≡◌, ℕ, List, [], ◌++◌, length, Option
 use Rattle.q_agent.specs.Sessions.{Sessions}
 use Rattle.q_books.specs.HostStands.{TellsCrashes}
 use Rattle.q_drain.proofs.GivingUp.{gives_up_later, gives_up_looking}
-use Rattle.q_drain.proofs.PollTurns.{adds_looked}
+use Rattle.q_drain.proofs.NextPolls.{adds_looked}
 use Rattle.q_drain.proofs.Requested.{gives_up}
 use Rattle.q_drain.specs.GivenUp.{GivesUp}
 use Rattle.q_drain.specs.Opened.{IsServing}
@@ -11,7 +11,7 @@ use Rattle.q_drain.specs.Served.{FilledUp, MayServe, ServedOn}
 use Rattle.q_drain.specs.Standing.{Outside}
 use Rattle.q_drain.specs.Stories.{Story}
 use Rattle.q_drain.specs.Told.{Begun}
-use Rattle.q_drain.specs.Waits.{Turns, idle}
+use Rattle.q_drain.specs.Waits.{Sweeps, idle}
 use Rattle.q_drain.specs.declared.poll.Served.{Served}
 use Rattle.q_drain.proofs.Noting.{adds_then}
 use Rattle.q_engine.specs.KeptNotes.{AddsAllNotes}
@@ -29,8 +29,8 @@ use Rattle.q_model.specs.Step.{after_all}
 
 -- nothing was done yet
 pub served_none : (w : World) (l : Ledger) (a z : Outside) (u : HostView) (served : Served) (agent : Sessions) (early : List Begun) (fs : List Delivery) (s : Story)
-    → TellsCrashes u → length early ≡ served.known → Turns (idle served.busy) s → IsServing w l a z u served.engine agent early [] fs s → ServedOn w l a z u u served agent s
-served_none w l a z u served agent early fs s lawful known turns h = record {
+    → TellsCrashes u → length early ≡ served.known → Sweeps (idle served.busy) s → IsServing w l a z u served.engine agent early [] fs s → ServedOn w l a z u u served agent s
+served_none w l a z u served agent early fs s lawful known sweeps h = record {
   entries_told = [];
   early = early;
   flights = fs;
@@ -40,7 +40,7 @@ served_none w l a z u served agent early fs s lawful known turns h = record {
   plays = plays_none w (after_all w l s.told) u lawful h.under_way.stands.host;
   adds = adds_looked w (after_all w l s.told) u u refl;
   known_is = known;
-  turns = turns;
+  sweeps = sweeps;
   serving = h;
 }
 
@@ -66,7 +66,7 @@ module _ (w : World) (l : Ledger) (a z y : Outside) (u v x : HostView) (served :
     adds = adds_then w (after_all w l s.told) m.entries_told n.entries_told u.files v.files x.files m.adds
         (subst (λ (k : Ledger). AddsAllNotes w k n.entries_told v.files x.files) (ap (after_all w l) m.told ∙ after_all-append w l s.told m.entries_told) n.adds);
     known_is = n.known_is;
-    turns = n.turns;
+    sweeps = n.sweeps;
     serving = n.serving;
   }
 
@@ -99,7 +99,7 @@ may_serve clock u v hops next_hops served next agent new h m = record {
   flights = m.flights;
   story = m.story;
   known_is = m.known_is;
-  turns = m.turns;
+  sweeps = m.sweeps;
   serving = m.serving;
 }
 

@@ -6,9 +6,9 @@ use Rattle.std.proofs.lemmas.Option.{same_Some}
 use Rattle.std.specs.List.{AllByRecursion, list_all, list_any}
 use Rattle.std.specs.Option.{option_or}
 use Rattle.std.specs.Prelude.{◌&&◌, ◌==◌, ◌||◌, nat_lt, slice_get}
-use Rattle.q_agent.specs.Sessions.{OpenSession, Rises, Sessions, Work, after_end, after_poll, is_turn_over, is_waiting, link_waits, next_polled, replaced, unpolled, with_session, without, inserted, work_waits}
-use Rattle.q_agent.specs.Answers.{Turned}
-use Rattle.q_agent.specs.Turns.{Ends, GoesOn, IsReportOf, IsWorking}
+use Rattle.q_agent.specs.Sessions.{OpenSession, Rises, Sessions, Work, after_end, after_poll, is_sweep_over, is_waiting, link_waits, next_polled, replaced, unpolled, with_session, without, inserted, work_waits}
+use Rattle.q_agent.specs.Answers.{PollsNext}
+use Rattle.q_agent.specs.NextPoll.{Ends, GoesOn, IsReportOf, IsWorking}
 use Rattle.q_agent.specs.declared.report.Report.{Report}
 use Rattle.q_drain.proofs.Concluding.{IsBeside, beside}
 use Rattle.q_drain.proofs.Connecting.{AreUpTo, inserted_last, rises_more}
@@ -22,14 +22,14 @@ use Rattle.q_link.specs.Views.{NoWait, ForRead, ForWrite, Wait}
 use Rattle.q_model.specs.declared.outcome.Outcome.{Outcome}
 use Rattle.q_model.specs.declared.outcome.SiteState.{SiteState}
 
--- ---- the next session of a turn
+-- ---- the next session of a sweep
 
 not_false : (b : Bool) → not b ≡ false → b ≡ true
 not_false true h = refl
 not_false false h = cc
 
--- where a turn isn't over, a session is still to be polled
-pub some_unpolled : (s : Sessions) → is_turn_over s ≡ false → (o : OpenSession) × (unpolled s ≡ Some o)
+-- where a sweep isn't over, a session is still to be polled
+pub some_unpolled : (s : Sessions) → is_sweep_over s ≡ false → (o : OpenSession) × (unpolled s ≡ Some o)
 some_unpolled s h = on (unpolled s) refl
   where
     on : (found : Option OpenSession) → find (λ (o : OpenSession). nat_lt s.polled o.number) s.listed ≡ found → (o : OpenSession) × (unpolled s ≡ Some o)
@@ -212,10 +212,10 @@ polling_more number old new o made is h =
     subst (λ (s : Sessions). IsPolling s (number + 1)) (sym made)
     (subst (λ n. IsPolling (with_session o old) (n + 1)) (sym b.1) (polling_by b.0 old.polled o old.listed (is ∙ b.1) (subst (IsPolling old) b.1 h)))
 
--- ---- the end of a turn
+-- ---- the end of a sweep
 
 -- each session waits
-pub all_wait : (s : Sessions) (number : ℕ) → is_turn_over s ≡ true → IsPolling s number → list_all link_waits s.listed ≡ true
+pub all_wait : (s : Sessions) (number : ℕ) → is_sweep_over s ≡ true → IsPolling s number → list_all link_waits s.listed ≡ true
 all_wait s number over h = on s.listed (not_true (list_any (λ (o : OpenSession). nat_lt s.polled o.number) s.listed) over) h.waited
   where
     not_true : (b : Bool) → not b ≡ true → b ≡ false
@@ -232,7 +232,7 @@ all_wait s number over h = on s.listed (not_true (list_any (λ (o : OpenSession)
         by x os false is none (inl late) rest = let t : true ≡ false = sym (lt-ltb s.polled x.number late) ∙ is in cc
         by x os false is none (inr waits) rest = ap (λ (b : Bool). b && list_all link_waits os) waits ∙ rest none
 
--- the next turn begins
+-- the next sweep begins
 pub polling_anew : (os : List OpenSession) (number : ℕ) → 1 ≤ number → AreInOrder os number → IsPolling (record { listed = os; polled = 0 }) number
 polling_anew os number some h = record { order = h; polled = omega (arith, some); waited = on os h.positive }
   where
@@ -240,25 +240,25 @@ polling_anew os number some h = record { order = h; polled = omega (arith, some)
     on [] h = tt
     on (x ∷ os) h = let one = h.0 in (inl (omega (arith, one)), on os h.1)
 
--- ---- the answer of a turn
+-- ---- the answer of a sweep
 
 -- where it isn't over, and a session is polled that goes on
-pub turned_on : (tells : Bool) (host : HostView) (now : ℕ) (hops next : HopsView) (s new : Sessions) (o : OpenSession) → unpolled s ≡ Some o → Turned tells host now hops next (next_polled s) None s new
+pub polled_on : (tells : Bool) (host : HostView) (now : ℕ) (hops next : HopsView) (s new : Sessions) (o : OpenSession) → unpolled s ≡ Some o → PollsNext tells host now hops next (next_polled s) None s new
     → (p : OpenSession) × IsWorking tells host now o p × (new ≡ after_poll p s) × (next ≡ hops)
-turned_on tells host now hops next s new o first h = subst (λ (found : Option OpenSession). Turned tells host now hops next found None s new) (next_is s o first) h
+polled_on tells host now hops next s new o first h = subst (λ (found : Option OpenSession). PollsNext tells host now hops next found None s new) (next_is s o first) h
 
 -- or is over
-pub turned_over : (tells : Bool) (host : HostView) (now : ℕ) (hops next : HopsView) (s new : Sessions) (o : OpenSession) (r : Report) → unpolled s ≡ Some o → Turned tells host now hops next (next_polled s) (Some r) s new
+pub polled_over : (tells : Bool) (host : HostView) (now : ℕ) (hops next : HopsView) (s new : Sessions) (o : OpenSession) (r : Report) → unpolled s ≡ Some o → PollsNext tells host now hops next (next_polled s) (Some r) s new
     → IsReportOf tells host now o r hops next × (new ≡ after_end o s)
-turned_over tells host now hops next s new o r first h = subst (λ (found : Option OpenSession). Turned tells host now hops next found (Some r) s new) (next_is s o first) h
+polled_over tells host now hops next s new o r first h = subst (λ (found : Option OpenSession). PollsNext tells host now hops next found (Some r) s new) (next_is s o first) h
 
 -- no rest was given
 ends_rests : (tells : Bool) (host : HostView) (now : ℕ) (work : Option Work) (site : SiteState) (outcomes : List Outcome) (old new : HopsView) → Ends tells host now work site outcomes old new → new.rests ≡ old.rests
 ends_rests tells host now None site outcomes old new h = ap (λ (x : HopsView). x.rests) h.1
 ends_rests tells host now (Some w) site outcomes old new h = ap (λ (x : HopsView). x.rests) h.closes.1
 
-pub turned_rests : (tells : Bool) (host : HostView) (now : ℕ) (hops next : HopsView) (found : Option OpenSession) (r : Option Report) (s new : Sessions) → Turned tells host now hops next found r s new → next.rests ≡ hops.rests
-turned_rests tells host now hops next None None s new h = ap (λ (x : HopsView). x.rests) h.1
-turned_rests tells host now hops next None (Some r) s new h = absurd h
-turned_rests tells host now hops next (Some o) None s new h = ap (λ (x : HopsView). x.rests) h.3
-turned_rests tells host now hops next (Some o) (Some r) s new h = ends_rests tells host now o.work r.site r.outcomes hops next h.0.ends
+pub polled_rests : (tells : Bool) (host : HostView) (now : ℕ) (hops next : HopsView) (found : Option OpenSession) (r : Option Report) (s new : Sessions) → PollsNext tells host now hops next found r s new → next.rests ≡ hops.rests
+polled_rests tells host now hops next None None s new h = ap (λ (x : HopsView). x.rests) h.1
+polled_rests tells host now hops next None (Some r) s new h = absurd h
+polled_rests tells host now hops next (Some o) None s new h = ap (λ (x : HopsView). x.rests) h.3
+polled_rests tells host now hops next (Some o) (Some r) s new h = ends_rests tells host now o.work r.site r.outcomes hops next h.0.ends

@@ -6,7 +6,7 @@ use Rattle.std.proofs.lemmas.Option.{same_Some}
 use Rattle.std.specs.Option.{is_some}
 use Rattle.std.specs.Prelude.{nat_lt}
 use Rattle.q_agent.specs.Sessions.{OpenSession, Work}
-use Rattle.q_agent.specs.Turns.{Ends, IsReportOf}
+use Rattle.q_agent.specs.NextPoll.{Ends, IsReportOf}
 use Rattle.q_agent.specs.declared.report.Report.{Report}
 use Rattle.q_drain.proofs.CuttingOff.{IsPair}
 use Rattle.q_drain.proofs.Ending.{all_begun}

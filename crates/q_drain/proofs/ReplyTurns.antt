@@ -3,7 +3,7 @@ use Rattle.std.proofs.Common.{◌≡◌, ℕ, zero, suc, Bool, true, false, if�
 use Rattle.std.specs.List.{list_all}
 use Rattle.std.specs.Option.{option_map_or}
 use Rattle.std.specs.Prelude.{◌&&◌, ◌==◌, ◌||◌, replicate}
-use Rattle.q_agent.specs.Turns.{Counts}
+use Rattle.q_agent.specs.NextPoll.{Counts}
 use Rattle.q_books.specs.HostStands.{HostStands, TellsCrashes}
 use Rattle.q_drain.proofs.ClockTurns.{host_fault}
 use Rattle.q_drain.specs.Faults.{stop_of}

@@ -9,20 +9,20 @@ use Rattle.q_model.specs.Ledger.{Ledger}
 use Rattle.q_model.specs.Settings.{World}
 use Rattle.q_drain.proofs.Adding.{ended_added}
 use Rattle.q_drain.specs.AllTold.{AllTold, IsTold}
-use Rattle.q_drain.specs.Cases.{AreCases, Case, InTurn, IsNext, IsPlace, records_of, replies_of}
+use Rattle.q_drain.specs.Cases.{AreCases, Case, EachBehind, IsNext, IsPlace, records_of, replies_of}
 use Rattle.q_drain.specs.Stories.{Story}
 use Rattle.q_drain.specs.Told.{Ended, ended, ended_of}
 
--- ---- cases in turn
+-- ---- cases one behind another
 
-pub in_turn_map : (P Q : List Ended → Case → Type 0) → ((earlier : List Ended) (c : Case) → P earlier c → Q earlier c) → (earlier : List Ended) (cs : List Case) → InTurn P earlier cs → InTurn Q earlier cs
-in_turn_map P Q f earlier [] h = tt
-in_turn_map P Q f earlier (c ∷ cs) h = (f earlier c h.0, in_turn_map P Q f (earlier ++ c.reply ∷ []) cs h.1)
+pub each_behind_map : (P Q : List Ended → Case → Type 0) → ((earlier : List Ended) (c : Case) → P earlier c → Q earlier c) → (earlier : List Ended) (cs : List Case) → EachBehind P earlier cs → EachBehind Q earlier cs
+each_behind_map P Q f earlier [] h = tt
+each_behind_map P Q f earlier (c ∷ cs) h = (f earlier c h.0, each_behind_map P Q f (earlier ++ c.reply ∷ []) cs h.1)
 
 -- one more behind them
-pub in_turn_more : (P : List Ended → Case → Type 0) (earlier : List Ended) (cs : List Case) (c : Case) → InTurn P earlier cs → P (earlier ++ replies_of cs) c → InTurn P earlier (cs ++ c ∷ [])
-in_turn_more P earlier [] c h p = (subst (λ es. P es c) (append-nil earlier) p, tt)
-in_turn_more P earlier (d ∷ cs) c h p = (h.0, in_turn_more P (earlier ++ d.reply ∷ []) cs c h.1 (subst (λ es. P es c) (sym (append_assoc earlier (d.reply ∷ []) (replies_of cs))) p))
+pub each_behind_more : (P : List Ended → Case → Type 0) (earlier : List Ended) (cs : List Case) (c : Case) → EachBehind P earlier cs → P (earlier ++ replies_of cs) c → EachBehind P earlier (cs ++ c ∷ [])
+each_behind_more P earlier [] c h p = (subst (λ es. P es c) (append-nil earlier) p, tt)
+each_behind_more P earlier (d ∷ cs) c h p = (h.0, each_behind_more P (earlier ++ d.reply ∷ []) cs c h.1 (subst (λ es. P es c) (sym (append_assoc earlier (d.reply ∷ []) (replies_of cs))) p))
 
 -- ---- more is told
 
@@ -58,7 +58,7 @@ told_longer w l s es rs earlier c h =
       told = not_empty c.behind es h.told;
     }
 
-all_longer : (w : World) (l : Ledger) (s : Story) (es : List Entry) (rs : List Closed) (earlier : List Ended) (cs : List Case) → InTurn (IsTold w l s) earlier cs → InTurn (IsTold w l (with_more s es rs)) earlier (map (longer es) cs)
+all_longer : (w : World) (l : Ledger) (s : Story) (es : List Entry) (rs : List Closed) (earlier : List Ended) (cs : List Case) → EachBehind (IsTold w l s) earlier cs → EachBehind (IsTold w l (with_more s es rs)) earlier (map (longer es) cs)
 all_longer w l s es rs earlier [] h = tt
 all_longer w l s es rs earlier (c ∷ cs) h = (told_longer w l s es rs earlier c h.0, all_longer w l s es rs (earlier ++ c.reply ∷ []) cs h.1)
 
@@ -105,7 +105,7 @@ case_added w l s cs e es c a is none place =
           ∙ ap (λ (xs : List Ended). xs ++ c.reply ∷ []) (a.replies ∙ sym same)
           ∙ sym (replies_more late c);
       records = ap (λ (xs : List Closed). xs ++ records_of (c ∷ [])) (a.records ∙ sym (records_longer (e ∷ es) cs)) ∙ sym (records_more late c);
-      places = in_turn_more (IsTold w l k) [] late c (all_longer w l s (e ∷ es) (records_of (c ∷ [])) [] cs a.places) (subst (λ xs. IsTold w l k xs c) (sym same) place);
+      places = each_behind_more (IsTold w l k) [] late c (all_longer w l s (e ∷ es) (records_of (c ∷ [])) [] cs a.places) (subst (λ xs. IsTold w l k xs c) (sym same) place);
     }
 
 -- ---- the end of a call
@@ -117,7 +117,7 @@ all_cases w l s cs a = record {
   one = omega arith;
   replies = append-nil (ended s.told) ∙ a.replies;
   records = a.records;
-  places = in_turn_map (IsTold w l s) (IsPlace w l s) (λ earlier c h. h.place) [] cs a.places;
+  places = each_behind_map (IsTold w l s) (IsPlace w l s) (λ earlier c h. h.place) [] cs a.places;
 }
 
 -- all but that of one more case were
@@ -132,7 +132,7 @@ untold_case w l s cs c a place =
       one = omega arith;
       replies = ap (λ (es : List Entry). ended es ++ c.reply ∷ []) (append-nil s.told) ∙ ap (λ (xs : List Ended). xs ++ c.reply ∷ []) (a.replies ∙ sym same) ∙ sym (replies_more late c);
       records = ap (λ (xs : List Closed). xs ++ records_of (c ∷ [])) (a.records ∙ sym (records_longer [] cs)) ∙ sym (records_more late c);
-      places = in_turn_more (IsPlace w l k) [] late c
-          (in_turn_map (IsTold w l k) (IsPlace w l k) (λ earlier d h. h.place) [] late (all_longer w l s [] (records_of (c ∷ [])) [] cs a.places))
+      places = each_behind_more (IsPlace w l k) [] late c
+          (each_behind_map (IsTold w l k) (IsPlace w l k) (λ earlier d h. h.place) [] late (all_longer w l s [] (records_of (c ∷ [])) [] cs a.places))
           (subst (λ xs. IsPlace w l k xs c) (sym same) place);
     }

@@ -9,7 +9,7 @@ use Rattle.std.specs.Option.{is_some}
 use Rattle.std.specs.Prelude.{◌&&◌, ◌==◌, IfSome, nat_le}
 use Rattle.q_agent.specs.Requests.{active_spot}
 use Rattle.q_agent.specs.Sessions.{OpenSession, Rises, Work, without}
-use Rattle.q_agent.specs.Turns.{Counts, Ends, IsReportOf}
+use Rattle.q_agent.specs.NextPoll.{Counts, Ends, IsReportOf}
 use Rattle.q_agent.specs.declared.report.Report.{Report}
 use Rattle.q_drain.proofs.Adding.{begun_added, ended_added, moment_added}
 use Rattle.q_drain.proofs.Closing.{all_later, closes_case, record_by, unlinked_case}
@@ -225,7 +225,7 @@ pub record IsClosedSession (s : Story) (connects : ℕ) (o : OpenSession) (cur n
   pub delivery : IsDelivery s connects (case_by link)
   pub told : now ≡ with_records (records_of (case_by link ∷ [])) cur
 
--- the counts of a turn, as the hops and the clock tell them
+-- the counts of a sweep, as the hops and the clock tell them
 pub record AreCounts (n : Progress) (s : Story) (connects : ℕ) (cur : ToldHops) : Type 0 where
   pub moments : n.moments ≡ length s.moments
   pub rests : cur.rests ≡ n.rests

@@ -8,7 +8,7 @@ use Rattle.std.specs.Prelude.{nat_le, nat_lt}
 use Rattle.q_agent.specs.Requests.{Opens, active_spot}
 use Rattle.q_agent.specs.Rests.{RestsOne}
 use Rattle.q_agent.specs.Sessions.{OpenSession, Sessions, inserted, replaced}
-use Rattle.q_agent.specs.Turns.{IsWorking}
+use Rattle.q_agent.specs.NextPoll.{IsWorking}
 use Rattle.q_books.proofs.Joining.{reads_keep}
 use Rattle.q_books.specs.HostStands.{TellsCrashes}
 use Rattle.q_drain.proofs.InFlight.{flight_message}
@@ -141,13 +141,13 @@ polled_under_way w l a z v engine early waiting fs os s polled now o p h first w
       };
 }
 
--- ---- the end of a turn
+-- ---- the end of a sweep
 
--- what links tell between two turns, where the next turn follows at once
-pub turned_under_way : (w : World) (l : Ledger) (a z : Outside) (v : HostView) (engine : Engine) (early waiting : List Begun) (fs : List Delivery) (os : List OpenSession) (s : Story) (polled : ℕ)
+-- what links tell between two sweeps, where the next sweep follows at once
+pub swept_under_way : (w : World) (l : Ledger) (a z : Outside) (v : HostView) (engine : Engine) (early waiting : List Begun) (fs : List Delivery) (os : List OpenSession) (s : Story) (polled : ℕ)
     → IsUnderWay w l a z v (IsLinkOf (counts_of a s polled)) engine early waiting fs os s
     → IsUnderWay w l a z v (IsLinkBetween (counts_of a s 0).rests (length s.moments)) engine early waiting fs os s
-turned_under_way w l a z v engine early waiting fs os s polled h = record {
+swept_under_way w l a z v engine early waiting fs os s polled h = record {
   stands = h.stands;
   driving = drives_retold w l (IsLinkOf (counts_of a s polled)) (IsLinkBetween (counts_of a s 0).rests (length s.moments)) (λ (o : OpenSession). o.number ≤ length early) early waiting fs os s
       (λ o start t b is positive p. link_between (counts_of a s polled) start t p) h.driving.opened.below h.driving;

@@ -8,7 +8,7 @@ use Rattle.std.specs.Prelude.{◌&&◌, ◌==◌, IfSome, nat_lt, not}
 use Rattle.q_agent.specs.Requests.{BeginsWork}
 use Rattle.q_agent.specs.Rests.{IsRestedSession, RestsOne, RestsWork}
 use Rattle.q_agent.specs.Sessions.{OpenSession, Rises, Sessions, Work, inserted, replaced}
-use Rattle.q_agent.specs.Turns.{IsWorking}
+use Rattle.q_agent.specs.NextPoll.{IsWorking}
 use Rattle.q_books.specs.HostStands.{HostStands}
 use Rattle.q_drain.proofs.CuttingOff.{cut_more, cut_replaced, same_cut, still_linked}
 use Rattle.q_drain.proofs.Moments.{all_same, each_same}
@@ -135,7 +135,7 @@ alone o [] P rises h p = absurd h
 alone o (x ∷ os) P rises (inl is) p = (λ same. subst P (sym is) p, none_else o.number os P (subst (λ (y : OpenSession). AllByRecursion (λ k. y.number < k) (map (λ (z : OpenSession). z.number) os)) is rises.0))
 alone o (x ∷ os) P rises (inr h) p = (λ same. let less = in_above x.number o os rises.0 h in absurd (omega (arith, less, same)), alone o os P rises.1 h p)
 
--- the first session that this turn hasn't polled was polled, and goes on
+-- the first session that this sweep hasn't polled was polled, and goes on
 pub drives_polled : (w : World) (l : Ledger) (n : Counts) (early waiting : List Begun) (fs : List Delivery) (os : List OpenSession) (s : Story) (host : HostView) (now : ℕ) (o p : OpenSession)
     → Driving w l (IsLinkOf n) early waiting fs os s → IsConsistent w (after_all w l s.told) → HostStands host (after_all w l s.told).book
     → find (λ (q : OpenSession). nat_lt n.polled q.number) os ≡ Some o → IsWorking true host now o p

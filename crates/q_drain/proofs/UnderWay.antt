@@ -1,4 +1,4 @@
--- A drain under way through the calls of its turns.
+-- A drain under way through the calls of its sweeps.
 use native.Mathlib.Omega.{arith}
 use Rattle.std.proofs.Common.{◌≡◌, ◌≤◌, ◌+◌, inl, ℕ, Bool, true, false, List, [], ◌∷◌, ◌++◌, length, length-append, Option, Some, None, refl, sym, ap, ◌∙◌, subst, append_assoc}
 use Rattle.std.proofs.lemmas.Bool.{le-leb}
@@ -79,7 +79,7 @@ did_still before now s r connects hops rests records d = record {
   records = d.records ∙ ap (λ xs. before.records ++ xs) (sym records);
 }
 
--- a link tells this of the next turn
+-- a link tells this of the next sweep
 next_link : (rests moments : ℕ) (n : Counts) (start : Begun) (t : Told) → n.rests ≡ rests → n.moments ≡ moments + 1 → n.polled ≡ 0 → 1 ≤ start.number → IsLinkBetween rests moments start t → IsLinkOf n start t
 next_link rests moments n start t same more none positive h = same_counts n (record { rests = rests; moments = moments + 1; polled = 0 }) start t same more none (link_moment rests moments start t positive h)
   where

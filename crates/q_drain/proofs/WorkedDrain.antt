@@ -33,7 +33,7 @@ use Rattle.q_drain.specs.Cases.{Case, IsPlace, exchange}
 use Rattle.q_drain.specs.Causes.{has_failed, IsDelivery, IsLink, IsPatient, IsReply, IsSent}
 use Rattle.q_drain.specs.Drains.{Delivers, IsQuiet, IsWhole}
 use Rattle.q_drain.specs.Stories.{Story}
-use Rattle.q_drain.specs.Turns.{IsRested}
+use Rattle.q_drain.specs.Sweeps.{IsRested}
 
 abbrev hop : List ℕ
 hop = codes "[127.0.0.1]:2525"

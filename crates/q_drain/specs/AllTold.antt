@@ -2,7 +2,7 @@
 use Rattle.std.specs.Prelude.{◌≡◌, ◌≢◌, [], List}
 use Rattle.q_model.specs.Ledger.{Ledger}
 use Rattle.q_model.specs.Settings.{World}
-use Rattle.q_drain.specs.Cases.{Case, InTurn, IsPlace, records_of, replies_of}
+use Rattle.q_drain.specs.Cases.{Case, EachBehind, IsPlace, records_of, replies_of}
 use Rattle.q_drain.specs.Stories.{Story}
 use Rattle.q_drain.specs.Told.{Ended, ended}
 
@@ -15,4 +15,4 @@ pub record IsTold (w : World) (l : Ledger) (s : Story) (earlier : List Ended) (c
 pub record AllTold (w : World) (l : Ledger) (s : Story) (cs : List Case) : Type 0 where
   pub replies : ended s.told ≡ replies_of cs
   pub records : s.records ≡ records_of cs
-  pub places : InTurn (IsTold w l s) [] cs
+  pub places : EachBehind (IsTold w l s) [] cs

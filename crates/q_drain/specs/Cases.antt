@@ -53,9 +53,9 @@ pub record IsPlace (w : World) (l : Ledger) (s : Story) (earlier : List Ended) (
   pub moment : c.moment ≡ moment_after 0 c.before
 
 -- so of each case, behind the replies of those before it
-abbrev pub InTurn : (List Ended → Case → Type 0) → List Ended → List Case → Type 0
-InTurn P earlier [] = Unit {0}
-InTurn P earlier (c ∷ cs) = P earlier c × InTurn P (earlier ++ c.reply ∷ []) cs
+abbrev pub EachBehind : (List Ended → Case → Type 0) → List Ended → List Case → Type 0
+EachBehind P earlier [] = Unit {0}
+EachBehind P earlier (c ∷ cs) = P earlier c × EachBehind P (earlier ++ c.reply ∷ []) cs
 
 abbrev pub replies_of : List Case → List Ended
 replies_of cs = map (λ c. c.reply) cs
@@ -70,4 +70,4 @@ pub record AreCases (w : World) (l : Ledger) (s : Story) (cs : List Case) : Type
   pub one : length untold ≤ 1
   pub replies : ended s.told ++ untold ≡ replies_of cs
   pub records : s.records ≡ records_of cs
-  pub places : InTurn (IsPlace w l s) [] cs
+  pub places : EachBehind (IsPlace w l s) [] cs

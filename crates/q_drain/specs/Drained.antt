@@ -3,7 +3,7 @@ use Rattle.std.specs.Prelude.{◌+◌, ◌≡◌, ◌≤◌, ◌⊎◌, Bool, Er
 use Rattle.q_agent.specs.Rests.{RestsOne}
 use Rattle.q_agent.specs.Sessions.{Sessions}
 use Rattle.q_drain.specs.Exits.{EndsEarly, EndsFull, EndsQuiet, EndsUnfinished, ForStarted}
-use Rattle.q_drain.specs.Turned.{Outsides}
+use Rattle.q_drain.specs.Swept.{Outsides}
 use Rattle.q_drain.specs.declared.driver.Drained.{Drained}
 use Rattle.q_drain.specs.declared.driver.Drained.TheVariants.{Quiet, Unfinished}
 use Rattle.q_engine.specs.Refusals.{is_of_host, is_unreadable}
@@ -17,7 +17,7 @@ use Rattle.q_link.specs.Records.{HopsView, Rests, counted}
 use Rattle.q_model.specs.Ledger.{Ledger}
 use Rattle.q_model.specs.Settings.{World}
 
--- Behind a turn that did something the next one follows at once; behind another one a rest is given,
+-- Behind a sweep that did something the next one follows at once; behind another one a rest is given,
 -- where not all were.
 abbrev pub RestsBehind : Bool → ℕ → ℕ → Sessions → Sessions → HopsView → HopsView → Option ℕ → Type 0
 RestsBehind true given rests old new hops next answer =
@@ -37,7 +37,7 @@ EndsAs w l o u v (Some (Quiet engine)) = EndsQuiet w l o u v engine
 EndsAs w l o u v (Some (Unfinished rests)) = EndsUnfinished w l o u v rests
 EndsAs w l o u v None = EndsFull w l o u v
 
--- By each answer: it ended behind a turn, or within one by a fault of the host or for want of memory, or
+-- By each answer: it ended behind a sweep, or within one by a fault of the host or for want of memory, or
 -- with no number left for a delivery. Where the host tells, each queue file can be read.
 abbrev pub DrainEnds : World → Ledger → Outsides → HostView → HostView → Result Drained EngineError → Type 0
 DrainEnds w l o u v (Ok drained) = EndsAs w l o u v (Some drained)

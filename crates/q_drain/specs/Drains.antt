@@ -10,7 +10,7 @@ use Rattle.q_drain.specs.Cases.{AreCases, Case}
 use Rattle.q_drain.specs.Causes.{FewFailed, IsDelivery}
 use Rattle.q_drain.specs.Stories.{Story}
 use Rattle.q_drain.specs.Told.{heard_of}
-use Rattle.q_drain.specs.Turns.{AllConnected, IsClocked, IsClockedSoFar, IsRested, SomeConnected}
+use Rattle.q_drain.specs.Sweeps.{AllConnected, IsClocked, IsClockedSoFar, IsRested, SomeConnected}
 
 -- What holds of its deliveries at each of its exits: `connects` were made before the call, and the
 -- count of connects that failed was `old` then and is `new`.
@@ -24,7 +24,7 @@ pub record Delivers (w : World) (l : Ledger) (connects old new : ℕ) (s : Story
 abbrev pub IsOwnRun : World → Ledger → List Entry → Type 0
 IsOwnRun w l told = told ≡ run w l (heard_of told)
 
--- What holds where it goes on to its last turn.
+-- What holds where it goes on to its last sweep.
 pub record IsWhole (w : World) (l : Ledger) (s : Story) : Type 0 where
   pub told : IsOwnRun w l s.told
   pub clocked : IsClocked s

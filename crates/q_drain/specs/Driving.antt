@@ -17,7 +17,7 @@ use Rattle.q_drain.specs.Drains.{IsOwnRun}
 use Rattle.q_drain.specs.Flights.{AreNumbered, flight}
 use Rattle.q_drain.specs.Stories.{Story}
 use Rattle.q_drain.specs.Told.{Begun, begun, ended, moment_after}
-use Rattle.q_drain.specs.Turns.{IsClocked}
+use Rattle.q_drain.specs.Sweeps.{IsClocked}
 use Rattle.q_drain.specs.Works.{IsSessionOf, Pairs}
 
 -- it has no link, and its next hop has a route

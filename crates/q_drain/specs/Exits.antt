@@ -5,8 +5,8 @@ use Rattle.q_drain.specs.Opened.{GaveUp}
 use Rattle.q_drain.specs.Standing.{HasGiven}
 use Rattle.q_drain.specs.Stories.{Did, Story}
 use Rattle.q_drain.specs.Told.{events_of}
-use Rattle.q_drain.specs.Turned.{Outsides}
-use Rattle.q_drain.specs.Turns.{AllConnected, IsClocked}
+use Rattle.q_drain.specs.Swept.{Outsides}
+use Rattle.q_drain.specs.Sweeps.{AllConnected, IsClocked}
 use Rattle.q_engine.specs.KeptNotes.{AddsAllNotes}
 use Rattle.q_engine.specs.Stands.{EngineStands}
 use Rattle.q_engine.specs.declared.engine.Engine.{Engine}
@@ -35,7 +35,7 @@ Delivered w l o s = (now : ToldHops) → o.behind.hops.told ≡ Some now
     → (before : ToldHops) × (o.before.hops.told ≡ Some before) × Did before now s
     × Delivers w l before.connects o.before.hops.connect_faults o.behind.hops.connect_faults s
 
--- It ends behind a turn: what was told is the whole run of the events that its lines name.
+-- It ends behind a sweep: what was told is the whole run of the events that its lines name.
 pub record EndsWhole (w : World) (l : Ledger) (o : Outsides) (u v : HostView) : Type 0 where
   pub story : Story
   pub plays : PlaysRun w l story.told u v

@@ -24,7 +24,7 @@ abbrev pub IsFirst : Bool → Story → Type 0
 IsFirst true s = (s.moments ≡ []) × (s.told ≡ [])
 IsFirst false s = s.moments ≢ []
 
--- between two turns, behind so many rests
+-- between two sweeps, behind so many rests
 abbrev pub IsBetween : World → Ledger → Outside → Outside → HostView → Engine → List Begun → List Delivery → List OpenSession → Story → Type 0
 IsBetween w l a z v engine early fs os s = (rests : ℕ) × (rests ≡ (counts_of a s 0).rests) × IsUnderWay w l a z v (IsLinkBetween rests (length s.moments)) engine early [] fs os s
 

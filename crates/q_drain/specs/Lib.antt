@@ -2,7 +2,7 @@ pub mod Told
 pub mod Stories
 pub mod Cases
 pub mod Causes
-pub mod Turns
+pub mod Sweeps
 pub mod Waits
 pub mod AllTold
 pub mod Drains
@@ -18,7 +18,7 @@ pub mod Heard
 pub mod Replied
 pub mod Served
 pub mod Reported
-pub mod Turned
+pub mod Swept
 pub mod Exits
 pub mod Drained
 pub mod Laws

@@ -16,7 +16,7 @@ use Rattle.q_model.specs.Ledger.{Ledger}
 use Rattle.q_model.specs.Settings.{World}
 use Rattle.q_model.specs.Step.{after_all}
 
--- Within a turn: the first deliveries have their sessions, and the others wait for them.
+-- Within a sweep: the first deliveries have their sessions, and the others wait for them.
 pub record IsServing (w : World) (l : Ledger) (a z : Outside) (v : HostView) (engine : Engine) (agent : Sessions) (early waiting : List Begun) (fs : List Delivery) (s : Story) : Type 0 where
   pub under_way : IsUnderWay w l a z v (IsLinkOf (counts_of a s agent.polled)) engine early waiting fs agent.listed s
   pub polled : agent.polled ≤ length early

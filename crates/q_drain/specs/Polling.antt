@@ -17,7 +17,7 @@ pub record AreInOrder (os : List OpenSession) (number : ℕ) : Type 0 where
 abbrev pub ComesOrWaits : ℕ → OpenSession → Type 0
 ComesOrWaits polled o = (polled < o.number) ⊎ (link_waits o ≡ true)
 
--- Within a turn: each session that was polled waits.
+-- Within a sweep: each session that was polled waits.
 pub record IsPolling (agent : Sessions) (number : ℕ) : Type 0 where
   pub order : AreInOrder agent.listed number
   pub polled : agent.polled < number

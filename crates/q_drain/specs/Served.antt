@@ -7,8 +7,8 @@ use Rattle.q_drain.specs.Opened.{GaveUp, IsServing}
 use Rattle.q_drain.specs.Standing.{Outside}
 use Rattle.q_drain.specs.Stories.{Story}
 use Rattle.q_drain.specs.Told.{Begun}
-use Rattle.q_drain.specs.Turns.{AllConnected, IsClocked}
-use Rattle.q_drain.specs.Waits.{Turns, idle}
+use Rattle.q_drain.specs.Sweeps.{AllConnected, IsClocked}
+use Rattle.q_drain.specs.Waits.{Sweeps, idle}
 use Rattle.q_drain.specs.declared.poll.Served.{Served}
 use Rattle.q_engine.specs.KeptNotes.{AddsAllNotes}
 use Rattle.q_entries.specs.Runs.{PlaysRun}
@@ -23,7 +23,7 @@ use Rattle.q_model.specs.Settings.{World}
 use Rattle.q_model.specs.Step.{after_all}
 
 -- More entries were told, and no rest was given: each delivery that began has its session, and where
--- one began or ended in the turn, the engine's record says so.
+-- one began or ended in the sweep, the engine's record says so.
 pub record ServedOn (w : World) (l : Ledger) (a z : Outside) (u v : HostView) (next : Served) (agent : Sessions) (s : Story) : Type 0 where
   pub entries_told : List Entry
   pub early : List Begun
@@ -34,7 +34,7 @@ pub record ServedOn (w : World) (l : Ledger) (a z : Outside) (u v : HostView) (n
   pub plays : PlaysRun w (after_all w l s.told) entries_told u v
   pub adds : AddsAllNotes w (after_all w l s.told) entries_told u.files v.files
   pub known_is : length early ≡ next.known
-  pub turns : Turns (idle next.busy) story
+  pub sweeps : Sweeps (idle next.busy) story
   pub serving : IsServing w l a z v next.engine agent early [] flights story
 
 -- Or a session is over, and the life has begun as many deliveries as it may: its link was closed, and
@@ -50,10 +50,10 @@ pub record FilledUp (w : World) (l : Ledger) (a z : Outside) (u v : HostView) (s
   pub connected : AllConnected story
   pub gave_up : GaveUp w l a z story
 
--- of each ledger for which engine, host and sessions stand within a turn, as clock and hops tell
+-- of each ledger for which engine, host and sessions stand within a sweep, as clock and hops tell
 abbrev pub ForServed : Served → HostView → HopsView → Sessions → (World → Ledger → Outside → Option (List ℕ) → Story → Type 0) → Type 0
 ForServed served u hops agent says = (w : World) → (l : Ledger) → (a : Outside) → (clock : Option (List ℕ)) → (early : List Begun) → (fs : List Delivery) → (s : Story)
-    → length early ≡ served.known → Turns (idle served.busy) s
+    → length early ≡ served.known → Sweeps (idle served.busy) s
     → IsServing w l a (record { clock = clock; hops = hops }) u served.engine agent early [] fs s → says w l a clock s
 
 -- it goes on, or there are no numbers left
@@ -76,5 +76,5 @@ pub record MayServe (clock : Option (List ℕ)) (v : HostView) (hops : HopsView)
   pub flights : List Delivery
   pub story : Story
   pub known_is : length early ≡ served.known
-  pub turns : Turns (idle served.busy) story
+  pub sweeps : Sweeps (idle served.busy) story
   pub serving : IsServing world ledger first (record { clock = clock; hops = hops }) v served.engine agent early [] flights story

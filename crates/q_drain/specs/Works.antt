@@ -18,18 +18,18 @@ use Rattle.q_drain.specs.Waits.{Waits, WaitsBetween}
 abbrev pub mail_of : Message → Mail
 mail_of m = record { sender = m.sender; addresses = map (λ r. r.address) m.recipients; content = m.content }
 
--- the rests and moments so far, and up to which number the sessions were polled in this turn
+-- the rests and moments so far, and up to which number the sessions were polled in this sweep
 pub record Counts : Type 0 where
   pub rests : ℕ
   pub moments : ℕ
   pub polled : ℕ
 
--- what a link tells within a turn: its next hop, and how often it answered `NotYet`
+-- what a link tells within a sweep: its next hop, and how often it answered `NotYet`
 pub record IsLinkOf (n : Counts) (start : Begun) (t : Told) : Type 0 where
   pub hop : t.hop ≡ start.site.hop
   pub waits : Waits n.rests n.moments t.rests_before t.not_yets (nat_le start.number n.polled)
 
--- the same between two turns, behind the rest that was given
+-- the same between two sweeps, behind the rest that was given
 pub record IsLinkBetween (rests moments : ℕ) (start : Begun) (t : Told) : Type 0 where
   pub hop : t.hop ≡ start.site.hop
   pub waits : WaitsBetween rests moments t.rests_before t.not_yets

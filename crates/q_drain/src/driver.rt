@@ -1,7 +1,7 @@
-//! The turns of a drain, from the first to the last.
+//! The sweeps of a drain, from the first to the last.
 ghost use Rattle.std.specs.List.{list_all};
 ghost use Rattle.std.specs.Prelude.{◌≡◌, ◌≢◌, ◌≤◌, [], false, IfErr, IfOk, IsTrue, Ok, Some, true, ℕ};
-ghost use Rattle.q_agent.specs.Sessions.{is_turn_over, link_waits};
+ghost use Rattle.q_agent.specs.Sessions.{is_sweep_over, link_waits};
 ghost use Rattle.q_drain.specs.Drained.{CountsRests, Drains, EndsAs, IsDrainError, RestsBehind};
 ghost use Rattle.q_drain.specs.Exits.{EndsEarly, ForStarted, MayStart};
 ghost use Rattle.q_drain.specs.declared.driver.Drained.TheVariants.{Quiet, Unfinished};
@@ -12,7 +12,7 @@ ghost use Rattle.q_engine.specs.declared.engine.Engine.{Engine as Started};
 ghost use Rattle.q_host.specs.View.{Told};
 
 use crate::poll::Served;
-use crate::turn::{Turn, take_turn};
+use crate::sweep::{Sweep, make_sweep};
 use q_agent::Agent;
 use q_engine::{Engine, EngineError, Stop, stopped_by};
 use q_host::{Host, HostError};
@@ -21,8 +21,9 @@ use q_model::Bound;
 use q_stream::Clock;
 use std::alloc::Global;
 
-/// How many turns a drain may take. None comes near: each gives a rest, or begins or ends a delivery.
-const TURNS: u64 = 1 << 60;
+/// How many sweeps a drain may make. None comes near: each gives a rest, or begins or ends a
+/// delivery.
+const SWEEPS: u64 = 1 << 60;
 
 /// How a drain ends.
 #[derive(Drop)]
@@ -33,8 +34,8 @@ pub enum Drained {
     Unfinished { rests: u64 },
 }
 
-/// Gives the rest behind a turn that did nothing, unless all were given: then `None` comes. Behind a
-/// turn that did something no rest is due. The answer is how many were given.
+/// Gives the rest behind a sweep that did nothing, unless all were given: then `None` comes. Behind
+/// a sweep that did something no rest is due. The answer is how many were given.
 fn rest_behind<L: Link, N: Hops<Link = L>>(
     agent: &mut Agent<L>,
     hops: &mut N,
@@ -42,7 +43,7 @@ fn rest_behind<L: Link, N: Hops<Link = L>>(
     given: u64,
     rests: u64,
 ) -> Option<u64>
-    requires over { is_turn_over agent.old ≡ true }
+    requires over { is_sweep_over agent.old ≡ true }
     requires some { busy ≡ false → agent.old.listed ≢ [] }
     requires waits { list_all link_waits agent.old.listed ≡ true }
     requires few { given ≤ rests }
@@ -59,8 +60,8 @@ fn rest_behind<L: Link, N: Hops<Link = L>>(
     Some(given + 1)
 }
 
-/// Takes turn after turn. `None` comes where no number is left for a delivery.
-fn take_turns<L: Link, H: Host, C: Clock, N: Hops<Link = L>>(
+/// Makes sweep after sweep. `None` comes where no number is left for a delivery.
+fn make_sweeps<L: Link, H: Host, C: Clock, N: Hops<Link = L>>(
     alloc: Global,
     engine: Engine,
     host: &mut H,
@@ -94,12 +95,12 @@ fn take_turns<L: Link, H: Host, C: Clock, N: Hops<Link = L>>(
     };
     let mut first = true;
     let mut given = 0;
-    for _ in 0..TURNS {
+    for _ in 0..SWEEPS {
         let Served { engine, known, .. } = served;
-        served = match take_turn(alloc, engine, &mut agent, host, clock, hops, known, first)? {
-            Turn::Over(served) => served,
-            Turn::Idle(engine) => return Ok(Some(Drained::Quiet { engine })),
-            Turn::Full => return Ok(None),
+        served = match make_sweep(alloc, engine, &mut agent, host, clock, hops, known, first)? {
+            Sweep::Over(served) => served,
+            Sweep::Idle(engine) => return Ok(Some(Drained::Quiet { engine })),
+            Sweep::Full => return Ok(None),
         };
         let Some(more) = rest_behind(&mut agent, hops, served.busy, given, rests) else {
             return Ok(Some(Drained::Unfinished { rests }));
@@ -110,15 +111,15 @@ fn take_turns<L: Link, H: Host, C: Clock, N: Hops<Link = L>>(
     Err(Stop::Host(HostError::NoMemory))
 }
 
-/// Delivers the messages of a life that has just begun, by SMTP (RFC 5321), turn by turn, until no
-/// delivery is in flight. A turn hears the clock, polls each open session once, and opens those of the
-/// deliveries that begin meanwhile. Where in a turn no session was over and none was opened, a rest
-/// follows it, of which there are so many.
+/// Delivers the messages of a life that has just begun, by SMTP (RFC 5321), sweep by sweep, until
+/// no delivery is in flight. A sweep hears the clock, polls each open session once, and opens those
+/// of the deliveries that begin meanwhile. Where in a sweep no session was over and none was
+/// opened, a rest follows it, of which there are so many.
 ///
-/// `Quiet` comes behind a turn in which no session was open. `Unfinished` comes where all rests were
-/// given, and another is needed. `Disk` and `Tell` come where the host failed, `NoMemory` where memory
-/// ran out; then the turn of the last event was told in part. `Unreadable` names a queue file of this
-/// life that can't be read any longer. `Limit` of deliveries comes where a
+/// `Quiet` comes behind a sweep in which no session was open. `Unfinished` comes where all rests
+/// were given, and another is needed. `Disk` and `Tell` come where the host failed, `NoMemory`
+/// where memory ran out; then the turn of the last event was told in part. `Unreadable` names a
+/// queue file of this life that can't be read any longer. `Limit` of deliveries comes where a
 /// session is over, and the life has begun 2^48 deliveries: its reply isn't told.
 pub fn drain<L: Link, H: Host, C: Clock, N: Hops<Link = L>>(
     alloc: Global,
@@ -143,7 +144,7 @@ pub fn drain<L: Link, H: Host, C: Clock, N: Hops<Link = L>>(
     ensures readable { IsTrue H.tells → IfErr result (λ error. is_unreadable error ≡ false) }
     ensures cause { EngineCause (H.faults host.old) (H.faults host.new) result }
 {
-    match take_turns(alloc, engine, host, clock, hops, rests) {
+    match make_sweeps(alloc, engine, host, clock, hops, rests) {
         Ok(Some(drained)) => Ok(drained),
         Ok(None) => Err(EngineError::Limit {
             bound: Bound::Deliveries,

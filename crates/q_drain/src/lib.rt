@@ -1,5 +1,5 @@
-//! What a drain promises: messages are delivered by SMTP (RFC 5321), turn by turn, until no delivery
-//! is in flight.
+//! What a drain promises: messages are delivered by SMTP (RFC 5321), sweep by sweep, until no
+//! delivery is in flight.
 //!
 //! The definitions stand in `specs`. `Drains` is the promise as a whole, over the `Story` of a call:
 //! what it told, the moments that its clock gave, and what was done with its hops. `Cases` says which
@@ -7,8 +7,8 @@
 //! between any two calls of the agent, and the lemmas in `proofs` carry it from one to the next.
 //! `Standing` joins it with the engine, the clock and the hops.
 //!
-//! `drain` takes the turns. It is an error to call it with an engine that has heard anything since its
-//! life began, and on a host that tells its files with an engine that doesn't stand for them.
+//! `drain` makes the sweeps. It is an error to call it with an engine that has heard anything since
+//! its life began, and on a host that tells its files with an engine that doesn't stand for them.
 //!
 //! The laws below are over ledgers alone. Each is the contract of a function with nothing to do; no
 //! call of one is an error.
@@ -20,7 +20,7 @@ mod hearing;
 mod opening;
 mod poll;
 mod reply;
-mod turn;
+mod sweep;
 
 ghost use Rattle.std.specs.Prelude.{◌≤◌, List, ℕ};
 ghost use Rattle.q_drain.specs.Laws.{AddsFlights, OfLedgers, StaysOwnRun};

@@ -1,6 +1,6 @@
-//! The polls of a turn.
+//! The polls of a sweep.
 ghost use Rattle.std.specs.Prelude.{◌≡◌, ◌+◌, false, IfOk, IfSome, IsTrue, List, Option, true, ℕ};
-ghost use Rattle.q_agent.specs.Sessions.{is_turn_over};
+ghost use Rattle.q_agent.specs.Sessions.{is_sweep_over};
 ghost use Rattle.q_drain.specs.Polling.{IsPolling, KeepsSome};
 ghost use Rattle.q_drain.specs.Reported.{GivesUpReport, HearsReport, MayOpenBehind};
 ghost use Rattle.q_drain.specs.Served.{GivesUpServing, MayServe, PollsOn};
@@ -18,12 +18,12 @@ use q_link::{Hops, Link};
 use q_model::MOST_DELIVERIES;
 use std::alloc::Global;
 
-/// How many polls a turn may have. None comes near: each ends in a report, or is that of a session
+/// How many polls a sweep may have. None comes near: each ends in a report, or is that of a session
 /// that was open.
 const POLLS: u64 = 1 << 60;
 
-/// The engine within a turn. The deliveries up to the number that is known have had their sessions,
-/// and `busy` says that a delivery began or ended in this turn.
+/// The engine within a sweep. The deliveries up to the number that is known have had their
+/// sessions, and `busy` says that a delivery began or ended in this sweep.
 #[derive(Drop)]
 pub(crate) struct Served {
     pub(crate) engine: Engine,
@@ -68,10 +68,10 @@ fn hear_report<L: Link, H: Host, N: Hops<Link = L>>(
     })
 }
 
-/// Polls the next session of a turn that isn't over. Where that session is over, its reply is carried
-/// out and told, and the sessions of the deliveries that begin then are opened. `None` comes where it
-/// is over, and the life has begun as many deliveries as it may: its link is closed, and its reply
-/// isn't told.
+/// Polls the next session of a sweep that isn't over. Where that session is over, its reply is
+/// carried out and told, and the sessions of the deliveries that begin then are opened. `None`
+/// comes where it is over, and the life has begun as many deliveries as it may: its link is closed,
+/// and its reply isn't told.
 fn poll_next<L: Link, H: Host, N: Hops<Link = L>>(
     alloc: Global,
     served: Served,
@@ -80,7 +80,7 @@ fn poll_next<L: Link, H: Host, N: Hops<Link = L>>(
     hops: &mut N,
 ) -> Result<Option<Served>, Stop>
     requires ready { IsReady served.engine }
-    requires over { is_turn_over agent.old ≡ false }
+    requires over { is_sweep_over agent.old ≡ false }
     requires polling { IsPolling agent.old (served.known + 1) }
     requires serves { IsTrue H.tells → (clock : Option (List ℕ))
         × MayServe clock (H.view host.old) (N.view hops.old) served agent.old }
@@ -101,7 +101,7 @@ fn poll_next<L: Link, H: Host, N: Hops<Link = L>>(
         known,
         busy,
     } = served;
-    let Some(report) = agent.turn(alloc, host, hops, engine.now())? else {
+    let Some(report) = agent.poll_next(alloc, host, hops, engine.now())? else {
         return Ok(Some(Served {
             engine,
             known,
@@ -115,8 +115,8 @@ fn poll_next<L: Link, H: Host, N: Hops<Link = L>>(
     Ok(Some(next))
 }
 
-/// Polls each open session that this turn hasn't polled, those too that are opened meanwhile, in order
-/// of their numbers. `None` comes as it does of one poll.
+/// Polls each open session that this sweep hasn't polled, those too that are opened meanwhile, in
+/// order of their numbers. `None` comes as it does of one poll.
 pub(crate) fn poll_all<L: Link, H: Host, N: Hops<Link = L>>(
     alloc: Global,
     begun: Served,
@@ -130,7 +130,7 @@ pub(crate) fn poll_all<L: Link, H: Host, N: Hops<Link = L>>(
         × MayServe clock (H.view host.old) (N.view hops.old) begun agent.old }
     ensures ok { IfOk result (λ next. IsTrue H.tells → PollsOn begun next (H.view host.old)
         (H.view host.new) (N.view hops.old) (N.view hops.new) agent.old agent.new) }
-    ensures over { IfOk result (λ next. IfSome next (λ s. is_turn_over agent.new ≡ true)) }
+    ensures over { IfOk result (λ next. IfSome next (λ s. is_sweep_over agent.new ≡ true)) }
     ensures ready { IfOk result (λ next. IfSome next (λ s. IsReady s.engine)) }
     ensures polling { IfOk result (λ next. IfSome next (λ s. IsPolling agent.new (s.known + 1))) }
     ensures some { IfOk result (λ next. IfSome next (λ s. KeepsSome begun.busy s.busy
@@ -143,7 +143,7 @@ pub(crate) fn poll_all<L: Link, H: Host, N: Hops<Link = L>>(
 {
     let mut served = begun;
     for _ in 0..POLLS {
-        if agent.turn_over() {
+        if agent.sweep_over() {
             return Ok(Some(served));
         }
         let Some(next) = poll_next(alloc, served, agent, host, hops)? else {

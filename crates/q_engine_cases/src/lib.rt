@@ -9,4 +9,4 @@ mod drive;
 #[cfg(test)]
 mod pairs;
 #[cfg(test)]
-mod turns;
+mod sweeps;

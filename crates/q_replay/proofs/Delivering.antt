@@ -1,4 +1,4 @@
--- A life that delivers by SMTP, from its beginning through its turns to its end.
+-- A life that delivers by SMTP, from its beginning through its sweeps to its end.
 use native.Mathlib.Omega.{arith}
 use Rattle.std.proofs.Common.{◌≡◌, ◌+◌, ℕ, Bool, true, false, List, [], ◌∷◌, ◌++◌, ◌⊎◌, inl, inr, if◌then◌else◌, length, map, Some, None, refl, sym, ap, ◌∙◌, subst, append-nil, append_assoc}
 use Rattle.std.proofs.lemmas.List.{length-map, map-append}
@@ -15,7 +15,7 @@ use Rattle.q_drain.specs.Opened.{GaveUp}
 use Rattle.q_drain.specs.Standing.{Outside}
 use Rattle.q_drain.specs.Stories.{Story}
 use Rattle.q_drain.specs.Told.{Begun, begun, events_of, heard_of, moments_of}
-use Rattle.q_drain.specs.Turned.{Outsides}
+use Rattle.q_drain.specs.Swept.{Outsides}
 use Rattle.q_engine.specs.KeptNotes.{AddsAllNotes}
 use Rattle.q_engine.specs.Stands.{EngineStands}
 use Rattle.q_engine.specs.declared.engine.Engine.{Engine}
@@ -162,7 +162,7 @@ whole_cut w l s h =
       };
     }
 
--- ---- its turns, and its end
+-- ---- its sweeps, and its end
 
 module _ (w : World) (b : Book) (o : Outsides) (u v : View) (first : IsTold w Deliver b (Begin ∷ []) u v) where
   abbrev l : Ledger
@@ -174,15 +174,15 @@ module _ (w : World) (b : Book) (o : Outsides) (u v : View) (first : IsTold w De
   ledger_told : (story : Story) → IsOwnRun w l story.told → ledger_on w Deliver b (life_told story) ≡ after_all w l story.told
   ledger_told story own = ledger_many w b (Begin ∷ []) (heard_of story.told) ∙ ap (after_all w l) (sym own)
 
-  told_turns : (x : View) → (e : EndsWhole w l o v x) → IsTold w Deliver b (life_told e.story) u x
-  told_turns x e = told_many w b (Begin ∷ []) (heard_of (e.story).told) u v x first
+  told_sweeps : (x : View) → (e : EndsWhole w l o v x) → IsTold w Deliver b (life_told e.story) u x
+  told_sweeps x e = told_many w b (Begin ∷ []) (heard_of (e.story).told) u v x first
       (subst (λ (xs : List Entry). PlaysRun w l xs v x) (e.whole).told e.plays)
       (subst (λ (xs : List Entry). AddsAllNotes w l xs v.files x.files) (e.whole).told e.adds)
 
   pub leaves_some : (x : View) (rests : ℕ) → EndsUnfinished w l o v x rests → LeavesSome w b o rests u x
   leaves_some x rests e = record {
     story = (e.ends).story;
-    told = told_turns x e.ends;
+    told = told_sweeps x e.ends;
     is = record { whole = (e.ends).whole; given = (e.ends).given; delivered = (e.ends).delivered };
     flies = e.flies;
     rests_given = e.rests_given;
@@ -199,7 +199,7 @@ module _ (w : World) (b : Book) (o : Outsides) (u v : View) (first : IsTold w De
     gave_up = e.gave_up;
   }
 
-  -- it was given up in a turn
+  -- it was given up in a sweep
   pub stops_early : (x : View) (fault : HostError) → EndsEarly w l o v x fault → StopsDelivering w b o fault u x
   stops_early x fault e =
       let es = entries_on w Deliver b (Begin ∷ []) in
@@ -273,7 +273,7 @@ module _ (w : World) (b : Book) (o : Outsides) (u v : View) (first : IsTold w De
     pub delivers_all : (y : View) → TookItem w k End None x y → DeliversAll w b o u y
     delivers_all y took = record {
       story = story;
-      told = told_more w Deliver b (life_told story) Finish u x y (told_turns x e.ends) took.plays took.notes;
+      told = told_more w Deliver b (life_told story) Finish u x y (told_sweeps x e.ends) took.plays took.notes;
       is = record { whole = (e.ends).whole; given = (e.ends).given; delivered = (e.ends).delivered };
       quiet = e.quiet;
     }
@@ -283,7 +283,7 @@ module _ (w : World) (b : Book) (o : Outsides) (u v : View) (first : IsTold w De
     stops_ending y fault q =
         let es = entries_on w Deliver b (life_told story) in
         let before = entries_on w Deliver b (Begin ∷ []) in
-        let h = halts_after w (opening Deliver b) es (turn w k Finish) (entries_on w Deliver b (life_told story ++ Finish ∷ [])) k fault u x y (entries_more w Deliver b (life_told story) Finish) refl (told_turns x e.ends).plays q in
+        let h = halts_after w (opening Deliver b) es (turn w k Finish) (entries_on w Deliver b (life_told story ++ Finish ∷ [])) k fault u x y (entries_more w Deliver b (life_told story) Finish) refl (told_sweeps x e.ends).plays q in
         let silent : events_of q.done ≡ [] = none_named (turn w k Finish) q.done q.rest q.all (end_silent w k) in
         record {
           story = story;

@@ -6,8 +6,8 @@ use Rattle.q_drain.specs.Opened.{GaveUp}
 use Rattle.q_drain.specs.Standing.{HasGiven}
 use Rattle.q_drain.specs.Stories.{Story}
 use Rattle.q_drain.specs.Told.{events_of}
-use Rattle.q_drain.specs.Turned.{Outsides}
-use Rattle.q_drain.specs.Turns.{AllConnected, IsClocked}
+use Rattle.q_drain.specs.Swept.{Outsides}
+use Rattle.q_drain.specs.Sweeps.{AllConnected, IsClocked}
 use Rattle.q_entries.specs.Runs.{PlaysRun}
 use Rattle.q_model.specs.declared.limits.Bound.TheVariants.{Deliveries, Generation}
 use Rattle.q_host.specs.View.{View}
@@ -43,7 +43,7 @@ life_of heard = Begin ∷ map Heard heard
 abbrev pub life_told : Story → List LifeEvent
 life_told s = life_of (events_of s.told)
 
--- What holds of the story of a life that came to the end of a turn.
+-- What holds of the story of a life that came to the end of a sweep.
 pub record IsStoryOf (w : World) (b : Book) (o : Outsides) (s : Story) : Type 0 where
   pub whole : IsWhole w (begun_on w b) s
   pub given : HasGiven o.before.clock o.behind.clock s

@@ -8,7 +8,7 @@ use Rattle.q_conf.specs.declared.error.ConfError.{ConfError}
 use Rattle.q_conf.specs.declared.error.ConfError.TheVariants as conf_errors
 use Rattle.q_drain.proofs.GivingUp.{halts_after, none_after}
 use Rattle.q_drain.specs.Standing.{Outside}
-use Rattle.q_drain.specs.Turned.{Outsides}
+use Rattle.q_drain.specs.Swept.{Outsides}
 use Rattle.q_entries.proofs.Playing.{plays_then}
 use Rattle.q_entries.specs.Runs.{PlaysRun}
 use Rattle.q_model.specs.declared.limits.Bound.TheVariants as bounds

@@ -2,7 +2,7 @@
 use Rattle.std.specs.Prelude.{◌≡◌, List, Option, true, ℕ}
 use Rattle.q_books.specs.HostStands.{HostStands}
 use Rattle.q_conf.specs.Confs.{conf_of, goes_by}
-use Rattle.q_drain.specs.Turned.{Outsides}
+use Rattle.q_drain.specs.Swept.{Outsides}
 use Rattle.q_host.specs.View.{View}
 use Rattle.q_link.specs.Records.{HopsView}
 use Rattle.q_model.specs.Book.{Book}

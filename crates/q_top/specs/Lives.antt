@@ -9,7 +9,7 @@ use Rattle.q_model.specs.Book.{Book}
 use Rattle.q_model.specs.Settings.{World}
 use Rattle.q_model.specs.declared.event.Mode.TheVariants.{Intake}
 use Rattle.q_model.specs.declared.spot.Area.{Area}
-use Rattle.q_drain.specs.Turned.{Outsides}
+use Rattle.q_drain.specs.Swept.{Outsides}
 use Rattle.q_replay.specs.Deliveries.{DeliveryEnds}
 use Rattle.q_replay.specs.ReplayEnds.{ReplayEnds}
 use Rattle.q_replay.specs.RunEnds.{RunEnds}

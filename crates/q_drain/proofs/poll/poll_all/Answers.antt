@@ -22,7 +22,7 @@ loop-init g c =
       some = λ idle. (idle, λ some. some);
       rests = refl;
       may = c.requires.serves;
-      on = λ t w l a clock early fs s known turns h. served_none w l a (record { clock = clock; hops = g.N.Hops.view c.args.hops.now }) u c.args.begun c.args.agent.now early fs s lawful known turns h;
+      on = λ t w l a clock early fs s known sweeps h. served_none w l a (record { clock = clock; hops = g.N.Hops.view c.args.hops.now }) u c.args.begun c.args.agent.now early fs s lawful known sweeps h;
       disk_later = omega arith;
       tell_later = omega arith;
     }
@@ -33,20 +33,20 @@ poll_next-requires-clause-serves g c t =
     let (clock, m) = loop.invariant.may t in (
       clock,
       may_serve clock (g.H.Host.view c.args.host.now) (g.H.Host.view loop.host) (g.N.Hops.view c.args.hops.now) (g.N.Hops.view loop.hops) c.args.begun loop.served c.args.agent.now loop.agent m
-          (loop.invariant.on t m.world m.ledger m.first clock m.early m.flights m.story m.known_is m.turns m.serving),
+          (loop.invariant.on t m.world m.ledger m.first clock m.early m.flights m.story m.known_is m.sweeps m.serving),
     )
 
-pub returns-then-turn_over-clause-ok : goal.returns-then-turn_over-clause-ok
-returns-then-turn_over-clause-ok g c t = c.loop.invariant.on t
+pub returns-then-sweep_over-clause-ok : goal.returns-then-sweep_over-clause-ok
+returns-then-sweep_over-clause-ok g c t = c.loop.invariant.on t
 
 pub returns-in_err-next-clause-err : goal.returns-in_err-next-clause-err
-returns-in_err-next-clause-err g c error is t w l a clock early fs s known turns h =
+returns-in_err-next-clause-err g c error is t w l a clock early fs s known sweeps h =
     let loop = c.loop in
     let view = g.H.Host.view in
     let hops = g.N.Hops.view in
-    let m = loop.invariant.on t w l a clock early fs s known turns h in
+    let m = loop.invariant.on t w l a clock early fs s known sweeps h in
     fails_then w l a (record { clock = clock; hops = hops loop.hops }) (record { clock = clock; hops = hops c.poll_next.new.hops }) (view c.args.host.now) (view loop.host) (view c.poll_next.new.host) loop.served loop.agent s m error
-    (c.in_err-next.ensures.err error (same_stop c.from_residual.result c.in_err-next.field-0.0 (stops.Host error) c.from_residual.ensures.1 is) t w l a clock m.early m.flights m.story m.known_is m.turns m.serving)
+    (c.in_err-next.ensures.err error (same_stop c.from_residual.result c.in_err-next.field-0.0 (stops.Host error) c.from_residual.ensures.1 is) t w l a clock m.early m.flights m.story m.known_is m.sweeps m.serving)
 
 pub loop-preserved : goal.loop-preserved
 loop-preserved g c =
@@ -60,30 +60,30 @@ loop-preserved g c =
           (subst (λ (o : Option Served). IfSome o (λ s. KeepsSome loop.served.busy s.busy loop.agent c.poll_next.new.agent)) c.in-Some.is c.in_ok-next.ensures.some);
       rests = c.in_ok-next.ensures.rests ∙ loop.invariant.rests;
       may = loop.invariant.may;
-      on = λ t w l a clock early fs s known turns h.
-          let m = loop.invariant.on t w l a clock early fs s known turns h in
+      on = λ t w l a clock early fs s known sweeps h.
+          let m = loop.invariant.on t w l a clock early fs s known sweeps h in
           served_then w l a (record { clock = clock; hops = hops loop.hops }) (record { clock = clock; hops = hops c.poll_next.new.hops }) (view c.args.host.now) (view loop.host) (view c.poll_next.new.host) loop.served loop.agent s m c.in-Some.next c.poll_next.new.agent
-          (subst (λ (o : Option Served). PollsOn loop.served o (view loop.host) (view c.poll_next.new.host) (hops loop.hops) (hops c.poll_next.new.hops) loop.agent c.poll_next.new.agent) c.in-Some.is (c.in_ok-next.ensures.ok t) w l a clock m.early m.flights m.story m.known_is m.turns m.serving);
+          (subst (λ (o : Option Served). PollsOn loop.served o (view loop.host) (view c.poll_next.new.host) (hops loop.hops) (hops c.poll_next.new.hops) loop.agent c.poll_next.new.agent) c.in-Some.is (c.in_ok-next.ensures.ok t) w l a clock m.early m.flights m.story m.known_is m.sweeps m.serving);
       disk_later = omega (arith, loop.invariant.disk_later, c.in_ok-next.ensures.cause.disk_later);
       tell_later = omega (arith, loop.invariant.tell_later, c.in_ok-next.ensures.cause.tell_later);
     }
 
 pub returns-in_default-clause-ok : goal.returns-in_default-clause-ok
-returns-in_default-clause-ok g c t w l a clock early fs s known turns h =
+returns-in_default-clause-ok g c t w l a clock early fs s known sweeps h =
     let loop = c.loop in
     let view = g.H.Host.view in
     let hops = g.N.Hops.view in
-    let m = loop.invariant.on t w l a clock early fs s known turns h in
+    let m = loop.invariant.on t w l a clock early fs s known sweeps h in
     filled_then w l a (record { clock = clock; hops = hops loop.hops }) (record { clock = clock; hops = hops c.poll_next.new.hops }) (view c.args.host.now) (view loop.host) (view c.poll_next.new.host) loop.served loop.agent s m
-    (subst (λ (o : Option Served). PollsOn loop.served o (view loop.host) (view c.poll_next.new.host) (hops loop.hops) (hops c.poll_next.new.hops) loop.agent c.poll_next.new.agent) c.in_default.is (c.in_ok-next.ensures.ok t) w l a clock m.early m.flights m.story m.known_is m.turns m.serving)
+    (subst (λ (o : Option Served). PollsOn loop.served o (view loop.host) (view c.poll_next.new.host) (hops loop.hops) (hops c.poll_next.new.hops) loop.agent c.poll_next.new.agent) c.in_default.is (c.in_ok-next.ensures.ok t) w l a clock m.early m.flights m.story m.known_is m.sweeps m.serving)
 
 pub returns-clause-err : goal.returns-clause-err
-returns-clause-err g c error is t w l a clock early fs s known turns h =
+returns-clause-err g c error is t w l a clock early fs s known sweeps h =
     let loop = c.loop in
     let v = g.H.Host.view loop.host in
     let lawful : TellsCrashes v = record { only = g.met.H.Host.only_now loop.host; told = g.met.H.Host.told_stays loop.host } in
     let z : Outside = record { clock = clock; hops = g.N.Hops.view loop.hops } in
-    let m = loop.invariant.on t w l a clock early fs s known turns h in
+    let m = loop.invariant.on t w l a clock early fs s known sweeps h in
     fails_then w l a z z (g.H.Host.view c.args.host.now) v v loop.served loop.agent s m error
     (stops_serving w l a z v loop.served loop.agent m.early m.flights m.story error lawful m.serving)
 
@@ -103,8 +103,8 @@ returns-in_default-clause-cause g c =
 pub returns-clause-cause : goal.returns-clause-cause
 returns-clause-cause g c = memory_stop (g.H.Host.faults c.args.host.now) (g.H.Host.faults c.loop.host) c.loop.invariant.disk_later c.loop.invariant.tell_later
 
-pub returns-then-turn_over-clause-cause : goal.returns-then-turn_over-clause-cause
-returns-then-turn_over-clause-cause g c = ok_stop (g.H.Host.faults c.args.host.now) (g.H.Host.faults c.loop.host) _ c.loop.invariant.disk_later c.loop.invariant.tell_later
+pub returns-then-sweep_over-clause-cause : goal.returns-then-sweep_over-clause-cause
+returns-then-sweep_over-clause-cause g c = ok_stop (g.H.Host.faults c.args.host.now) (g.H.Host.faults c.loop.host) _ c.loop.invariant.disk_later c.loop.invariant.tell_later
 
 pub returns-in_err-next-clause-readable : goal.returns-in_err-next-clause-readable
 returns-in_err-next-clause-readable g c = stop_readable g.H.Host.tells c.from_residual.result c.in_err-next.field-0.0 c.from_residual.ensures.1 c.in_err-next.ensures.readable

@@ -1,19 +1,19 @@
 use Rattle.std.proofs.Common.{◌≡◌, ◌≤◌, ◌∙◌, [], Option, arith, ap, refl, rules, subst, sym}
 use Rattle.std.specs.List.{AllByRecursion}
 use Rattle.std.specs.Prelude.{◌^◌}
-use Rattle.q_agent.specs.Answers.{IsStanding, Turned}
+use Rattle.q_agent.specs.Answers.{IsStanding, PollsNext}
 use Rattle.q_agent.specs.Sessions.{next_polled}
 use Rattle.q_agent.specs.declared.report.Report.{Report}
 use Rattle.q_books.specs.HostStands.{TellsCrashes}
-use Rattle.q_drain.proofs.PollTurns.{busy_keeps, ends_poll, fills_up, keeps_some, may_open_more, may_poll, poll_fails, polls_less, polls_on, reply_fits, report_fails, served_by_report, served_on, stands_still}
-use Rattle.q_drain.proofs.Polls.{some_unpolled, turned_over, turned_rests}
+use Rattle.q_drain.proofs.NextPolls.{busy_keeps, ends_poll, fills_up, keeps_some, may_open_more, may_poll, poll_fails, polls_less, polls_on, reply_fits, report_fails, served_by_report, served_on, stands_still}
+use Rattle.q_drain.proofs.Polls.{polled_over, polled_rests, some_unpolled}
 use Rattle.q_engine.proofs.Stopping.{disk_stopped, host_readable, ok_stop, same_stop, stop_later, stop_passed, stop_readable}
 use Rattle.q_engine.specs.declared.stop.Stop.TheVariants as stops
 use Rattle.q_model.specs.Step.{after_all}
 use Rattle.q_drain.proofs.poll.poll_next.Goals as goal
 
-pub turn-requires : goal.turn-requires
-turn-requires g c =
+pub poll_next-requires : goal.poll_next-requires
+poll_next-requires g c =
     record {
       there = λ t.
           let (clock, m) = c.requires.serves t in
@@ -23,59 +23,59 @@ turn-requires g c =
     }
 
 pub returns-in_err-report-clause-err : goal.returns-in_err-report-clause-err
-returns-in_err-report-clause-err g c error is t w l a clock early fs s known turns h =
+returns-in_err-report-clause-err g c error is t w l a clock early fs s known sweeps h =
     let u = g.H.Host.view c.args.host.now in
     let lawful : TellsCrashes u = record { only = g.met.H.Host.only_now c.args.host.now; told = g.met.H.Host.told_stays c.args.host.now } in
-    poll_fails w l a clock u (g.H.Host.view c.turn.new.host) (g.N.Hops.view c.args.hops.now) (g.N.Hops.view c.turn.new.hops) early fs s c.args.served.engine c.args.agent.now error lawful (c.turn.ensures.stays t) c.in_err-report.ensures.unrecorded h
+    poll_fails w l a clock u (g.H.Host.view c.poll_next.new.host) (g.N.Hops.view c.args.hops.now) (g.N.Hops.view c.poll_next.new.hops) early fs s c.args.served.engine c.args.agent.now error lawful (c.poll_next.ensures.stays t) c.in_err-report.ensures.unrecorded h
 
 pub returns-in_err-report-clause-rests : goal.returns-in_err-report-clause-rests
 returns-in_err-report-clause-rests g c = ap (λ x. x.rests) c.in_err-report.ensures.unrecorded.1
 
 pub returns-in_default-clause-ok : goal.returns-in_default-clause-ok
-returns-in_default-clause-ok g c t w l a clock early fs s known turns h =
+returns-in_default-clause-ok g c t w l a clock early fs s known sweeps h =
     let u = g.H.Host.view c.args.host.now in
     let hops = g.N.Hops.view c.args.hops.now in
-    let next = g.N.Hops.view c.turn.new.hops in
+    let next = g.N.Hops.view c.poll_next.new.hops in
     let agent = c.args.agent.now in
     let o = some_unpolled agent c.requires.over in
     let lawful : TellsCrashes u = record { only = g.met.H.Host.only_now c.args.host.now; told = g.met.H.Host.told_stays c.args.host.now } in
-    served_on w l a clock u (g.H.Host.view c.turn.new.host) hops next early fs s c.args.served agent c.turn.new.self g.H.Host.tells c.now.result o.0 lawful (c.turn.ensures.stays t) o.1 t
-    (subst (λ (r : Option Report). Turned g.H.Host.tells u c.now.result hops next (next_polled agent) r agent c.turn.new.self) c.in_default.is c.in_ok-report.ensures.ok) known turns h
+    served_on w l a clock u (g.H.Host.view c.poll_next.new.host) hops next early fs s c.args.served agent c.poll_next.new.self g.H.Host.tells c.now.result o.0 lawful (c.poll_next.ensures.stays t) o.1 t
+    (subst (λ (r : Option Report). PollsNext g.H.Host.tells u c.now.result hops next (next_polled agent) r agent c.poll_next.new.self) c.in_default.is c.in_ok-report.ensures.ok) known sweeps h
 
 pub returns-in_default-clause-polling : goal.returns-in_default-clause-polling
 returns-in_default-clause-polling g c =
     let u = g.H.Host.view c.args.host.now in
     let hops = g.N.Hops.view c.args.hops.now in
-    let next = g.N.Hops.view c.turn.new.hops in
+    let next = g.N.Hops.view c.poll_next.new.hops in
     let agent = c.args.agent.now in
     let o = some_unpolled agent c.requires.over in
-    polls_on _ g.H.Host.tells u c.now.result hops next agent c.turn.new.self o.0 o.1
-    (subst (λ (r : Option Report). Turned g.H.Host.tells u c.now.result hops next (next_polled agent) r agent c.turn.new.self) c.in_default.is c.in_ok-report.ensures.ok) c.requires.polling
+    polls_on _ g.H.Host.tells u c.now.result hops next agent c.poll_next.new.self o.0 o.1
+    (subst (λ (r : Option Report). PollsNext g.H.Host.tells u c.now.result hops next (next_polled agent) r agent c.poll_next.new.self) c.in_default.is c.in_ok-report.ensures.ok) c.requires.polling
 
 pub returns-in_default-clause-some : goal.returns-in_default-clause-some
 returns-in_default-clause-some g c =
     let u = g.H.Host.view c.args.host.now in
     let hops = g.N.Hops.view c.args.hops.now in
-    let next = g.N.Hops.view c.turn.new.hops in
+    let next = g.N.Hops.view c.poll_next.new.hops in
     let agent = c.args.agent.now in
     let o = some_unpolled agent c.requires.over in
-    keeps_some c.args.served.busy g.H.Host.tells u c.now.result hops next agent c.turn.new.self o.0 o.1
-    (subst (λ (r : Option Report). Turned g.H.Host.tells u c.now.result hops next (next_polled agent) r agent c.turn.new.self) c.in_default.is c.in_ok-report.ensures.ok)
+    keeps_some c.args.served.busy g.H.Host.tells u c.now.result hops next agent c.poll_next.new.self o.0 o.1
+    (subst (λ (r : Option Report). PollsNext g.H.Host.tells u c.now.result hops next (next_polled agent) r agent c.poll_next.new.self) c.in_default.is c.in_ok-report.ensures.ok)
 
 pub returns-clause-ok : goal.returns-clause-ok
-returns-clause-ok g c t w l a clock early fs s known turns h =
+returns-clause-ok g c t w l a clock early fs s known sweeps h =
     let u = g.H.Host.view c.args.host.now in
-    let v = g.H.Host.view c.turn.new.host in
+    let v = g.H.Host.view c.poll_next.new.host in
     let hops = g.N.Hops.view c.args.hops.now in
-    let next = g.N.Hops.view c.turn.new.hops in
+    let next = g.N.Hops.view c.poll_next.new.hops in
     let agent = c.args.agent.now in
     let engine = c.args.served.engine in
     let o = some_unpolled agent c.requires.over in
     let lawful : TellsCrashes u = record { only = g.met.H.Host.only_now c.args.host.now; told = g.met.H.Host.told_stays c.args.host.now } in
-    let turned = subst (λ (r : Option Report). Turned g.H.Host.tells u c.now.result hops next (next_polled agent) r agent c.turn.new.self) c.in-Some.is c.in_ok-report.ensures.ok in
-    let made = (turned_over g.H.Host.tells u c.now.result hops next agent c.turn.new.self o.0 c.in-Some.report o.1 turned).1 in
-    let e = ends_poll w l a clock u v hops next engine agent c.turn.new.self early fs s g.H.Host.tells c.now.result o.0 c.in-Some.report lawful (c.turn.ensures.stays t) o.1 t c.now.ensures.ledger turned h in
-    served_by_report w l a clock u v hops next engine agent early fs s o.0 c.in-Some.report e g.H.Host.view c.turn.new.host c.hear_report.new.host refl c.turn.new.self made (g.N.Hops.view c.hear_report.new.hops) c.hear_report.new.agent c.args.served.known c.in_ok-next.next c.args.served.busy known turns
+    let was_polled = subst (λ (r : Option Report). PollsNext g.H.Host.tells u c.now.result hops next (next_polled agent) r agent c.poll_next.new.self) c.in-Some.is c.in_ok-report.ensures.ok in
+    let made = (polled_over g.H.Host.tells u c.now.result hops next agent c.poll_next.new.self o.0 c.in-Some.report o.1 was_polled).1 in
+    let e = ends_poll w l a clock u v hops next engine agent c.poll_next.new.self early fs s g.H.Host.tells c.now.result o.0 c.in-Some.report lawful (c.poll_next.ensures.stays t) o.1 t c.now.ensures.ledger was_polled h in
+    served_by_report w l a clock u v hops next engine agent early fs s o.0 c.in-Some.report e g.H.Host.view c.poll_next.new.host c.hear_report.new.host refl c.poll_next.new.self made (g.N.Hops.view c.hear_report.new.hops) c.hear_report.new.agent c.args.served.known c.in_ok-next.next c.args.served.busy known sweeps
     c.in_ok-next.ensures.busy (c.in_ok-next.ensures.ok t)
 
 pub returns-clause-polling : goal.returns-clause-polling
@@ -85,128 +85,128 @@ pub returns-clause-some : goal.returns-clause-some
 returns-clause-some g c = busy_keeps c.args.served.busy c.in_ok-next.next.busy c.args.agent.now c.hear_report.new.agent c.in_ok-next.ensures.busy
 
 pub returns-then-last_number-ge-MOST_DELIVERIES-clause-ok : goal.returns-then-last_number-ge-MOST_DELIVERIES-clause-ok
-returns-then-last_number-ge-MOST_DELIVERIES-clause-ok g c t w l a clock early fs s known turns h =
+returns-then-last_number-ge-MOST_DELIVERIES-clause-ok g c t w l a clock early fs s known sweeps h =
     let u = g.H.Host.view c.args.host.now in
-    let v = g.H.Host.view c.turn.new.host in
+    let v = g.H.Host.view c.poll_next.new.host in
     let hops = g.N.Hops.view c.args.hops.now in
-    let next = g.N.Hops.view c.turn.new.hops in
+    let next = g.N.Hops.view c.poll_next.new.hops in
     let agent = c.args.agent.now in
     let engine = c.args.served.engine in
     let o = some_unpolled agent c.requires.over in
     let lawful : TellsCrashes u = record { only = g.met.H.Host.only_now c.args.host.now; told = g.met.H.Host.told_stays c.args.host.now } in
-    let turned = subst (λ (r : Option Report). Turned g.H.Host.tells u c.now.result hops next (next_polled agent) r agent c.turn.new.self) c.in-Some.is c.in_ok-report.ensures.ok in
-    let e = ends_poll w l a clock u v hops next engine agent c.turn.new.self early fs s g.H.Host.tells c.now.result o.0 c.in-Some.report lawful (c.turn.ensures.stays t) o.1 t c.now.ensures.ledger turned h in
+    let was_polled = subst (λ (r : Option Report). PollsNext g.H.Host.tells u c.now.result hops next (next_polled agent) r agent c.poll_next.new.self) c.in-Some.is c.in_ok-report.ensures.ok in
+    let e = ends_poll w l a clock u v hops next engine agent c.poll_next.new.self early fs s g.H.Host.tells c.now.result o.0 c.in-Some.report lawful (c.poll_next.ensures.stays t) o.1 t c.now.ensures.ledger was_polled h in
     let full : 2 ^ 48 ≤ c.last_number.result = search rules in
     fills_up w l a clock u v hops next engine agent early fs s o.0 c.in-Some.report e c.last_number.result c.last_number.ensures full
 
 pub returns-in_err-report-clause-cause : goal.returns-in_err-report-clause-cause
-returns-in_err-report-clause-cause g c = disk_stopped (g.H.Host.faults c.args.host.now) (g.H.Host.faults c.turn.new.host) c.from_residual.result c.in_err-report.field-0.0 c.from_residual.ensures.1 c.in_err-report.ensures.cause
+returns-in_err-report-clause-cause g c = disk_stopped (g.H.Host.faults c.args.host.now) (g.H.Host.faults c.poll_next.new.host) c.from_residual.result c.in_err-report.field-0.0 c.from_residual.ensures.1 c.in_err-report.ensures.cause
 
 pub returns-then-last_number-ge-MOST_DELIVERIES-clause-rests : goal.returns-then-last_number-ge-MOST_DELIVERIES-clause-rests
 returns-then-last_number-ge-MOST_DELIVERIES-clause-rests g c =
-    turned_rests g.H.Host.tells (g.H.Host.view c.args.host.now) c.now.result (g.N.Hops.view c.args.hops.now) (g.N.Hops.view c.turn.new.hops) (next_polled c.args.agent.now) c.in_ok-report.field-0 c.args.agent.now c.turn.new.self c.in_ok-report.ensures.ok
+    polled_rests g.H.Host.tells (g.H.Host.view c.args.host.now) c.now.result (g.N.Hops.view c.args.hops.now) (g.N.Hops.view c.poll_next.new.hops) (next_polled c.args.agent.now) c.in_ok-report.field-0 c.args.agent.now c.poll_next.new.self c.in_ok-report.ensures.ok
 
 pub returns-clause-rests : goal.returns-clause-rests
 returns-clause-rests g c = c.hear_report.ensures.rests
-    ∙ turned_rests g.H.Host.tells (g.H.Host.view c.args.host.now) c.now.result (g.N.Hops.view c.args.hops.now) (g.N.Hops.view c.turn.new.hops) (next_polled c.args.agent.now) c.in_ok-report.field-0 c.args.agent.now c.turn.new.self c.in_ok-report.ensures.ok
+    ∙ polled_rests g.H.Host.tells (g.H.Host.view c.args.host.now) c.now.result (g.N.Hops.view c.args.hops.now) (g.N.Hops.view c.poll_next.new.hops) (next_polled c.args.agent.now) c.in_ok-report.field-0 c.args.agent.now c.poll_next.new.self c.in_ok-report.ensures.ok
 
 pub returns-clause-cause : goal.returns-clause-cause
 returns-clause-cause g c =
-    let turned = c.in_ok-report.ensures.cause in
+    let was_polled = c.in_ok-report.ensures.cause in
     let heard = c.in_ok-next.ensures.cause in
     ok_stop (g.H.Host.faults c.args.host.now) (g.H.Host.faults c.hear_report.new.host) _
-    (omega (arith, turned.disk_later, heard.disk_later)) (omega (arith, turned.tell_later, heard.tell_later))
+    (omega (arith, was_polled.disk_later, heard.disk_later)) (omega (arith, was_polled.tell_later, heard.tell_later))
 
 pub returns-in_default-clause-rests : goal.returns-in_default-clause-rests
 returns-in_default-clause-rests g c =
-    turned_rests g.H.Host.tells (g.H.Host.view c.args.host.now) c.now.result (g.N.Hops.view c.args.hops.now) (g.N.Hops.view c.turn.new.hops) (next_polled c.args.agent.now) c.in_ok-report.field-0 c.args.agent.now c.turn.new.self c.in_ok-report.ensures.ok
+    polled_rests g.H.Host.tells (g.H.Host.view c.args.host.now) c.now.result (g.N.Hops.view c.args.hops.now) (g.N.Hops.view c.poll_next.new.hops) (next_polled c.args.agent.now) c.in_ok-report.field-0 c.args.agent.now c.poll_next.new.self c.in_ok-report.ensures.ok
 
 pub returns-in_default-clause-cause : goal.returns-in_default-clause-cause
 returns-in_default-clause-cause g c =
-    let turned = c.in_ok-report.ensures.cause in
-    ok_stop (g.H.Host.faults c.args.host.now) (g.H.Host.faults c.turn.new.host) _ turned.disk_later turned.tell_later
+    let was_polled = c.in_ok-report.ensures.cause in
+    ok_stop (g.H.Host.faults c.args.host.now) (g.H.Host.faults c.poll_next.new.host) _ was_polled.disk_later was_polled.tell_later
 
 pub returns-then-last_number-ge-MOST_DELIVERIES-clause-cause : goal.returns-then-last_number-ge-MOST_DELIVERIES-clause-cause
 returns-then-last_number-ge-MOST_DELIVERIES-clause-cause g c =
-    let turned = c.in_ok-report.ensures.cause in
-    ok_stop (g.H.Host.faults c.args.host.now) (g.H.Host.faults c.turn.new.host) _ turned.disk_later turned.tell_later
+    let was_polled = c.in_ok-report.ensures.cause in
+    ok_stop (g.H.Host.faults c.args.host.now) (g.H.Host.faults c.poll_next.new.host) _ was_polled.disk_later was_polled.tell_later
 
 pub hear_report-requires-clause-fits : goal.hear_report-requires-clause-fits
 hear_report-requires-clause-fits g c =
     let u = g.H.Host.view c.args.host.now in
     let hops = g.N.Hops.view c.args.hops.now in
-    let next = g.N.Hops.view c.turn.new.hops in
+    let next = g.N.Hops.view c.poll_next.new.hops in
     let agent = c.args.agent.now in
     let o = some_unpolled agent c.requires.over in
-    reply_fits g.H.Host.tells u c.now.result hops next agent c.turn.new.self o.0 c.in-Some.report o.1
-    (subst (λ (r : Option Report). Turned g.H.Host.tells u c.now.result hops next (next_polled agent) r agent c.turn.new.self) c.in-Some.is c.in_ok-report.ensures.ok)
+    reply_fits g.H.Host.tells u c.now.result hops next agent c.poll_next.new.self o.0 c.in-Some.report o.1
+    (subst (λ (r : Option Report). PollsNext g.H.Host.tells u c.now.result hops next (next_polled agent) r agent c.poll_next.new.self) c.in-Some.is c.in_ok-report.ensures.ok)
 
 pub hear_report-requires-clause-stands : goal.hear_report-requires-clause-stands
 hear_report-requires-clause-stands g c t =
     let (clock, m) = c.requires.serves t in
     let u = g.H.Host.view c.args.host.now in
-    let v = g.H.Host.view c.turn.new.host in
+    let v = g.H.Host.view c.poll_next.new.host in
     let hops = g.N.Hops.view c.args.hops.now in
-    let next = g.N.Hops.view c.turn.new.hops in
+    let next = g.N.Hops.view c.poll_next.new.hops in
     let agent = c.args.agent.now in
     let engine = c.args.served.engine in
     let o = some_unpolled agent c.requires.over in
     let lawful : TellsCrashes u = record { only = g.met.H.Host.only_now c.args.host.now; told = g.met.H.Host.told_stays c.args.host.now } in
-    let turned = subst (λ (r : Option Report). Turned g.H.Host.tells u c.now.result hops next (next_polled agent) r agent c.turn.new.self) c.in-Some.is c.in_ok-report.ensures.ok in
-    let e = ends_poll m.world m.ledger m.first clock u v hops next engine agent c.turn.new.self m.early m.flights m.story g.H.Host.tells c.now.result o.0 c.in-Some.report lawful (c.turn.ensures.stays t) o.1 t c.now.ensures.ledger turned m.serving in
+    let was_polled = subst (λ (r : Option Report). PollsNext g.H.Host.tells u c.now.result hops next (next_polled agent) r agent c.poll_next.new.self) c.in-Some.is c.in_ok-report.ensures.ok in
+    let e = ends_poll m.world m.ledger m.first clock u v hops next engine agent c.poll_next.new.self m.early m.flights m.story g.H.Host.tells c.now.result o.0 c.in-Some.report lawful (c.poll_next.ensures.stays t) o.1 t c.now.ensures.ledger was_polled m.serving in
     (m.world, after_all m.world m.ledger (m.story).told, stands_still m.world m.ledger m.first clock u v hops next engine agent m.early m.flights m.story o.0 c.in-Some.report e)
 
 pub hear_report-requires-clause-polling : goal.hear_report-requires-clause-polling
 hear_report-requires-clause-polling g c =
     let u = g.H.Host.view c.args.host.now in
     let hops = g.N.Hops.view c.args.hops.now in
-    let next = g.N.Hops.view c.turn.new.hops in
+    let next = g.N.Hops.view c.poll_next.new.hops in
     let agent = c.args.agent.now in
     let o = some_unpolled agent c.requires.over in
-    polls_less _ g.H.Host.tells u c.now.result hops next agent c.turn.new.self o.0 c.in-Some.report o.1
-    (subst (λ (r : Option Report). Turned g.H.Host.tells u c.now.result hops next (next_polled agent) r agent c.turn.new.self) c.in-Some.is c.in_ok-report.ensures.ok) c.requires.polling
+    polls_less _ g.H.Host.tells u c.now.result hops next agent c.poll_next.new.self o.0 c.in-Some.report o.1
+    (subst (λ (r : Option Report). PollsNext g.H.Host.tells u c.now.result hops next (next_polled agent) r agent c.poll_next.new.self) c.in-Some.is c.in_ok-report.ensures.ok) c.requires.polling
 
 pub hear_report-requires-clause-opens : goal.hear_report-requires-clause-opens
 hear_report-requires-clause-opens g c t =
     let (clock, m) = c.requires.serves t in
     let u = g.H.Host.view c.args.host.now in
-    let v = g.H.Host.view c.turn.new.host in
+    let v = g.H.Host.view c.poll_next.new.host in
     let hops = g.N.Hops.view c.args.hops.now in
-    let next = g.N.Hops.view c.turn.new.hops in
+    let next = g.N.Hops.view c.poll_next.new.hops in
     let agent = c.args.agent.now in
     let engine = c.args.served.engine in
     let o = some_unpolled agent c.requires.over in
     let lawful : TellsCrashes u = record { only = g.met.H.Host.only_now c.args.host.now; told = g.met.H.Host.told_stays c.args.host.now } in
-    let turned = subst (λ (r : Option Report). Turned g.H.Host.tells u c.now.result hops next (next_polled agent) r agent c.turn.new.self) c.in-Some.is c.in_ok-report.ensures.ok in
-    let made = (turned_over g.H.Host.tells u c.now.result hops next agent c.turn.new.self o.0 c.in-Some.report o.1 turned).1 in
-    let e = ends_poll m.world m.ledger m.first clock u v hops next engine agent c.turn.new.self m.early m.flights m.story g.H.Host.tells c.now.result o.0 c.in-Some.report lawful (c.turn.ensures.stays t) o.1 t c.now.ensures.ledger turned m.serving in
-    (clock, λ new x replies. may_open_more m.world m.ledger m.first clock u v hops next engine agent m.early m.flights m.story o.0 c.in-Some.report e (g.H.Host.view x) new c.turn.new.self made replies c.args.served.known m.known_is)
+    let was_polled = subst (λ (r : Option Report). PollsNext g.H.Host.tells u c.now.result hops next (next_polled agent) r agent c.poll_next.new.self) c.in-Some.is c.in_ok-report.ensures.ok in
+    let made = (polled_over g.H.Host.tells u c.now.result hops next agent c.poll_next.new.self o.0 c.in-Some.report o.1 was_polled).1 in
+    let e = ends_poll m.world m.ledger m.first clock u v hops next engine agent c.poll_next.new.self m.early m.flights m.story g.H.Host.tells c.now.result o.0 c.in-Some.report lawful (c.poll_next.ensures.stays t) o.1 t c.now.ensures.ledger was_polled m.serving in
+    (clock, λ new x replies. may_open_more m.world m.ledger m.first clock u v hops next engine agent m.early m.flights m.story o.0 c.in-Some.report e (g.H.Host.view x) new c.poll_next.new.self made replies c.args.served.known m.known_is)
 
 pub returns-in_err-next-clause-err : goal.returns-in_err-next-clause-err
-returns-in_err-next-clause-err g c error is t w l a clock early fs s known turns h =
+returns-in_err-next-clause-err g c error is t w l a clock early fs s known sweeps h =
     let u = g.H.Host.view c.args.host.now in
-    let v = g.H.Host.view c.turn.new.host in
+    let v = g.H.Host.view c.poll_next.new.host in
     let hops = g.N.Hops.view c.args.hops.now in
-    let next = g.N.Hops.view c.turn.new.hops in
+    let next = g.N.Hops.view c.poll_next.new.hops in
     let agent = c.args.agent.now in
     let engine = c.args.served.engine in
     let o = some_unpolled agent c.requires.over in
     let lawful : TellsCrashes u = record { only = g.met.H.Host.only_now c.args.host.now; told = g.met.H.Host.told_stays c.args.host.now } in
-    let turned = subst (λ (r : Option Report). Turned g.H.Host.tells u c.now.result hops next (next_polled agent) r agent c.turn.new.self) c.in-Some.is c.in_ok-report.ensures.ok in
-    let made = (turned_over g.H.Host.tells u c.now.result hops next agent c.turn.new.self o.0 c.in-Some.report o.1 turned).1 in
-    let e = ends_poll w l a clock u v hops next engine agent c.turn.new.self early fs s g.H.Host.tells c.now.result o.0 c.in-Some.report lawful (c.turn.ensures.stays t) o.1 t c.now.ensures.ledger turned h in
-    report_fails w l a clock u v hops next engine agent early fs s o.0 c.in-Some.report e g.H.Host.view c.turn.new.host c.hear_report.new.host refl c.turn.new.self made (g.N.Hops.view c.hear_report.new.hops) c.args.served.known error known
+    let was_polled = subst (λ (r : Option Report). PollsNext g.H.Host.tells u c.now.result hops next (next_polled agent) r agent c.poll_next.new.self) c.in-Some.is c.in_ok-report.ensures.ok in
+    let made = (polled_over g.H.Host.tells u c.now.result hops next agent c.poll_next.new.self o.0 c.in-Some.report o.1 was_polled).1 in
+    let e = ends_poll w l a clock u v hops next engine agent c.poll_next.new.self early fs s g.H.Host.tells c.now.result o.0 c.in-Some.report lawful (c.poll_next.ensures.stays t) o.1 t c.now.ensures.ledger was_polled h in
+    report_fails w l a clock u v hops next engine agent early fs s o.0 c.in-Some.report e g.H.Host.view c.poll_next.new.host c.hear_report.new.host refl c.poll_next.new.self made (g.N.Hops.view c.hear_report.new.hops) c.args.served.known error known
     (c.in_err-next.ensures.err error (same_stop c.from_residual-in_err-next.result c.in_err-next.field-0.0 (stops.Host error) c.from_residual-in_err-next.ensures.1 is) t)
 
 pub returns-in_err-next-clause-rests : goal.returns-in_err-next-clause-rests
 returns-in_err-next-clause-rests g c = c.hear_report.ensures.rests
-    ∙ turned_rests g.H.Host.tells (g.H.Host.view c.args.host.now) c.now.result (g.N.Hops.view c.args.hops.now) (g.N.Hops.view c.turn.new.hops) (next_polled c.args.agent.now) c.in_ok-report.field-0 c.args.agent.now c.turn.new.self c.in_ok-report.ensures.ok
+    ∙ polled_rests g.H.Host.tells (g.H.Host.view c.args.host.now) c.now.result (g.N.Hops.view c.args.hops.now) (g.N.Hops.view c.poll_next.new.hops) (next_polled c.args.agent.now) c.in_ok-report.field-0 c.args.agent.now c.poll_next.new.self c.in_ok-report.ensures.ok
 
 pub returns-in_err-next-clause-cause : goal.returns-in_err-next-clause-cause
 returns-in_err-next-clause-cause g c =
-    let b = g.H.Host.faults c.turn.new.host in
-    let turned = c.in_ok-report.ensures.cause in
-    stop_later (g.H.Host.faults c.args.host.now) b (g.H.Host.faults c.hear_report.new.host) c.from_residual-in_err-next.result turned.disk_later turned.tell_later
+    let b = g.H.Host.faults c.poll_next.new.host in
+    let was_polled = c.in_ok-report.ensures.cause in
+    stop_later (g.H.Host.faults c.args.host.now) b (g.H.Host.faults c.hear_report.new.host) c.from_residual-in_err-next.result was_polled.disk_later was_polled.tell_later
     (stop_passed b (g.H.Host.faults c.hear_report.new.host) c.from_residual-in_err-next.result c.in_err-next.field-0.0 c.from_residual-in_err-next.ensures.1 c.in_err-next.ensures.cause)
 
 pub returns-in_err-report-clause-readable : goal.returns-in_err-report-clause-readable

@@ -3,7 +3,7 @@ use Rattle.std.specs.Prelude.{Err, IfErr, Ok, Result}
 use Rattle.q_books.specs.HostStands.{TellsCrashes}
 use Rattle.q_drain.specs.Drained.{Drains, IsDrainError}
 use Rattle.q_drain.specs.Standing.{Outside}
-use Rattle.q_drain.specs.Turned.{Outsides}
+use Rattle.q_drain.specs.Swept.{Outsides}
 use Rattle.q_drain.specs.declared.driver.Drained.{Drained}
 use Rattle.q_drain.specs.declared.driver.Drained.TheVariants.{Quiet, Unfinished}
 use Rattle.q_engine.specs.declared.error.EngineError.{EngineError}

@@ -1,6 +1,6 @@
 use Rattle.std.proofs.Common.{List, ap, slice_get, sym, ◌∙◌}
 use Rattle.q_agent.specs.declared.slot.Slot.{Slot}
-use Rattle.q_agent.proofs.TurnLaws.{rest_holds, rested_first}
+use Rattle.q_agent.proofs.NextPollLaws.{rest_holds, rested_first}
 use Rattle.q_agent.proofs.agent.Agent.rest.Goals as goal
 
 pub invariant_of-self-2 : goal.invariant_of-self-2

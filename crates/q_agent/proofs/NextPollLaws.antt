@@ -1,4 +1,4 @@
--- What a turn does at the slot of the session that is next.
+-- What a poll does at the slot of the session that is next.
 use Rattle.std.proofs.Common.{◌≡◌, ℕ, Bool, List, map, take, drop, slice_get, Option, Some, None, Result, Ok, Err, OnErr, refl, sym, ap, subst, ◌∙◌}
 use Rattle.std.specs.List.{AllByRecursion}
 use Rattle.std.specs.Prelude.{is_some, remove}
@@ -8,7 +8,7 @@ use Rattle.q_host.specs.View.{View as HostView}
 use Rattle.q_link.specs.Records.{HopsView}
 use Rattle.q_link.specs.Views.{View}
 use Rattle.q_model.proofs.EachLaws.{each-unmap}
-use Rattle.q_agent.specs.Answers.{IsStanding, Stopped, Turned}
+use Rattle.q_agent.specs.Answers.{IsStanding, PollsNext, Stopped}
 use Rattle.q_agent.specs.Places.{IsNext}
 use Rattle.q_agent.specs.Polling.{Went}
 use Rattle.q_agent.specs.Rests.{RestsOne, RestsWork}
@@ -69,12 +69,12 @@ module _ {L : Type 0} (view : L → View) where
         (subst (λ (o : Option OpenSession). Stopped o (sessions_of slab slots polled) (sessions_of (with_value slab e.key new) slots polled)) (sym next_is)
         (shown view e.number new, record { number = refl; recipients = same }, ap (λ (os : List OpenSession). record { listed = os; polled = polled }) (written new sound).shows))
 
-    pub turned_on : (tells : Bool) (host : HostView) (now : ℕ) (before after : HopsView) (s : Sessions) (new : Held L) (r : Option Report) → sessions_of slab slots polled ≡ s → r ≡ None → Went tells host now before after r (shown view e.number h) (shown view e.number new) → IsSound (shown view e.number new)
-        → Turned tells host now before after (next_polled s) None s (sessions_of (with_value slab e.key new) slots e.number)
-    turned_on tells host now before after s new r is none went sound =
+    pub polled_on : (tells : Bool) (host : HostView) (now : ℕ) (before after : HopsView) (s : Sessions) (new : Held L) (r : Option Report) → sessions_of slab slots polled ≡ s → r ≡ None → Went tells host now before after r (shown view e.number h) (shown view e.number new) → IsSound (shown view e.number new)
+        → PollsNext tells host now before after (next_polled s) None s (sessions_of (with_value slab e.key new) slots e.number)
+    polled_on tells host now before after s new r is none went sound =
         let on = subst (λ (x : Option Report). Went tells host now before after x (shown view e.number h) (shown view e.number new)) none went in
-        subst (λ (x : Sessions). Turned tells host now before after (next_polled x) None x (sessions_of (with_value slab e.key new) slots e.number)) is
-        (subst (λ (o : Option OpenSession). Turned tells host now before after o None (sessions_of slab slots polled) (sessions_of (with_value slab e.key new) slots e.number)) (sym next_is)
+        subst (λ (x : Sessions). PollsNext tells host now before after (next_polled x) None x (sessions_of (with_value slab e.key new) slots e.number)) is
+        (subst (λ (o : Option OpenSession). PollsNext tells host now before after o None (sessions_of slab slots polled) (sessions_of (with_value slab e.key new) slots e.number)) (sym next_is)
         (shown view e.number new, on.0, ap (λ (os : List OpenSession). record { listed = os; polled = e.number }) (written new sound).shows, on.1))
 
     pub taken_out : (new : Held L) (last : Slab (Held L)) → Updates (with_value slab e.key new) last e.key None → Becomes view last (remove slots place) (without e.number (map (shown_at view slab) slots))
@@ -83,13 +83,13 @@ module _ {L : Type 0} (view : L → View) where
     pub out_holds : (new : Held L) (last : Slab (Held L)) (left : List Slot) → Updates (with_value slab e.key new) last e.key None → left ≡ remove slots place → Holds view last left
     out_holds new last left u is = subst (Holds view last) (sym is) (taken_out new last u).holds
 
-    pub turned_over : (tells : Bool) (host : HostView) (now : ℕ) (before after : HopsView) (s : Sessions) (new : Held L) (r : Option Report) (report : Report) (last : Slab (Held L)) (left : List Slot)
+    pub polled_over : (tells : Bool) (host : HostView) (now : ℕ) (before after : HopsView) (s : Sessions) (new : Held L) (r : Option Report) (report : Report) (last : Slab (Held L)) (left : List Slot)
         → sessions_of slab slots polled ≡ s → r ≡ Some report → Went tells host now before after r (shown view e.number h) (shown view e.number new) → Updates (with_value slab e.key new) last e.key None → left ≡ remove slots place
-        → Turned tells host now before after (next_polled s) (Some report) s (sessions_of last left e.number)
-    turned_over tells host now before after s new r report last left is some went u gone_is =
+        → PollsNext tells host now before after (next_polled s) (Some report) s (sessions_of last left e.number)
+    polled_over tells host now before after s new r report last left is some went u gone_is =
         let over = subst (λ (x : Option Report). Went tells host now before after x (shown view e.number h) (shown view e.number new)) some went in
-        subst (λ (x : Sessions). Turned tells host now before after (next_polled x) (Some report) x (sessions_of last left e.number)) is
-        (subst (λ (o : Option OpenSession). Turned tells host now before after o (Some report) (sessions_of slab slots polled) (sessions_of last left e.number)) (sym next_is)
+        subst (λ (x : Sessions). PollsNext tells host now before after (next_polled x) (Some report) x (sessions_of last left e.number)) is
+        (subst (λ (o : Option OpenSession). PollsNext tells host now before after o (Some report) (sessions_of slab slots polled) (sessions_of last left e.number)) (sym next_is)
         (over, ap (λ (os : List OpenSession). record { listed = os; polled = e.number }) (ap (map (shown_at view last)) gone_is ∙ (taken_out new last u).shows)))
 
   -- ---- a rest

@@ -1,8 +1,8 @@
-//! A turn of a drain.
+//! A sweep of a drain.
 ghost use Rattle.std.specs.Prelude.{◌+◌, ◌≡◌, ◌≢◌, [], false, IfOk, IsTrue, true};
-ghost use Rattle.q_agent.specs.Sessions.{is_turn_over};
+ghost use Rattle.q_agent.specs.Sessions.{is_sweep_over};
 ghost use Rattle.q_drain.specs.Polling.{AreInOrder, IsPolling};
-ghost use Rattle.q_drain.specs.Turned.{GivesTurnUp, MayTurn, OfEngine, OfServed, TurnsTo};
+ghost use Rattle.q_drain.specs.Swept.{GivesSweepUp, MaySweep, OfEngine, OfServed, SweepsTo};
 ghost use Rattle.q_engine.specs.Stands.{IsReady};
 ghost use Rattle.q_engine.specs.Stops.{EachStop, FindsReadable, StopCause};
 
@@ -16,9 +16,9 @@ use q_link::{Hops, Link};
 use q_stream::Clock;
 use std::alloc::Global;
 
-/// What came of a turn.
+/// What came of a sweep.
 #[derive(Drop)]
-pub(crate) enum Turn {
+pub(crate) enum Sweep {
     /// No session was open.
     Idle(Engine),
     /// Each session was polled, and those that are still open wait.
@@ -27,9 +27,9 @@ pub(crate) enum Turn {
     Full,
 }
 
-/// Takes one turn: hears the clock, and polls each open session once. The deliveries up to the number
-/// that is known have had their sessions.
-pub(crate) fn take_turn<L: Link, H: Host, C: Clock, N: Hops<Link = L>>(
+/// Makes one sweep: hears the clock, and polls each open session once. The deliveries up to the
+/// number that is known have had their sessions.
+pub(crate) fn make_sweep<L: Link, H: Host, C: Clock, N: Hops<Link = L>>(
     alloc: Global,
     engine: Engine,
     agent: &mut Agent<L>,
@@ -38,25 +38,25 @@ pub(crate) fn take_turn<L: Link, H: Host, C: Clock, N: Hops<Link = L>>(
     hops: &mut N,
     known: u64,
     first: bool,
-) -> Result<Turn, Stop>
+) -> Result<Sweep, Stop>
     requires ready { IsReady engine }
     requires order { AreInOrder agent.old.listed (known + 1) }
-    requires stands { IsTrue H.tells → MayTurn (record {
+    requires stands { IsTrue H.tells → MaySweep (record {
       clock = C.given clock.old;
       hops = N.view hops.old;
     }) (H.view host.old) engine agent.old.listed known first }
-    ensures ok { IfOk result (λ turn. IsTrue H.tells → TurnsTo (record {
+    ensures ok { IfOk result (λ sweep. IsTrue H.tells → SweepsTo (record {
       before = record { clock = C.given clock.old; hops = N.view hops.old };
       behind = record { clock = C.given clock.new; hops = N.view hops.new };
     })
-        (H.view host.old) (H.view host.new) engine agent.old.listed known first turn agent.new) }
-    ensures ready { IfOk result (λ turn. OfEngine turn (λ engine. IsReady engine)) }
-    ensures polling { IfOk result (λ turn. OfServed turn (λ served.
-        IsPolling agent.new (served.known + 1) × (is_turn_over agent.new ≡ true))) }
-    ensures some { IfOk result (λ turn. OfServed turn (λ served.
+        (H.view host.old) (H.view host.new) engine agent.old.listed known first sweep agent.new) }
+    ensures ready { IfOk result (λ sweep. OfEngine sweep (λ engine. IsReady engine)) }
+    ensures polling { IfOk result (λ sweep. OfServed sweep (λ served.
+        IsPolling agent.new (served.known + 1) × (is_sweep_over agent.new ≡ true))) }
+    ensures some { IfOk result (λ sweep. OfServed sweep (λ served.
         served.busy ≡ false → agent.new.listed ≢ [])) }
     ensures rests { (N.view hops.new).rests ≡ (N.view hops.old).rests }
-    ensures err { EachStop result (λ error. IsTrue H.tells → GivesTurnUp (record {
+    ensures err { EachStop result (λ error. IsTrue H.tells → GivesSweepUp (record {
       before = record { clock = C.given clock.old; hops = N.view hops.old };
       behind = record { clock = C.given clock.new; hops = N.view hops.new };
     })
@@ -64,11 +64,11 @@ pub(crate) fn take_turn<L: Link, H: Host, C: Clock, N: Hops<Link = L>>(
     ensures readable { FindsReadable H.tells result }
     ensures cause { StopCause (H.faults host.old) (H.faults host.new) result }
 {
-    agent.next_turn();
+    agent.next_sweep();
     let engine = hear_clock(alloc, engine, host, clock, first)?;
     let opened = open_started(alloc, &engine, agent, host, hops, known)?;
     if agent.is_empty() {
-        return Ok(Turn::Idle(engine));
+        return Ok(Sweep::Idle(engine));
     }
     let served = Served {
         engine,
@@ -76,7 +76,7 @@ pub(crate) fn take_turn<L: Link, H: Host, C: Clock, N: Hops<Link = L>>(
         busy: known < opened,
     };
     match poll_all(alloc, served, agent, host, hops)? {
-        Some(served) => Ok(Turn::Over(served)),
-        None => Ok(Turn::Full),
+        Some(served) => Ok(Sweep::Over(served)),
+        None => Ok(Sweep::Full),
     }
 }

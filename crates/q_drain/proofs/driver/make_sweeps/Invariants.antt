@@ -4,7 +4,7 @@ use Rattle.q_drain.specs.Drained.{CountsRests}
 use Rattle.q_drain.specs.Exits.{ForStarted, MayStart}
 use Rattle.q_drain.specs.Polling.{AreInOrder}
 use Rattle.q_engine.specs.Stands.{IsReady}
-use Rattle.q_drain.proofs.driver.take_turns.Given as goal
+use Rattle.q_drain.proofs.driver.make_sweeps.Given as goal
 
 abbrev pub invariant-loop : goal.invariant-loop
 invariant-loop g l =

@@ -4,7 +4,7 @@ use Rattle.q_agent.specs.Sessions.{Sessions}
 use Rattle.q_books.specs.HostStands.{TellsCrashes}
 use Rattle.q_drain.proofs.PollingAll.{fails_then, filled_then, served_then}
 use Rattle.q_drain.proofs.Polls.{polling_anew}
-use Rattle.q_drain.proofs.TurnsOn.{idles_on, may_open, opening_given_up, served_heard}
+use Rattle.q_drain.proofs.SweepsOn.{idles_on, may_open, opening_given_up, served_heard}
 use Rattle.q_drain.specs.Opened.{FailsToOpenAll, MayOpenAll, OpensAll}
 use Rattle.q_drain.specs.Polling.{IsPolling}
 use Rattle.q_drain.specs.Served.{PollsOn}
@@ -12,7 +12,7 @@ use Rattle.q_drain.specs.declared.poll.Served.{Served}
 use Rattle.q_engine.proofs.Stopping.{disk_stopped, host_readable, same_stop, stop_later, stop_passed, stop_readable}
 use Rattle.q_engine.specs.declared.stop.Stop.TheVariants as stops
 use Rattle.q_model.specs.Step.{after_all}
-use Rattle.q_drain.proofs.turn.take_turn.Goals as goal
+use Rattle.q_drain.proofs.sweep.make_sweep.Goals as goal
 
 pub hear_clock-requires-clause-stands : goal.hear_clock-requires-clause-stands
 hear_clock-requires-clause-stands g c t =
@@ -24,7 +24,7 @@ returns-in_err-engine-clause-err g c error is t w l a s b =
     c.in_err-engine.ensures.err error (same_stop c.from_residual.result c.in_err-engine.field-0.0 (stops.Host error) c.from_residual.ensures.1 is) t w l a (g.N.Hops.view c.args.hops.now) b.early b.flights c.args.agent.now.listed s b.begins b.between
 
 pub open_started-requires-clause-polling : goal.open_started-requires-clause-polling
-open_started-requires-clause-polling g c = subst (λ (n : Sessions). IsPolling n (c.args.known + 1)) (sym c.next_turn.ensures) (polling_anew c.args.agent.now.listed (c.args.known + 1) (omega arith) c.requires.order)
+open_started-requires-clause-polling g c = subst (λ (n : Sessions). IsPolling n (c.args.known + 1)) (sym c.next_sweep.ensures) (polling_anew c.args.agent.now.listed (c.args.known + 1) (omega arith) c.requires.order)
 
 pub open_started-requires-clause-stands : goal.open_started-requires-clause-stands
 open_started-requires-clause-stands g c t =
@@ -35,7 +35,7 @@ open_started-requires-clause-stands g c t =
     let new = g.C.Clock.given c.hear_clock.new.clock in
     let hops = g.N.Hops.view c.args.hops.now in (
       new,
-      subst (λ (n : Sessions). MayOpenAll new v hops c.in_ok-engine.engine n c.args.known) (sym c.next_turn.ensures)
+      subst (λ (n : Sessions). MayOpenAll new v hops c.in_ok-engine.engine n c.args.known) (sym c.next_sweep.ensures)
           (may_open w l a old new u v hops c.args.engine c.in_ok-engine.engine c.args.agent.now.listed c.args.known c.args.first s b (c.in_ok-engine.ensures.ok t)),
     )
 
@@ -50,7 +50,7 @@ returns-in_err-opened-clause-err g c error is t w l a s b =
     let next = g.N.Hops.view c.open_started.new.hops in
     let lawful : TellsCrashes v = record { only = g.met.H.Host.only_now c.hear_clock.new.host; told = g.met.H.Host.told_stays c.hear_clock.new.host } in
     opening_given_up w l a old new u v hops c.args.engine c.in_ok-engine.engine c.args.agent.now.listed c.args.known c.args.first s b (c.in_ok-engine.ensures.ok t) x next error lawful
-    (subst (λ (n : Sessions). FailsToOpenAll c.in_ok-engine.engine v x hops next n c.args.known) c.next_turn.ensures (c.in_err-opened.ensures.err t))
+    (subst (λ (n : Sessions). FailsToOpenAll c.in_ok-engine.engine v x hops next n c.args.known) c.next_sweep.ensures (c.in_err-opened.ensures.err t))
 
 pub returns-then-is_empty-clause-ok : goal.returns-then-is_empty-clause-ok
 returns-then-is_empty-clause-ok g c t w l a s b =
@@ -62,9 +62,9 @@ returns-then-is_empty-clause-ok g c t w l a s b =
     let hops = g.N.Hops.view c.args.hops.now in
     let next = g.N.Hops.view c.open_started.new.hops in
     let agent = c.open_started.new.agent in
-    idles_on w l a (record { clock = new; hops = next }) u x c.in_ok-engine.engine c.in_ok-opened.opened agent s (c.is_empty.ensures.0 c.if-is_empty.true) (c.open_started.ensures.polled ∙ ap (λ (n : Sessions). n.polled) c.next_turn.ensures)
+    idles_on w l a (record { clock = new; hops = next }) u x c.in_ok-engine.engine c.in_ok-opened.opened agent s (c.is_empty.ensures.0 c.if-is_empty.true) (c.open_started.ensures.polled ∙ ap (λ (n : Sessions). n.polled) c.next_sweep.ensures)
     (served_heard w l a old new u v hops c.args.engine c.in_ok-engine.engine c.args.agent.now.listed c.args.known c.args.first s b (c.in_ok-engine.ensures.ok t) x next agent c.in_ok-opened.opened false (λ is. cc)
-    (subst (λ (n : Sessions). OpensAll c.in_ok-engine.engine v x hops next n agent c.args.known c.in_ok-opened.opened) c.next_turn.ensures (c.in_ok-opened.ensures.ok t)))
+    (subst (λ (n : Sessions). OpensAll c.in_ok-engine.engine v x hops next n agent c.args.known c.in_ok-opened.opened) c.next_sweep.ensures (c.in_ok-opened.ensures.ok t)))
 
 pub poll_all-requires-clause-serves : goal.poll_all-requires-clause-serves
 poll_all-requires-clause-serves g c t =
@@ -79,8 +79,8 @@ poll_all-requires-clause-serves g c t =
     let agent = c.open_started.new.agent in
     let opened = c.in_ok-opened.opened in
     let m = served_heard w l a old new u v hops c.args.engine c.in_ok-engine.engine c.args.agent.now.listed c.args.known c.args.first s b (c.in_ok-engine.ensures.ok t) x next agent opened (nat_lt c.args.known opened) (λ is. ltb-true c.args.known opened is)
-    (subst (λ (n : Sessions). OpensAll c.in_ok-engine.engine v x hops next n agent c.args.known opened) c.next_turn.ensures (c.in_ok-opened.ensures.ok t)) in
-    (new, record { world = w; ledger = l; first = a; early = m.early; flights = m.flights; story = m.story; known_is = m.known_is; turns = m.turns; serving = m.serving })
+    (subst (λ (n : Sessions). OpensAll c.in_ok-engine.engine v x hops next n agent c.args.known opened) c.next_sweep.ensures (c.in_ok-opened.ensures.ok t)) in
+    (new, record { world = w; ledger = l; first = a; early = m.early; flights = m.flights; story = m.story; known_is = m.known_is; sweeps = m.sweeps; serving = m.serving })
 
 pub returns-in_err-served-clause-err : goal.returns-in_err-served-clause-err
 returns-in_err-served-clause-err g c error is t w l a s b =
@@ -95,9 +95,9 @@ returns-in_err-served-clause-err g c error is t w l a s b =
     let opened = c.in_ok-opened.opened in
     let busy = nat_lt c.args.known opened in
     let m = served_heard w l a old new u v hops c.args.engine c.in_ok-engine.engine c.args.agent.now.listed c.args.known c.args.first s b (c.in_ok-engine.ensures.ok t) x next agent opened busy (λ is. ltb-true c.args.known opened is)
-    (subst (λ (n : Sessions). OpensAll c.in_ok-engine.engine v x hops next n agent c.args.known opened) c.next_turn.ensures (c.in_ok-opened.ensures.ok t)) in
+    (subst (λ (n : Sessions). OpensAll c.in_ok-engine.engine v x hops next n agent c.args.known opened) c.next_sweep.ensures (c.in_ok-opened.ensures.ok t)) in
     fails_then w l a (record { clock = new; hops = next }) (record { clock = new; hops = g.N.Hops.view c.poll_all.new.hops }) u x (g.H.Host.view c.poll_all.new.host) (record { engine = c.in_ok-engine.engine; known = opened; busy = busy }) agent s m error
-    (c.in_err-served.ensures.err error (same_stop c.from_residual-in_err-served.result c.in_err-served.field-0.0 (stops.Host error) c.from_residual-in_err-served.ensures.1 is) t w l a new m.early m.flights m.story m.known_is m.turns m.serving)
+    (c.in_err-served.ensures.err error (same_stop c.from_residual-in_err-served.result c.in_err-served.field-0.0 (stops.Host error) c.from_residual-in_err-served.ensures.1 is) t w l a new m.early m.flights m.story m.known_is m.sweeps m.serving)
 
 pub returns-in-Some-clause-ok : goal.returns-in-Some-clause-ok
 returns-in-Some-clause-ok g c t w l a s b =
@@ -115,9 +115,9 @@ returns-in-Some-clause-ok g c t w l a s b =
     let busy = nat_lt c.args.known opened in
     let begun : Served = record { engine = c.in_ok-engine.engine; known = opened; busy = busy } in
     let m = served_heard w l a old new u v hops c.args.engine c.in_ok-engine.engine c.args.agent.now.listed c.args.known c.args.first s b (c.in_ok-engine.ensures.ok t) x next agent opened busy (λ is. ltb-true c.args.known opened is)
-    (subst (λ (n : Sessions). OpensAll c.in_ok-engine.engine v x hops next n agent c.args.known opened) c.next_turn.ensures (c.in_ok-opened.ensures.ok t)) in
+    (subst (λ (n : Sessions). OpensAll c.in_ok-engine.engine v x hops next n agent c.args.known opened) c.next_sweep.ensures (c.in_ok-opened.ensures.ok t)) in
     served_then w l a (record { clock = new; hops = next }) (record { clock = new; hops = last }) u x y begun agent s m c.in-Some.served c.poll_all.new.agent
-    (subst (λ (o : Option Served). PollsOn begun o x y next last agent c.poll_all.new.agent) c.in-Some.is (c.in_ok-served.ensures.ok t) w l a new m.early m.flights m.story m.known_is m.turns m.serving)
+    (subst (λ (o : Option Served). PollsOn begun o x y next last agent c.poll_all.new.agent) c.in-Some.is (c.in_ok-served.ensures.ok t) w l a new m.early m.flights m.story m.known_is m.sweeps m.serving)
 
 pub returns-in-None-clause-ok : goal.returns-in-None-clause-ok
 returns-in-None-clause-ok g c t w l a s b =
@@ -135,9 +135,9 @@ returns-in-None-clause-ok g c t w l a s b =
     let busy = nat_lt c.args.known opened in
     let begun : Served = record { engine = c.in_ok-engine.engine; known = opened; busy = busy } in
     let m = served_heard w l a old new u v hops c.args.engine c.in_ok-engine.engine c.args.agent.now.listed c.args.known c.args.first s b (c.in_ok-engine.ensures.ok t) x next agent opened busy (λ is. ltb-true c.args.known opened is)
-    (subst (λ (n : Sessions). OpensAll c.in_ok-engine.engine v x hops next n agent c.args.known opened) c.next_turn.ensures (c.in_ok-opened.ensures.ok t)) in
+    (subst (λ (n : Sessions). OpensAll c.in_ok-engine.engine v x hops next n agent c.args.known opened) c.next_sweep.ensures (c.in_ok-opened.ensures.ok t)) in
     filled_then w l a (record { clock = new; hops = next }) (record { clock = new; hops = last }) u x y begun agent s m
-    (subst (λ (o : Option Served). PollsOn begun o x y next last agent c.poll_all.new.agent) c.in-None.is (c.in_ok-served.ensures.ok t) w l a new m.early m.flights m.story m.known_is m.turns m.serving)
+    (subst (λ (o : Option Served). PollsOn begun o x y next last agent c.poll_all.new.agent) c.in-None.is (c.in_ok-served.ensures.ok t) w l a new m.early m.flights m.story m.known_is m.sweeps m.serving)
 
 pub returns-in-Some-clause-cause : goal.returns-in-Some-clause-cause
 returns-in-Some-clause-cause g c =

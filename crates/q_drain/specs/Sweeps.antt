@@ -1,4 +1,4 @@
--- Turns, rests, moments and connects of a call.
+-- Sweeps, rests, moments and connects of a call.
 use Rattle.std.specs.Prelude.{◌*◌, ◌+◌, ◌++◌, ◌∷◌, ◌≡◌, ◌≤◌, [], if◌then◌else◌, length, List, map, nat_lt, ℕ}
 use Rattle.q_drain.specs.Stories.{Story}
 use Rattle.q_drain.specs.Told.{begun, moments_of}

@@ -3,10 +3,10 @@ use native.Mathlib.Omega.{arith}
 use Rattle.std.proofs.Common.{◌≡◌, ◌≤◌, ◌+◌, inl, inr, ℕ, Bool, true, false, List, [], ◌∷◌, ◌++◌, length, length-append, Option, Some, None, refl, sym, ap, ◌∙◌, subst, append-nil}
 use Rattle.std.specs.List.{AllByRecursion}
 use Rattle.std.specs.Prelude.{◌^◌, IfSome, nat_lt}
-use Rattle.q_agent.specs.Answers.{HasFile, IsStanding, Turned}
+use Rattle.q_agent.specs.Answers.{HasFile, IsStanding, PollsNext}
 use Rattle.q_agent.specs.Requests.{active_spot}
 use Rattle.q_agent.specs.Sessions.{OpenSession, Sessions, Work, after_end, after_poll, next_polled, replaced, unpolled}
-use Rattle.q_agent.specs.Turns.{Ends, IsReportOf, IsWorking}
+use Rattle.q_agent.specs.NextPoll.{Ends, IsReportOf, IsWorking}
 use Rattle.q_agent.specs.declared.report.Report.{Report}
 use Rattle.q_books.proofs.Joining.{reads_keep}
 use Rattle.q_books.specs.HostStands.{Takes, TellsCrashes}
@@ -17,7 +17,7 @@ use Rattle.q_drain.proofs.Moments.{begun_behind}
 use Rattle.q_drain.proofs.Naming.{reply_names_turn, reply_turn}
 use Rattle.q_drain.proofs.Polling.{HasItsFile}
 use Rattle.q_drain.proofs.Parting.{GonePart, gone_clocked, gone_part}
-use Rattle.q_drain.proofs.Polls.{polling_less, polling_on, some_on, still_waits, turned_on, turned_over}
+use Rattle.q_drain.proofs.Polls.{polled_on, polled_over, polling_less, polling_on, some_on, still_waits}
 use Rattle.q_drain.proofs.ReplyTurns.{counts_fit}
 use Rattle.q_drain.proofs.Reports.{after_reply}
 use Rattle.q_drain.proofs.Requested.{gives_up}
@@ -25,7 +25,7 @@ use Rattle.q_drain.proofs.Serving.{looked_under_way, polled_under_way}
 use Rattle.q_drain.proofs.Sessions.{open_files}
 use Rattle.q_drain.proofs.Silent.{decisions_inside, no_replies}
 use Rattle.q_drain.proofs.Turning.{course_reply, reply_entries}
-use Rattle.q_drain.proofs.Waiting.{done, turns_busy, turns_more}
+use Rattle.q_drain.proofs.Waiting.{done, sweeps_busy, sweeps_more}
 use Rattle.q_drain.specs.Drains.{Delivers, IsOwnRun}
 use Rattle.q_drain.specs.Flights.{without_flight}
 use Rattle.q_drain.specs.GivenUp.{GivesUp}
@@ -37,7 +37,7 @@ use Rattle.q_drain.specs.Served.{FilledUp, ServedOn}
 use Rattle.q_drain.specs.Standing.{IsUnderWay, Outside, counts_of}
 use Rattle.q_drain.specs.Stories.{Did, Story}
 use Rattle.q_drain.specs.Told.{Begun, Ended, begun, begun_from, ended, moment_after}
-use Rattle.q_drain.specs.Waits.{Turns, idle}
+use Rattle.q_drain.specs.Waits.{Sweeps, idle}
 use Rattle.q_drain.specs.Works.{IsLinkOf, IsSessionOf, IsWorkOf, Pairs, mail_of}
 use Rattle.q_drain.specs.declared.poll.Served.{Served}
 use Rattle.q_engine.proofs.StoredNotes.{stores_none}
@@ -114,9 +114,9 @@ polled_low w l a z v engine agent early waiting fs s o first h = in_up_to (lengt
 
 pub served_same : (w : World) (l : Ledger) (a : Outside) (clock : Option (List ℕ)) (u v : HostView) (hops next_hops : HopsView) (early : List Begun) (fs : List Delivery) (s : Story) (served : Served) (agent new : Sessions) (now : ℕ) (o p : OpenSession)
     → TellsCrashes u → Stays u v → unpolled agent ≡ Some o → IsWorking true u now o p → new ≡ after_poll p agent → next_hops ≡ hops
-    → length early ≡ served.known → Turns (idle served.busy) s → IsServing w l a (record { clock = clock; hops = hops }) u served.engine agent early [] fs s
+    → length early ≡ served.known → Sweeps (idle served.busy) s → IsServing w l a (record { clock = clock; hops = hops }) u served.engine agent early [] fs s
     → ServedOn w l a (record { clock = clock; hops = next_hops }) u v served new s
-served_same w l a clock u v hops next_hops early fs s served agent new now o p lawful stays first works made same known turns h =
+served_same w l a clock u v hops next_hops early fs s served agent new now o p lawful stays first works made same known sweeps h =
     let k : Ledger = after_all w l s.told in
     let z : Outside = record { clock = clock; hops = hops } in
     let polled = polled_under_way w l a z u served.engine early [] fs agent.listed s agent.polled now o p h.under_way first works in
@@ -137,7 +137,7 @@ served_same w l a clock u v hops next_hops early fs s served agent new now o p l
       plays = plays_looked w k u v lawful h.under_way.stands.host (reads_keep k.book k.book u v lawful stays h.under_way.stands.host);
       adds = adds_looked w k u v stays.files;
       known_is = known;
-      turns = turns;
+      sweeps = sweeps;
       serving = subst (λ (x : HopsView). IsServing w l a (record { clock = clock; hops = x }) v served.engine new early [] fs s) (sym same)
           (subst (λ (n : Sessions). IsServing w l a z v served.engine n early [] fs s) (sym made) serving);
     }
@@ -200,9 +200,9 @@ more_done s k es n told count =
     let more = length-append (begun s.told) (begun_from (moment_after 0 s.told) es) in
     omega (arith, ends, split, sum, begins, parts, more, count)
 
-turns_replied : (busy : Bool) (s k : Story) → Turns (idle busy) s → k.moments ≡ s.moments → k.rests ≡ s.rests → done s + 1 ≤ done k → Turns 0 k
-turns_replied true s k p moments rests more = turns_more 0 s k p moments rests (omega (arith, more))
-turns_replied false s k p moments rests more = turns_busy s k p moments rests more
+sweeps_replied : (busy : Bool) (s k : Story) → Sweeps (idle busy) s → k.moments ≡ s.moments → k.rests ≡ s.rests → done s + 1 ≤ done k → Sweeps 0 k
+sweeps_replied true s k p moments rests more = sweeps_more 0 s k p moments rests (omega (arith, more))
+sweeps_replied false s k p moments rests more = sweeps_busy s k p moments rests more
 
 module _ (w : World) (l : Ledger) (a : Outside) (clock : Option (List ℕ)) (u v : HostView) (hops next : HopsView) (engine : Engine) (agent : Sessions) (early : List Begun) (fs : List Delivery) (s : Story) (o : OpenSession) (r : Report)
     (e : EndsPoll w l a clock u v hops next engine agent early fs s o r) where
@@ -302,9 +302,9 @@ module _ (w : World) (l : Ledger) (a : Outside) (clock : Option (List ℕ)) (u v
         gives_up_whole w l a (record { clock = clock; hops = after_hops }) u b error s g.0 es own (plays b g.3) g.1 g.2
 
     -- or all were
-    pub served_replied : (b : HostView) (after_hops : HopsView) (sessions : Sessions) (known last : ℕ) (busy : Bool) → length early ≡ known → Turns (idle busy) s → OpensAll new x b next after_hops mid sessions known last
+    pub served_replied : (b : HostView) (after_hops : HopsView) (sessions : Sessions) (known last : ℕ) (busy : Bool) → length early ≡ known → Sweeps (idle busy) s → OpensAll new x b next after_hops mid sessions known last
         → ServedOn w l a (record { clock = clock; hops = after_hops }) u b (record { engine = new; known = last; busy = true }) sessions s
-    served_replied b after_hops sessions known last busy is turns opens =
+    served_replied b after_hops sessions known last busy is sweeps opens =
         let g = opens w l a clock early waiting (without_flight o.number fs) story is serving in
         let ds : List Entry = decisions w (after w k (entries.Reply o.number r.site r.outcomes)) in
         let one : length (ended es) ≡ 1 = ap (λ (xs : List Ended). length (record { number = o.number; site = r.site; outcomes = r.outcomes } ∷ xs)) (no_replies ds (decisions_inside w (after w k (entries.Reply o.number r.site r.outcomes)))) in
@@ -318,7 +318,7 @@ module _ (w : World) (l : Ledger) (a : Outside) (clock : Option (List ℕ)) (u v
           plays = plays b g.1;
           adds = adds_between w k es u v x b e.stays.files (subst (λ (xs : List Entry). AddsAllNotes w k xs v.files x.files) turn_is replied.took.notes.adds) (g.1).files;
           known_is = sym g.2;
-          turns = turns_replied busy s (g.0).story turns (g.0).moments (g.0).rests (more_done s (g.0).story es 1 (g.0).told one);
+          sweeps = sweeps_replied busy s (g.0).story sweeps (g.0).moments (g.0).rests (more_done s (g.0).story es 1 (g.0).told one);
           serving = (g.0).serving;
         }
 
@@ -335,10 +335,10 @@ module _ (w : World) (l : Ledger) (a : Outside) (clock : Option (List ℕ)) (u v
 
   -- it was told, and all were
   pub served_by_report : {H : Type 0} (view : H → HostView) (before b : H) → view before ≡ v → (mid : Sessions) (made : mid ≡ after_end o agent) (after_hops : HopsView) (sessions : Sessions) (known : ℕ) (served : Served) (busy : Bool) → length early ≡ known
-      → Turns (idle busy) s → served.busy ≡ true → HearsReport view r engine served before b next after_hops mid sessions known → ServedOn w l a (record { clock = clock; hops = after_hops }) u (view b) served sessions s
-  served_by_report view before b at mid made after_hops sessions known served busy is turns own heard =
+      → Sweeps (idle busy) s → served.busy ≡ true → HearsReport view r engine served before b next after_hops mid sessions known → ServedOn w l a (record { clock = clock; hops = after_hops }) u (view b) served sessions s
+  served_by_report view before b at mid made after_hops sessions known served busy is sweeps own heard =
       subst (λ (n : Served). ServedOn w l a (record { clock = clock; hops = after_hops }) u (view b) n sessions s) (as_busy served own)
-      (served_replied (view heard.between) served.engine mid made (subst (λ (x : HostView). Replies r engine served.engine x (view heard.between)) at heard.replied) (view b) after_hops sessions known served.known busy is turns heard.opened)
+      (served_replied (view heard.between) served.engine mid made (subst (λ (x : HostView). Replies r engine served.engine x (view heard.between)) at heard.replied) (view b) after_hops sessions known served.known busy is sweeps heard.opened)
 
 -- ---- by the answer of the agent
 
@@ -347,10 +347,10 @@ now_is w l a z v engine agent early waiting fs s now says h = says w (after_all 
 
 -- the session that was polled is over
 pub ends_poll : (w : World) (l : Ledger) (a : Outside) (clock : Option (List ℕ)) (u v : HostView) (hops next : HopsView) (engine : Engine) (agent mid : Sessions) (early : List Begun) (fs : List Delivery) (s : Story) (tells : Bool) (now : ℕ) (o : OpenSession) (r : Report)
-    → TellsCrashes u → Stays u v → unpolled agent ≡ Some o → tells ≡ true → ForAgreed engine (λ w l. now ≡ l.now) → Turned tells u now hops next (next_polled agent) (Some r) agent mid
+    → TellsCrashes u → Stays u v → unpolled agent ≡ Some o → tells ≡ true → ForAgreed engine (λ w l. now ≡ l.now) → PollsNext tells u now hops next (next_polled agent) (Some r) agent mid
     → IsServing w l a (record { clock = clock; hops = hops }) u engine agent early [] fs s → EndsPoll w l a clock u v hops next engine agent early fs s o r
-ends_poll w l a clock u v hops next engine agent mid early fs s tells now o r lawful stays first t says turned h =
-    let one = turned_over tells u now hops next agent mid o r first turned in
+ends_poll w l a clock u v hops next engine agent mid early fs s tells now o r lawful stays first t says was_polled h =
+    let one = polled_over tells u now hops next agent mid o r first was_polled in
     record {
       lawful = lawful;
       stays = stays;
@@ -361,32 +361,32 @@ ends_poll w l a clock u v hops next engine agent mid early fs s tells now o r la
 
 -- or goes on
 pub served_on : (w : World) (l : Ledger) (a : Outside) (clock : Option (List ℕ)) (u v : HostView) (hops next : HopsView) (early : List Begun) (fs : List Delivery) (s : Story) (served : Served) (agent new : Sessions) (tells : Bool) (now : ℕ) (o : OpenSession)
-    → TellsCrashes u → Stays u v → unpolled agent ≡ Some o → tells ≡ true → Turned tells u now hops next (next_polled agent) None agent new
-    → length early ≡ served.known → Turns (idle served.busy) s → IsServing w l a (record { clock = clock; hops = hops }) u served.engine agent early [] fs s
+    → TellsCrashes u → Stays u v → unpolled agent ≡ Some o → tells ≡ true → PollsNext tells u now hops next (next_polled agent) None agent new
+    → length early ≡ served.known → Sweeps (idle served.busy) s → IsServing w l a (record { clock = clock; hops = hops }) u served.engine agent early [] fs s
     → ServedOn w l a (record { clock = clock; hops = next }) u v served new s
-served_on w l a clock u v hops next early fs s served agent new tells now o lawful stays first t turned known turns h =
-    let one = turned_on tells u now hops next agent new o first turned in
-    served_same w l a clock u v hops next early fs s served agent new now o one.0 lawful stays first (subst (λ b. IsWorking b u now o one.0) t one.1) one.2 one.3 known turns h
+served_on w l a clock u v hops next early fs s served agent new tells now o lawful stays first t was_polled known sweeps h =
+    let one = polled_on tells u now hops next agent new o first was_polled in
+    served_same w l a clock u v hops next early fs s served agent new now o one.0 lawful stays first (subst (λ b. IsWorking b u now o one.0) t one.1) one.2 one.3 known sweeps h
 
 -- whatever host and hops tell
-pub polls_on : (number : ℕ) (tells : Bool) (u : HostView) (now : ℕ) (hops next : HopsView) (agent new : Sessions) (o : OpenSession) → unpolled agent ≡ Some o → Turned tells u now hops next (next_polled agent) None agent new → IsPolling agent number → IsPolling new number
-polls_on number tells u now hops next agent new o first turned h =
-    let one = turned_on tells u now hops next agent new o first turned in
+pub polls_on : (number : ℕ) (tells : Bool) (u : HostView) (now : ℕ) (hops next : HopsView) (agent new : Sessions) (o : OpenSession) → unpolled agent ≡ Some o → PollsNext tells u now hops next (next_polled agent) None agent new → IsPolling agent number → IsPolling new number
+polls_on number tells u now hops next agent new o first was_polled h =
+    let one = polled_on tells u now hops next agent new o first was_polled in
     subst (λ (n : Sessions). IsPolling n number) (sym one.2) (polling_on agent number o one.0 first one.1.same.number (still_waits tells u now o.work (one.0).work one.1.work) h)
 
-pub polls_less : (number : ℕ) (tells : Bool) (u : HostView) (now : ℕ) (hops next : HopsView) (agent new : Sessions) (o : OpenSession) (r : Report) → unpolled agent ≡ Some o → Turned tells u now hops next (next_polled agent) (Some r) agent new → IsPolling agent number → IsPolling new number
-polls_less number tells u now hops next agent new o r first turned h =
-    let one = turned_over tells u now hops next agent new o r first turned in
+pub polls_less : (number : ℕ) (tells : Bool) (u : HostView) (now : ℕ) (hops next : HopsView) (agent new : Sessions) (o : OpenSession) (r : Report) → unpolled agent ≡ Some o → PollsNext tells u now hops next (next_polled agent) (Some r) agent new → IsPolling agent number → IsPolling new number
+polls_less number tells u now hops next agent new o r first was_polled h =
+    let one = polled_over tells u now hops next agent new o r first was_polled in
     subst (λ (n : Sessions). IsPolling n number) (sym one.1) (polling_less agent number o first h)
 
-pub keeps_some : (busy : Bool) (tells : Bool) (u : HostView) (now : ℕ) (hops next : HopsView) (agent new : Sessions) (o : OpenSession) → unpolled agent ≡ Some o → Turned tells u now hops next (next_polled agent) None agent new → KeepsSome busy busy agent new
-keeps_some busy tells u now hops next agent new o first turned =
-    let one = turned_on tells u now hops next agent new o first turned in
+pub keeps_some : (busy : Bool) (tells : Bool) (u : HostView) (now : ℕ) (hops next : HopsView) (agent new : Sessions) (o : OpenSession) → unpolled agent ≡ Some o → PollsNext tells u now hops next (next_polled agent) None agent new → KeepsSome busy busy agent new
+keeps_some busy tells u now hops next agent new o first was_polled =
+    let one = polled_on tells u now hops next agent new o first was_polled in
     subst (λ (n : Sessions). KeepsSome busy busy agent n) (sym one.2) (some_on busy agent one.0)
 
-pub reply_fits : (tells : Bool) (u : HostView) (now : ℕ) (hops next : HopsView) (agent new : Sessions) (o : OpenSession) (r : Report) → unpolled agent ≡ Some o → Turned tells u now hops next (next_polled agent) (Some r) agent new → fits_state r.site r.outcomes ≡ true
-reply_fits tells u now hops next agent new o r first turned =
-    let one = turned_over tells u now hops next agent new o r first turned in
+pub reply_fits : (tells : Bool) (u : HostView) (now : ℕ) (hops next : HopsView) (agent new : Sessions) (o : OpenSession) (r : Report) → unpolled agent ≡ Some o → PollsNext tells u now hops next (next_polled agent) (Some r) agent new → fits_state r.site r.outcomes ≡ true
+reply_fits tells u now hops next agent new o r first was_polled =
+    let one = polled_over tells u now hops next agent new o r first was_polled in
     counts_fit r.site o.recipients r.outcomes one.0.counts
 
 -- where the engine's record says that a delivery ended, nothing is asked of sessions

@@ -1,4 +1,4 @@
--- A drain through its turns.
+-- A drain through its sweeps.
 use native.Mathlib.Omega.{arith}
 use Rattle.std.proofs.Common.{◌≡◌, ◌≢◌, ◌≤◌, ◌<◌, ◌+◌, ℕ, Bool, true, false, List, [], ◌∷◌, ◌++◌, length, Option, refl, sym, ap, ◌∙◌, subst}
 use Rattle.std.specs.List.{AllByRecursion}
@@ -6,10 +6,10 @@ use Rattle.q_agent.specs.Rests.{RestsOne}
 use Rattle.q_agent.specs.Sessions.{OpenSession, Sessions}
 use Rattle.q_books.specs.HostStands.{Takes, TellsCrashes}
 use Rattle.q_drain.proofs.GivingUp.{gives_up_later, gives_up_looking}
-use Rattle.q_drain.proofs.PollTurns.{adds_between, more_done, more_ended}
+use Rattle.q_drain.proofs.NextPolls.{adds_between, more_done, more_ended}
 use Rattle.q_drain.proofs.Ending.{all_begun}
-use Rattle.q_drain.proofs.Serving.{rest_under_way, turned_under_way}
-use Rattle.q_drain.proofs.Waiting.{done, turns_busy, turns_moment, turns_more, turns_rest}
+use Rattle.q_drain.proofs.Serving.{rest_under_way, swept_under_way}
+use Rattle.q_drain.proofs.Waiting.{done, sweeps_busy, sweeps_moment, sweeps_more, sweeps_rest}
 use Rattle.q_drain.specs.GivenUp.{GivesUp}
 use Rattle.q_drain.specs.Heard.{Heard, HearsClock}
 use Rattle.q_drain.specs.Opened.{FailsToOpenAll, Looks, MayOpenAll, OpensAll}
@@ -17,8 +17,8 @@ use Rattle.q_drain.specs.Served.{ServedOn}
 use Rattle.q_drain.specs.Standing.{Outside, counts_of}
 use Rattle.q_drain.specs.Stories.{Story}
 use Rattle.q_drain.specs.Told.{ended}
-use Rattle.q_drain.specs.Turned.{IdlesOn, StandsBetween}
-use Rattle.q_drain.specs.Waits.{Turns, idle}
+use Rattle.q_drain.specs.Swept.{IdlesOn, StandsBetween}
+use Rattle.q_drain.specs.Waits.{Sweeps, idle}
 use Rattle.q_drain.specs.declared.poll.Served.{Served}
 use Rattle.q_engine.specs.declared.engine.Engine.{Engine}
 use Rattle.q_entries.proofs.Playing.{plays_reads}
@@ -34,9 +34,9 @@ use Rattle.q_model.specs.Step.{after_all}
 -- ---- the clock, and the sessions that it opens
 
 -- a delivery began, or none did
-turns_opened : (busy : Bool) (s k : Story) → Turns 1 s → k.moments ≡ s.moments → k.rests ≡ s.rests → done s ≤ done k → (busy ≡ true → done s + 1 ≤ done k) → Turns (idle busy) k
-turns_opened true s k p moments rests more one = turns_busy s k p moments rests (one refl)
-turns_opened false s k p moments rests more one = turns_more 1 s k p moments rests more
+sweeps_opened : (busy : Bool) (s k : Story) → Sweeps 1 s → k.moments ≡ s.moments → k.rests ≡ s.rests → done s ≤ done k → (busy ≡ true → done s + 1 ≤ done k) → Sweeps (idle busy) k
+sweeps_opened true s k p moments rests more one = sweeps_busy s k p moments rests (one refl)
+sweeps_opened false s k p moments rests more one = sweeps_more 1 s k p moments rests more
 
 module _ (w : World) (l : Ledger) (a : Outside) (old new : Option (List ℕ)) (u v : HostView) (hops : HopsView) (engine next : Engine) (os : List OpenSession) (known : ℕ) (first : Bool) (s : Story)
     (b : StandsBetween w l a (record { clock = old; hops = hops }) u engine os known first s) (hears : HearsClock first u v old new engine next) where
@@ -81,7 +81,7 @@ module _ (w : World) (l : Ledger) (a : Outside) (old new : Option (List ℕ)) (u
         plays = plays_reads w k es u v x heard.plays (looks_on x g.1);
         adds = adds_between w k es u u v x refl heard.adds (g.1).files;
         known_is = sym last;
-        turns = turns_opened busy base (g.0).story (turns_moment s heard.moment b.turns_taken) (g.0).moments (g.0).rests (omega (arith, grown))
+        sweeps = sweeps_opened busy base (g.0).story (sweeps_moment s heard.moment b.sweeps_made) (g.0).moments (g.0).rests (omega (arith, grown))
             (λ is. let some = more is in omega (arith, some, before, behind, known_is, last, ends));
         serving = (g.0).serving;
       }
@@ -94,7 +94,7 @@ module _ (w : World) (l : Ledger) (a : Outside) (old new : Option (List ℕ)) (u
       gives_up_later w l a (record { clock = new; hops = after_hops }) u v x error s story es refl heard.plays
       (gives_up_looking w l a (record { clock = new; hops = after_hops }) v x error story g.0 heard.serving.under_way.driving.course.run lawful heard.serving.under_way.stands.host (g.3).takes g.1 g.2)
 
--- ---- behind a turn
+-- ---- behind a sweep
 
 some_moments : (ts : List ℕ) → 1 ≤ length ts → ts ≢ []
 some_moments [] h = absurd (omega (arith, h))
@@ -108,11 +108,11 @@ between_busy w l a z u v served agent s m busy = record {
   flights = m.flights;
   begins = some_moments m.story.moments m.serving.some;
   known_is = m.known_is;
-  turns_taken = subst (λ (b : Bool). Turns (idle b) m.story) busy m.turns;
+  sweeps_made = subst (λ (b : Bool). Sweeps (idle b) m.story) busy m.sweeps;
   between = (
     (counts_of a m.story 0).rests,
     refl,
-    turned_under_way w l a z v served.engine m.early [] m.flights agent.listed m.story agent.polled m.serving.under_way,
+    swept_under_way w l a z v served.engine m.early [] m.flights agent.listed m.story agent.polled m.serving.under_way,
   );
 }
 
@@ -128,7 +128,7 @@ between_rest w l a clock u v hops rested served agent new s m busy over rests ad
       flights = m.flights;
       begins = some_moments m.story.moments m.serving.some;
       known_is = m.known_is;
-      turns_taken = turns_rest m.story (subst (λ (b : Bool). Turns (idle b) m.story) busy m.turns);
+      sweeps_made = sweeps_rest m.story (subst (λ (b : Bool). Sweeps (idle b) m.story) busy m.sweeps);
       between = (
         (counts_of a m.story 0).rests + 1,
         omega arith,
@@ -136,7 +136,7 @@ between_rest w l a clock u v hops rested served agent new s m busy over rests ad
       );
     }
 
--- ---- a turn without a session
+-- ---- a sweep without a session
 
 no_sessions : (s : Sessions) → s.listed ≡ [] → s.polled ≡ 0 → s ≡ record { listed = []; polled = 0 }
 no_sessions s none start = ap (λ (os : List OpenSession). record { listed = os; polled = s.polled }) none ∙ ap (λ (n : ℕ). record { listed = []; polled = n }) start

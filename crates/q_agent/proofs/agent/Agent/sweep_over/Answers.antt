@@ -1,6 +1,6 @@
 use Rattle.std.proofs.Common.{◌∙◌, ap, sym, ◌==◌, ℕ}
 use Rattle.q_agent.proofs.Kept.{over_same, rising}
-use Rattle.q_agent.proofs.agent.Agent.turn_over.Goals as goal
+use Rattle.q_agent.proofs.agent.Agent.sweep_over.Goals as goal
 
 pub place_above-requires : goal.place_above-requires
 place_above-requires g c = rising g.L.Link.view c.self.inside.sessions c.self.inside.slots.items c.deref.result.now c.self.invariant c.deref.ensures.value

@@ -1,5 +1,5 @@
 use Rattle.std.proofs.Common.{◌≡◌, ◌≢◌, ◌+◌, [], ap, arith, false, Option, refl, subst, sym, true, ℕ}
-use Rattle.q_agent.specs.Sessions.{Sessions, is_turn_over}
+use Rattle.q_agent.specs.Sessions.{Sessions, is_sweep_over}
 use Rattle.q_books.specs.HostStands.{TellsCrashes}
 use Rattle.q_drain.proofs.Causes.{same_rests}
 use Rattle.q_drain.proofs.Exiting.{DrainsSo, counted_behind, drains_first, drains_more, ends_early, ends_full, ends_quiet, ends_unfinished, given_behind, none_behind, order_behind, stops_between}
@@ -8,15 +8,15 @@ use Rattle.q_drain.specs.Drained.{CountsRests, RestsBehind}
 use Rattle.q_drain.specs.Exits.{EndsUnfinished}
 use Rattle.q_drain.specs.Polling.{AreInOrder, IsPolling}
 use Rattle.q_drain.specs.Standing.{Outside}
-use Rattle.q_drain.specs.Turned.{OfEngine, OfServed, TurnsTo}
+use Rattle.q_drain.specs.Swept.{OfEngine, OfServed, SweepsTo}
 use Rattle.q_drain.specs.declared.poll.Served.{Served}
-use Rattle.q_drain.specs.declared.turn.Turn.{Turn}
+use Rattle.q_drain.specs.declared.sweep.Sweep.{Sweep}
 use Rattle.q_engine.proofs.Stopping.{memory_stop, ok_stop, same_stop, stop_readable}
 use Rattle.q_engine.specs.declared.stop.Stop.TheVariants as stops
 use Rattle.q_engine.specs.Stands.{IsReady}
 use Rattle.q_events.proofs.LineParts.{rose_later}
 use Rattle.q_link.specs.Records.{HopsView}
-use Rattle.q_drain.proofs.driver.take_turns.Goals as goal
+use Rattle.q_drain.proofs.driver.make_sweeps.Goals as goal
 
 pub loop-init : goal.loop-init
 loop-init g c =
@@ -34,14 +34,14 @@ loop-init g c =
       tell_later = omega arith;
     }
 
-pub take_turn-requires-clause-ready : goal.take_turn-requires-clause-ready
-take_turn-requires-clause-ready g c = c.loop.invariant.ready
+pub make_sweep-requires-clause-ready : goal.make_sweep-requires-clause-ready
+make_sweep-requires-clause-ready g c = c.loop.invariant.ready
 
-pub take_turn-requires-clause-order : goal.take_turn-requires-clause-order
-take_turn-requires-clause-order g c = c.loop.invariant.order
+pub make_sweep-requires-clause-order : goal.make_sweep-requires-clause-order
+make_sweep-requires-clause-order g c = c.loop.invariant.order
 
-pub take_turn-requires-clause-stands : goal.take_turn-requires-clause-stands
-take_turn-requires-clause-stands g c t =
+pub make_sweep-requires-clause-stands : goal.make_sweep-requires-clause-stands
+make_sweep-requires-clause-stands g c t =
     let loop = c.loop in
     let (w, l, stands, start) = loop.invariant.may t in
     let d = loop.invariant.so t w l stands start in
@@ -53,9 +53,9 @@ returns-in_err-served-clause-err g c error is t w l stands start =
     let view = g.H.Host.view in
     let a : Outside = record { clock = g.C.Clock.given c.args.clock.now; hops = g.N.Hops.view c.args.hops.now } in
     let z : Outside = record { clock = g.C.Clock.given loop.clock; hops = g.N.Hops.view loop.hops } in
-    let y : Outside = record { clock = g.C.Clock.given c.take_turn.new.clock; hops = g.N.Hops.view c.take_turn.new.hops } in
+    let y : Outside = record { clock = g.C.Clock.given c.make_sweep.new.clock; hops = g.N.Hops.view c.make_sweep.new.hops } in
     let d = loop.invariant.so t w l stands start in
-    ends_early w l a z y (view c.args.host.now) (view loop.host) (view c.take_turn.new.host) loop.served.engine loop.agent.listed loop.served.known loop.first loop.given d error
+    ends_early w l a z y (view c.args.host.now) (view loop.host) (view c.make_sweep.new.host) loop.served.engine loop.agent.listed loop.served.known loop.first loop.given d error
     (c.in_err-served.ensures.err error (same_stop c.from_residual.result c.in_err-served.field-0.0 (stops.Host error) c.from_residual.ensures.1 is) t w l a d.story d.between)
 
 pub returns-in_err-served-clause-cause : goal.returns-in_err-served-clause-cause
@@ -76,11 +76,11 @@ returns-in-Idle-clause-ok g c t w l stands start =
     let view = g.H.Host.view in
     let a : Outside = record { clock = g.C.Clock.given c.args.clock.now; hops = g.N.Hops.view c.args.hops.now } in
     let z : Outside = record { clock = g.C.Clock.given loop.clock; hops = g.N.Hops.view loop.hops } in
-    let y : Outside = record { clock = g.C.Clock.given c.take_turn.new.clock; hops = g.N.Hops.view c.take_turn.new.hops } in
+    let y : Outside = record { clock = g.C.Clock.given c.make_sweep.new.clock; hops = g.N.Hops.view c.make_sweep.new.hops } in
     let d = loop.invariant.so t w l stands start in
-    let turned = subst (λ (turn : Turn). TurnsTo (record { before = z; behind = y }) (view loop.host) (view c.take_turn.new.host) loop.served.engine loop.agent.listed loop.served.known loop.first turn c.take_turn.new.agent) c.in-Idle.is (c.in_ok-served.ensures.ok t) in
-    ends_quiet w l a z y (view c.args.host.now) (view loop.host) (view c.take_turn.new.host) loop.served.engine loop.agent.listed loop.served.known loop.first loop.given d c.in-Idle.engine
-    (turned w l a d.story d.between)
+    let swept = subst (λ (sweep : Sweep). SweepsTo (record { before = z; behind = y }) (view loop.host) (view c.make_sweep.new.host) loop.served.engine loop.agent.listed loop.served.known loop.first sweep c.make_sweep.new.agent) c.in-Idle.is (c.in_ok-served.ensures.ok t) in
+    ends_quiet w l a z y (view c.args.host.now) (view loop.host) (view c.make_sweep.new.host) loop.served.engine loop.agent.listed loop.served.known loop.first loop.given d c.in-Idle.engine
+    (swept w l a d.story d.between)
 
 pub returns-in-Idle-clause-cause : goal.returns-in-Idle-clause-cause
 returns-in-Idle-clause-cause g c =
@@ -99,11 +99,11 @@ returns-in-Full-clause-ok g c t w l stands start =
     let view = g.H.Host.view in
     let a : Outside = record { clock = g.C.Clock.given c.args.clock.now; hops = g.N.Hops.view c.args.hops.now } in
     let z : Outside = record { clock = g.C.Clock.given loop.clock; hops = g.N.Hops.view loop.hops } in
-    let y : Outside = record { clock = g.C.Clock.given c.take_turn.new.clock; hops = g.N.Hops.view c.take_turn.new.hops } in
+    let y : Outside = record { clock = g.C.Clock.given c.make_sweep.new.clock; hops = g.N.Hops.view c.make_sweep.new.hops } in
     let d = loop.invariant.so t w l stands start in
-    let turned = subst (λ (turn : Turn). TurnsTo (record { before = z; behind = y }) (view loop.host) (view c.take_turn.new.host) loop.served.engine loop.agent.listed loop.served.known loop.first turn c.take_turn.new.agent) c.in-Full.is (c.in_ok-served.ensures.ok t) in
-    ends_full w l a z y (view c.args.host.now) (view loop.host) (view c.take_turn.new.host) loop.served.engine loop.agent.listed loop.served.known loop.first loop.given d
-    (turned w l a d.story d.between)
+    let swept = subst (λ (sweep : Sweep). SweepsTo (record { before = z; behind = y }) (view loop.host) (view c.make_sweep.new.host) loop.served.engine loop.agent.listed loop.served.known loop.first sweep c.make_sweep.new.agent) c.in-Full.is (c.in_ok-served.ensures.ok t) in
+    ends_full w l a z y (view c.args.host.now) (view loop.host) (view c.make_sweep.new.host) loop.served.engine loop.agent.listed loop.served.known loop.first loop.given d
+    (swept w l a d.story d.between)
 
 pub returns-in-Full-clause-cause : goal.returns-in-Full-clause-cause
 returns-in-Full-clause-cause g c =
@@ -119,8 +119,8 @@ returns-in-Full-clause-cause g c =
 pub rest_behind-requires-clause-waits : goal.rest_behind-requires-clause-waits
 rest_behind-requires-clause-waits g c =
     let served = c.in-Over.served in
-    let agent = c.take_turn.new.agent in
-    let both = subst (λ (turn : Turn). OfServed turn (λ (s : Served). IsPolling agent (s.known + 1) × (is_turn_over agent ≡ true))) c.in-Over.is c.in_ok-served.ensures.polling in
+    let agent = c.make_sweep.new.agent in
+    let both = subst (λ (sweep : Sweep). OfServed sweep (λ (s : Served). IsPolling agent (s.known + 1) × (is_sweep_over agent ≡ true))) c.in-Over.is c.in_ok-served.ensures.polling in
     all_wait agent (served.known + 1) both.1 both.0
 
 pub rest_behind-requires-clause-few : goal.rest_behind-requires-clause-few
@@ -130,77 +130,77 @@ pub returns-in_default-clause-ok : goal.returns-in_default-clause-ok
 returns-in_default-clause-ok g c t w l stands start =
     let loop = c.loop in
     let view = g.H.Host.view in
-    let hops = g.N.Hops.view c.take_turn.new.hops in
+    let hops = g.N.Hops.view c.make_sweep.new.hops in
     let rested = g.N.Hops.view c.rest_behind.new.hops in
-    let clock = g.C.Clock.given c.take_turn.new.clock in
+    let clock = g.C.Clock.given c.make_sweep.new.clock in
     let u = view c.args.host.now in
     let v = view loop.host in
-    let x = view c.take_turn.new.host in
+    let x = view c.make_sweep.new.host in
     let served = c.in-Over.served in
-    let agent = c.take_turn.new.agent in
+    let agent = c.make_sweep.new.agent in
     let a : Outside = record { clock = g.C.Clock.given c.args.clock.now; hops = g.N.Hops.view c.args.hops.now } in
     let z : Outside = record { clock = g.C.Clock.given loop.clock; hops = g.N.Hops.view loop.hops } in
     let y : Outside = record { clock = clock; hops = hops } in
     let d = loop.invariant.so t w l stands start in
-    let turned = subst (λ (turn : Turn). TurnsTo (record { before = z; behind = y }) v x loop.served.engine loop.agent.listed loop.served.known loop.first turn agent) c.in-Over.is (c.in_ok-served.ensures.ok t) in
-    let some = subst (λ (turn : Turn). OfServed turn (λ (s : Served). s.busy ≡ false → agent.listed ≢ [])) c.in-Over.is c.in_ok-served.ensures.some in
+    let swept = subst (λ (sweep : Sweep). SweepsTo (record { before = z; behind = y }) v x loop.served.engine loop.agent.listed loop.served.known loop.first sweep agent) c.in-Over.is (c.in_ok-served.ensures.ok t) in
+    let some = subst (λ (sweep : Sweep). OfServed sweep (λ (s : Served). s.busy ≡ false → agent.listed ≢ [])) c.in-Over.is c.in_ok-served.ensures.some in
     let behind = subst (λ (o : Option ℕ). RestsBehind served.busy loop.given c.args.rests agent c.rest_behind.new.agent hops rested o) c.in_default.is c.rest_behind.ensures in
     let (idle, all, kept, still) = none_behind served.busy loop.given c.args.rests agent c.rest_behind.new.agent hops rested behind in
     subst (λ n. EndsUnfinished w l (record { before = a; behind = record { clock = clock; hops = rested } }) u x n) all
     (subst (λ (h : HopsView). EndsUnfinished w l (record { before = a; behind = record { clock = clock; hops = h } }) u x loop.given) (sym still)
-    (ends_unfinished w l a z y u v x loop.served.engine loop.agent.listed loop.served.known loop.first loop.given d served agent (turned w l a d.story d.between) idle (some idle)))
+    (ends_unfinished w l a z y u v x loop.served.engine loop.agent.listed loop.served.known loop.first loop.given d served agent (swept w l a d.story d.between) idle (some idle)))
 
 pub returns-in_default-clause-unfinished : goal.returns-in_default-clause-unfinished
 returns-in_default-clause-unfinished g c n is =
     let loop = c.loop in
     let first = g.N.Hops.view c.args.hops.now in
-    let hops = g.N.Hops.view c.take_turn.new.hops in
+    let hops = g.N.Hops.view c.make_sweep.new.hops in
     let rested = g.N.Hops.view c.rest_behind.new.hops in
-    let behind = subst (λ (o : Option ℕ). RestsBehind c.in-Over.served.busy loop.given c.args.rests c.take_turn.new.agent c.rest_behind.new.agent hops rested o) c.in_default.is c.rest_behind.ensures in
-    let (idle, all, kept, still) = none_behind c.in-Over.served.busy loop.given c.args.rests c.take_turn.new.agent c.rest_behind.new.agent hops rested behind in
-    let turn = c.in_ok-served.ensures.rests in
+    let behind = subst (λ (o : Option ℕ). RestsBehind c.in-Over.served.busy loop.given c.args.rests c.make_sweep.new.agent c.rest_behind.new.agent hops rested o) c.in_default.is c.rest_behind.ensures in
+    let (idle, all, kept, still) = none_behind c.in-Over.served.busy loop.given c.args.rests c.make_sweep.new.agent c.rest_behind.new.agent hops rested behind in
+    let sweep = c.in_ok-served.ensures.rests in
     let same = ap (λ (h : HopsView). h.rests) still in
     let counts = loop.invariant.counts in
-    (same_rests c.args.rests n is, omega (arith, all, turn, same, counts))
+    (same_rests c.args.rests n is, omega (arith, all, sweep, same, counts))
 
 pub returns-in_default-clause-cause : goal.returns-in_default-clause-cause
 returns-in_default-clause-cause g c =
     let later = c.loop.invariant in
     let cause = c.in_ok-served.ensures.cause in
-    ok_stop (g.H.Host.faults c.args.host.now) (g.H.Host.faults c.take_turn.new.host) _ (omega (arith, later.disk_later, cause.disk_later)) (omega (arith, later.tell_later, cause.tell_later))
+    ok_stop (g.H.Host.faults c.args.host.now) (g.H.Host.faults c.make_sweep.new.host) _ (omega (arith, later.disk_later, cause.disk_later)) (omega (arith, later.tell_later, cause.tell_later))
 
 pub loop-preserved : goal.loop-preserved
 loop-preserved g c =
     let loop = c.loop in
     let view = g.H.Host.view in
-    let hops = g.N.Hops.view c.take_turn.new.hops in
+    let hops = g.N.Hops.view c.make_sweep.new.hops in
     let rested = g.N.Hops.view c.rest_behind.new.hops in
-    let clock = g.C.Clock.given c.take_turn.new.clock in
+    let clock = g.C.Clock.given c.make_sweep.new.clock in
     let u = view c.args.host.now in
     let v = view loop.host in
-    let x = view c.take_turn.new.host in
+    let x = view c.make_sweep.new.host in
     let served = c.in-Over.served in
-    let agent = c.take_turn.new.agent in
+    let agent = c.make_sweep.new.agent in
     let new = c.rest_behind.new.agent in
     let more = c.in-Some.more in
     let a : Outside = record { clock = g.C.Clock.given c.args.clock.now; hops = g.N.Hops.view c.args.hops.now } in
     let z : Outside = record { clock = g.C.Clock.given loop.clock; hops = g.N.Hops.view loop.hops } in
     let y : Outside = record { clock = clock; hops = hops } in
-    let both = subst (λ (turn : Turn). OfServed turn (λ (s : Served). IsPolling agent (s.known + 1) × (is_turn_over agent ≡ true))) c.in-Over.is c.in_ok-served.ensures.polling in
+    let both = subst (λ (sweep : Sweep). OfServed sweep (λ (s : Served). IsPolling agent (s.known + 1) × (is_sweep_over agent ≡ true))) c.in-Over.is c.in_ok-served.ensures.polling in
     let behind = subst (λ (o : Option ℕ). RestsBehind served.busy loop.given c.args.rests agent new hops rested o) c.in-Some.is c.rest_behind.ensures in
-    let turn = c.in_ok-served.ensures.rests in
+    let sweep = c.in_ok-served.ensures.rests in
     let before = loop.invariant.counts in
-    let counts : CountsRests (g.N.Hops.view c.args.hops.now) hops loop.given = omega (arith, turn, before) in
+    let counts : CountsRests (g.N.Hops.view c.args.hops.now) hops loop.given = omega (arith, sweep, before) in
     record {
-      ready = subst (λ (turn : Turn). OfEngine turn IsReady) c.in-Over.is c.in_ok-served.ensures.ready;
+      ready = subst (λ (sweep : Sweep). OfEngine sweep IsReady) c.in-Over.is c.in_ok-served.ensures.ready;
       order = order_behind served.busy loop.given c.args.rests more (served.known + 1) agent new hops rested both.0.order behind;
       few = given_behind served.busy loop.given c.args.rests more agent new hops rested loop.invariant.few behind;
       counts = counted_behind served.busy loop.given c.args.rests more agent new (g.N.Hops.view c.args.hops.now) hops rested counts behind;
       may = loop.invariant.may;
       so = λ t w l stands start.
           let d = loop.invariant.so t w l stands start in
-          let turned = subst (λ (turn : Turn). TurnsTo (record { before = z; behind = y }) v x loop.served.engine loop.agent.listed loop.served.known loop.first turn agent) c.in-Over.is (c.in_ok-served.ensures.ok t) in
-          drains_more w l a z clock u v x hops rested loop.served.engine loop.agent.listed loop.served.known loop.first loop.given c.args.rests more served agent new served.busy d (turned w l a d.story d.between) both.1 refl behind;
+          let swept = subst (λ (sweep : Sweep). SweepsTo (record { before = z; behind = y }) v x loop.served.engine loop.agent.listed loop.served.known loop.first sweep agent) c.in-Over.is (c.in_ok-served.ensures.ok t) in
+          drains_more w l a z clock u v x hops rested loop.served.engine loop.agent.listed loop.served.known loop.first loop.given c.args.rests more served agent new served.busy d (swept w l a d.story d.between) both.1 refl behind;
       disk_later = omega (arith, loop.invariant.disk_later, c.in_ok-served.ensures.cause.disk_later);
       tell_later = omega (arith, loop.invariant.tell_later, c.in_ok-served.ensures.cause.tell_later);
     }

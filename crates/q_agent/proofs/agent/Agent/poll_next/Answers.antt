@@ -1,6 +1,6 @@
 use Rattle.q_agent.proofs.Kept.{rising}
-use Rattle.q_agent.proofs.TurnLaws.{at_next, file_next, never_vacant, on_err, out_holds, sound_next, stopped, turned_on, turned_over, written}
-use Rattle.q_agent.proofs.agent.Agent.turn.Goals as goal
+use Rattle.q_agent.proofs.NextPollLaws.{at_next, file_next, never_vacant, on_err, out_holds, polled_on, polled_over, sound_next, stopped, written}
+use Rattle.q_agent.proofs.agent.Agent.poll_next.Goals as goal
 
 pub next_slot-requires : goal.next_slot-requires
 next_slot-requires g c = rising g.L.Link.view c.self.inside.sessions c.self.inside.slots.items c.deref.result.now c.self.invariant c.deref.ensures.value
@@ -55,7 +55,7 @@ returns-in_default-report-clause-ok g c =
     let s = c.in-Some in
     let h = c.in-Some-get_mut.held.now in
     let a = at_next g.L.Link.view i.sessions i.slots.items c.deref.result.now i.polled s.place s.slot h c.self.invariant c.deref.ensures.value s.ensures.some c.in-Some-get_mut.ensures.value in
-    turned_on g.L.Link.view i.sessions i.slots.items i.polled s.place s.slot h a g.H.Host.tells (g.H.Host.view c.args.host.now) c.args.now (g.N.Hops.view c.args.hops.now) (g.N.Hops.view c.poll.new.hops) c.args.self.now c.poll.new.self c.in_ok-report.report
+    polled_on g.L.Link.view i.sessions i.slots.items i.polled s.place s.slot h a g.H.Host.tells (g.H.Host.view c.args.host.now) c.args.now (g.N.Hops.view c.args.hops.now) (g.N.Hops.view c.poll.new.hops) c.args.self.now c.poll.new.self c.in_ok-report.report
     c.self.view_is c.in_default-report.is c.in_ok-report.ensures.went c.poll.ensures.sound
 
 pub invariant_of-self-2 : goal.invariant_of-self-2
@@ -72,5 +72,5 @@ returns-clause-ok g c =
     let s = c.in-Some in
     let h = c.in-Some-get_mut.held.now in
     let a = at_next g.L.Link.view i.sessions i.slots.items c.deref.result.now i.polled s.place s.slot h c.self.invariant c.deref.ensures.value s.ensures.some c.in-Some-get_mut.ensures.value in
-    turned_over g.L.Link.view i.sessions i.slots.items i.polled s.place s.slot h a g.H.Host.tells (g.H.Host.view c.args.host.now) c.args.now (g.N.Hops.view c.args.hops.now) (g.N.Hops.view c.poll.new.hops) c.args.self.now c.poll.new.self c.in_ok-report.report c.in-Some-report.report c.try_remove.new.self c.remove.new.self.items
+    polled_over g.L.Link.view i.sessions i.slots.items i.polled s.place s.slot h a g.H.Host.tells (g.H.Host.view c.args.host.now) c.args.now (g.N.Hops.view c.args.hops.now) (g.N.Hops.view c.poll.new.hops) c.args.self.now c.poll.new.self c.in_ok-report.report c.in-Some-report.report c.try_remove.new.self c.remove.new.self.items
     c.self.view_is c.in-Some-report.is c.in_ok-report.ensures.went c.try_remove.ensures.updates c.remove.ensures.items

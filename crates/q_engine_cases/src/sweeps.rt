@@ -52,7 +52,7 @@ fn drained(alloc: Global, host: &mut SilentHost, hops: &mut PairedHops) -> Resul
 }
 
 // Each server goes on only when the other one was written to, so neither session would come to its
-// end without the other. Both come to it, since each turn polls both.
+// end without the other. Both come to it, since each sweep polls both.
 #[test]
 fn servers_that_wait_for_each_other(rt: HostRuntime) -> Result<(), Fail> {
     let alloc = rt.alloc();
