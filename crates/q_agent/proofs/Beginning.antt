@@ -10,7 +10,7 @@ use Rattle.q_session.specs.Mails.{IsHeadOf, Mail}
 use Rattle.q_session.specs.Polls.{IsNew, IsUnused}
 use Rattle.q_agent.specs.Openings.{MayBegin}
 use Rattle.q_agent.specs.Readings.{IsLetter}
-use Rattle.q_agent.specs.declared.held.Work.{Work}
+use Rattle.q_agent.specs.declared.delivery_session.Work.{Work}
 use Rattle.q_agent.specs.declared.reading.Letter.{Letter}
 
 fresh_unused : (hop : List ℕ) (hops : HopsView) (v : View) → IsFresh hop hops v → IsUnused v

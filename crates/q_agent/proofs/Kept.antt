@@ -11,7 +11,7 @@ use Rattle.q_agent.specs.Places.{IsNext, Parts}
 use Rattle.q_model.proofs.EachLaws.{any-map}
 use Rattle.q_agent.specs.Sessions.{IsSound, OpenSession, Rises, Sessions, is_sweep_over, next_polled}
 use Rattle.q_agent.specs.Slots.{Holds, shown, shown_at}
-use Rattle.q_agent.specs.declared.held.Held.{Held}
+use Rattle.q_agent.specs.declared.delivery_session.DeliverySession.{DeliverySession}
 use Rattle.q_agent.specs.declared.slot.Slot.{Slot}
 use Rattle.q_agent.proofs.Rising.{nondecreasing}
 use Rattle.q_agent.proofs.SessionLaws.{end_is, next_mapped}
@@ -58,10 +58,10 @@ next_first slots polled place slot within point past at = record {
 }
 
 module _ {L : Type 0} (view : L → View) where
-  pub rising : (slab : Slab (Held L)) (slots ss : List Slot) → Holds view slab slots → ss ≡ slots → (i j : ℕ) (d : Slot) → i ≤ j → j < length ss → (get_or ss i d).number ≤ (get_or ss j d).number
+  pub rising : (slab : Slab (DeliverySession L)) (slots ss : List Slot) → Holds view slab slots → ss ≡ slots → (i j : ℕ) (d : Slot) → i ≤ j → j < length ss → (get_or ss i d).number ≤ (get_or ss j d).number
   rising slab slots ss holds same = nondecreasing (λ (e : Slot). e.number) ss (subst (λ (es : List Slot). Rises (map (λ (e : Slot). e.number) es)) (sym same) holds.rise)
 
-  pub over_is : (slab : Slab (Held L)) (slots : List Slot) (polled place : ℕ) (s : Sessions) → record { listed = map (shown_at view slab) slots; polled = polled } ≡ s
+  pub over_is : (slab : Slab (DeliverySession L)) (slots : List Slot) (polled place : ℕ) (s : Sessions) → record { listed = map (shown_at view slab) slots; polled = polled } ≡ s
       → place ≤ length slots → Parts polled slots place → (place == length slots) ≡ is_sweep_over s
   over_is slab slots polled place s is within point =
       end_is (λ (e : Slot). nat_lt polled e.number) slots place within (none_before slots polled place within point) (all_from slots polled place point)
@@ -69,13 +69,13 @@ module _ {L : Type 0} (view : L → View) where
       ∙ ap is_sweep_over is
 
   -- the session of a slot, and the one that is polled next
-  pub sound_at : (slab : Slab (Held L)) (slots : List Slot) (place : ℕ) (e : Slot) (h : Held L) → Holds view slab slots → slice_get slots place ≡ Some e → get slab e.key ≡ Some h → IsSound (shown view e.number h)
+  pub sound_at : (slab : Slab (DeliverySession L)) (slots : List Slot) (place : ℕ) (e : Slot) (h : DeliverySession L) → Holds view slab slots → slice_get slots place ≡ Some e → get slab e.key ≡ Some h → IsSound (shown view e.number h)
   sound_at slab slots place e h holds at there = subst IsSound (shown_there view slab e h there) (each_some (λ (s : Slot). IsSound (shown_at view slab s)) slots place e holds.sound at)
 
-  pub there_at : (slab : Slab (Held L)) (slots : List Slot) (place : ℕ) (e : Slot) → Holds view slab slots → slice_get slots place ≡ Some e → IsSome (get slab e.key)
-  there_at slab slots place e holds at = each_some (λ (s : Slot). IsSome (get slab s.key)) slots place e holds.held at
+  pub there_at : (slab : Slab (DeliverySession L)) (slots : List Slot) (place : ℕ) (e : Slot) → Holds view slab slots → slice_get slots place ≡ Some e → IsSome (get slab e.key)
+  there_at slab slots place e holds at = each_some (λ (s : Slot). IsSome (get slab s.key)) slots place e holds.there at
 
-  pub next_shown : (slab : Slab (Held L)) (slots : List Slot) (polled place : ℕ) (e : Slot) (h : Held L) (s : Sessions) → record { listed = map (shown_at view slab) slots; polled = polled } ≡ s
+  pub next_shown : (slab : Slab (DeliverySession L)) (slots : List Slot) (polled place : ℕ) (e : Slot) (h : DeliverySession L) (s : Sessions) → record { listed = map (shown_at view slab) slots; polled = polled } ≡ s
       → IsNext polled slots place e → get slab e.key ≡ Some h → next_polled s ≡ Some (shown view e.number h)
   next_shown slab slots polled place e h s is next there =
       ap next_polled (sym is)
@@ -83,7 +83,7 @@ module _ {L : Type 0} (view : L → View) where
       ∙ ap (option_map (shown_at view slab)) next.next
       ∙ ap Some (shown_there view slab e h there)
 
-  pub over_same : (slab : Slab (Held L)) (slots ss : List Slot) (polled place : ℕ) (s : Sessions) → record { listed = map (shown_at view slab) slots; polled = polled } ≡ s → ss ≡ slots
+  pub over_same : (slab : Slab (DeliverySession L)) (slots ss : List Slot) (polled place : ℕ) (s : Sessions) → record { listed = map (shown_at view slab) slots; polled = polled } ≡ s → ss ≡ slots
       → place ≤ length ss → Parts polled ss place → (place == length ss) ≡ is_sweep_over s
   over_same slab slots ss polled place s is same within point =
       over_is slab ss polled place s (ap (λ (es : List Slot). record { listed = map (shown_at view slab) es; polled = polled }) same ∙ is) within point

@@ -14,7 +14,7 @@ use Rattle.q_agent.specs.Polling.{Went}
 use Rattle.q_agent.specs.Rests.{RestsOne, RestsWork}
 use Rattle.q_agent.specs.Sessions.{IsSound, IsSoundWork, OpenSession, Sessions, Work, next_polled, replaced, without}
 use Rattle.q_agent.specs.Slots.{Holds, shown, shown_at, work_of}
-use Rattle.q_agent.specs.declared.held.Held.{Held}
+use Rattle.q_agent.specs.declared.delivery_session.DeliverySession.{DeliverySession}
 use Rattle.q_agent.specs.declared.report.Report.{Report}
 use Rattle.q_agent.specs.declared.slot.Slot.{Slot}
 use Rattle.q_agent.proofs.Kept.{each_some, next_shown, sound_at, there_at}
@@ -26,25 +26,25 @@ on_err (Ok x) P p = tt
 on_err (Err e) P p = p
 
 module _ {L : Type 0} (view : L → View) where
-  abbrev sessions_of : Slab (Held L) → List Slot → ℕ → Sessions
+  abbrev sessions_of : Slab (DeliverySession L) → List Slot → ℕ → Sessions
   sessions_of slab slots polled = record { listed = map (shown_at view slab) slots; polled = polled }
 
   -- the agent holds these sessions, and at this slot stands the one that is next
-  pub record AtNext (slab : Slab (Held L)) (slots : List Slot) (polled : ℕ) (place : ℕ) (e : Slot) (h : Held L) : Type 0 where
+  pub record AtNext (slab : Slab (DeliverySession L)) (slots : List Slot) (polled : ℕ) (place : ℕ) (e : Slot) (h : DeliverySession L) : Type 0 where
     pub holds : Holds view slab slots
     pub next : IsNext polled slots place e
     pub there : get slab e.key ≡ Some h
 
-  pub at_next : (slab : Slab (Held L)) (slots ss : List Slot) (polled place : ℕ) (e : Slot) (h : Held L) → Holds view slab slots → ss ≡ slots → IsNext polled ss place e → Some h ≡ get slab e.key → AtNext slab slots polled place e h
+  pub at_next : (slab : Slab (DeliverySession L)) (slots ss : List Slot) (polled place : ℕ) (e : Slot) (h : DeliverySession L) → Holds view slab slots → ss ≡ slots → IsNext polled ss place e → Some h ≡ get slab e.key → AtNext slab slots polled place e h
   at_next slab slots ss polled place e h holds same next there = record { holds = holds; next = subst (λ (xs : List Slot). IsNext polled xs place e) same next; there = sym there }
 
-  pub never_vacant : (slab : Slab (Held L)) (slots ss : List Slot) (polled place : ℕ) (e : Slot) → Holds view slab slots → ss ≡ slots → IsNext polled ss place e → None ≡ get slab e.key → ⊥
+  pub never_vacant : (slab : Slab (DeliverySession L)) (slots ss : List Slot) (polled place : ℕ) (e : Slot) → Holds view slab slots → ss ≡ slots → IsNext polled ss place e → None ≡ get slab e.key → ⊥
   never_vacant slab slots ss polled place e holds same next vacant =
       let is = there_at view slab slots place e holds (subst (λ (xs : List Slot). IsNext polled xs place e) same next).stands in
       let none = ap is_some vacant in
       absurd cc
 
-  module _ (slab : Slab (Held L)) (slots : List Slot) (polled place : ℕ) (e : Slot) (h : Held L) (a : AtNext slab slots polled place e h) where
+  module _ (slab : Slab (DeliverySession L)) (slots : List Slot) (polled place : ℕ) (e : Slot) (h : DeliverySession L) (a : AtNext slab slots polled place e h) where
     next_is : next_polled (sessions_of slab slots polled) ≡ Some (shown view e.number h)
     next_is = next_shown view slab slots polled place e h (sessions_of slab slots polled) refl a.next a.there
 
@@ -57,19 +57,19 @@ module _ {L : Type 0} (view : L → View) where
         subst (IsStanding tells host) (shown_there view slab e h a.there)
         (each_some (λ (s : Slot). IsStanding tells host (shown_at view slab s)) slots place e (each-unmap (IsStanding tells host) (shown_at view slab) slots all) a.next.stands)
 
-    writes : (new : Held L) → Updates slab (with_value slab e.key new) e.key (Some new)
+    writes : (new : DeliverySession L) → Updates slab (with_value slab e.key new) e.key (Some new)
     writes new = Updates-with_value slab e.key new (there_at view slab slots place e a.holds a.next.stands)
 
-    pub written : (new : Held L) → IsSound (shown view e.number new) → Becomes view (with_value slab e.key new) slots (replaced (shown view e.number new) (map (shown_at view slab) slots))
+    pub written : (new : DeliverySession L) → IsSound (shown view e.number new) → Becomes view (with_value slab e.key new) slots (replaced (shown view e.number new) (map (shown_at view slab) slots))
     written new sound = changed view slab (with_value slab e.key new) slots place e new a.holds a.next.stands (writes new) sound
 
-    pub stopped : (s : Sessions) (new : Held L) → sessions_of slab slots polled ≡ s → new.recipients ≡ h.recipients → IsSound (shown view e.number new) → Stopped (next_polled s) s (sessions_of (with_value slab e.key new) slots polled)
+    pub stopped : (s : Sessions) (new : DeliverySession L) → sessions_of slab slots polled ≡ s → new.recipients ≡ h.recipients → IsSound (shown view e.number new) → Stopped (next_polled s) s (sessions_of (with_value slab e.key new) slots polled)
     stopped s new is same sound =
         subst (λ (x : Sessions). Stopped (next_polled x) x (sessions_of (with_value slab e.key new) slots polled)) is
         (subst (λ (o : Option OpenSession). Stopped o (sessions_of slab slots polled) (sessions_of (with_value slab e.key new) slots polled)) (sym next_is)
         (shown view e.number new, record { number = refl; recipients = same }, ap (λ (os : List OpenSession). record { listed = os; polled = polled }) (written new sound).shows))
 
-    pub polled_on : (tells : Bool) (host : HostView) (now : ℕ) (before after : HopsView) (s : Sessions) (new : Held L) (r : Option Report) → sessions_of slab slots polled ≡ s → r ≡ None → Went tells host now before after r (shown view e.number h) (shown view e.number new) → IsSound (shown view e.number new)
+    pub polled_on : (tells : Bool) (host : HostView) (now : ℕ) (before after : HopsView) (s : Sessions) (new : DeliverySession L) (r : Option Report) → sessions_of slab slots polled ≡ s → r ≡ None → Went tells host now before after r (shown view e.number h) (shown view e.number new) → IsSound (shown view e.number new)
         → PollsNext tells host now before after (next_polled s) None s (sessions_of (with_value slab e.key new) slots e.number)
     polled_on tells host now before after s new r is none went sound =
         let on = subst (λ (x : Option Report). Went tells host now before after x (shown view e.number h) (shown view e.number new)) none went in
@@ -77,13 +77,13 @@ module _ {L : Type 0} (view : L → View) where
         (subst (λ (o : Option OpenSession). PollsNext tells host now before after o None (sessions_of slab slots polled) (sessions_of (with_value slab e.key new) slots e.number)) (sym next_is)
         (shown view e.number new, on.0, ap (λ (os : List OpenSession). record { listed = os; polled = e.number }) (written new sound).shows, on.1))
 
-    pub taken_out : (new : Held L) (last : Slab (Held L)) → Updates (with_value slab e.key new) last e.key None → Becomes view last (remove slots place) (without e.number (map (shown_at view slab) slots))
+    pub taken_out : (new : DeliverySession L) (last : Slab (DeliverySession L)) → Updates (with_value slab e.key new) last e.key None → Becomes view last (remove slots place) (without e.number (map (shown_at view slab) slots))
     taken_out new last u = gone view slab last slots place e a.holds a.next.stands (updates_both slab (with_value slab e.key new) last e.key (Some new) None (writes new) u)
 
-    pub out_holds : (new : Held L) (last : Slab (Held L)) (left : List Slot) → Updates (with_value slab e.key new) last e.key None → left ≡ remove slots place → Holds view last left
+    pub out_holds : (new : DeliverySession L) (last : Slab (DeliverySession L)) (left : List Slot) → Updates (with_value slab e.key new) last e.key None → left ≡ remove slots place → Holds view last left
     out_holds new last left u is = subst (Holds view last) (sym is) (taken_out new last u).holds
 
-    pub polled_over : (tells : Bool) (host : HostView) (now : ℕ) (before after : HopsView) (s : Sessions) (new : Held L) (r : Option Report) (report : Report) (last : Slab (Held L)) (left : List Slot)
+    pub polled_over : (tells : Bool) (host : HostView) (now : ℕ) (before after : HopsView) (s : Sessions) (new : DeliverySession L) (r : Option Report) (report : Report) (last : Slab (DeliverySession L)) (left : List Slot)
         → sessions_of slab slots polled ≡ s → r ≡ Some report → Went tells host now before after r (shown view e.number h) (shown view e.number new) → Updates (with_value slab e.key new) last e.key None → left ≡ remove slots place
         → PollsNext tells host now before after (next_polled s) (Some report) s (sessions_of last left e.number)
     polled_over tells host now before after s new r report last left is some went u gone_is =
@@ -99,10 +99,10 @@ module _ {L : Type 0} (view : L → View) where
       let was = subst (IsSoundWork n) r.has sound in
       subst (IsSoundWork n) (sym r.rest) (record { goes_on = was.goes_on; linked = r.link_rested.ended ∙ was.linked; addresses = was.addresses })
 
-  pub rested_next : (e : Slot) (h new : Held L) → IsSound (shown view e.number h) → new.recipients ≡ h.recipients → RestsWork (work_of view h) (work_of view new) → IsSound (shown view e.number new)
+  pub rested_next : (e : Slot) (h new : DeliverySession L) → IsSound (shown view e.number h) → new.recipients ≡ h.recipients → RestsWork (work_of view h) (work_of view new) → IsSound (shown view e.number new)
   rested_next e h new sound same r = subst (λ (n : ℕ). IsSoundWork n (work_of view new)) (sym same) (rested_sound h.recipients (work_of view h) (work_of view new) sound r)
 
-  pub rested_first : (slab : Slab (Held L)) (slots : List Slot) (polled : ℕ) (e : Slot) (h new : Held L) (s : Sessions) → Holds view slab slots → slice_get slots 0 ≡ Some e → get slab e.key ≡ Some h → sessions_of slab slots polled ≡ s
+  pub rested_first : (slab : Slab (DeliverySession L)) (slots : List Slot) (polled : ℕ) (e : Slot) (h new : DeliverySession L) (s : Sessions) → Holds view slab slots → slice_get slots 0 ≡ Some e → get slab e.key ≡ Some h → sessions_of slab slots polled ≡ s
       → new.recipients ≡ h.recipients → RestsWork (work_of view h) (work_of view new) → RestsOne s (sessions_of (with_value slab e.key new) slots polled)
   rested_first slab slots polled e h new s holds at there is same r =
       let u = Updates-with_value slab e.key new (there_at view slab slots 0 e holds at) in
@@ -118,6 +118,6 @@ module _ {L : Type 0} (view : L → View) where
         rest = ap (λ (os : List OpenSession). record { listed = os; polled = polled }) parts.1;
       })
 
-  pub rest_holds : (slab : Slab (Held L)) (slots : List Slot) (e : Slot) (h new : Held L) → Holds view slab slots → slice_get slots 0 ≡ Some e → get slab e.key ≡ Some h → new.recipients ≡ h.recipients → RestsWork (work_of view h) (work_of view new) → Holds view (with_value slab e.key new) slots
+  pub rest_holds : (slab : Slab (DeliverySession L)) (slots : List Slot) (e : Slot) (h new : DeliverySession L) → Holds view slab slots → slice_get slots 0 ≡ Some e → get slab e.key ≡ Some h → new.recipients ≡ h.recipients → RestsWork (work_of view h) (work_of view new) → Holds view (with_value slab e.key new) slots
   rest_holds slab slots e h new holds at there same r =
       (changed view slab (with_value slab e.key new) slots 0 e new holds at (Updates-with_value slab e.key new (there_at view slab slots 0 e holds at)) (rested_next e h new (sound_at view slab slots 0 e h holds at there) same r)).holds

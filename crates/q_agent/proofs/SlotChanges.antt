@@ -10,11 +10,11 @@ use Rattle.q_model.proofs.EachLaws.{any-map, each-append, each-both, each-map, e
 use Rattle.q_agent.specs.Places.{Parts}
 use Rattle.q_agent.specs.Sessions.{IsSound, OpenSession, Rises, has_number, inserted, replaced, without}
 use Rattle.q_agent.specs.Slots.{Differ, Holds, shown, shown_at}
-use Rattle.q_agent.specs.declared.held.Held.{Held}
+use Rattle.q_agent.specs.declared.delivery_session.DeliverySession.{DeliverySession}
 use Rattle.q_agent.specs.declared.slot.Slot.{Slot}
 use Rattle.q_agent.proofs.Rising.{Around, around, rises_with, rises_without}
 use Rattle.q_agent.proofs.SessionLaws.{inserted_at, replaced_at, without_at}
-use Rattle.q_agent.proofs.SlotLaws.{Misses, all_same, differ_with, differ_without, held_same, misses_around, misses_vacant, shown_there, sound_same}
+use Rattle.q_agent.proofs.SlotLaws.{Misses, all_same, differ_with, differ_without, misses_around, misses_vacant, shown_there, sound_same, there_same}
 use Rattle.q_agent.proofs.Splits.{each_before, each_from, each_parts, parts_at}
 
 -- another value at a key, and then nothing
@@ -23,19 +23,19 @@ updates_both old mid new key a b u v = record { changed = v.changed; others = λ
 
 module _ {L : Type 0} (view : L → View) where
   -- the slots of an agent now, and what they show
-  pub record Becomes (new : Slab (Held L)) (slots : List Slot) (listed : List OpenSession) : Type 0 where
+  pub record Becomes (new : Slab (DeliverySession L)) (slots : List Slot) (listed : List OpenSession) : Type 0 where
     pub holds : Holds view new slots
     pub shows : map (shown_at view new) slots ≡ listed
 
   -- what is shown of slots around one, of which nothing changed
-  shown_around : (old new : Slab (Held L)) (key : ℕ) (slot : Option (Held L)) → Updates old new key slot → (before behind : List Slot) → Misses key before → Misses key behind
+  shown_around : (old new : Slab (DeliverySession L)) (key : ℕ) (slot : Option (DeliverySession L)) → Updates old new key slot → (before behind : List Slot) → Misses key before → Misses key behind
       → map (shown_at view new) (before ++ behind) ≡ map (shown_at view old) before ++ map (shown_at view old) behind
   shown_around old new key slot u before behind front back =
       map-append (shown_at view new) before behind
       ∙ ap (λ (os : List OpenSession). os ++ map (shown_at view new) behind) (all_same view old new key slot u before front)
       ∙ ap (λ (os : List OpenSession). map (shown_at view old) before ++ os) (all_same view old new key slot u behind back)
 
-  shown_with : (old new : Slab (Held L)) (before : List Slot) (e : Slot) (behind : List Slot) (h : Held L) → Updates old new e.key (Some h) → Misses e.key before → Misses e.key behind
+  shown_with : (old new : Slab (DeliverySession L)) (before : List Slot) (e : Slot) (behind : List Slot) (h : DeliverySession L) → Updates old new e.key (Some h) → Misses e.key before → Misses e.key behind
       → map (shown_at view new) (before ++ e ∷ behind) ≡ map (shown_at view old) before ++ shown view e.number h ∷ map (shown_at view old) behind
   shown_with old new before e behind h u front back =
       map-append (shown_at view new) before (e ∷ behind)
@@ -43,7 +43,7 @@ module _ {L : Type 0} (view : L → View) where
       ∙ ap (λ (o : OpenSession). map (shown_at view old) before ++ o ∷ map (shown_at view new) behind) (shown_there view new e h u.changed)
       ∙ ap (λ (os : List OpenSession). map (shown_at view old) before ++ shown view e.number h ∷ os) (all_same view old new e.key (Some h) u behind back)
 
-  around_shown : (old : Slab (Held L)) (n : ℕ) (before behind : List Slot) → Around (λ (e : Slot). e.number) n before behind → Around (λ (o : OpenSession). o.number) n (map (shown_at view old) before) (map (shown_at view old) behind)
+  around_shown : (old : Slab (DeliverySession L)) (n : ℕ) (before behind : List Slot) → Around (λ (e : Slot). e.number) n before behind → Around (λ (o : OpenSession). o.number) n (map (shown_at view old) before) (map (shown_at view old) behind)
   around_shown old n before behind a = record {
     below = each-map (λ (e : Slot). e.number < n) (λ (o : OpenSession). o.number < n) (shown_at view old) before (λ e lt. lt) a.below;
     above = each-map (λ (e : Slot). n < e.number) (λ (o : OpenSession). n < o.number) (shown_at view old) behind (λ e lt. lt) a.above;
@@ -51,18 +51,18 @@ module _ {L : Type 0} (view : L → View) where
 
   -- ---- another session in the place of one
 
-  changed_parted : (old new : Slab (Held L)) (before : List Slot) (e : Slot) (behind : List Slot) (h : Held L) → Holds view old (before ++ e ∷ behind) → Updates old new e.key (Some h) → IsSound (shown view e.number h)
+  changed_parted : (old new : Slab (DeliverySession L)) (before : List Slot) (e : Slot) (behind : List Slot) (h : DeliverySession L) → Holds view old (before ++ e ∷ behind) → Updates old new e.key (Some h) → IsSound (shown view e.number h)
       → Becomes new (before ++ e ∷ behind) (replaced (shown view e.number h) (map (shown_at view old) (before ++ e ∷ behind)))
   changed_parted old new before e behind h i u sound =
       let misses = misses_around before e behind i.differ in
-      let held = each_parts (λ (s : Slot). IsSome (get old s.key)) before (e ∷ behind) i.held in
+      let there = each_parts (λ (s : Slot). IsSome (get old s.key)) before (e ∷ behind) i.there in
       let sounds = each_parts (λ (s : Slot). IsSound (shown_at view old s)) before (e ∷ behind) i.sound in
       let a = around_shown old e.number before behind (around (λ (s : Slot). s.number) before e behind i.rise) in
       record {
         holds = record {
           rise = i.rise;
           differ = i.differ;
-          held = each-append (λ (s : Slot). IsSome (get new s.key)) before (e ∷ behind) (held_same view old new e.key (Some h) u before misses.0 held.0) (subst IsSome (sym u.changed) refl, held_same view old new e.key (Some h) u behind misses.1 held.1.1);
+          there = each-append (λ (s : Slot). IsSome (get new s.key)) before (e ∷ behind) (there_same view old new e.key (Some h) u before misses.0 there.0) (subst IsSome (sym u.changed) refl, there_same view old new e.key (Some h) u behind misses.1 there.1.1);
           sound = each-append (λ (s : Slot). IsSound (shown_at view new s)) before (e ∷ behind) (sound_same view old new e.key (Some h) u before misses.0 sounds.0) (subst IsSound (sym (shown_there view new e h u.changed)) sound, sound_same view old new e.key (Some h) u behind misses.1 sounds.1.1);
         };
         shows = shown_with old new before e behind h u misses.0 misses.1
@@ -70,7 +70,7 @@ module _ {L : Type 0} (view : L → View) where
             ∙ ap (replaced (shown view e.number h)) (sym (map-append (shown_at view old) before (e ∷ behind)));
       }
 
-  pub changed : (old new : Slab (Held L)) (slots : List Slot) (place : ℕ) (e : Slot) (h : Held L) → Holds view old slots → slice_get slots place ≡ Some e → Updates old new e.key (Some h) → IsSound (shown view e.number h)
+  pub changed : (old new : Slab (DeliverySession L)) (slots : List Slot) (place : ℕ) (e : Slot) (h : DeliverySession L) → Holds view old slots → slice_get slots place ≡ Some e → Updates old new e.key (Some h) → IsSound (shown view e.number h)
       → Becomes new slots (replaced (shown view e.number h) (map (shown_at view old) slots))
   changed old new slots place e h i at u sound =
       let parts = parts_at slots place e at in
@@ -79,18 +79,18 @@ module _ {L : Type 0} (view : L → View) where
 
   -- ---- one goes
 
-  gone_parted : (old new : Slab (Held L)) (before : List Slot) (e : Slot) (behind : List Slot) → Holds view old (before ++ e ∷ behind) → Updates old new e.key None
+  gone_parted : (old new : Slab (DeliverySession L)) (before : List Slot) (e : Slot) (behind : List Slot) → Holds view old (before ++ e ∷ behind) → Updates old new e.key None
       → Becomes new (before ++ behind) (without e.number (map (shown_at view old) (before ++ e ∷ behind)))
   gone_parted old new before e behind i u =
       let misses = misses_around before e behind i.differ in
-      let held = each_parts (λ (s : Slot). IsSome (get old s.key)) before (e ∷ behind) i.held in
+      let there = each_parts (λ (s : Slot). IsSome (get old s.key)) before (e ∷ behind) i.there in
       let sounds = each_parts (λ (s : Slot). IsSound (shown_at view old s)) before (e ∷ behind) i.sound in
       let a = around_shown old e.number before behind (around (λ (s : Slot). s.number) before e behind i.rise) in
       record {
         holds = record {
           rise = subst Rises (sym (map-append (λ (s : Slot). s.number) before behind)) (rises_without (map (λ (s : Slot). s.number) before) e.number (map (λ (s : Slot). s.number) behind) (subst Rises (map-append (λ (s : Slot). s.number) before (e ∷ behind)) i.rise));
           differ = subst Differ (sym (map-append (λ (s : Slot). s.key) before behind)) (differ_without (map (λ (s : Slot). s.key) before) e.key (map (λ (s : Slot). s.key) behind) (subst Differ (map-append (λ (s : Slot). s.key) before (e ∷ behind)) i.differ));
-          held = each-append (λ (s : Slot). IsSome (get new s.key)) before behind (held_same view old new e.key None u before misses.0 held.0) (held_same view old new e.key None u behind misses.1 held.1.1);
+          there = each-append (λ (s : Slot). IsSome (get new s.key)) before behind (there_same view old new e.key None u before misses.0 there.0) (there_same view old new e.key None u behind misses.1 there.1.1);
           sound = each-append (λ (s : Slot). IsSound (shown_at view new s)) before behind (sound_same view old new e.key None u before misses.0 sounds.0) (sound_same view old new e.key None u behind misses.1 sounds.1.1);
         };
         shows = shown_around old new e.key None u before behind misses.0 misses.1
@@ -98,7 +98,7 @@ module _ {L : Type 0} (view : L → View) where
             ∙ ap (without e.number) (sym (map-append (shown_at view old) before (e ∷ behind)));
       }
 
-  pub gone : (old new : Slab (Held L)) (slots : List Slot) (place : ℕ) (e : Slot) → Holds view old slots → slice_get slots place ≡ Some e → Updates old new e.key None
+  pub gone : (old new : Slab (DeliverySession L)) (slots : List Slot) (place : ℕ) (e : Slot) → Holds view old slots → slice_get slots place ≡ Some e → Updates old new e.key None
       → Becomes new (remove slots place) (without e.number (map (shown_at view old) slots))
   gone old new slots place e i at u =
       let parts = parts_at slots place e at in
@@ -107,13 +107,13 @@ module _ {L : Type 0} (view : L → View) where
 
   -- ---- one comes
 
-  come_parted : (old new : Slab (Held L)) (before : List Slot) (e : Slot) (behind : List Slot) (h : Held L) → Holds view old (before ++ behind) → get old e.key ≡ None → Updates old new e.key (Some h) → Around (λ (s : Slot). s.number) e.number before behind → IsSound (shown view e.number h)
+  come_parted : (old new : Slab (DeliverySession L)) (before : List Slot) (e : Slot) (behind : List Slot) (h : DeliverySession L) → Holds view old (before ++ behind) → get old e.key ≡ None → Updates old new e.key (Some h) → Around (λ (s : Slot). s.number) e.number before behind → IsSound (shown view e.number h)
       → Becomes new (before ++ e ∷ behind) (inserted (shown view e.number h) (map (shown_at view old) (before ++ behind)))
   come_parted old new before e behind h i vacant u a sound =
-      let held = each_parts (λ (s : Slot). IsSome (get old s.key)) before behind i.held in
+      let there = each_parts (λ (s : Slot). IsSome (get old s.key)) before behind i.there in
       let sounds = each_parts (λ (s : Slot). IsSound (shown_at view old s)) before behind i.sound in
-      let front = misses_vacant view old e.key vacant before held.0 in
-      let back = misses_vacant view old e.key vacant behind held.1 in
+      let front = misses_vacant view old e.key vacant before there.0 in
+      let back = misses_vacant view old e.key vacant behind there.1 in
       record {
         holds = record {
           rise = subst Rises (sym (map-append (λ (s : Slot). s.number) before (e ∷ behind)))
@@ -122,7 +122,7 @@ module _ {L : Type 0} (view : L → View) where
           differ = subst Differ (sym (map-append (λ (s : Slot). s.key) before (e ∷ behind)))
               (differ_with (map (λ (s : Slot). s.key) before) e.key (map (λ (s : Slot). s.key) behind) (subst Differ (map-append (λ (s : Slot). s.key) before behind) i.differ)
               (each-map (λ (s : Slot). s.key ≢ e.key) (λ k. k ≢ e.key) (λ (s : Slot). s.key) before (λ s d. d) front) (each-map (λ (s : Slot). s.key ≢ e.key) (λ k. k ≢ e.key) (λ (s : Slot). s.key) behind (λ s d. d) back));
-          held = each-append (λ (s : Slot). IsSome (get new s.key)) before (e ∷ behind) (held_same view old new e.key (Some h) u before front held.0) (subst IsSome (sym u.changed) refl, held_same view old new e.key (Some h) u behind back held.1);
+          there = each-append (λ (s : Slot). IsSome (get new s.key)) before (e ∷ behind) (there_same view old new e.key (Some h) u before front there.0) (subst IsSome (sym u.changed) refl, there_same view old new e.key (Some h) u behind back there.1);
           sound = each-append (λ (s : Slot). IsSound (shown_at view new s)) before (e ∷ behind) (sound_same view old new e.key (Some h) u before front sounds.0) (subst IsSound (sym (shown_there view new e h u.changed)) sound, sound_same view old new e.key (Some h) u behind back sounds.1);
         };
         shows = shown_with old new before e behind h u front back
@@ -131,7 +131,7 @@ module _ {L : Type 0} (view : L → View) where
       }
 
   -- the place behind the numbers up to one that no session has is between those below and those above it
-  place_between : (slab : Slab (Held L)) (slots : List Slot) (n place : ℕ) → place ≤ length slots → Parts n slots place → has_number n (map (shown_at view slab) slots) ≡ false
+  place_between : (slab : Slab (DeliverySession L)) (slots : List Slot) (n place : ℕ) → place ≤ length slots → Parts n slots place → has_number n (map (shown_at view slab) slots) ≡ false
       → Around (λ (e : Slot). e.number) n (take place slots) (drop place slots)
   place_between slab slots n place within point fresh =
       let none = none-each (λ (e : Slot). e.number == n) slots (sym (any-map (λ (o : OpenSession). o.number == n) (shown_at view slab) slots) ∙ fresh) in
@@ -143,7 +143,7 @@ module _ {L : Type 0} (view : L → View) where
         above = each_from (λ (e : Slot). n < e.number) slots place (λ k d ge lt. point.1 k d ge lt);
       }
 
-  pub come : (old new : Slab (Held L)) (slots : List Slot) (place : ℕ) (e : Slot) (h : Held L) → Holds view old slots → get old e.key ≡ None → Updates old new e.key (Some h)
+  pub come : (old new : Slab (DeliverySession L)) (slots : List Slot) (place : ℕ) (e : Slot) (h : DeliverySession L) → Holds view old slots → get old e.key ≡ None → Updates old new e.key (Some h)
       → place ≤ length slots → Parts e.number slots place → has_number e.number (map (shown_at view old) slots) ≡ false → IsSound (shown view e.number h)
       → Becomes new (insert slots place e) (inserted (shown view e.number h) (map (shown_at view old) slots))
   come old new slots place e h i vacant u within point fresh sound =
@@ -152,7 +152,7 @@ module _ {L : Type 0} (view : L → View) where
       (come_parted old new (take place slots) e (drop place slots) h (subst (Holds view old) (sym parts) i) vacant u (place_between old slots e.number place within point fresh) sound)
 
   -- the list before and behind, where one is changed
-  pub shown_at_parts : (old new : Slab (Held L)) (slots : List Slot) (place : ℕ) (e : Slot) (h g : Held L) → Holds view old slots → slice_get slots place ≡ Some e → get old e.key ≡ Some h → Updates old new e.key (Some g)
+  pub shown_at_parts : (old new : Slab (DeliverySession L)) (slots : List Slot) (place : ℕ) (e : Slot) (h g : DeliverySession L) → Holds view old slots → slice_get slots place ≡ Some e → get old e.key ≡ Some h → Updates old new e.key (Some g)
       → (map (shown_at view old) slots ≡ map (shown_at view old) (take place slots) ++ shown view e.number h ∷ map (shown_at view old) (drop (suc place) slots))
       × (map (shown_at view new) slots ≡ map (shown_at view old) (take place slots) ++ shown view e.number g ∷ map (shown_at view old) (drop (suc place) slots))
   shown_at_parts old new slots place e h g i at there u =

@@ -9,7 +9,7 @@ use Rattle.q_link.specs.Views.{View}
 use Rattle.q_model.proofs.EachLaws.{each-append, each-same, each-unmap}
 use Rattle.q_agent.specs.Sessions.{IsSound, OpenSession}
 use Rattle.q_agent.specs.Slots.{Differ, shown, shown_at, work_of}
-use Rattle.q_agent.specs.declared.held.Held.{Held}
+use Rattle.q_agent.specs.declared.delivery_session.DeliverySession.{DeliverySession}
 use Rattle.q_agent.specs.declared.slot.Slot.{Slot}
 use Rattle.q_agent.proofs.Splits.{each_parts}
 
@@ -65,33 +65,33 @@ misses_around before e behind d =
 
 module _ {L : Type 0} (view : L → View) where
   -- a slot that has another key shows what it showed
-  pub shown_same : (old new : Slab (Held L)) (key : ℕ) (slot : Option (Held L)) → Updates old new key slot → (e : Slot) → e.key ≢ key → shown_at view new e ≡ shown_at view old e
+  pub shown_same : (old new : Slab (DeliverySession L)) (key : ℕ) (slot : Option (DeliverySession L)) → Updates old new key slot → (e : Slot) → e.key ≢ key → shown_at view new e ≡ shown_at view old e
   shown_same old new key slot u e differs =
-      ap (λ (o : Option (Held L)). record { number = e.number; recipients = option_map_or (λ (h : Held L). h.recipients) o 0; work = option_and_then (work_of view) o }) (u.others e.key differs)
+      ap (λ (o : Option (DeliverySession L)). record { number = e.number; recipients = option_map_or (λ (h : DeliverySession L). h.recipients) o 0; work = option_and_then (work_of view) o }) (u.others e.key differs)
 
-  pub all_same : (old new : Slab (Held L)) (key : ℕ) (slot : Option (Held L)) → Updates old new key slot → (es : List Slot) → Misses key es → map (shown_at view new) es ≡ map (shown_at view old) es
+  pub all_same : (old new : Slab (DeliverySession L)) (key : ℕ) (slot : Option (DeliverySession L)) → Updates old new key slot → (es : List Slot) → Misses key es → map (shown_at view new) es ≡ map (shown_at view old) es
   all_same old new key slot u [] misses = refl
   all_same old new key slot u (e ∷ es) misses =
       ap (λ (o : OpenSession). o ∷ map (shown_at view new) es) (shown_same old new key slot u e misses.0)
       ∙ ap (λ (os : List OpenSession). shown_at view old e ∷ os) (all_same old new key slot u es misses.1)
 
-  pub shown_there : (slab : Slab (Held L)) (e : Slot) (h : Held L) → get slab e.key ≡ Some h → shown_at view slab e ≡ shown view e.number h
+  pub shown_there : (slab : Slab (DeliverySession L)) (e : Slot) (h : DeliverySession L) → get slab e.key ≡ Some h → shown_at view slab e ≡ shown view e.number h
   shown_there slab e h is =
-      ap (λ (o : Option (Held L)). record { number = e.number; recipients = option_map_or (λ (x : Held L). x.recipients) o 0; work = option_and_then (work_of view) o }) is
+      ap (λ (o : Option (DeliverySession L)). record { number = e.number; recipients = option_map_or (λ (x : DeliverySession L). x.recipients) o 0; work = option_and_then (work_of view) o }) is
 
   -- what is there of the slots with other keys is there still
-  pub held_same : (old new : Slab (Held L)) (key : ℕ) (slot : Option (Held L)) → Updates old new key slot → (es : List Slot) → Misses key es → AllByRecursion (λ (e : Slot). IsSome (get old e.key)) es → AllByRecursion (λ (e : Slot). IsSome (get new e.key)) es
-  held_same old new key slot u [] misses held = tt
-  held_same old new key slot u (e ∷ es) misses held = (subst IsSome (sym (u.others e.key misses.0)) held.0, held_same old new key slot u es misses.1 held.1)
+  pub there_same : (old new : Slab (DeliverySession L)) (key : ℕ) (slot : Option (DeliverySession L)) → Updates old new key slot → (es : List Slot) → Misses key es → AllByRecursion (λ (e : Slot). IsSome (get old e.key)) es → AllByRecursion (λ (e : Slot). IsSome (get new e.key)) es
+  there_same old new key slot u [] misses there = tt
+  there_same old new key slot u (e ∷ es) misses there = (subst IsSome (sym (u.others e.key misses.0)) there.0, there_same old new key slot u es misses.1 there.1)
 
-  pub sound_same : (old new : Slab (Held L)) (key : ℕ) (slot : Option (Held L)) → Updates old new key slot → (es : List Slot) → Misses key es → AllByRecursion (λ (e : Slot). IsSound (shown_at view old e)) es → AllByRecursion (λ (e : Slot). IsSound (shown_at view new e)) es
+  pub sound_same : (old new : Slab (DeliverySession L)) (key : ℕ) (slot : Option (DeliverySession L)) → Updates old new key slot → (es : List Slot) → Misses key es → AllByRecursion (λ (e : Slot). IsSound (shown_at view old e)) es → AllByRecursion (λ (e : Slot). IsSound (shown_at view new e)) es
   sound_same old new key slot u [] misses sound = tt
   sound_same old new key slot u (e ∷ es) misses sound = (subst IsSound (sym (shown_same old new key slot u e misses.0)) sound.0, sound_same old new key slot u es misses.1 sound.1)
 
   -- a slot that is vacant is none of these
-  pub misses_vacant : (slab : Slab (Held L)) (key : ℕ) → get slab key ≡ None → (es : List Slot) → AllByRecursion (λ (e : Slot). IsSome (get slab e.key)) es → Misses key es
-  misses_vacant slab key vacant [] held = tt
-  misses_vacant slab key vacant (e ∷ es) held = (
-    λ same. let none : IsSome {T = Held L} None = subst IsSome (ap (get slab) same ∙ vacant) held.0 in absurd cc,
-    misses_vacant slab key vacant es held.1,
+  pub misses_vacant : (slab : Slab (DeliverySession L)) (key : ℕ) → get slab key ≡ None → (es : List Slot) → AllByRecursion (λ (e : Slot). IsSome (get slab e.key)) es → Misses key es
+  misses_vacant slab key vacant [] there = tt
+  misses_vacant slab key vacant (e ∷ es) there = (
+    λ same. let none : IsSome {T = DeliverySession L} None = subst IsSome (ap (get slab) same ∙ vacant) there.0 in absurd cc,
+    misses_vacant slab key vacant es there.1,
   )

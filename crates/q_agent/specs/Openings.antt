@@ -10,7 +10,7 @@ use Rattle.q_model.specs.Values.{Spot}
 use Rattle.q_agent.specs.Requests.{BeginsWork}
 use Rattle.q_agent.specs.Sessions.{CanGoOn}
 use Rattle.q_agent.specs.Slots.{shown_work}
-use Rattle.q_agent.specs.declared.held.Work.{Work}
+use Rattle.q_agent.specs.declared.delivery_session.Work.{Work}
 
 -- a link over which nothing came or went yet, or none where there is no route or the connection failed
 abbrev pub Connected : {L : Type 0} → (L → View) → List ℕ → HopsView → HopsView → Option L → Type 0

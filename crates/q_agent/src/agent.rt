@@ -10,7 +10,7 @@ ghost use Rattle.q_agent.specs.Requests.{IsReadable, Opens, TriesConnect, active
 ghost use Rattle.q_agent.specs.Rests.{RestsOne};
 ghost use Rattle.q_agent.specs.Answers.{IsStanding, PollsNext, Stopped};
 
-use crate::held::Held;
+use crate::delivery_session::DeliverySession;
 use crate::opening::begin;
 use crate::report::{Report, Request};
 use crate::slot::{Slot, next_slot, place_above};
@@ -28,7 +28,7 @@ pub struct Agent<L: Link> {
     // in order of their numbers
     slots: Vec<Slot>,
     // A session is large, and stays where it is while others come and go.
-    sessions: Slab<Held<L>>,
+    sessions: Slab<DeliverySession<L>>,
     // This sweep polled the sessions up to this number.
     polled: u64,
 }
@@ -112,7 +112,7 @@ impl<L: Link> Agent<L> {
         let Request { number, id, site } = ask;
         let spot = active_spot(id);
         let work = begin(alloc, host, hops, spot, &site.hop, positions, now)?;
-        let key = self.sessions.insert_reserved(Held {
+        let key = self.sessions.insert_reserved(DeliverySession {
             recipients: positions.len(),
             work,
         });
@@ -147,10 +147,10 @@ impl<L: Link> Agent<L> {
         let Some((place, slot)) = next_slot(&self.slots, self.polled) else {
             return Ok(None);
         };
-        let Some(held) = self.sessions.get_mut(slot.key) else {
+        let Some(found) = self.sessions.get_mut(slot.key) else {
             return Ok(None);
         };
-        let report = held.poll(alloc, host, hops, slot.number, now)?;
+        let report = found.poll(alloc, host, hops, slot.number, now)?;
         self.polled = slot.number;
         let Some(report) = report else {
             return Ok(None);
@@ -186,9 +186,9 @@ impl<L: Link> Agent<L> {
         let Some(first) = self.slots.first() else {
             return;
         };
-        let Some(held) = self.sessions.get_mut(first.key) else {
+        let Some(found) = self.sessions.get_mut(first.key) else {
             return;
         };
-        held.rest(hops);
+        found.rest(hops);
     }
 }

@@ -11,7 +11,7 @@
 #![tactic(auto)]
 
 mod agent;
-mod held;
+mod delivery_session;
 mod opening;
 mod reading;
 mod report;

@@ -7,7 +7,7 @@ ghost use Rattle.q_session.specs.Mails.{Mail, StandsAt};
 ghost use Rattle.q_agent.specs.Openings.{Connected, MayBegin};
 ghost use Rattle.q_agent.specs.Requests.{IsReadable, TriesConnect};
 
-use crate::held::Work;
+use crate::delivery_session::Work;
 use crate::reading::read_letter;
 use q_host::{Host, HostError};
 use q_link::{Hops, Link, NoLink};

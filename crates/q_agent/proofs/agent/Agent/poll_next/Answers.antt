@@ -13,7 +13,7 @@ pub poll-requires-clause-there : goal.poll-requires-clause-there
 poll-requires-clause-there g c t =
     let i = c.self.inside in
     let s = c.in-Some in
-    let h = c.in-Some-get_mut.held.now in
+    let h = c.in-Some-get_mut.found.now in
     let a = at_next g.L.Link.view i.sessions i.slots.items c.deref.result.now i.polled s.place s.slot h c.self.invariant c.deref.ensures.value s.ensures.some c.in-Some-get_mut.ensures.value in
     file_next g.L.Link.view i.sessions i.slots.items i.polled s.place s.slot h a g.H.Host.tells (g.H.Host.view c.args.host.now) c.args.self.now c.self.view_is (c.requires.there t)
 
@@ -21,7 +21,7 @@ pub poll-requires-clause-sound : goal.poll-requires-clause-sound
 poll-requires-clause-sound g c =
     let i = c.self.inside in
     let s = c.in-Some in
-    let h = c.in-Some-get_mut.held.now in
+    let h = c.in-Some-get_mut.found.now in
     let a = at_next g.L.Link.view i.sessions i.slots.items c.deref.result.now i.polled s.place s.slot h c.self.invariant c.deref.ensures.value s.ensures.some c.in-Some-get_mut.ensures.value in
     sound_next g.L.Link.view i.sessions i.slots.items i.polled s.place s.slot h a
 
@@ -29,7 +29,7 @@ pub invariant_of-self-in_err-report : goal.invariant_of-self-in_err-report
 invariant_of-self-in_err-report g c =
     let i = c.self.inside in
     let s = c.in-Some in
-    let h = c.in-Some-get_mut.held.now in
+    let h = c.in-Some-get_mut.found.now in
     let a = at_next g.L.Link.view i.sessions i.slots.items c.deref.result.now i.polled s.place s.slot h c.self.invariant c.deref.ensures.value s.ensures.some c.in-Some-get_mut.ensures.value in
     (written g.L.Link.view i.sessions i.slots.items i.polled s.place s.slot h a c.poll.new.self c.poll.ensures.sound).holds
 
@@ -37,7 +37,7 @@ pub returns-in_err-report-clause-err : goal.returns-in_err-report-clause-err
 returns-in_err-report-clause-err g c =
     let i = c.self.inside in
     let s = c.in-Some in
-    let h = c.in-Some-get_mut.held.now in
+    let h = c.in-Some-get_mut.found.now in
     let a = at_next g.L.Link.view i.sessions i.slots.items c.deref.result.now i.polled s.place s.slot h c.self.invariant c.deref.ensures.value s.ensures.some c.in-Some-get_mut.ensures.value in
     on_err c.from_residual.result _ (stopped g.L.Link.view i.sessions i.slots.items i.polled s.place s.slot h a c.args.self.now c.poll.new.self c.self.view_is c.poll.ensures.recipients c.poll.ensures.sound)
 
@@ -45,7 +45,7 @@ pub invariant_of-self-in_default-report : goal.invariant_of-self-in_default-repo
 invariant_of-self-in_default-report g c =
     let i = c.self.inside in
     let s = c.in-Some in
-    let h = c.in-Some-get_mut.held.now in
+    let h = c.in-Some-get_mut.found.now in
     let a = at_next g.L.Link.view i.sessions i.slots.items c.deref.result.now i.polled s.place s.slot h c.self.invariant c.deref.ensures.value s.ensures.some c.in-Some-get_mut.ensures.value in
     (written g.L.Link.view i.sessions i.slots.items i.polled s.place s.slot h a c.poll.new.self c.poll.ensures.sound).holds
 
@@ -53,7 +53,7 @@ pub returns-in_default-report-clause-ok : goal.returns-in_default-report-clause-
 returns-in_default-report-clause-ok g c =
     let i = c.self.inside in
     let s = c.in-Some in
-    let h = c.in-Some-get_mut.held.now in
+    let h = c.in-Some-get_mut.found.now in
     let a = at_next g.L.Link.view i.sessions i.slots.items c.deref.result.now i.polled s.place s.slot h c.self.invariant c.deref.ensures.value s.ensures.some c.in-Some-get_mut.ensures.value in
     polled_on g.L.Link.view i.sessions i.slots.items i.polled s.place s.slot h a g.H.Host.tells (g.H.Host.view c.args.host.now) c.args.now (g.N.Hops.view c.args.hops.now) (g.N.Hops.view c.poll.new.hops) c.args.self.now c.poll.new.self c.in_ok-report.report
     c.self.view_is c.in_default-report.is c.in_ok-report.ensures.went c.poll.ensures.sound
@@ -62,7 +62,7 @@ pub invariant_of-self-2 : goal.invariant_of-self-2
 invariant_of-self-2 g c =
     let i = c.self.inside in
     let s = c.in-Some in
-    let h = c.in-Some-get_mut.held.now in
+    let h = c.in-Some-get_mut.found.now in
     let a = at_next g.L.Link.view i.sessions i.slots.items c.deref.result.now i.polled s.place s.slot h c.self.invariant c.deref.ensures.value s.ensures.some c.in-Some-get_mut.ensures.value in
     out_holds g.L.Link.view i.sessions i.slots.items i.polled s.place s.slot h a c.poll.new.self c.try_remove.new.self c.remove.new.self.items c.try_remove.ensures.updates c.remove.ensures.items
 
@@ -70,7 +70,7 @@ pub returns-clause-ok : goal.returns-clause-ok
 returns-clause-ok g c =
     let i = c.self.inside in
     let s = c.in-Some in
-    let h = c.in-Some-get_mut.held.now in
+    let h = c.in-Some-get_mut.found.now in
     let a = at_next g.L.Link.view i.sessions i.slots.items c.deref.result.now i.polled s.place s.slot h c.self.invariant c.deref.ensures.value s.ensures.some c.in-Some-get_mut.ensures.value in
     polled_over g.L.Link.view i.sessions i.slots.items i.polled s.place s.slot h a g.H.Host.tells (g.H.Host.view c.args.host.now) c.args.now (g.N.Hops.view c.args.hops.now) (g.N.Hops.view c.poll.new.hops) c.args.self.now c.poll.new.self c.in_ok-report.report c.in-Some-report.report c.try_remove.new.self c.remove.new.self.items
     c.self.view_is c.in-Some-report.is c.in_ok-report.ensures.went c.try_remove.ensures.updates c.remove.ensures.items

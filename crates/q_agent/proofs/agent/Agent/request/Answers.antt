@@ -4,7 +4,7 @@ use Rattle.q_model.specs.Values.{Site, Spot}
 use Rattle.q_agent.specs.Requests.{BeginsWork}
 use Rattle.q_agent.specs.Sessions.{IsSoundWork}
 use Rattle.q_agent.specs.Slots.{shown, shown_work}
-use Rattle.q_agent.specs.declared.held.Held.{Held}
+use Rattle.q_agent.specs.declared.delivery_session.DeliverySession.{DeliverySession}
 use Rattle.q_agent.specs.declared.slot.Slot.{Slot}
 use Rattle.q_agent.proofs.Kept.{rising}
 use Rattle.q_agent.proofs.RequestLaws.{comes, inserts, opened}
@@ -19,12 +19,12 @@ invariant_of-self-2 g c =
     let place = c.place_above-place.result in
     let key = c.insert_reserved-key in
     let slot : Slot = record { number = c.args.ask.number; key = key.result } in
-    let held : Held g.row.L.Denot = record { recipients = c.len.result; work = c.in_ok-work.work } in
+    let made : DeliverySession g.row.L.Denot = record { recipients = c.len.result; work = c.in_ok-work.work } in
     let work = option_map (shown_work g.L.Link.view) c.in_ok-work.work in
     let sound = subst (λ (n : ℕ). IsSoundWork n work) (sym c.len.ensures) c.in_ok-work.ensures.begins.sound in
     let room = c.insert.ensures.succeeds (omega (arith, c.in_ok-reserve.ensures.ok)) in
     let left = inserts c.insert.result c.insert.new.self.items c.reserve.new.self.items i.slots.items place slot c.insert.ensures.items room c.reserve.ensures.items in
-    (comes g.L.Link.view i.sessions c.reserve-2.new.self key.new.self i.slots.items c.deref.result.now c.insert.new.self.items i.polled place slot held c.args.self.now c.self.invariant c.self.view_is c.reserve-2.ensures.rest_kept key.ensures.was_vacant key.ensures.updates
+    (comes g.L.Link.view i.sessions c.reserve-2.new.self key.new.self i.slots.items c.deref.result.now c.insert.new.self.items i.polled place slot made c.args.self.now c.self.invariant c.self.view_is c.reserve-2.ensures.rest_kept key.ensures.was_vacant key.ensures.updates
     (c.deref.ensures.value ∙ c.reserve.ensures.items) c.place_above-place.ensures.within c.place_above-place.ensures.place c.requires.fresh sound left).holds
 
 pub returns-clause-ok : goal.returns-clause-ok
@@ -33,17 +33,17 @@ returns-clause-ok g c =
     let place = c.place_above-place.result in
     let key = c.insert_reserved-key in
     let slot : Slot = record { number = c.args.ask.number; key = key.result } in
-    let held : Held g.row.L.Denot = record { recipients = c.len.result; work = c.in_ok-work.work } in
+    let made : DeliverySession g.row.L.Denot = record { recipients = c.len.result; work = c.in_ok-work.work } in
     let work = option_map (shown_work g.L.Link.view) c.in_ok-work.work in
     let sound = subst (λ (n : ℕ). IsSoundWork n work) (sym c.len.ensures) c.in_ok-work.ensures.begins.sound in
     let room = c.insert.ensures.succeeds (omega (arith, c.in_ok-reserve.ensures.ok)) in
     let left = inserts c.insert.result c.insert.new.self.items c.reserve.new.self.items i.slots.items place slot c.insert.ensures.items room c.reserve.ensures.items in
-    let becomes = comes g.L.Link.view i.sessions c.reserve-2.new.self key.new.self i.slots.items c.deref.result.now c.insert.new.self.items i.polled place slot held c.args.self.now c.self.invariant c.self.view_is c.reserve-2.ensures.rest_kept key.ensures.was_vacant key.ensures.updates
+    let becomes = comes g.L.Link.view i.sessions c.reserve-2.new.self key.new.self i.slots.items c.deref.result.now c.insert.new.self.items i.polled place slot made c.args.self.now c.self.invariant c.self.view_is c.reserve-2.ensures.rest_kept key.ensures.was_vacant key.ensures.updates
     (c.deref.ensures.value ∙ c.reserve.ensures.items) c.place_above-place.ensures.within c.place_above-place.ensures.place c.requires.fresh sound left in
     let hop = ap (λ (s : Site). s.hop) c.site.view_is in
     let begins_at : Spot → List ℕ → Type 0 = λ spot hop. BeginsWork g.H.Host.tells (g.H.Host.view c.args.host.now) spot hop c.args.positions.now c.args.now (g.N.Hops.view c.args.hops.now) (g.N.Hops.view c.begin.new.hops) work in
     let begins = subst (λ (s : Spot). begins_at s c.args.ask.site.hop) c.active_spot-spot.ensures (subst (begins_at c.active_spot-spot.result) hop c.in_ok-work.ensures.begins.begins) in (
-      shown g.L.Link.view c.args.ask.number held,
-      opened g.L.Link.view key.new.self c.insert.new.self.items i.polled slot held c.args.self.now i.sessions i.slots.items c.self.view_is becomes,
+      shown g.L.Link.view c.args.ask.number made,
+      opened g.L.Link.view key.new.self c.insert.new.self.items i.polled slot made c.args.self.now i.sessions i.slots.items c.self.view_is becomes,
       record { number_is = refl; recipients = c.len.ensures; work = begins },
     )

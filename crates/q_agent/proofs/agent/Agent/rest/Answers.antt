@@ -7,10 +7,10 @@ pub invariant_of-self-2 : goal.invariant_of-self-2
 invariant_of-self-2 g c =
     let i = c.self.inside in
     let at = ap (λ (ss : List Slot). slice_get ss 0) (sym c.deref.ensures.value) ∙ sym c.in-Some.ensures.value in
-    rest_holds g.L.Link.view i.sessions i.slots.items c.in-Some.first.now c.in-Some-get_mut.held.now c.rest.new.self c.self.invariant at (sym c.in-Some-get_mut.ensures.value) c.rest.ensures.recipients c.rest.ensures.rested
+    rest_holds g.L.Link.view i.sessions i.slots.items c.in-Some.first.now c.in-Some-get_mut.found.now c.rest.new.self c.self.invariant at (sym c.in-Some-get_mut.ensures.value) c.rest.ensures.recipients c.rest.ensures.rested
 
 pub returns-clause-rests : goal.returns-clause-rests
 returns-clause-rests g c =
     let i = c.self.inside in
     let at = ap (λ (ss : List Slot). slice_get ss 0) (sym c.deref.ensures.value) ∙ sym c.in-Some.ensures.value in
-    rested_first g.L.Link.view i.sessions i.slots.items i.polled c.in-Some.first.now c.in-Some-get_mut.held.now c.rest.new.self c.args.self.now c.self.invariant at (sym c.in-Some-get_mut.ensures.value) c.self.view_is c.rest.ensures.recipients c.rest.ensures.rested
+    rested_first g.L.Link.view i.sessions i.slots.items i.polled c.in-Some.first.now c.in-Some-get_mut.found.now c.rest.new.self c.args.self.now c.self.invariant at (sym c.in-Some-get_mut.ensures.value) c.self.view_is c.rest.ensures.recipients c.rest.ensures.rested

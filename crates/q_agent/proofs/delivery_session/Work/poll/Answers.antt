@@ -1,6 +1,6 @@
 use Rattle.q_agent.proofs.PollLaws.{polls_work}
 use Rattle.q_agent.specs.Slots.{shown_work}
-use Rattle.q_agent.proofs.held.Work.poll.Goals as goal
+use Rattle.q_agent.proofs.delivery_session.Work.poll.Goals as goal
 
 pub returns-clause-polled : goal.returns-clause-polled
 returns-clause-polled g c =

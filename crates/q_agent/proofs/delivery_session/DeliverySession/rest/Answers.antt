@@ -1,7 +1,7 @@
 use Rattle.std.proofs.Common.{ap, refl}
 use Rattle.std.specs.Option.{option_map}
 use Rattle.q_agent.specs.Slots.{shown_work}
-use Rattle.q_agent.proofs.held.Held.rest.Goals as goal
+use Rattle.q_agent.proofs.delivery_session.DeliverySession.rest.Goals as goal
 
 pub returns-in-Some-clause-rested : goal.returns-in-Some-clause-rested
 returns-in-Some-clause-rested g c = record {

@@ -3,7 +3,7 @@ use Rattle.q_session.specs.declared.polled.Polled.{Polled}
 use Rattle.q_agent.specs.Polling.{Concluded, PollsOnce}
 use Rattle.q_agent.specs.Slots.{work_of}
 use Rattle.q_agent.proofs.PollLaws.{report_by}
-use Rattle.q_agent.proofs.held.Held.poll.Goals as goal
+use Rattle.q_agent.proofs.delivery_session.DeliverySession.poll.Goals as goal
 
 pub returns-clause-went : goal.returns-clause-went
 returns-clause-went g c =

@@ -1,6 +1,6 @@
 use Rattle.std.proofs.Common.{◌≡◌, vec_len, vec_capacity}
 use Rattle.q_smtp.specs.Codes.{put_off}
-use Rattle.q_agent.proofs.held.put_off.Given as goal
+use Rattle.q_agent.proofs.delivery_session.put_off.Given as goal
 
 abbrev pub invariant-loop : goal.invariant-loop
 invariant-loop l = record {

@@ -27,7 +27,7 @@ pub(crate) struct Work<L: Link> {
 
 /// The session of a delivery to so many recipients. Without a link it is over at its first poll.
 #[derive(Drop)]
-pub(crate) struct Held<L: Link> {
+pub(crate) struct DeliverySession<L: Link> {
     pub(crate) recipients: usize,
     pub(crate) work: Option<Work<L>>,
 }
@@ -69,7 +69,7 @@ impl<L: Link> Work<L> {
     }
 }
 
-impl<L: Link> Held<L> {
+impl<L: Link> DeliverySession<L> {
     /// Polls its session, and where that is over closes its link and reports. After an error it has
     /// a session that may be polled, or no link.
     pub(crate) fn poll<H: Host, N: Hops<Link = L>>(
