@@ -6,7 +6,7 @@ use Rattle.q_dest.specs.declared.dest.Dest.{Dest}
 use Rattle.q_keyed.specs.Numbered.{AreApart, AreKeysApart, item_at, Items}
 use Rattle.q_model.specs.Ids.{id_eq}
 use Rattle.q_rounds.specs.Rounds.{has_space_at, key_eq}
-use Rattle.q_sorted.specs.declared.entry.Entry.{Entry}
+use Rattle.q_sorted.specs.declared.ticket.Ticket.{Ticket}
 use Rattle.q_candidates.specs.declared.candidate.Candidate.{Candidate}
 use Rattle.q_candidates.specs.declared.index.Index.{Index}
 use Rattle.q_candidates.specs.declared.wanted.Wanted.{Wanted}
@@ -53,10 +53,10 @@ module _ (v : Items Candidate) (i : Index) (sound : IsOrdered v i) (lanes_apart 
     one_need c d h k = wanted_need ds w c h ∙ sym (wanted_need ds w d k)
 
     -- none is wanted
-    pub best_none : (key : Candidate → ℕ) (o : Option Entry) → o ≡ None → IsFoundBy key wanted v.items o → IsBestOf now wanted v.items None
+    pub best_none : (key : Candidate → ℕ) (o : Option Ticket) → o ≡ None → IsFoundBy key wanted v.items o → IsBestOf now wanted v.items None
     best_none key o none is = subst (IsFoundBy key wanted v.items) none is
 
-    module _ (e : Entry) (c : Candidate) (there : item_at e.item v.items ≡ Some c) (is : IsLeastBy age_key wanted v.items e) where
+    module _ (e : Ticket) (c : Candidate) (there : item_at e.item v.items ≡ Some c) (is : IsLeastBy age_key wanted v.items e) where
       its : is.candidate ≡ c
       its = same_item e.item is.candidate c v.items is.there there
 
@@ -81,7 +81,7 @@ module _ (v : Items Candidate) (i : Index) (sound : IsOrdered v i) (lanes_apart 
       }
 
       -- all are of one age, so the first is the one of the least rank
-      pub best_first : (now ≤ c.arrival) → (f : Entry) → IsLeastBy rank_key wanted v.items f → IsFirstOf now wanted v.items f.item
+      pub best_first : (now ≤ c.arrival) → (f : Ticket) → IsLeastBy rank_key wanted v.items f → IsFirstOf now wanted v.items f.item
       best_first late f least = record {
         candidate = least.candidate;
         there = least.there;

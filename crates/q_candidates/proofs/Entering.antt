@@ -5,30 +5,30 @@ use Rattle.std.specs.Option.{is_some}
 use Rattle.q_heads.specs.Lanes.{Lanes, stands}
 use Rattle.q_keyed.proofs.Values.{held_item}
 use Rattle.q_keyed.specs.Numbered.{AreApart, item_at, Numbered}
-use Rattle.q_rounds.proofs.Entered.{come, entry_own, most_entries}
+use Rattle.q_rounds.proofs.Entered.{come, most_tickets, ticket_own}
 use Rattle.q_rounds.proofs.ItemSets.{unless_none}
-use Rattle.q_rounds.specs.Listing.{AreEntries}
-use Rattle.q_sorted.specs.declared.entry.Entry.{Entry}
-use Rattle.q_sorted.specs.Entries.{inserted, Rises}
+use Rattle.q_rounds.specs.Listing.{AreTickets}
+use Rattle.q_sorted.specs.declared.ticket.Ticket.{Ticket}
+use Rattle.q_sorted.specs.Tickets.{inserted, Rises}
 use Rattle.q_candidates.specs.declared.candidate.Candidate.{Candidate}
 use Rattle.q_candidates.specs.declared.index.Index.{Index}
 use Rattle.q_candidates.specs.declared.lane.Lane.{Lane}
-use Rattle.q_candidates.specs.Filing.{age_key, entry_at, entry_with, HasGrown, IsChanged, is_lane, lane_of, rank_key}
+use Rattle.q_candidates.specs.Filing.{age_key, ticket_at, ticket_with, HasGrown, IsChanged, is_lane, lane_of, rank_key}
 use Rattle.q_candidates.specs.Sound.{AreLanes, IsFiled, IsLaid, IsUsed}
-use Rattle.q_candidates.proofs.EntryLaws.{entry_is, entry_none, entry_same, entry_stays, entry_tells}
+use Rattle.q_candidates.proofs.TicketLaws.{ticket_is, ticket_none, ticket_same, ticket_stays, ticket_tells}
 
--- each entry stands in a lane
-pub inside : (key : Candidate → ℕ) (lanes : List (Numbered Lane)) (ks : List (Numbered Candidate)) (items : List Entry) → AreApart lanes → AreEntries (entry_at key lanes ks) items → (e : Entry) → stands e items ≡ true → is_some (item_at e.group lanes) ≡ true
+-- each ticket stands in a lane
+pub inside : (key : Candidate → ℕ) (lanes : List (Numbered Lane)) (ks : List (Numbered Candidate)) (items : List Ticket) → AreApart lanes → AreTickets (ticket_at key lanes ks) items → (e : Ticket) → stands e items ≡ true → is_some (item_at e.group lanes) ≡ true
 inside key lanes ks items apart are e there =
-    let own = entry_tells key lanes ks e.item e (entry_own (entry_at key lanes ks) items e are there) in
+    let own = ticket_tells key lanes ks e.item e (ticket_own (ticket_at key lanes ks) items e are there) in
     ap is_some (held_item (is_lane own.candidate.site own.candidate.need) e.group lanes apart own.lane).1
 
-held : (key : Candidate → ℕ) (lanes : List (Numbered Lane)) (ks : List (Numbered Candidate)) (m : ℕ) (e : Entry) → entry_at key lanes ks m ≡ Some e → is_some (item_at m ks) ≡ true
-held key lanes ks m e h = ap is_some (entry_tells key lanes ks m e h).there
+held : (key : Candidate → ℕ) (lanes : List (Numbered Lane)) (ks : List (Numbered Candidate)) (m : ℕ) (e : Ticket) → ticket_at key lanes ks m ≡ Some e → is_some (item_at m ks) ≡ true
+held key lanes ks m e h = ap is_some (ticket_tells key lanes ks m e h).there
 
--- there are no more entries than candidates
-pub most_heads : (key : Candidate → ℕ) (lanes : List (Numbered Lane)) (ks : List (Numbered Candidate)) (items : List Entry) → AreEntries (entry_at key lanes ks) items → Rises items → length items ≤ length ks
-most_heads key lanes ks items are rising = most_entries (entry_at key lanes ks) items ks are rising (held key lanes ks)
+-- there are no more tickets than candidates
+pub most_heads : (key : Candidate → ℕ) (lanes : List (Numbered Lane)) (ks : List (Numbered Candidate)) (items : List Ticket) → AreTickets (ticket_at key lanes ks) items → Rises items → length items ≤ length ks
+most_heads key lanes ks items are rising = most_tickets (ticket_at key lanes ks) items ks are rising (held key lanes ks)
 
 -- a lane that is found is one of those that there are
 pub lane_below : (c : Candidate) (lane : ℕ) (lanes : List (Numbered Lane)) (heads : Lanes) → AreApart lanes → AreLanes lanes heads → lane_of c.site c.need lanes ≡ Some lane → lane < heads.lanes
@@ -37,11 +37,11 @@ lane_below c lane lanes heads apart are own =
     (are lane it.0 it.1).below
 
 module _ (c : Candidate) (n lane : ℕ) (i j : Index) (grown : HasGrown c.site c.need i j) (own : lane_of c.site c.need j.lanes.items ≡ Some lane) (ks new : List (Numbered Candidate)) (filed : IsFiled ks i) (free : item_at n ks ≡ None) (changed : IsChanged n (Some c) ks new) where
-  entered_for : (key : Candidate → ℕ) (xs : List Entry) → AreEntries (entry_at key i.lanes.items ks) xs → AreEntries (entry_at key j.lanes.items new) (inserted (entry_with key lane n c) xs)
+  entered_for : (key : Candidate → ℕ) (xs : List Ticket) → AreTickets (ticket_at key i.lanes.items ks) xs → AreTickets (ticket_at key j.lanes.items new) (inserted (ticket_with key lane n c) xs)
   entered_for key xs are =
-      come (entry_at key i.lanes.items ks) (entry_at key j.lanes.items new) xs are n
-      (λ m other. entry_stays key j.lanes.items ks new m (changed.others m other) ∙ entry_same key i.lanes.items j.lanes.items ks m (λ q h. grown.kept q.site q.need (filed.laned m q h)))
-      (entry_with key lane n c) (entry_none key i.lanes.items ks n free) (entry_is key j.lanes.items new n lane c changed.own own) refl
+      come (ticket_at key i.lanes.items ks) (ticket_at key j.lanes.items new) xs are n
+      (λ m other. ticket_stays key j.lanes.items ks new m (changed.others m other) ∙ ticket_same key i.lanes.items j.lanes.items ks m (λ q h. grown.kept q.site q.need (filed.laned m q h)))
+      (ticket_with key lane n c) (ticket_none key i.lanes.items ks n free) (ticket_is key j.lanes.items new n lane c changed.own own) refl
 
   laned_step : (m : ℕ) (q : Candidate) → item_at m new ≡ Some q → (m ≡ n) ⊎ (m ≢ n) → is_some (lane_of q.site q.need j.lanes.items) ≡ true
   laned_step m q h (inl same) =
@@ -59,16 +59,16 @@ module _ (c : Candidate) (n lane : ℕ) (i j : Index) (grown : HasGrown c.site c
       record { number = u.number; candidate = u.candidate; there = changed.others u.number other ∙ u.there; at = u.at; needs = u.needs }
   used_step m l (inr made) = record { number = n; candidate = c; there = changed.own; at = sym made.0; needs = sym made.1 }
 
-  pub filed_with : (ages ranks : Lanes) → ages ≡ record j.ages { items = inserted (entry_with age_key lane n c) j.ages.items } → ranks ≡ record j.ranks { items = inserted (entry_with rank_key lane n c) j.ranks.items } → IsFiled new (record j { ages = ages; ranks = ranks })
+  pub filed_with : (ages ranks : Lanes) → ages ≡ record j.ages { items = inserted (ticket_with age_key lane n c) j.ages.items } → ranks ≡ record j.ranks { items = inserted (ticket_with rank_key lane n c) j.ranks.items } → IsFiled new (record j { ages = ages; ranks = ranks })
   filed_with ages ranks a r = record {
-    aged = subst (AreEntries (entry_at age_key j.lanes.items new)) (ap (inserted (entry_with age_key lane n c)) (sym grown.ages) ∙ sym (ap (λ (s : Lanes). s.items) a)) (entered_for age_key i.ages.items filed.aged);
-    ranked = subst (AreEntries (entry_at rank_key j.lanes.items new)) (ap (inserted (entry_with rank_key lane n c)) (sym grown.ranks) ∙ sym (ap (λ (s : Lanes). s.items) r)) (entered_for rank_key i.ranks.items filed.ranked);
+    aged = subst (AreTickets (ticket_at age_key j.lanes.items new)) (ap (inserted (ticket_with age_key lane n c)) (sym grown.ages) ∙ sym (ap (λ (s : Lanes). s.items) a)) (entered_for age_key i.ages.items filed.aged);
+    ranked = subst (AreTickets (ticket_at rank_key j.lanes.items new)) (ap (inserted (ticket_with rank_key lane n c)) (sym grown.ranks) ∙ sym (ap (λ (s : Lanes). s.items) r)) (entered_for rank_key i.ranks.items filed.ranked);
     laned = λ m q h. laned_step m q h (cases_eq m n);
     used = λ m l h. used_step m l (grown.lanes m l h);
   }
 
--- other entries change nothing of the lanes
-pub laid_with : (j : Index) (ages ranks : Lanes) (xs ys : List Entry) → ages ≡ record j.ages { items = xs } → ranks ≡ record j.ranks { items = ys } → IsLaid j → IsLaid (record j { ages = ages; ranks = ranks })
+-- other tickets change nothing of the lanes
+pub laid_with : (j : Index) (ages ranks : Lanes) (xs ys : List Ticket) → ages ≡ record j.ages { items = xs } → ranks ≡ record j.ranks { items = ys } → IsLaid j → IsLaid (record j { ages = ages; ranks = ranks })
 laid_with j ages ranks xs ys a r laid =
     subst (λ (s : Lanes). IsLaid (record j { ages = s; ranks = ranks })) (sym a)
     (subst (λ (s : Lanes). IsLaid (record j { ages = record j.ages { items = xs }; ranks = s })) (sym r)

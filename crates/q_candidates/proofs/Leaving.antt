@@ -7,18 +7,18 @@ use Rattle.q_heads.proofs.Standing.{found, none_found}
 use Rattle.q_heads.specs.Lanes.{Lanes}
 use Rattle.q_keyed.proofs.Values.{held_item}
 use Rattle.q_keyed.specs.Numbered.{AreApart, AreKeysApart, item_at, Items, Numbered, without_number}
-use Rattle.q_rounds.proofs.Entered.{alike, entered, entry_own, go}
+use Rattle.q_rounds.proofs.Entered.{alike, entered, go, ticket_own}
 use Rattle.q_rounds.proofs.ItemSets.{unless_none}
 use Rattle.q_rounds.proofs.Lookups.{other_left, own_left, such_left}
-use Rattle.q_rounds.specs.Listing.{AreEntries}
-use Rattle.q_sorted.specs.declared.entry.Entry.{Entry}
-use Rattle.q_sorted.specs.Entries.{Entries, is_another, is_of}
+use Rattle.q_rounds.specs.Listing.{AreTickets}
+use Rattle.q_sorted.specs.declared.ticket.Ticket.{Ticket}
+use Rattle.q_sorted.specs.Tickets.{Tickets, is_another, is_of}
 use Rattle.q_candidates.specs.declared.candidate.Candidate.{Candidate}
 use Rattle.q_candidates.specs.declared.index.Index.{Index}
 use Rattle.q_candidates.specs.declared.lane.Lane.{Lane}
-use Rattle.q_candidates.specs.Filing.{age_key, entry_at, entry_with, IsChanged, is_lane, key_of_lane, lane_eq, lane_of, need_at, need_entry, rank_key}
+use Rattle.q_candidates.specs.Filing.{age_key, ticket_at, ticket_with, IsChanged, is_lane, key_of_lane, lane_eq, lane_of, need_at, need_ticket, rank_key}
 use Rattle.q_candidates.specs.Sound.{IsFiled, IsLaid, IsUsed}
-use Rattle.q_candidates.proofs.EntryLaws.{entry_is, entry_none, entry_same, entry_stays, entry_tells}
+use Rattle.q_candidates.proofs.TicketLaws.{ticket_is, ticket_none, ticket_same, ticket_stays, ticket_tells}
 use Rattle.q_candidates.proofs.Lanes.{lane_named, lane_own, lane_parts}
 
 module _ (i : Index) (apart : AreApart i.lanes.items) (keys : AreKeysApart lane_eq key_of_lane i.lanes.items) (c : Candidate) (n lane : ℕ) (own : lane_of c.site c.need i.lanes.items ≡ Some lane) where
@@ -38,11 +38,11 @@ module _ (i : Index) (apart : AreApart i.lanes.items) (keys : AreKeysApart lane_
       cc
 
   module _ (ks new : List (Numbered Candidate)) (filed : IsFiled ks i) (there : item_at n ks ≡ Some c) (changed : IsChanged n None ks new) where
-    pub gone_for : (key : Candidate → ℕ) (xs : List Entry) → AreEntries (entry_at key i.lanes.items ks) xs → AreEntries (entry_at key i.lanes.items new) (filter (is_another (entry_with key lane n c)) xs)
+    pub gone_for : (key : Candidate → ℕ) (xs : List Ticket) → AreTickets (ticket_at key i.lanes.items ks) xs → AreTickets (ticket_at key i.lanes.items new) (filter (is_another (ticket_with key lane n c)) xs)
     gone_for key xs are =
-        go (entry_at key i.lanes.items ks) (entry_at key i.lanes.items new) xs are n
-        (λ m other. entry_stays key i.lanes.items ks new m (changed.others m other))
-        (entry_with key lane n c) (entry_is key i.lanes.items ks n lane c there own) (entry_none key i.lanes.items new n changed.own) refl
+        go (ticket_at key i.lanes.items ks) (ticket_at key i.lanes.items new) xs are n
+        (λ m other. ticket_stays key i.lanes.items ks new m (changed.others m other))
+        (ticket_with key lane n c) (ticket_is key i.lanes.items ks n lane c there own) (ticket_none key i.lanes.items new n changed.own) refl
 
     was : (m : ℕ) (q : Candidate) → item_at m new ≡ Some q → item_at m ks ≡ Some q
     was m q h = sym (changed.others m (λ same. unless_none (item_at n new) q changed.own (ap (λ x. item_at x new) (sym same) ∙ h))) ∙ h
@@ -55,19 +55,19 @@ module _ (i : Index) (apart : AreApart i.lanes.items) (keys : AreKeysApart lane_
         let its : u.candidate ≡ c = cc in
         mine (is_its m l h (sym u.at ∙ ap (λ (y : Candidate). y.site) its) (sym u.needs ∙ ap (λ (y : Candidate). y.need) its))
 
-    module _ (xs ys : List Entry) (aged : AreEntries (entry_at age_key i.lanes.items new) xs) (ranked : AreEntries (entry_at rank_key i.lanes.items new) ys) where
-      -- an entry is left in the lane
-      used_by : (e : Entry) (l : Lane) → item_at lane i.lanes.items ≡ Some l → find (is_of lane) xs ≡ Some e → IsUsed l.site l.need new
+    module _ (xs ys : List Ticket) (aged : AreTickets (ticket_at age_key i.lanes.items new) xs) (ranked : AreTickets (ticket_at rank_key i.lanes.items new) ys) where
+      -- a ticket is left in the lane
+      used_by : (e : Ticket) (l : Lane) → item_at lane i.lanes.items ≡ Some l → find (is_of lane) xs ≡ Some e → IsUsed l.site l.need new
       used_by e l h first =
           let it = found (is_of lane) e xs first in
-          let mine = entry_tells age_key i.lanes.items new e.item e (entry_own (entry_at age_key i.lanes.items new) xs e aged it.0) in
+          let mine = ticket_tells age_key i.lanes.items new e.item e (ticket_own (ticket_at age_key i.lanes.items new) xs e aged it.0) in
           let parts = lane_named mine.candidate.site mine.candidate.need lane i.lanes.items l apart (mine.lane ∙ ap Some (eqb-true e.group lane it.1)) h in
           record { number = e.item; candidate = mine.candidate; there = mine.there; at = sym parts.0; needs = sym parts.1 }
 
-      pub filed_kept : (e : Entry) (ages ranks : Lanes) → find (is_of lane) xs ≡ Some e → ages.items ≡ xs → ranks.items ≡ ys → IsFiled new (record i { ages = ages; ranks = ranks })
+      pub filed_kept : (e : Ticket) (ages ranks : Lanes) → find (is_of lane) xs ≡ Some e → ages.items ≡ xs → ranks.items ≡ ys → IsFiled new (record i { ages = ages; ranks = ranks })
       filed_kept e ages ranks first a r = record {
-        aged = subst (AreEntries (entry_at age_key i.lanes.items new)) (sym a) aged;
-        ranked = subst (AreEntries (entry_at rank_key i.lanes.items new)) (sym r) ranked;
+        aged = subst (AreTickets (ticket_at age_key i.lanes.items new)) (sym a) aged;
+        ranked = subst (AreTickets (ticket_at rank_key i.lanes.items new)) (sym r) ranked;
         laned = λ m q h. filed.laned m q (was m q h);
         used = λ m l h. stays_step m l h (filed.used m l h) (cases_eq (filed.used m l h).number n) (λ mine. used_by e l (ap (λ x. item_at x i.lanes.items) (sym mine) ∙ h) first);
       }
@@ -79,8 +79,8 @@ module _ (i : Index) (apart : AreApart i.lanes.items) (keys : AreKeysApart lane_
         -- no candidate is left in the lane
         not_its : (m : ℕ) (q : Candidate) → item_at m new ≡ Some q → lane_of q.site q.need i.lanes.items ≡ Some lane → ⊥
         not_its m q h at =
-            let e = entry_with age_key lane m q in
-            let stood = entered (entry_at age_key i.lanes.items new) xs m e aged (entry_is age_key i.lanes.items new m lane q h at) refl in
+            let e = ticket_with age_key lane m q in
+            let stood = entered (ticket_at age_key i.lanes.items new) xs m e aged (ticket_is age_key i.lanes.items new m lane q h at) refl in
             both_ways (e.group == lane) (none_found (is_of lane) e xs none stood) (eq-eqb lane lane refl)
 
         lane_stays : (m : ℕ) (q : Candidate) → item_at m new ≡ Some q → lane_of q.site q.need rest ≡ lane_of q.site q.need i.lanes.items
@@ -90,8 +90,8 @@ module _ (i : Index) (apart : AreApart i.lanes.items) (keys : AreKeysApart lane_
             let parts = lane_parts q.site q.need gone_lane mine in
             not_its m q h (ap (λ s. lane_of s q.need i.lanes.items) (sym parts.0) ∙ ap (λ d. lane_of c.site d i.lanes.items) (sym parts.1) ∙ own)))
 
-        left_for : (key : Candidate → ℕ) (zs : List Entry) → AreEntries (entry_at key i.lanes.items new) zs → AreEntries (entry_at key rest new) zs
-        left_for key zs are = alike (entry_at key i.lanes.items new) (entry_at key rest new) zs are (λ m. entry_same key i.lanes.items rest new m (λ q h. lane_stays m q h))
+        left_for : (key : Candidate → ℕ) (zs : List Ticket) → AreTickets (ticket_at key i.lanes.items new) zs → AreTickets (ticket_at key rest new) zs
+        left_for key zs are = alike (ticket_at key i.lanes.items new) (ticket_at key rest new) zs are (λ m. ticket_same key i.lanes.items rest new m (λ q h. lane_stays m q h))
 
         not_gone : (m : ℕ) (l : Lane) → item_at m rest ≡ Some l → m ≢ lane
         not_gone m l h same = unless_none (item_at lane rest) l (own_left lane i.lanes.items) (ap (λ x. item_at x rest) (sym same) ∙ h)
@@ -99,10 +99,10 @@ module _ (i : Index) (apart : AreApart i.lanes.items) (keys : AreKeysApart lane_
         lane_was : (m : ℕ) (l : Lane) → item_at m rest ≡ Some l → item_at m i.lanes.items ≡ Some l
         lane_was m l h = sym (other_left lane m i.lanes.items (not_gone m l h)) ∙ h
 
-        pub filed_less : (lanes : Items Lane) (ages ranks : Lanes) (needs : Entries) → lanes.items ≡ rest → ages.items ≡ xs → ranks.items ≡ ys → IsFiled new (record { lanes = lanes; ages = ages; ranks = ranks; needs = needs })
+        pub filed_less : (lanes : Items Lane) (ages ranks : Lanes) (needs : Tickets) → lanes.items ≡ rest → ages.items ≡ xs → ranks.items ≡ ys → IsFiled new (record { lanes = lanes; ages = ages; ranks = ranks; needs = needs })
         filed_less lanes ages ranks needs r a k = record {
-          aged = subst (AreEntries (entry_at age_key lanes.items new)) (sym a) (subst (λ ls. AreEntries (entry_at age_key ls new) xs) (sym r) (left_for age_key xs aged));
-          ranked = subst (AreEntries (entry_at rank_key lanes.items new)) (sym k) (subst (λ ls. AreEntries (entry_at rank_key ls new) ys) (sym r) (left_for rank_key ys ranked));
+          aged = subst (AreTickets (ticket_at age_key lanes.items new)) (sym a) (subst (λ ls. AreTickets (ticket_at age_key ls new) xs) (sym r) (left_for age_key xs aged));
+          ranked = subst (AreTickets (ticket_at rank_key lanes.items new)) (sym k) (subst (λ ls. AreTickets (ticket_at rank_key ls new) ys) (sym r) (left_for rank_key ys ranked));
           laned = λ m q h. ap (λ ls. is_some (lane_of q.site q.need ls)) r ∙ ap is_some (lane_stays m q h) ∙ filed.laned m q (was m q h);
           used = λ m l h.
               let here = ap (item_at m) (sym r) ∙ h in
@@ -111,17 +111,17 @@ module _ (i : Index) (apart : AreApart i.lanes.items) (keys : AreKeysApart lane_
         }
 
   -- the lanes that are left
-  pub laid_less : (lanes : Items Lane) (needs : Entries) (j : Index) → IsLaid j → j.lanes ≡ i.lanes → lanes ≡ record i.lanes { items = without_number lane i.lanes.items } → needs ≡ record j.needs { items = filter (is_another (need_entry lane gone_lane)) j.needs.items } →
+  pub laid_less : (lanes : Items Lane) (needs : Tickets) (j : Index) → IsLaid j → j.lanes ≡ i.lanes → lanes ≡ record i.lanes { items = without_number lane i.lanes.items } → needs ≡ record j.needs { items = filter (is_another (need_ticket lane gone_lane)) j.needs.items } →
       IsLaid (record j { lanes = lanes; needs = needs })
   laid_less lanes needs j laid same l_is n_is =
       subst (λ (x : Items Lane). IsLaid (record j { lanes = x; needs = needs })) (sym l_is)
-      (subst (λ (x : Entries). IsLaid (record j { lanes = record i.lanes { items = without_number lane i.lanes.items }; needs = x })) (sym n_is)
+      (subst (λ (x : Tickets). IsLaid (record j { lanes = record i.lanes { items = without_number lane i.lanes.items }; needs = x })) (sym n_is)
       (record {
         ages = λ m l h. laid.ages m l (there m l h);
         ranks = λ m l h. laid.ranks m l (there m l h);
-        listed = go (need_at i.lanes.items) (need_at (without_number lane i.lanes.items)) j.needs.items (subst (λ (x : Items Lane). AreEntries (need_at x.items) j.needs.items) same laid.listed) lane
-            (λ m other. ap (option_map (need_entry m)) (other_left lane m i.lanes.items other))
-            (need_entry lane gone_lane) (ap (option_map (need_entry lane)) lane_there) (ap (option_map (need_entry lane)) (own_left lane i.lanes.items)) refl;
+        listed = go (need_at i.lanes.items) (need_at (without_number lane i.lanes.items)) j.needs.items (subst (λ (x : Items Lane). AreTickets (need_at x.items) j.needs.items) same laid.listed) lane
+            (λ m other. ap (option_map (need_ticket m)) (other_left lane m i.lanes.items other))
+            (need_ticket lane gone_lane) (ap (option_map (need_ticket lane)) lane_there) (ap (option_map (need_ticket lane)) (own_left lane i.lanes.items)) refl;
         age_lanes = laid.age_lanes ∙ room;
         age_room = laid.age_room ∙ room;
         rank_lanes = laid.rank_lanes ∙ room;

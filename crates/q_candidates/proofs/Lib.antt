@@ -1,6 +1,6 @@
 pub mod Keys
 pub mod Lanes
-pub mod EntryLaws
+pub mod TicketLaws
 pub mod Making
 pub mod Entering
 pub mod Leaving

@@ -8,38 +8,38 @@ use Rattle.q_heads.proofs.LaneWalk.{none_sought}
 use Rattle.q_heads.specs.Lanes.{class_of, Lanes, stands}
 use Rattle.q_keyed.specs.Numbered.{has_number, item_at, Items, Numbered}
 use Rattle.q_model.specs.Values.{Site}
-use Rattle.q_rounds.proofs.Entered.{come, most_entries}
+use Rattle.q_rounds.proofs.Entered.{come, most_tickets}
 use Rattle.q_rounds.proofs.ItemSets.{free_item, unless_none}
 use Rattle.q_rounds.proofs.Lookups.{other_more, own_more, such_more, such_stays}
-use Rattle.q_rounds.specs.Listing.{AreEntries}
-use Rattle.q_sorted.specs.declared.entry.Entry.{Entry}
-use Rattle.q_sorted.specs.Entries.{Entries, inserted, is_of, Rises}
+use Rattle.q_rounds.specs.Listing.{AreTickets}
+use Rattle.q_sorted.specs.declared.ticket.Ticket.{Ticket}
+use Rattle.q_sorted.specs.Tickets.{inserted, is_of, Rises, Tickets}
 use Rattle.q_candidates.specs.declared.index.Index.{Index}
 use Rattle.q_candidates.specs.declared.lane.Lane.{Lane}
-use Rattle.q_candidates.specs.Filing.{class_for, HasGrown, is_lane, lane_of, need_at, need_entry}
+use Rattle.q_candidates.specs.Filing.{class_for, HasGrown, is_lane, lane_of, need_at, need_ticket}
 use Rattle.q_candidates.specs.Sound.{AreLanes, IsLaid, IsLane}
-use Rattle.q_candidates.proofs.EntryLaws.{some_from}
+use Rattle.q_candidates.proofs.TicketLaws.{some_from}
 use Rattle.q_candidates.proofs.Lanes.{lane_from, lane_parts}
 
 no_item_is : (n : ℕ) (lanes : List (Numbered Lane)) → find (has_number n) lanes ≡ None → is_some (item_at n lanes) ≡ true → ⊥
 no_item_is n lanes fresh there = let x = some_from (item_at n lanes) there in unless_none (item_at n lanes) x.0 (free_item n lanes fresh) x.1
 
--- no entry stands in a lane that there isn't
-pub free_lane : (n : ℕ) (lanes : List (Numbered Lane)) (items : List Entry) → ((e : Entry) → stands e items ≡ true → is_some (item_at e.group lanes) ≡ true) → find (has_number n) lanes ≡ None → find (is_of n) items ≡ None
+-- no ticket stands in a lane that there isn't
+pub free_lane : (n : ℕ) (lanes : List (Numbered Lane)) (items : List Ticket) → ((e : Ticket) → stands e items ≡ true → is_some (item_at e.group lanes) ≡ true) → find (has_number n) lanes ≡ None → find (is_of n) items ≡ None
 free_lane n lanes items inside fresh =
     none_sought (is_of n) items (λ e there. false_from_ne_true (e.group == n) (λ h.
     no_item_is n lanes fresh (subst (λ m. is_some (item_at m lanes) ≡ true) (eqb-true e.group n h) (inside e there))))
 
-held_need : (lanes : List (Numbered Lane)) (m : ℕ) (e : Entry) → need_at lanes m ≡ Some e → is_some (item_at m lanes) ≡ true
+held_need : (lanes : List (Numbered Lane)) (m : ℕ) (e : Ticket) → need_at lanes m ≡ Some e → is_some (item_at m lanes) ≡ true
 held_need lanes m e h = step (item_at m lanes) h
   where
-    step : (o : Option Lane) → option_map (need_entry m) o ≡ Some e → is_some o ≡ true
+    step : (o : Option Lane) → option_map (need_ticket m) o ≡ Some e → is_some o ≡ true
     step None k = absurd cc
     step (Some l) k = refl
 
 -- there are no more needs than lanes
-pub most_needs : (lanes : List (Numbered Lane)) (needs : List Entry) → AreEntries (need_at lanes) needs → Rises needs → length needs ≤ length lanes
-most_needs lanes needs are rising = most_entries (need_at lanes) needs lanes are rising (held_need lanes)
+pub most_needs : (lanes : List (Numbered Lane)) (needs : List Ticket) → AreTickets (need_at lanes) needs → Rises needs → length needs ≤ length lanes
+most_needs lanes needs are rising = most_tickets (need_at lanes) needs lanes are rising (held_need lanes)
 
 module _ (site : Site) (need : ℕ) (i : Index) (n : ℕ) where
   abbrev the_lane : Lane
@@ -56,7 +56,7 @@ module _ (site : Site) (need : ℕ) (i : Index) (n : ℕ) where
     lanes = record i.lanes { items = more };
     ages = classed i.ages;
     ranks = classed i.ranks;
-    needs = record i.needs { items = inserted (need_entry n the_lane) i.needs.items };
+    needs = record i.needs { items = inserted (need_ticket n the_lane) i.needs.items };
   }
 
   module _ (laid : IsLaid i) (fresh : find (has_number n) i.lanes.items ≡ None) (none : lane_of site need i.lanes.items ≡ None) (below : n < i.lanes.room) where
@@ -80,8 +80,8 @@ module _ (site : Site) (need : ℕ) (i : Index) (n : ℕ) where
     made_laid ages ranks = record {
       ages = lanes_set i.ages laid.ages (omega (arith, below, laid.age_lanes)) ages;
       ranks = lanes_set i.ranks laid.ranks (omega (arith, below, laid.rank_lanes)) ranks;
-      listed = come (need_at i.lanes.items) (need_at more) i.needs.items laid.listed n (λ m other. ap (option_map (need_entry m)) (other_more n m the_lane i.lanes.items other))
-          (need_entry n the_lane) (ap (option_map (need_entry n)) (free_item n i.lanes.items fresh)) (ap (option_map (need_entry n)) (own_more n the_lane i.lanes.items fresh)) refl;
+      listed = come (need_at i.lanes.items) (need_at more) i.needs.items laid.listed n (λ m other. ap (option_map (need_ticket m)) (other_more n m the_lane i.lanes.items other))
+          (need_ticket n the_lane) (ap (option_map (need_ticket n)) (free_item n i.lanes.items fresh)) (ap (option_map (need_ticket n)) (own_more n the_lane i.lanes.items fresh)) refl;
       age_lanes = laid.age_lanes;
       age_room = laid.age_room;
       rank_lanes = laid.rank_lanes;
@@ -120,11 +120,11 @@ pub grown_none : (site : Site) (need : ℕ) (i : Index) → HasGrown site need i
 grown_none site need i = record { kept = λ s d there. refl; lanes = λ j l h. inl h; ages = refl; ranks = refl; room = refl }
 
 -- what is made of all four parts
-pub after_from : (P : Index → Type 0) (site : Site) (need : ℕ) (i : Index) (n : ℕ) (lanes : Items Lane) (ages ranks : Lanes) (needs : Entries) → lanes ≡ (after site need i n).lanes → ages ≡ (after site need i n).ages → ranks ≡ (after site need i n).ranks → needs ≡ (after site need i n).needs → P (after site need i n) →
+pub after_from : (P : Index → Type 0) (site : Site) (need : ℕ) (i : Index) (n : ℕ) (lanes : Items Lane) (ages ranks : Lanes) (needs : Tickets) → lanes ≡ (after site need i n).lanes → ages ≡ (after site need i n).ages → ranks ≡ (after site need i n).ranks → needs ≡ (after site need i n).needs → P (after site need i n) →
     P (record { lanes = lanes; ages = ages; ranks = ranks; needs = needs })
 after_from P site need i n lanes ages ranks needs a b c d p =
     let w = after site need i n in
     subst (λ (x : Items Lane). P (record { lanes = x; ages = ages; ranks = ranks; needs = needs })) (sym a)
     (subst (λ (x : Lanes). P (record { lanes = w.lanes; ages = x; ranks = ranks; needs = needs })) (sym b)
     (subst (λ (x : Lanes). P (record { lanes = w.lanes; ages = w.ages; ranks = x; needs = needs })) (sym c)
-    (subst (λ (x : Entries). P (record { lanes = w.lanes; ages = w.ages; ranks = w.ranks; needs = x })) (sym d) p)))
+    (subst (λ (x : Tickets). P (record { lanes = w.lanes; ages = w.ages; ranks = w.ranks; needs = x })) (sym d) p)))

@@ -6,57 +6,57 @@ use Rattle.std.specs.Prelude.{find, not}
 use Rattle.q_heads.proofs.Standing.{first_found, found, none_found}
 use Rattle.q_heads.specs.Lanes.{stands}
 use Rattle.q_keyed.specs.Numbered.{item_at, Numbered}
-use Rattle.q_rounds.proofs.Entered.{entered, entry_own}
+use Rattle.q_rounds.proofs.Entered.{entered, ticket_own}
 use Rattle.q_rounds.proofs.ItemSets.{unless_none}
-use Rattle.q_rounds.specs.Listing.{AreEntries}
-use Rattle.q_sorted.specs.declared.entry.Entry.{Entry}
-use Rattle.q_sorted.specs.Entries.{goes_before, Rises}
+use Rattle.q_rounds.specs.Listing.{AreTickets}
+use Rattle.q_sorted.specs.declared.ticket.Ticket.{Ticket}
+use Rattle.q_sorted.specs.Tickets.{goes_before, Rises}
 use Rattle.q_candidates.specs.declared.lane.Lane.{Lane}
 use Rattle.q_candidates.specs.Choosing.{cut_at, IsNextNeed}
-use Rattle.q_candidates.specs.Filing.{need_at, need_entry}
+use Rattle.q_candidates.specs.Filing.{need_at, need_ticket}
 
-past_cut : (x : Entry) (transport from : ℕ) → x.group ≡ transport → from ≤ x.key → goes_before x (cut_at transport from) ≡ false
+past_cut : (x : Ticket) (transport from : ℕ) → x.group ≡ transport → from ≤ x.key → goes_before x (cut_at transport from) ≡ false
 past_cut x transport from a b = grind (arith, nat_tests)
 
-cut_group : (x e : Entry) (transport from : ℕ) → x.group ≡ transport → goes_before x e ≡ false → not (goes_before e (cut_at transport from)) ≡ true → e.group ≡ transport
+cut_group : (x e : Ticket) (transport from : ℕ) → x.group ≡ transport → goes_before x e ≡ false → not (goes_before e (cut_at transport from)) ≡ true → e.group ≡ transport
 cut_group x e transport from a b h = grind (arith, nat_tests)
 
-cut_key : (e : Entry) (transport from : ℕ) → e.group ≡ transport → not (goes_before e (cut_at transport from)) ≡ true → from ≤ e.key
+cut_key : (e : Ticket) (transport from : ℕ) → e.group ≡ transport → not (goes_before e (cut_at transport from)) ≡ true → from ≤ e.key
 cut_key e transport from a h = grind (arith, nat_tests)
 
-key_before : (x e : Entry) → x.group ≡ e.group → goes_before x e ≡ false → e.key ≤ x.key
+key_before : (x e : Ticket) → x.group ≡ e.group → goes_before x e ≡ false → e.key ≤ x.key
 key_before x e a h = grind (arith, nat_tests)
 
-lane_step : (o : Option Lane) (n : ℕ) (e : Entry) → option_map (need_entry n) o ≡ Some e → (l : Lane) × (o ≡ Some l) × (e.key ≡ l.need)
+lane_step : (o : Option Lane) (n : ℕ) (e : Ticket) → option_map (need_ticket n) o ≡ Some e → (l : Lane) × (o ≡ Some l) × (e.key ≡ l.need)
 lane_step None n e h = absurd cc
-lane_step (Some l) n e h = let same : need_entry n l ≡ e = cc in (l, refl, ap (λ (x : Entry). x.key) (sym same))
+lane_step (Some l) n e h = let same : need_ticket n l ≡ e = cc in (l, refl, ap (λ (x : Ticket). x.key) (sym same))
 
-module _ (lanes : List (Numbered Lane)) (needs : List Entry) (listed : AreEntries (need_at lanes) needs) (rising : Rises needs) (transport from most : ℕ) where
-  abbrev past : Entry → Bool
+module _ (lanes : List (Numbered Lane)) (needs : List Ticket) (listed : AreTickets (need_at lanes) needs) (rising : Rises needs) (transport from most : ℕ) where
+  abbrev past : Ticket → Bool
   past x = not (goes_before x (cut_at transport from))
 
   -- each lane stands there
-  stood : (n : ℕ) (l : Lane) → item_at n lanes ≡ Some l → stands (need_entry n l) needs ≡ true
-  stood n l there = entered (need_at lanes) needs n (need_entry n l) listed (ap (option_map (need_entry n)) there) refl
+  stood : (n : ℕ) (l : Lane) → item_at n lanes ≡ Some l → stands (need_ticket n l) needs ≡ true
+  stood n l there = entered (need_at lanes) needs n (need_ticket n l) listed (ap (option_map (need_ticket n)) there) refl
 
-  passes : (n : ℕ) (l : Lane) → l.site.transport ≡ transport → from ≤ l.need → past (need_entry n l) ≡ true
-  passes n l at low = not_from_false (goes_before (need_entry n l) (cut_at transport from)) (past_cut (need_entry n l) transport from at low)
+  passes : (n : ℕ) (l : Lane) → l.site.transport ≡ transport → from ≤ l.need → past (need_ticket n l) ≡ true
+  passes n l at low = not_from_false (goes_before (need_ticket n l) (cut_at transport from)) (past_cut (need_ticket n l) transport from at low)
 
   pub none_from : find past needs ≡ None → IsNextNeed transport from most lanes None
-  none_from none = λ n l there at low few. both_ways (past (need_entry n l)) (none_found past (need_entry n l) needs none (stood n l there)) (passes n l at low)
+  none_from none = λ n l there at low few. both_ways (past (need_ticket n l)) (none_found past (need_ticket n l) needs none (stood n l there)) (passes n l at low)
 
-  module _ (e : Entry) (next : find past needs ≡ Some e) where
+  module _ (e : Ticket) (next : find past needs ≡ Some e) where
     its : (stands e needs ≡ true) × (past e ≡ true)
     its = found past e needs next
 
-    not_before : (n : ℕ) (l : Lane) → item_at n lanes ≡ Some l → l.site.transport ≡ transport → from ≤ l.need → goes_before (need_entry n l) e ≡ false
-    not_before n l there at low = first_found past e (need_entry n l) needs rising next (stood n l there) (passes n l at low)
+    not_before : (n : ℕ) (l : Lane) → item_at n lanes ≡ Some l → l.site.transport ≡ transport → from ≤ l.need → goes_before (need_ticket n l) e ≡ false
+    not_before n l there at low = first_found past e (need_ticket n l) needs rising next (stood n l there) (passes n l at low)
 
     pub other_from : e.group ≢ transport → IsNextNeed transport from most lanes None
-    other_from other = λ n l there at low few. other (cut_group (need_entry n l) e transport from at (not_before n l there at low) its.1)
+    other_from other = λ n l there at low few. other (cut_group (need_ticket n l) e transport from at (not_before n l there at low) its.1)
 
     pub lane_there : (l : Lane) × (item_at e.item lanes ≡ Some l) × (e.key ≡ l.need)
-    lane_there = lane_step (item_at e.item lanes) e.item e (entry_own (need_at lanes) needs e listed its.0)
+    lane_there = lane_step (item_at e.item lanes) e.item e (ticket_own (need_at lanes) needs e listed its.0)
 
     pub no_lane : item_at e.item lanes ≡ None → ⊥
     no_lane none = unless_none (item_at e.item lanes) lane_there.0 none lane_there.1
@@ -67,7 +67,7 @@ module _ (lanes : List (Numbered Lane)) (needs : List Entry) (listed : AreEntrie
         let one : lane_there.0 ≡ l = cc in
         let need : e.key ≡ l.need = lane_there.2 ∙ ap (λ (x : Lane). x.need) one in (
           omega (arith, cut_key e transport from own its.1, need),
-          λ n k here at low. omega (arith, key_before (need_entry n k) e (at ∙ sym own) (not_before n k here at low), need),
+          λ n k here at low. omega (arith, key_before (need_ticket n k) e (at ∙ sym own) (not_before n k here at low), need),
         )
 
     pub lane_from : (l : Lane) → item_at e.item lanes ≡ Some l → e.group ≡ transport → l.need ≤ most → IsNextNeed transport from most lanes (Some l.need)

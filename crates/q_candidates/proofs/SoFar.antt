@@ -22,7 +22,7 @@ use Rattle.q_candidates.specs.Filing.{is_lane, lane_of}
 use Rattle.q_candidates.specs.Sound.{IsOrdered}
 use Rattle.q_candidates.specs.Walking.{is_open, is_wanted}
 use Rattle.q_candidates.proofs.Better.{first_along, first_back, over_first}
-use Rattle.q_candidates.proofs.EntryLaws.{some_from}
+use Rattle.q_candidates.proofs.TicketLaws.{some_from}
 use Rattle.q_candidates.proofs.ItemSame.{same_item}
 use Rattle.q_candidates.proofs.Keys.{own_found}
 use Rattle.q_candidates.proofs.Lanes.{lane_parts}

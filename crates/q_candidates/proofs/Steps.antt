@@ -6,9 +6,9 @@ use Rattle.std.specs.Prelude.{find}
 use Rattle.q_keyed.specs.Numbered.{has_number, item_at, Items, Numbered, put_at, without_number}
 use Rattle.q_rounds.proofs.ItemSets.{unless_none}
 use Rattle.q_rounds.proofs.Lookups.{other_left, other_more, other_put, own_left, own_more, own_put}
-use Rattle.q_rounds.specs.Listing.{AreEntries}
-use Rattle.q_sorted.specs.declared.entry.Entry.{Entry}
-use Rattle.q_sorted.specs.Entries.{Entries}
+use Rattle.q_rounds.specs.Listing.{AreTickets}
+use Rattle.q_sorted.specs.declared.ticket.Ticket.{Ticket}
+use Rattle.q_sorted.specs.Tickets.{Tickets}
 use Rattle.q_candidates.specs.declared.candidate.Candidate.{Candidate}
 use Rattle.q_candidates.specs.declared.index.Index.{Index}
 use Rattle.q_candidates.specs.Filing.{arrival_at, IsChanged}
@@ -42,9 +42,9 @@ fit_less n ks fit m q h =
     fit m q (sym (other_left n m ks other) ∙ h)
 
 -- what holds of the parts
-pub sound_from : (v was : Items Candidate) (xs : List (Numbered Candidate)) (index old : Index) (w had : Entries) (es : List Entry) → v ≡ record was { items = xs } → AreFit xs → IsLaid index → IsFiled xs index → index.lanes.room ≡ old.lanes.room → old.lanes.room ≡ was.room →
-    w ≡ record had { items = es } → AreEntries (arrival_at xs) es → had.room ≡ was.room → IsSound v index w
+pub sound_from : (v was : Items Candidate) (xs : List (Numbered Candidate)) (index old : Index) (w had : Tickets) (es : List Ticket) → v ≡ record was { items = xs } → AreFit xs → IsLaid index → IsFiled xs index → index.lanes.room ≡ old.lanes.room → old.lanes.room ≡ was.room →
+    w ≡ record had { items = es } → AreTickets (arrival_at xs) es → had.room ≡ was.room → IsSound v index w
 sound_from v was xs index old w had es is fit laid filed room was_room w_is arrived had_room =
     subst (λ (x : Items Candidate). IsSound x index w) (sym is)
-    (subst (λ (y : Entries). IsSound (record was { items = xs }) index y) (sym w_is)
+    (subst (λ (y : Tickets). IsSound (record was { items = xs }) index y) (sym w_is)
     (record { ordered = record { fit = fit; laid = laid; filed = filed; room = room ∙ was_room }; arrived = arrived; arrival_room = had_room }))

@@ -2,13 +2,13 @@
 use Rattle.std.specs.Option.{option_map_or}
 use Rattle.std.specs.Prelude.{◌≡◌, ◌≤◌, ◌*◌, ◌+◌, ◌⊎◌, Bool, false, if◌then◌else◌, List, nat_lt, None, Option, Some, true, ℕ}
 use Rattle.q_keyed.specs.Numbered.{item_at, Numbered}
-use Rattle.q_sorted.specs.declared.entry.Entry.{Entry}
+use Rattle.q_sorted.specs.declared.ticket.Ticket.{Ticket}
 use Rattle.q_candidates.specs.declared.candidate.Candidate.{Candidate}
 use Rattle.q_candidates.specs.declared.lane.Lane.{Lane}
 use Rattle.q_candidates.specs.Candidates.{age_at, goes_first}
 
 -- what goes before all lanes of the transport that have this need or a greater one
-abbrev pub cut_at : ℕ → ℕ → Entry
+abbrev pub cut_at : ℕ → ℕ → Ticket
 cut_at transport from = record { key = from; group = transport; item = 0 }
 
 -- the least need of the lanes of the transport that is this one or more, up to the most

@@ -5,7 +5,7 @@ use Rattle.q_keyed.specs.Numbered.{first_such, item_at, Numbered}
 use Rattle.q_model.specs.Sites.{site_eq}
 use Rattle.q_model.specs.Values.{Site}
 use Rattle.q_peers.specs.Buckets.{site_hash}
-use Rattle.q_sorted.specs.declared.entry.Entry.{Entry}
+use Rattle.q_sorted.specs.declared.ticket.Ticket.{Ticket}
 use Rattle.q_candidates.specs.declared.candidate.Candidate.{Candidate}
 use Rattle.q_candidates.specs.declared.index.Index.{Index}
 use Rattle.q_candidates.specs.declared.lane.Lane.{Lane}
@@ -40,38 +40,38 @@ age_key c = c.arrival * 2 ^ 64 + c.rank
 abbrev pub rank_key : Candidate → ℕ
 rank_key c = c.rank
 
-abbrev pub entry_with : (Candidate → ℕ) → ℕ → ℕ → Candidate → Entry
-entry_with key lane number c = record { key = key c; group = lane; item = number }
+abbrev pub ticket_with : (Candidate → ℕ) → ℕ → ℕ → Candidate → Ticket
+ticket_with key lane number c = record { key = key c; group = lane; item = number }
 
--- the entry of a candidate in the lane of its site and need
-abbrev pub entry_in : (Candidate → ℕ) → List (Numbered Lane) → ℕ → Candidate → Option Entry
-entry_in key lanes number c =
-    option_map (λ lane. entry_with key lane number c) (lane_of c.site c.need lanes)
+-- the ticket of a candidate in the lane of its site and need
+abbrev pub ticket_in : (Candidate → ℕ) → List (Numbered Lane) → ℕ → Candidate → Option Ticket
+ticket_in key lanes number c =
+    option_map (λ lane. ticket_with key lane number c) (lane_of c.site c.need lanes)
 
 -- that of the candidate under a number
-abbrev pub entry_at : (Candidate → ℕ) → List (Numbered Lane) → List (Numbered Candidate) → ℕ → Option Entry
-entry_at key lanes ks number = option_and_then (entry_in key lanes number) (item_at number ks)
+abbrev pub ticket_at : (Candidate → ℕ) → List (Numbered Lane) → List (Numbered Candidate) → ℕ → Option Ticket
+ticket_at key lanes ks number = option_and_then (ticket_in key lanes number) (item_at number ks)
 
--- the entry of a lane among the needs
-abbrev pub need_entry : ℕ → Lane → Entry
-need_entry number l = record { key = l.need; group = l.site.transport; item = number }
+-- the ticket of a lane among the needs
+abbrev pub need_ticket : ℕ → Lane → Ticket
+need_ticket number l = record { key = l.need; group = l.site.transport; item = number }
 
-abbrev pub need_at : List (Numbered Lane) → ℕ → Option Entry
-need_at lanes number = option_map (need_entry number) (item_at number lanes)
+abbrev pub need_at : List (Numbered Lane) → ℕ → Option Ticket
+need_at lanes number = option_map (need_ticket number) (item_at number lanes)
 
--- the entry of a candidate among those of its transport, by its arrival
-abbrev pub arrival_entry : ℕ → Candidate → Entry
-arrival_entry number c = record { key = c.arrival; group = c.site.transport; item = number }
+-- the ticket of a candidate among those of its transport, by its arrival
+abbrev pub arrival_ticket : ℕ → Candidate → Ticket
+arrival_ticket number c = record { key = c.arrival; group = c.site.transport; item = number }
 
-abbrev pub arrival_at : List (Numbered Candidate) → ℕ → Option Entry
-arrival_at ks number = option_map (arrival_entry number) (item_at number ks)
+abbrev pub arrival_at : List (Numbered Candidate) → ℕ → Option Ticket
+arrival_at ks number = option_map (arrival_ticket number) (item_at number ks)
 
 -- under this number stands this one now, or none, and the others stay
 pub record IsChanged (n : ℕ) (o : Option Candidate) (ks new : List (Numbered Candidate)) : Type 0 where
   pub own : item_at n new ≡ o
   pub others : (m : ℕ) → m ≢ n → item_at m new ≡ item_at m ks
 
--- the site and the need may have got a lane, the lanes that there were stay, and so do all entries
+-- the site and the need may have got a lane, the lanes that there were stay, and so do all tickets
 -- of candidates
 pub record HasGrown (site : Site) (need : ℕ) (old new : Index) : Type 0 where
   pub kept : (s : Site) (d : ℕ) → is_some (lane_of s d old.lanes.items) ≡ true

@@ -4,12 +4,12 @@ use Rattle.std.specs.Prelude.{◌≡◌, ◌≤◌, ◌<◌, ◌^◌, length, Li
 use Rattle.q_heads.specs.Lanes.{class_of, Lanes}
 use Rattle.q_keyed.specs.Numbered.{item_at, Items, Numbered}
 use Rattle.q_model.specs.Values.{Site}
-use Rattle.q_rounds.specs.Listing.{AreEntries}
-use Rattle.q_sorted.specs.Entries.{Entries}
+use Rattle.q_rounds.specs.Listing.{AreTickets}
+use Rattle.q_sorted.specs.Tickets.{Tickets}
 use Rattle.q_candidates.specs.declared.candidate.Candidate.{Candidate}
 use Rattle.q_candidates.specs.declared.index.Index.{Index}
 use Rattle.q_candidates.specs.declared.lane.Lane.{Lane}
-use Rattle.q_candidates.specs.Filing.{age_key, arrival_at, class_for, entry_at, lane_of, need_at, rank_key}
+use Rattle.q_candidates.specs.Filing.{age_key, arrival_at, class_for, lane_of, need_at, rank_key, ticket_at}
 
 -- a lane of the class of its transport and need
 pub record IsLane (number : ℕ) (l : Lane) (heads : Lanes) : Type 0 where
@@ -25,7 +25,7 @@ AreLanes lanes heads = (number : ℕ) (l : Lane) → item_at number lanes ≡ So
 pub record IsLaid (i : Index) : Type 0 where
   pub ages : AreLanes i.lanes.items i.ages
   pub ranks : AreLanes i.lanes.items i.ranks
-  pub listed : AreEntries (need_at i.lanes.items) i.needs.items
+  pub listed : AreTickets (need_at i.lanes.items) i.needs.items
   pub age_lanes : i.ages.lanes ≡ i.lanes.room
   pub age_room : i.ages.room ≡ i.lanes.room
   pub rank_lanes : i.ranks.lanes ≡ i.lanes.room
@@ -42,8 +42,8 @@ pub record IsUsed (site : Site) (need : ℕ) (ks : List (Numbered Candidate)) : 
 
 -- each candidate stands in a lane, by its age and by its rank, and each lane has one
 pub record IsFiled (ks : List (Numbered Candidate)) (i : Index) : Type 0 where
-  pub aged : AreEntries (entry_at age_key i.lanes.items ks) i.ages.items
-  pub ranked : AreEntries (entry_at rank_key i.lanes.items ks) i.ranks.items
+  pub aged : AreTickets (ticket_at age_key i.lanes.items ks) i.ages.items
+  pub ranked : AreTickets (ticket_at rank_key i.lanes.items ks) i.ranks.items
   pub laned : (n : ℕ) (c : Candidate) → item_at n ks ≡ Some c
       → is_some (lane_of c.site c.need i.lanes.items) ≡ true
   pub used : (n : ℕ) (l : Lane) → item_at n i.lanes.items ≡ Some l → IsUsed l.site l.need ks
@@ -66,7 +66,7 @@ pub record IsOrdered (candidates : Items Candidate) (index : Index) : Type 0 whe
   pub filed : IsFiled candidates.items index
   pub room : index.lanes.room ≡ candidates.room
 
-pub record IsSound (candidates : Items Candidate) (index : Index) (arrivals : Entries) : Type 0 where
+pub record IsSound (candidates : Items Candidate) (index : Index) (arrivals : Tickets) : Type 0 where
   pub ordered : IsOrdered candidates index
-  pub arrived : AreEntries (arrival_at candidates.items) arrivals.items
+  pub arrived : AreTickets (arrival_at candidates.items) arrivals.items
   pub arrival_room : arrivals.room ≡ candidates.room

@@ -2,20 +2,20 @@
 ghost use Rattle.std.specs.Prelude.{◌≡◌, ◌≤◌, Some, ℕ};
 ghost use Rattle.q_candidates.specs.declared.candidate.Candidate.{Candidate};
 ghost use Rattle.q_candidates.specs.Candidates.{age_at};
-ghost use Rattle.q_candidates.specs.Filing.{arrival_at, arrival_entry};
+ghost use Rattle.q_candidates.specs.Filing.{arrival_at, arrival_ticket};
 ghost use Rattle.q_keyed.specs.Numbered.{item_at};
-ghost use Rattle.q_rounds.specs.Listing.{AreEntries};
+ghost use Rattle.q_rounds.specs.Listing.{AreTickets};
 
 use crate::candidate::Candidate;
 use q_keyed::Keyed;
 use q_model::Moment;
-use q_sorted::{Entry, Sorted};
+use q_sorted::{Sorted, Ticket};
 
-/// The entry of a candidate among those of its transport.
-pub(crate) fn arrival_entry(number: u32, candidate: &Candidate) -> Entry
-    ensures { result ≡ arrival_entry number candidate.now }
+/// The ticket of a candidate among those of its transport.
+pub(crate) fn arrival_ticket(number: u32, candidate: &Candidate) -> Ticket
+    ensures { result ≡ arrival_ticket number candidate.now }
 {
-    Entry {
+    Ticket {
         key: u128::from(candidate.arrival),
         group: u32::from(candidate.site.transport),
         item: number,
@@ -29,7 +29,7 @@ pub(crate) fn greatest_age(
     transport: u8,
     now: Moment,
 ) -> u64
-    requires { AreEntries (arrival_at candidates.now.items) arrivals.now.items }
+    requires { AreTickets (arrival_at candidates.now.items) arrivals.now.items }
     ensures { (n : ℕ) (c : Candidate) → item_at n candidates.now.items ≡ Some c
         → c.site.transport ≡ transport → age_at now c ≤ result }
 {

@@ -4,7 +4,7 @@ ghost use Rattle.std.specs.List.{AllByRecursion};
 ghost use Rattle.std.specs.Option.{option_copied};
 ghost use Rattle.q_candidates.specs.Candidates.{AreApart, is_of, put_in};
 
-use crate::arrivals::arrival_entry;
+use crate::arrivals::arrival_ticket;
 use crate::candidate::Candidate;
 use crate::index::Index;
 use q_keyed::Keyed;
@@ -100,18 +100,18 @@ impl Candidates {
         let Some(number) = self.candidates.find(&candidate.key()) else {
             let number = self.candidates.push(candidate);
             self.index.enter(number, &candidate);
-            self.arrivals.insert(arrival_entry(number, &candidate));
+            self.arrivals.insert(arrival_ticket(number, &candidate));
             return;
         };
         let Some(was) = self.candidates.get(number).copied() else {
             return;
         };
         self.index.leave(number, &was);
-        self.arrivals.remove(&arrival_entry(number, &was));
+        self.arrivals.remove(&arrival_ticket(number, &was));
         self.arrivals.stand_sorted();
         self.candidates.put(number, candidate);
         self.index.enter(number, &candidate);
-        self.arrivals.insert(arrival_entry(number, &candidate));
+        self.arrivals.insert(arrival_ticket(number, &candidate));
     }
 
     /// Takes the candidate of the message at the site out, and does nothing where there is none.
@@ -127,7 +127,7 @@ impl Candidates {
             return;
         };
         self.index.leave(number, &candidate);
-        self.arrivals.remove(&arrival_entry(number, &candidate));
+        self.arrivals.remove(&arrival_ticket(number, &candidate));
         let _candidate = self.candidates.remove(number);
     }
 }

@@ -3,13 +3,13 @@ ghost use Rattle.std.specs.Prelude.{◌≡◌, ◌<◌, length, None, Some, true
 ghost use Rattle.std.specs.Option.{is_some};
 ghost use Rattle.q_heads.specs.Lanes.{stands};
 ghost use Rattle.q_keyed.specs.Numbered.{item_at, Numbered};
-ghost use Rattle.q_sorted.specs.declared.entry.Entry.{Entry};
+ghost use Rattle.q_sorted.specs.declared.ticket.Ticket.{Ticket};
 ghost use Rattle.q_candidates.specs.declared.candidate.Candidate.{Candidate};
 ghost use Rattle.q_candidates.specs.Filing.{HasGrown, IsChanged, lane_of};
 ghost use Rattle.q_candidates.specs.Sound.{HasSpace, IsFiled, IsLaid};
 
 use crate::candidate::Candidate;
-use crate::index::{Index, age_entry, need_entry, rank_entry};
+use crate::index::{Index, age_ticket, need_ticket, rank_ticket};
 use crate::lane::{Lane, class_for, lane_of};
 use q_model::Site;
 
@@ -18,9 +18,9 @@ impl Index {
     fn make_lane(&mut self, site: &Site, need: u64) -> u32
         requires laid { IsLaid self.old }
         requires room { length self.old.lanes.items < self.old.lanes.room }
-        requires ages { (e : Entry) → stands e self.old.ages.items ≡ true
+        requires ages { (e : Ticket) → stands e self.old.ages.items ≡ true
             → is_some (item_at e.group self.old.lanes.items) ≡ true }
-        requires ranks { (e : Entry) → stands e self.old.ranks.items ≡ true
+        requires ranks { (e : Ticket) → stands e self.old.ranks.items ≡ true
             → is_some (item_at e.group self.old.lanes.items) ≡ true }
         ensures laid { IsLaid self.new }
         ensures own { lane_of site.now need self.new.lanes.items ≡ Some result }
@@ -38,7 +38,7 @@ impl Index {
         let class = class_for(site.transport, need);
         self.ages.set_class(number, class);
         self.ranks.set_class(number, class);
-        self.needs.insert(need_entry(number, &lane));
+        self.needs.insert(need_ticket(number, &lane));
         number
     }
 
@@ -57,8 +57,8 @@ impl Index {
         self.ranks.stand_sorted();
         let lane = self.make_lane(&candidate.site, candidate.need);
         self.lanes.stand_apart();
-        self.ages.insert(age_entry(lane, number, candidate));
-        self.ranks.insert(rank_entry(lane, number, candidate));
+        self.ages.insert(age_ticket(lane, number, candidate));
+        self.ranks.insert(rank_ticket(lane, number, candidate));
     }
 
     /// The candidate under a number goes, and with it its lane where it is the last one there.
@@ -74,14 +74,14 @@ impl Index {
         let Some(lane) = lane_of(&self.lanes, &candidate.site, candidate.need) else {
             return;
         };
-        self.ages.remove(&age_entry(lane, number, candidate));
-        self.ranks.remove(&rank_entry(lane, number, candidate));
+        self.ages.remove(&age_ticket(lane, number, candidate));
+        self.ranks.remove(&rank_ticket(lane, number, candidate));
         if self.ages.first_of_lane(lane).is_none() {
             let gone = Lane {
                 site: candidate.site,
                 need: candidate.need,
             };
-            self.needs.remove(&need_entry(lane, &gone));
+            self.needs.remove(&need_ticket(lane, &gone));
             let _lane = self.lanes.remove(lane);
         }
     }

@@ -1,6 +1,6 @@
 //! How candidates are found in order.
 ghost use Rattle.std.specs.Prelude.{◌≡◌, ◌<◌, ◌≤◌, ◌*◌, ◌+◌, ◌^◌, [], IfOk};
-ghost use Rattle.q_candidates.specs.Filing.{age_key, entry_with, need_entry, rank_key};
+ghost use Rattle.q_candidates.specs.Filing.{age_key, need_ticket, rank_key, ticket_with};
 ghost use Rattle.q_candidates.specs.Sound.{IsFiled, IsLaid};
 
 use crate::candidate::Candidate;
@@ -8,7 +8,7 @@ use crate::lane::Lane;
 use q_heads::Heads;
 use q_keyed::Keyed;
 use q_model::Moment;
-use q_sorted::{Entry, Sorted};
+use q_sorted::{Sorted, Ticket};
 use std::alloc::{AllocError, Global};
 
 /// The numbers of candidates in lanes, of which each has those of one site and need.
@@ -34,33 +34,33 @@ fn age_key(arrival: Moment, rank: u64) -> u128
     u128::from(arrival) * RANKS + u128::from(rank)
 }
 
-/// The entry of a candidate in its lane among the ages.
-pub(crate) fn age_entry(lane: u32, number: u32, candidate: &Candidate) -> Entry
-    ensures { result ≡ entry_with age_key lane number candidate.now }
+/// The ticket of a candidate in its lane among the ages.
+pub(crate) fn age_ticket(lane: u32, number: u32, candidate: &Candidate) -> Ticket
+    ensures { result ≡ ticket_with age_key lane number candidate.now }
 {
-    Entry {
+    Ticket {
         key: age_key(candidate.arrival, candidate.rank),
         group: lane,
         item: number,
     }
 }
 
-/// The entry of a candidate in its lane among the ranks.
-pub(crate) fn rank_entry(lane: u32, number: u32, candidate: &Candidate) -> Entry
-    ensures { result ≡ entry_with rank_key lane number candidate.now }
+/// The ticket of a candidate in its lane among the ranks.
+pub(crate) fn rank_ticket(lane: u32, number: u32, candidate: &Candidate) -> Ticket
+    ensures { result ≡ ticket_with rank_key lane number candidate.now }
 {
-    Entry {
+    Ticket {
         key: u128::from(candidate.rank),
         group: lane,
         item: number,
     }
 }
 
-/// The entry of a lane among the needs.
-pub(crate) fn need_entry(number: u32, lane: &Lane) -> Entry
-    ensures { result ≡ need_entry number lane.now }
+/// The ticket of a lane among the needs.
+pub(crate) fn need_ticket(number: u32, lane: &Lane) -> Ticket
+    ensures { result ≡ need_ticket number lane.now }
 {
-    Entry {
+    Ticket {
         key: u128::from(lane.need),
         group: u32::from(lane.site.transport),
         item: number,

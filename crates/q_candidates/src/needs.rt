@@ -4,13 +4,13 @@ ghost use Rattle.q_candidates.specs.Choosing.{cut_at, IsNextNeed};
 ghost use Rattle.q_candidates.specs.Sound.{IsLaid};
 
 use crate::index::Index;
-use q_sorted::Entry;
+use q_sorted::Ticket;
 
 /// What goes before all lanes of the transport that have this need or a greater one.
-fn cut_at(transport: u8, from: u64) -> Entry
+fn cut_at(transport: u8, from: u64) -> Ticket
     ensures { result ≡ cut_at transport from }
 {
-    Entry {
+    Ticket {
         key: u128::from(from),
         group: u32::from(transport),
         item: 0,

@@ -11,17 +11,17 @@ use crate::wanted::Wanted;
 use q_dest::Sites;
 use q_heads::Heads;
 use q_keyed::Keyed;
-use q_sorted::Entry;
+use q_sorted::Ticket;
 
-/// The first entry of the head's lane that is wanted. A message has one candidate at a site, so
+/// The first ticket of the head's lane that is wanted. A message has one candidate at a site, so
 /// the one behind that of the message that is left out is of another.
 fn first_in_lane(
     heads: &Heads,
     candidates: &Keyed<Candidate>,
-    head: &Entry,
+    head: &Ticket,
     wanted: &Wanted,
     sites: &Sites,
-) -> Option<Entry>
+) -> Option<Ticket>
     ensures { result ≡ first_in_lane sites.now.items wanted.now candidates.now.items
         heads.now.items head.now }
 {
@@ -37,7 +37,7 @@ fn first_in_lane(
 }
 
 /// The one with the lesser key.
-fn nearer(a: Option<Entry>, b: Option<Entry>) -> Option<Entry>
+fn nearer(a: Option<Ticket>, b: Option<Ticket>) -> Option<Ticket>
     ensures { result ≡ nearer a b }
 {
     match (a, b) {
@@ -48,7 +48,7 @@ fn nearer(a: Option<Entry>, b: Option<Entry>) -> Option<Entry>
 }
 
 /// Whether what was found has no greater key than the head, and so none than all behind it.
-fn is_past(found: Option<Entry>, head: &Entry) -> bool
+fn is_past(found: Option<Ticket>, head: &Ticket) -> bool
     ensures { result ≡ is_past found head.now }
 {
     match found {
@@ -64,7 +64,7 @@ pub(crate) fn first_wanted(
     candidates: &Keyed<Candidate>,
     wanted: &Wanted,
     sites: &Sites,
-) -> Option<Entry>
+) -> Option<Ticket>
     ensures { (key : Candidate → ℕ) (lanes : List (Numbered Lane))
         → AreOrdered key lanes candidates.now.items heads.now
         → IsFoundBy key (is_wanted sites.now.items wanted.now) candidates.now.items result }

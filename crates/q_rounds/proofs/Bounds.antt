@@ -7,7 +7,7 @@ use Rattle.std.specs.Prelude.{◌||◌, nat_lt}
 use Rattle.q_chains.specs.Lists.{Lists}
 use Rattle.q_keyed.specs.Numbered.{AreApart, item_at, Items, values_of}
 use Rattle.q_model.specs.declared.id.Id.{Id}
-use Rattle.q_sorted.specs.Entries.{Entries}
+use Rattle.q_sorted.specs.Tickets.{Tickets}
 use Rattle.q_rounds.specs.declared.peer.Peer.{Peer}
 use Rattle.q_rounds.specs.declared.round.Round.{Round}
 use Rattle.q_rounds.specs.Jobs.{one_passed, round_of, rows_in, rows_of, total}
@@ -36,7 +36,7 @@ pub any_passed : (ps : List Peer) → nat_lt 0 (total one_passed ps) ≡ list_an
 any_passed [] = refl
 any_passed (p ∷ ps) = any_step p ps p.passed (any_passed ps)
 
-module _ (peers : Items Peer) (rounds : Items Round) (fresh : Lists) (turns : Entries) (passed : ℕ) (sound : IsSound peers rounds fresh turns passed) (apart : AreApart peers.items) where
+module _ (peers : Items Peer) (rounds : Items Round) (fresh : Lists) (tickets : Tickets) (passed : ℕ) (sound : IsSound peers rounds fresh tickets passed) (apart : AreApart peers.items) where
   pub few_rows : (i : Id) (t : ℕ) → length peers.items ≤ peers.room → peers.room < 2 ^ 30 → rows_in i t rounds.items + 2 ^ 32 < 2 ^ 64
   few_rows i t within few =
       let most = total_most (rows_of i t) (2 ^ 32) peers.items apart (λ n p h. rows_step p (is_peer_for i t p) (sound.fit n p h).few) in
@@ -75,5 +75,5 @@ sound_empty room = record {
   placed = λ x. refl;
   passes = refl;
   round_room = refl;
-  turn_room = refl;
+  ticket_room = refl;
 }

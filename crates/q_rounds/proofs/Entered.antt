@@ -1,4 +1,4 @@
--- Entries that stand where they are those of the numbers that they name, as one comes or goes.
+-- Tickets that stand where they are those of the numbers that they name, as one comes or goes.
 use Rattle.std.proofs.Common.{◌≡◌, ◌≢◌, ◌∙◌, ◌∷◌, ◌&&◌, ◌||◌, ◌<◌, ◌≤◌, [], ap, arith, Bool, cond, false, inl, inr, length, List, None, not, Option, refl, Some, sym, true, ℕ, ◌⊎◌}
 use Rattle.std.proofs.lemmas.Bool.{both_ways, cases_eq, false_from_ne_true}
 use Rattle.std.specs.Option.{is_some}
@@ -6,28 +6,28 @@ use Rattle.std.specs.Prelude.{filter}
 use Rattle.q_heads.proofs.Standing.{all_stand, not_itself, same_is, same_refl, stands_here, stands_inserted, stands_later, stands_left}
 use Rattle.q_heads.specs.Lanes.{is_same, is_the, stands}
 use Rattle.q_keyed.specs.Numbered.{item_at, Numbered, without_number}
-use Rattle.q_sorted.specs.declared.entry.Entry.{Entry}
-use Rattle.q_sorted.specs.Entries.{goes_before, inserted, is_another, Rises}
-use Rattle.q_rounds.specs.Listing.{AreEntries}
+use Rattle.q_sorted.specs.declared.ticket.Ticket.{Ticket}
+use Rattle.q_sorted.specs.Tickets.{goes_before, inserted, is_another, Rises}
+use Rattle.q_rounds.specs.Listing.{AreTickets}
 use Rattle.q_rounds.proofs.Lookups.{fewer_at, other_left}
 
-pub the_is : (x : Entry) (o : Option Entry) → is_the x o ≡ true → o ≡ Some x
+pub the_is : (x : Ticket) (o : Option Ticket) → is_the x o ≡ true → o ≡ Some x
 the_is x None h = absurd cc
 the_is x (Some y) h = ap Some (sym (same_is x y h))
 
-pub alike : (f g : ℕ → Option Entry) (xs : List Entry) → AreEntries f xs → ((n : ℕ) → g n ≡ f n) → AreEntries g xs
+pub alike : (f g : ℕ → Option Ticket) (xs : List Ticket) → AreTickets f xs → ((n : ℕ) → g n ≡ f n) → AreTickets g xs
 alike f g xs are same x = are x ∙ ap (is_the x) (sym (same x.item))
 
--- the entry of a number stands there
-pub entered : (f : ℕ → Option Entry) (xs : List Entry) (n : ℕ) (e : Entry) → AreEntries f xs → f n ≡ Some e → e.item ≡ n → stands e xs ≡ true
+-- the ticket of a number stands there
+pub entered : (f : ℕ → Option Ticket) (xs : List Ticket) (n : ℕ) (e : Ticket) → AreTickets f xs → f n ≡ Some e → e.item ≡ n → stands e xs ≡ true
 entered f xs n e are own named = are e ∙ ap (λ m. is_the e (f m)) named ∙ ap (is_the e) own ∙ same_refl e
 
--- what stands there is the entry of its number
-pub entry_own : (f : ℕ → Option Entry) (xs : List Entry) (x : Entry) → AreEntries f xs → stands x xs ≡ true → f x.item ≡ Some x
-entry_own f xs x are there = the_is x (f x.item) (sym (are x) ∙ there)
+-- what stands there is the ticket of its number
+pub ticket_own : (f : ℕ → Option Ticket) (xs : List Ticket) (x : Ticket) → AreTickets f xs → stands x xs ≡ true → f x.item ≡ Some x
+ticket_own f xs x are there = the_is x (f x.item) (sym (are x) ∙ there)
 
-other_entry : (x e : Entry) (n : ℕ) → e.item ≡ n → x.item ≢ n → is_same x e ≡ false
-other_entry x e n named other = false_from_ne_true (is_same x e) (λ h. other (ap (λ (y : Entry). y.item) (same_is x e h) ∙ named))
+other_ticket : (x e : Ticket) (n : ℕ) → e.item ≡ n → x.item ≢ n → is_same x e ≡ false
+other_ticket x e n named other = false_from_ne_true (is_same x e) (λ h. other (ap (λ (y : Ticket). y.item) (same_is x e h) ∙ named))
 
 or_none : (b : Bool) → (b || false) ≡ b
 or_none true = refl
@@ -42,36 +42,36 @@ cond_same true x = refl
 cond_same false x = refl
 
 -- Those of all numbers but one stay the same.
-abbrev pub StayBut : ℕ → (ℕ → Option Entry) → (ℕ → Option Entry) → Type 0
+abbrev pub StayBut : ℕ → (ℕ → Option Ticket) → (ℕ → Option Ticket) → Type 0
 StayBut n f g = (m : ℕ) → m ≢ n → g m ≡ f m
 
-module _ (f g : ℕ → Option Entry) (xs : List Entry) (are : AreEntries f xs) (n : ℕ) (stay : StayBut n f g) where
-  come_same : (e x : Entry) → f n ≡ None → g n ≡ Some e → x.item ≡ n → stands x (inserted e xs) ≡ is_the x (g x.item)
+module _ (f g : ℕ → Option Ticket) (xs : List Ticket) (are : AreTickets f xs) (n : ℕ) (stay : StayBut n f g) where
+  come_same : (e x : Ticket) → f n ≡ None → g n ≡ Some e → x.item ≡ n → stands x (inserted e xs) ≡ is_the x (g x.item)
   come_same e x none own same =
       let lacks : stands x xs ≡ false = are x ∙ ap (λ m. is_the x (f m)) same ∙ ap (is_the x) none in
       stands_inserted e x xs ∙ ap (λ b. is_same x e || b) lacks ∙ or_none (is_same x e)
       ∙ ap (is_the x) (sym own) ∙ ap (λ m. is_the x (g m)) (sym same)
 
-  come_other : (e x : Entry) → e.item ≡ n → x.item ≢ n → stands x (inserted e xs) ≡ is_the x (g x.item)
+  come_other : (e x : Ticket) → e.item ≡ n → x.item ≢ n → stands x (inserted e xs) ≡ is_the x (g x.item)
   come_other e x named other =
-      stands_inserted e x xs ∙ ap (λ b. b || stands x xs) (other_entry x e n named other) ∙ are x ∙ ap (is_the x) (sym (stay x.item other))
+      stands_inserted e x xs ∙ ap (λ b. b || stands x xs) (other_ticket x e n named other) ∙ are x ∙ ap (is_the x) (sym (stay x.item other))
 
   -- one comes
-  pub come : (e : Entry) → f n ≡ None → g n ≡ Some e → e.item ≡ n → AreEntries g (inserted e xs)
+  pub come : (e : Ticket) → f n ≡ None → g n ≡ Some e → e.item ≡ n → AreTickets g (inserted e xs)
   come e none own named x = elim (cases_eq x.item n) [ inl same ↦ come_same e x none own same | inr other ↦ come_other e x named other ]
 
-  go_same : (e x : Entry) → f n ≡ Some e → g n ≡ None → x.item ≡ n → stands x (filter (is_another e) xs) ≡ is_the x (g x.item)
+  go_same : (e x : Ticket) → f n ≡ Some e → g n ≡ None → x.item ≡ n → stands x (filter (is_another e) xs) ≡ is_the x (g x.item)
   go_same e x own none same =
       let there : stands x xs ≡ is_same x e = are x ∙ ap (λ m. is_the x (f m)) same ∙ ap (is_the x) own in
       stands_left e x xs ∙ ap (λ b. not (is_same x e) && b) there ∙ neither (is_same x e)
       ∙ ap (is_the x) (sym none) ∙ ap (λ m. is_the x (g m)) (sym same)
 
-  go_other : (e x : Entry) → e.item ≡ n → x.item ≢ n → stands x (filter (is_another e) xs) ≡ is_the x (g x.item)
+  go_other : (e x : Ticket) → e.item ≡ n → x.item ≢ n → stands x (filter (is_another e) xs) ≡ is_the x (g x.item)
   go_other e x named other =
-      stands_left e x xs ∙ ap (λ b. not b && stands x xs) (other_entry x e n named other) ∙ are x ∙ ap (is_the x) (sym (stay x.item other))
+      stands_left e x xs ∙ ap (λ b. not b && stands x xs) (other_ticket x e n named other) ∙ are x ∙ ap (is_the x) (sym (stay x.item other))
 
   -- one goes
-  pub go : (e : Entry) → f n ≡ Some e → g n ≡ None → e.item ≡ n → AreEntries g (filter (is_another e) xs)
+  pub go : (e : Ticket) → f n ≡ Some e → g n ≡ None → e.item ≡ n → AreTickets g (filter (is_another e) xs)
   go e own none named x = elim (cases_eq x.item n) [ inl same ↦ go_same e x own none same | inr other ↦ go_other e x named other ]
 
   none_step : (m : ℕ) → f n ≡ None → g n ≡ None → (m ≡ n) ⊎ (m ≢ n) → g m ≡ f m
@@ -79,16 +79,16 @@ module _ (f g : ℕ → Option Entry) (xs : List Entry) (are : AreEntries f xs) 
   none_step m a b (inr other) = stay m other
 
   -- none does
-  pub none_does : f n ≡ None → g n ≡ None → AreEntries g xs
+  pub none_does : f n ≡ None → g n ≡ None → AreTickets g xs
   none_does a b = alike f g xs are (λ m. none_step m a b (cases_eq m n))
 
--- There are no more entries than numbers.
-abbrev AreItemsApart : List Entry → Type 0
+-- There are no more tickets than numbers.
+abbrev AreItemsApart : List Ticket → Type 0
 AreItemsApart [] = Unit {0}
-AreItemsApart (x ∷ xs) = ((y : Entry) → stands y xs ≡ true → y.item ≢ x.item) × AreItemsApart xs
+AreItemsApart (x ∷ xs) = ((y : Ticket) → stands y xs ≡ true → y.item ≢ x.item) × AreItemsApart xs
 
-module _ (f : ℕ → Option Entry) where
-  apart : (xs : List Entry) → Rises xs → ((x : Entry) → stands x xs ≡ true → f x.item ≡ Some x) → AreItemsApart xs
+module _ (f : ℕ → Option Ticket) where
+  apart : (xs : List Ticket) → Rises xs → ((x : Ticket) → stands x xs ≡ true → f x.item ≡ Some x) → AreItemsApart xs
   apart [] rising own = tt
   apart (x ∷ xs) rising own = (
     λ y there same.
@@ -101,27 +101,27 @@ module _ (f : ℕ → Option Entry) where
   )
 
 module _ {T : Type 0} where
-  few : (xs : List Entry) (ks : List (Numbered T)) → AreItemsApart xs → ((x : Entry) → stands x xs ≡ true → is_some (item_at x.item ks) ≡ true) → length xs ≤ length ks
+  few : (xs : List Ticket) (ks : List (Numbered T)) → AreItemsApart xs → ((x : Ticket) → stands x xs ≡ true → is_some (item_at x.item ks) ≡ true) → length xs ≤ length ks
   few [] ks apart there = omega arith
   few (x ∷ xs) ks apart there =
       let left = fewer_at x.item ks (there x (stands_here x x xs refl)) in
       let rest = few xs (without_number x.item ks) apart.1 (λ y stands. ap is_some (other_left x.item y.item ks (apart.0 y stands)) ∙ there y (stands_later y x xs stands)) in
       omega (arith, left, rest)
 
-  -- where a number has no entry, there are fewer
-  pub fewer_entries : (f : ℕ → Option Entry) (xs : List Entry) (ks : List (Numbered T)) (n : ℕ) → AreEntries f xs → Rises xs → ((m : ℕ) (e : Entry) → f m ≡ Some e → is_some (item_at m ks) ≡ true) → f n ≡ None → is_some (item_at n ks) ≡ true →
+  -- where a number has no ticket, there are fewer
+  pub fewer_tickets : (f : ℕ → Option Ticket) (xs : List Ticket) (ks : List (Numbered T)) (n : ℕ) → AreTickets f xs → Rises xs → ((m : ℕ) (e : Ticket) → f m ≡ Some e → is_some (item_at m ks) ≡ true) → f n ≡ None → is_some (item_at n ks) ≡ true →
       length xs < length ks
-  fewer_entries f xs ks n are rising held none there =
+  fewer_tickets f xs ks n are rising held none there =
       let left = fewer_at n ks there in
-      let own : (x : Entry) → stands x xs ≡ true → f x.item ≡ Some x = λ x h. entry_own f xs x are h in
+      let own : (x : Ticket) → stands x xs ≡ true → f x.item ≡ Some x = λ x h. ticket_own f xs x are h in
       let rest = few xs (without_number n ks) (apart f xs rising own) (λ x h.
       ap is_some (other_left n x.item ks (λ same.
-      let some : ◌≡◌ {A = Option Entry} None (Some x) = sym none ∙ ap f (sym same) ∙ own x h in
+      let some : ◌≡◌ {A = Option Ticket} None (Some x) = sym none ∙ ap f (sym same) ∙ own x h in
       absurd cc))
       ∙ held x.item x (own x h)) in
       omega (arith, left, rest)
 
-  pub most_entries : (f : ℕ → Option Entry) (xs : List Entry) (ks : List (Numbered T)) → AreEntries f xs → Rises xs → ((m : ℕ) (e : Entry) → f m ≡ Some e → is_some (item_at m ks) ≡ true) → length xs ≤ length ks
-  most_entries f xs ks are rising held =
-      let own : (x : Entry) → stands x xs ≡ true → f x.item ≡ Some x = λ x h. entry_own f xs x are h in
+  pub most_tickets : (f : ℕ → Option Ticket) (xs : List Ticket) (ks : List (Numbered T)) → AreTickets f xs → Rises xs → ((m : ℕ) (e : Ticket) → f m ≡ Some e → is_some (item_at m ks) ≡ true) → length xs ≤ length ks
+  most_tickets f xs ks are rising held =
+      let own : (x : Ticket) → stands x xs ≡ true → f x.item ≡ Some x = λ x h. ticket_own f xs x are h in
       few xs ks (apart f xs rising own) (λ x h. held x.item x (own x h))

@@ -8,12 +8,12 @@ pub mod RoundSets
 pub mod RoundRows
 pub mod FewRounds
 pub mod ListLaws
-pub mod TurnLaws
+pub mod TicketLaws
 pub mod ItemSets
 pub mod Steps
 pub mod Leasts
 pub mod NextPeer
-pub mod TurnWalk
+pub mod TicketWalk
 pub mod Changed
 pub mod Bounds
 pub mod NumberedWalk

@@ -1,4 +1,4 @@
--- The peer that is found in lists and entries is the one that is sent to next.
+-- The peer that is found in lists and tickets is the one that is sent to next.
 use Rattle.std.proofs.Common.{◌≡◌, ◌∙◌, ◌∷◌, ◌<◌, ◌≤◌, [], ap, arith, Bool, cond, false, inl, inr, List, map, None, Option, option_map, refl, Some, sym, true, ℕ, ◌⊎◌}
 use Rattle.std.proofs.lemmas.Bool.{and_from, and_parts, both_ways, cases_Bool, cases_eq, eq-eqb, eqb-true, false_from_ne_true, ltb-true, not_from_false}
 use Rattle.std.proofs.lemmas.Bool.Decides.{nat_tests}
@@ -9,21 +9,21 @@ use Rattle.q_heads.specs.Lanes.{stands}
 use Rattle.q_keyed.proofs.Values.{held_item, item_found, none_passes, NonePass}
 use Rattle.q_keyed.specs.Numbered.{AreApart, first_such, item_at, Numbered, values_of}
 use Rattle.q_model.specs.declared.id.Id.{Id}
-use Rattle.q_sorted.specs.declared.entry.Entry.{Entry}
-use Rattle.q_sorted.specs.Entries.{goes_before, is_of}
+use Rattle.q_sorted.specs.declared.ticket.Ticket.{Ticket}
+use Rattle.q_sorted.specs.Tickets.{goes_before, is_of}
 use Rattle.q_rounds.specs.declared.peer.Peer.{Peer}
 use Rattle.q_rounds.specs.declared.round.Round.{Round}
 use Rattle.q_rounds.specs.Jobs.{AreRounds, is_round, round_at, round_of, rows_at, rows_of}
-use Rattle.q_rounds.specs.Listing.{AreEntries, is_list, list_of, listed, space_in, turn_at, turn_with}
+use Rattle.q_rounds.specs.Listing.{AreTickets, is_list, list_of, listed, space_in, ticket_at, ticket_with}
 use Rattle.q_rounds.specs.Rounds.{has_space_at, is_peer_for, is_started, may_send, next_in, rows_left}
 use Rattle.q_rounds.specs.Sound.{AreFit, HaveOwnStarts}
 use Rattle.q_rounds.specs.Walking.{can_start, IsLeast}
-use Rattle.q_rounds.proofs.Entered.{entered, entry_own}
+use Rattle.q_rounds.proofs.Entered.{entered, ticket_own}
 use Rattle.q_rounds.proofs.Leasts.{AreLater, is_fresh, IsAmong, least_fresh, least_is, least_none}
 use Rattle.q_rounds.proofs.Lookups.{here_at, later_at, none_at}
 use Rattle.q_rounds.proofs.RoundSets.{job_parts, one_job}
 use Rattle.q_rounds.proofs.Totals.{rows_total, total_part}
-use Rattle.q_rounds.proofs.TurnLaws.{at_is, at_tells, turn_made}
+use Rattle.q_rounds.proofs.TicketLaws.{at_is, at_tells, ticket_made}
 
 find_step : (p : Peer) (a b : Option Peer) (t : Bool) → a ≡ b → cond t (Some p) a ≡ cond t (Some p) b
 find_step p a b true same = refl
@@ -139,7 +139,7 @@ module _ (ds : List Dest) (id : Id) (t : ℕ) (room : ℕ) (rs : List (Numbered 
         it.1 ∙ sym (least_fresh sends it.0 (values_of ks) first)
 
     -- No such one has space.
-    module _ (none : find (space_in ds ks) (listed (list_of rs) r ks) ≡ None) (items : List Entry) (placed : AreEntries (turn_at rs ks) items) where
+    module _ (none : find (space_in ds ks) (listed (list_of rs) r ks) ≡ None) (items : List Ticket) (placed : AreTickets (ticket_at rs ks) items) where
       started_step : (q : Peer) (s : Bool) → is_started q ≡ s → (sends q && not (is_started q)) ≡ false → sends q ≡ true → s ≡ true
       started_step q true is fails passes = refl
       started_step q false is fails passes = absurd (both_ways (sends q && not (is_started q)) fails (and_from (sends q) (not (is_started q)) passes (not_from_false (is_started q) is)))
@@ -149,48 +149,48 @@ module _ (ds : List Dest) (id : Id) (t : ℕ) (room : ℕ) (rs : List (Numbered 
           let fails = sym (in_list_is q) ∙ none_at (in_list ds ks (list_of rs) r) m q ks (none_passes (in_list ds ks (list_of rs) r) ks (sym searched ∙ none)) h in
           started_step q (is_started q) refl fails passes
 
-      abbrev turn_of : ℕ → Peer → Entry
-      turn_of m q = turn_with q.last m r
+      abbrev ticket_of : ℕ → Peer → Ticket
+      ticket_of m q = ticket_with q.last m r
 
-      stands_there : (m : ℕ) (q : Peer) → item_at m ks ≡ Some q → sends q ≡ true → stands (turn_of m q) items ≡ true
+      stands_there : (m : ℕ) (q : Peer) → item_at m ks ≡ Some q → sends q ≡ true → stands (ticket_of m q) items ≡ true
       stands_there m q h passes =
           let of = and_parts (is_peer_for id t q) (has_space_at ds q.site) passes in
-          entered (turn_at rs ks) items m (turn_of m q) placed (at_is rs ks m q h ∙ turn_made (round_of rs q) m r q (all_started m q h passes) (own_round q of.0)) refl
+          entered (ticket_at rs ks) items m (ticket_of m q) placed (at_is rs ks m q h ∙ ticket_made (round_of rs q) m r q (all_started m q h passes) (own_round q of.0)) refl
 
-      passes_there : (m : ℕ) (q : Peer) → item_at m ks ≡ Some q → sends q ≡ true → can_start ds ks r (turn_of m q) ≡ true
+      passes_there : (m : ℕ) (q : Peer) → item_at m ks ≡ Some q → sends q ≡ true → can_start ds ks r (ticket_of m q) ≡ true
       passes_there m q h passes =
           let of = and_parts (is_peer_for id t q) (has_space_at ds q.site) passes in
           and_from (r == r) (space_in ds ks m) (eq-eqb r r refl) (ap (λ (o : Option Peer). option_map_or (λ (p : Peer). has_space_at ds p.site) o false) h ∙ of.1)
 
-      pub next_none : ((x : Entry) → stands x items ≡ true → can_start ds ks r x ≡ false) → next_in ds t id (values_of ks) ≡ None
+      pub next_none : ((x : Ticket) → stands x items ≡ true → can_start ds ks r x ≡ false) → next_in ds t id (values_of ks) ≡ None
       next_none fail =
           least_none sends (values_of ks) (none_from sends ks apart
-          (λ m q h. false_from_ne_true (sends q) (λ passes. both_ways (can_start ds ks r (turn_of m q)) (fail (turn_of m q) (stands_there m q h passes)) (passes_there m q h passes))))
+          (λ m q h. false_from_ne_true (sends q) (λ passes. both_ways (can_start ds ks r (ticket_of m q)) (fail (ticket_of m q) (stands_there m q h passes)) (passes_there m q h passes))))
 
-      not_earlier : (e d : Entry) → e.group ≡ d.group → goes_before d e ≡ false → e.key ≤ d.key
+      not_earlier : (e d : Ticket) → e.group ≡ d.group → goes_before d e ≡ false → e.key ≤ d.key
       not_earlier e d same h = grind (arith, nat_tests)
 
-      module _ (starts : HaveOwnStarts ks) (e : Entry) (least : IsLeast (can_start ds ks r) items e) where
-        pub next_turn : item_at e.item ks ≡ next_in ds t id (values_of ks)
-        next_turn =
-            let at = at_tells rs ks e.item e (entry_own (turn_at rs ks) items e placed least.there) in
+      module _ (starts : HaveOwnStarts ks) (e : Ticket) (least : IsLeast (can_start ds ks r) items e) where
+        pub next_ticket : item_at e.item ks ≡ next_in ds t id (values_of ks)
+        next_ticket =
+            let at = at_tells rs ks e.item e (ticket_own (ticket_at rs ks) items e placed least.there) in
             let p = at.peer in
             let parts = and_parts (is_of r e) (space_in ds ks e.item) least.passes in
             let group : e.group ≡ r = eqb-true e.group r parts.0 in
-            let round : round_of rs p ≡ Some r = at.turn.of ∙ ap Some group in
+            let round : round_of rs p ≡ Some r = at.ticket.of ∙ ap Some group in
             let of : is_peer_for id t p ≡ true = sym (of_round p) ∙ ap (is_list r) round ∙ eq-eqb r r refl in
             let space : has_space_at ds p.site ≡ true = sym (ap (λ (o : Option Peer). option_map_or (λ (q : Peer). has_space_at ds q.site) o false) at.there) ∙ parts.1 in
             let later = λ (m : ℕ) (q : Peer) (h : item_at m ks ≡ Some q) (passes : sends q ≡ true).
-            order m q p e at.there h at.turn.key (ltb-true 0 p.last at.turn.started) (not_earlier e (turn_of m q) group (least.first (turn_of m q) (stands_there m q h passes) (passes_there m q h passes)))
+            order m q p e at.there h at.ticket.key (ltb-true 0 p.last at.ticket.started) (not_earlier e (ticket_of m q) group (least.first (ticket_of m q) (stands_there m q h passes) (passes_there m q h passes)))
             in
             at.there ∙ sym (least_is sends p (values_of ks) (among_from sends e.item p ks at.there) (and_from (is_peer_for id t p) (has_space_at ds p.site) of space) (later_from sends p ks apart later))
           where
-            one_of : (m : ℕ) (q p : Peer) (x : Entry) → item_at x.item ks ≡ Some p → item_at m ks ≡ Some q → x.item ≡ m → q ≡ p
+            one_of : (m : ℕ) (q p : Peer) (x : Ticket) → item_at x.item ks ≡ Some p → item_at m ks ≡ Some q → x.item ≡ m → q ≡ p
             one_of m q p x a b same =
                 let both : Some q ≡ Some p = sym b ∙ ap (λ i. item_at i ks) (sym same) ∙ a in
                 cc
 
-            order : (m : ℕ) (q p : Peer) (x : Entry) → item_at x.item ks ≡ Some p → item_at m ks ≡ Some q → x.key ≡ p.last → 0 < p.last → x.key ≤ q.last → (q ≡ p) ⊎ (p.last < q.last)
+            order : (m : ℕ) (q p : Peer) (x : Ticket) → item_at x.item ks ≡ Some p → item_at m ks ≡ Some q → x.key ≡ p.last → 0 < p.last → x.key ≤ q.last → (q ≡ p) ⊎ (p.last < q.last)
             order m q p x a b key some low = elim (cases_eq p.last q.last) [
               | inl same ↦ inl (one_of m q p x a b (starts x.item m p q a b some same))
               | inr other ↦ inr (omega (arith, key, low, other))

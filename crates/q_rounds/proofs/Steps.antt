@@ -9,29 +9,29 @@ use Rattle.q_heads.specs.Marks.{without as taken}
 use Rattle.q_keyed.specs.Numbered.{AreApart, has_number, item_at, Items, Numbered, put_at, values_of, without_number}
 use Rattle.q_model.specs.declared.id.Id.{Id}
 use Rattle.q_model.specs.Values.{Site}
-use Rattle.q_sorted.specs.declared.entry.Entry.{Entry}
-use Rattle.q_sorted.specs.Entries.{Entries, Rises}
+use Rattle.q_sorted.specs.declared.ticket.Ticket.{Ticket}
+use Rattle.q_sorted.specs.Tickets.{Rises, Tickets}
 use Rattle.q_rounds.specs.declared.peer.Peer.{Peer}
 use Rattle.q_rounds.specs.declared.round.Round.{Round}
 use Rattle.q_rounds.specs.Changing.{IsOfSame}
 use Rattle.q_rounds.specs.Jobs.{AreRounds, HasSet, one_passed, round_of, rows_in, rows_of, same_job, total}
-use Rattle.q_rounds.specs.Listing.{AreEntries, enlisted, is_list, list_in, list_of, turn_at, turn_in}
+use Rattle.q_rounds.specs.Listing.{AreTickets, enlisted, is_list, list_in, list_of, ticket_at, ticket_in}
 use Rattle.q_rounds.specs.Rounds.{has_last, is_started, rows_left}
 use Rattle.q_rounds.specs.Sound.{IsFit, IsSound}
-use Rattle.q_rounds.proofs.Entered.{alike, fewer_entries, most_entries}
+use Rattle.q_rounds.proofs.Entered.{alike, fewer_tickets, most_tickets}
 use Rattle.q_rounds.proofs.ItemSets.{fit_less, fit_set, free_item, less_is, less_was, more_is, put_is, starts_kept, starts_less, starts_set}
 use Rattle.q_rounds.proofs.ListLaws.{listed_alike, listed_come, listed_go, listed_gone, listed_kept, listed_left, listed_same}
 use Rattle.q_rounds.proofs.RoundSets.{job_parts}
 use Rattle.q_rounds.proofs.RoundRows.{other_rows, own_rows, part_rows, round_below, rounds_set, stays}
 use Rattle.q_rounds.proofs.Splits.{one}
 use Rattle.q_rounds.proofs.Totals.{rows_total, total_left, total_more, total_part, total_put}
-use Rattle.q_rounds.proofs.TurnLaws.{at_is, at_none, at_same, at_tells, entry_put, entry_taken, turn_named}
+use Rattle.q_rounds.proofs.TicketLaws.{at_is, at_none, at_same, at_tells, ticket_named, ticket_put, ticket_taken}
 
-pub sound_from : (p q : Items Peer) (r s : Items Round) (f g : Lists) (t u : Entries) (n : ℕ) → q ≡ p → s ≡ r → g ≡ f → u ≡ t → IsSound p r f t n → IsSound q s g u n
-sound_from p q r s f g t u n peers rounds fresh turns sound =
-    subst (λ v. IsSound v s g u n) (sym peers) (subst (λ v. IsSound p v g u n) (sym rounds) (subst (λ v. IsSound p r v u n) (sym fresh) (subst (λ v. IsSound p r f v n) (sym turns) sound)))
+pub sound_from : (p q : Items Peer) (r s : Items Round) (f g : Lists) (t u : Tickets) (n : ℕ) → q ≡ p → s ≡ r → g ≡ f → u ≡ t → IsSound p r f t n → IsSound q s g u n
+sound_from p q r s f g t u n peers rounds fresh tickets sound =
+    subst (λ v. IsSound v s g u n) (sym peers) (subst (λ v. IsSound p v g u n) (sym rounds) (subst (λ v. IsSound p r v u n) (sym fresh) (subst (λ v. IsSound p r f v n) (sym tickets) sound)))
 
-module _ (peers : Items Peer) (rounds : Items Round) (fresh : Lists) (turns : Entries) (passed : ℕ) (sound : IsSound peers rounds fresh turns passed) (apart : AreApart peers.items) where
+module _ (peers : Items Peer) (rounds : Items Round) (fresh : Lists) (tickets : Tickets) (passed : ℕ) (sound : IsSound peers rounds fresh tickets passed) (apart : AreApart peers.items) where
   abbrev ks : List (Numbered Peer)
   ks = peers.items
 
@@ -45,8 +45,8 @@ module _ (peers : Items Peer) (rounds : Items Round) (fresh : Lists) (turns : En
   pub rows_counted : (i : Id) (t : ℕ) → rows_in i t rs ≡ total (rows_of i t) (values_of ks)
   rows_counted i t = sound.counted.rows i t ∙ rows_total i t (values_of ks)
 
-  pub few_turns : Rises turns.items → length turns.items ≤ length ks
-  few_turns rising = most_entries (turn_at rs ks) turns.items ks sound.placed rising (λ m e h. ap is_some (at_tells rs ks m e h).there)
+  pub few_tickets : Rises tickets.items → length tickets.items ≤ length ks
+  few_tickets rising = most_tickets (ticket_at rs ks) tickets.items ks sound.placed rising (λ m e h. ap is_some (at_tells rs ks m e h).there)
 
   -- The rounds after the rows of a peer's job were set.
   module _ (p : Peer) (rows : ℕ) (new : List (Numbered Round)) (set : HasSet p.id p.site.transport rows rounds.room rs new) where
@@ -79,11 +79,11 @@ module _ (peers : Items Peer) (rounds : Items Round) (fresh : Lists) (turns : En
       come_same : (m : ℕ) (q : Peer) → item_at m ks ≡ Some q → round_of new q ≡ round_of rs q
       come_same m q h = same_round m q h (λ _. omega (arith, count))
 
-      come_placed : (m : ℕ) → m ≢ n → turn_at new more m ≡ turn_at rs ks m
+      come_placed : (m : ℕ) → m ≢ n → ticket_at new more m ≡ ticket_at rs ks m
       come_placed m other = at_same rs new ks more m ((more_is n p ks free).others m other) (λ q h. come_same m q h)
 
-      come_turn : turn_at new more n ≡ turn_in (round_of new p) n p
-      come_turn = at_is new more n p (more_is n p ks free).own
+      come_ticket : ticket_at new more n ≡ ticket_in (round_of new p) n p
+      come_ticket = at_is new more n p (more_is n p ks free).own
 
       one_none : one_passed p ≡ 0
       one_none = ap (λ b. cond b 1 0) unpassed
@@ -98,7 +98,7 @@ module _ (peers : Items Peer) (rounds : Items Round) (fresh : Lists) (turns : En
       pub come_low : AreApart new → (o : Option ℕ) → o ≡ list_in (round_of new p) p → IfSome o (λ b. b < peers.room)
       come_low rapart o is = subst (λ (x : Option ℕ). IfSome x (λ b. b < peers.room)) (sym is) (low_step rapart (is_started p) (round_of new p) refl)
 
-      pub sound_come : AreApart new → (o : Option ℕ) (e : Option Entry) → o ≡ list_in (round_of new p) p → e ≡ turn_in (round_of new p) n p → IsSound (record peers { items = more }) (record rounds { items = new }) (record fresh { lists = enlisted o n fresh.lists }) (record turns { items = with_mark e turns.items }) passed
+      pub sound_come : AreApart new → (o : Option ℕ) (e : Option Ticket) → o ≡ list_in (round_of new p) p → e ≡ ticket_in (round_of new p) n p → IsSound (record peers { items = more }) (record rounds { items = new }) (record fresh { lists = enlisted o n fresh.lists }) (record tickets { items = with_mark e tickets.items }) passed
       sound_come rapart o e o_is e_is = record {
         fit = fit_set peers.room n p ks more (more_is n p ks free) fit sound.fit;
         starts = starts_set n p ks more (more_is n p ks free) own sound.starts;
@@ -106,10 +106,10 @@ module _ (peers : Items Peer) (rounds : Items Round) (fresh : Lists) (turns : En
         listed = listed_come (list_of new) ks peers.room fresh
             (listed_same (list_of rs) ks peers.room fresh sound.listed (list_of new) ks (λ b. listed_alike (list_of rs) b (list_of new) ks apart (λ m q h. ap (λ r. list_in r q) (come_same m q h))))
             n p o o_is (come_low rapart o o_is);
-        placed = entry_put (turn_at rs ks) (turn_at new more) turns.items sound.placed n come_placed e (at_none rs ks n (free_item n ks free)) (e_is ∙ sym come_turn) (turn_named (round_of new p) n p e e_is);
+        placed = ticket_put (ticket_at rs ks) (ticket_at new more) tickets.items sound.placed n come_placed e (at_none rs ks n (free_item n ks free)) (e_is ∙ sym come_ticket) (ticket_named (round_of new p) n p e e_is);
         passes = omega (arith, sound.passes, total_more one_passed n p ks, one_none);
         round_room = sound.round_room;
-        turn_room = sound.turn_room;
+        ticket_room = sound.ticket_room;
       }
 
     -- Another number of rows waits for a peer.
@@ -142,31 +142,31 @@ module _ (peers : Items Peer) (rounds : Items Round) (fresh : Lists) (turns : En
       x_list : list_of new x ≡ list_of new p
       x_list = ap (λ r. list_in r x) x_round ∙ ap (λ l. list_in (round_of new p) (record p { last = l })) same.last
 
-      x_turn : turn_in (round_of new x) n x ≡ turn_in (round_of rs p) n p
-      x_turn = ap (λ r. turn_in r n x) (x_round ∙ rows_same n p there) ∙ ap (λ l. turn_in (round_of rs p) n (record p { last = l })) same.last
+      x_ticket : ticket_in (round_of new x) n x ≡ ticket_in (round_of rs p) n p
+      x_ticket = ap (λ r. ticket_in r n x) (x_round ∙ rows_same n p there) ∙ ap (λ l. ticket_in (round_of rs p) n (record p { last = l })) same.last
 
-      rows_turn : (m : ℕ) → turn_at new put m ≡ turn_at rs ks m
-      rows_turn m = elim (cases_eq m n) [
+      rows_ticket : (m : ℕ) → ticket_at new put m ≡ ticket_at rs ks m
+      rows_ticket m = elim (cases_eq m n) [
         | inl own ↦
-            ap (turn_at new put) own ∙ at_is new put n x (put_is n p x ks there).own ∙ x_turn ∙ sym (at_is rs ks n p there) ∙ ap (turn_at rs ks) (sym own)
+            ap (ticket_at new put) own ∙ at_is new put n x (put_is n p x ks there).own ∙ x_ticket ∙ sym (at_is rs ks n p there) ∙ ap (ticket_at rs ks) (sym own)
         | inr other ↦ at_same rs new ks put m ((put_is n p x ks there).others m other) (λ q h. rows_same m q h)
       ]
 
-      pub sound_rows : (now : ℕ) → now ≡ passed - one_passed p + one_passed x → IsSound (record peers { items = put }) (record rounds { items = new }) fresh turns now
+      pub sound_rows : (now : ℕ) → now ≡ passed - one_passed p + one_passed x → IsSound (record peers { items = put }) (record rounds { items = new }) fresh tickets now
       sound_rows now is = record {
         fit = fit_set peers.room n x ks put (put_is n p x ks there) fit sound.fit;
         starts = starts_kept n p x ks put (put_is n p x ks there) there same.last sound.starts;
         counted = rows_counts;
         listed = listed_same (list_of rs) ks peers.room fresh sound.listed (list_of new) put
             (λ b. listed_kept (list_of new) b n p x ks apart there x_list ∙ listed_alike (list_of rs) b (list_of new) ks apart (λ m q h. ap (λ r. list_in r q) (rows_same m q h)));
-        placed = alike (turn_at rs ks) (turn_at new put) turns.items sound.placed rows_turn;
+        placed = alike (ticket_at rs ks) (ticket_at new put) tickets.items sound.placed rows_ticket;
         passes = omega (arith, is, sound.passes, total_put one_passed n p ks apart there x, total_part one_passed n p ks apart there);
         round_room = sound.round_room;
-        turn_room = sound.turn_room;
+        ticket_room = sound.ticket_room;
       }
 
     -- A peer goes.
-    module _ (n : ℕ) (e : Option Entry) (there : item_at n ks ≡ Some p) (count : rows ≡ rows_in p.id p.site.transport rs - p.waiting + 0) (e_is : e ≡ turn_in (round_of rs p) n p) (still : AreApart (without_number n ks)) where
+    module _ (n : ℕ) (e : Option Ticket) (there : item_at n ks ≡ Some p) (count : rows ≡ rows_in p.id p.site.transport rs - p.waiting + 0) (e_is : e ≡ ticket_in (round_of rs p) n p) (still : AreApart (without_number n ks)) where
       abbrev left : List (Numbered Peer)
       left = without_number n ks
 
@@ -194,26 +194,26 @@ module _ (peers : Items Peer) (rounds : Items Round) (fresh : Lists) (turns : En
       left_same : (m : ℕ) (q : Peer) → item_at m left ≡ Some q → round_of new q ≡ round_of rs q
       left_same m q h = same_round m q (less_was n ks left m q (less_is n ks) h).1 (left_some m q h)
 
-      left_turn : (m : ℕ) → m ≢ n → turn_at new left m ≡ turn_at rs ks m
-      left_turn m other =
+      left_ticket : (m : ℕ) → m ≢ n → ticket_at new left m ≡ ticket_at rs ks m
+      left_ticket m other =
           at_same rs new left left m refl (λ q h. left_same m q h) ∙ at_same rs rs ks left m ((less_is n ks).others m other) (λ q h. refl)
 
-      pub sound_less : (now : ℕ) → now ≡ passed - one_passed p + 0 → IsSound (record peers { items = left }) (record rounds { items = new }) (record fresh { lists = map (without n) fresh.lists }) (record turns { items = taken e turns.items }) now
+      pub sound_less : (now : ℕ) → now ≡ passed - one_passed p + 0 → IsSound (record peers { items = left }) (record rounds { items = new }) (record fresh { lists = map (without n) fresh.lists }) (record tickets { items = taken e tickets.items }) now
       sound_less now is = record {
         fit = fit_less peers.room n ks left (less_is n ks) sound.fit;
         starts = starts_less n ks left (less_is n ks) sound.starts;
         counted = left_counted;
         listed = listed_go (list_of rs) ks peers.room fresh sound.listed (list_of new) n left
             (λ b. listed_alike (list_of rs) b (list_of new) left still (λ m q h. ap (λ r. list_in r q) (left_same m q h)) ∙ listed_left (list_of rs) b n ks);
-        placed = entry_taken (turn_at rs ks) (turn_at new left) turns.items sound.placed n left_turn e (e_is ∙ sym (at_is rs ks n p there)) (at_none new left n (less_is n ks).own) (turn_named (round_of rs p) n p e e_is);
+        placed = ticket_taken (ticket_at rs ks) (ticket_at new left) tickets.items sound.placed n left_ticket e (e_is ∙ sym (at_is rs ks n p there)) (at_none new left n (less_is n ks).own) (ticket_named (round_of rs p) n p e e_is);
         passes = omega (arith, is, sound.passes, total_left one_passed n p ks apart there);
         round_room = sound.round_room;
-        turn_room = sound.turn_room;
+        ticket_room = sound.ticket_room;
       }
 
   -- A peer is sent to.
-  module _ (n : ℕ) (p x : Peer) (there : item_at n ks ≡ Some p) (fit : IsFit peers.room n x) (id : x.id ≡ p.id) (site : x.site ≡ p.site) (rows : x.waiting ≡ p.waiting) (own : find (has_last x.last) (values_of ks) ≡ None) (started : is_started x ≡ true) (e d : Option Entry)
-      (e_is : e ≡ turn_in (round_of rs p) n p) (d_is : d ≡ turn_in (round_of rs p) n x) where
+  module _ (n : ℕ) (p x : Peer) (there : item_at n ks ≡ Some p) (fit : IsFit peers.room n x) (id : x.id ≡ p.id) (site : x.site ≡ p.site) (rows : x.waiting ≡ p.waiting) (own : find (has_last x.last) (values_of ks) ≡ None) (started : is_started x ≡ true) (e d : Option Ticket)
+      (e_is : e ≡ ticket_in (round_of rs p) n p) (d_is : d ≡ ticket_in (round_of rs p) n x) where
     abbrev sent : List (Numbered Peer)
     sent = map (put_at n x) ks
 
@@ -229,37 +229,37 @@ module _ (peers : Items Peer) (rounds : Items Round) (fresh : Lists) (turns : En
     same_as : round_of rs x ≡ round_of rs p
     same_as = ap (λ j. round_of rs (record x { id = j })) id ∙ ap (λ s. round_of rs (record p { site = s })) site
 
-    taken_turn : (m : ℕ) → m ≢ n → turn_at rs (without_number n ks) m ≡ turn_at rs ks m
-    taken_turn m other = at_same rs rs ks (without_number n ks) m ((less_is n ks).others m other) (λ q h. refl)
+    taken_ticket : (m : ℕ) → m ≢ n → ticket_at rs (without_number n ks) m ≡ ticket_at rs ks m
+    taken_ticket m other = at_same rs rs ks (without_number n ks) m ((less_is n ks).others m other) (λ q h. refl)
 
-    sent_turn : (m : ℕ) → m ≢ n → turn_at rs sent m ≡ turn_at rs (without_number n ks) m
-    sent_turn m other = at_same rs rs (without_number n ks) sent m ((put_is n p x ks there).others m other ∙ sym ((less_is n ks).others m other)) (λ q h. refl)
+    sent_ticket : (m : ℕ) → m ≢ n → ticket_at rs sent m ≡ ticket_at rs (without_number n ks) m
+    sent_ticket m other = at_same rs rs (without_number n ks) sent m ((put_is n p x ks there).others m other ∙ sym ((less_is n ks).others m other)) (λ q h. refl)
 
-    own_gone : turn_at rs (without_number n ks) n ≡ None
+    own_gone : ticket_at rs (without_number n ks) n ≡ None
     own_gone = at_none rs (without_number n ks) n (less_is n ks).own
 
-    placed_between : AreEntries (turn_at rs (without_number n ks)) (taken e turns.items)
+    placed_between : AreTickets (ticket_at rs (without_number n ks)) (taken e tickets.items)
     placed_between =
-        entry_taken (turn_at rs ks) (turn_at rs (without_number n ks)) turns.items sound.placed n taken_turn e (e_is ∙ sym (at_is rs ks n p there)) own_gone (turn_named (round_of rs p) n p e e_is)
+        ticket_taken (ticket_at rs ks) (ticket_at rs (without_number n ks)) tickets.items sound.placed n taken_ticket e (e_is ∙ sym (at_is rs ks n p there)) own_gone (ticket_named (round_of rs p) n p e e_is)
 
-    -- the entry has room
-    pub few_between : Rises (taken e turns.items) → length (taken e turns.items) < length ks
+    -- the ticket has room
+    pub few_between : Rises (taken e tickets.items) → length (taken e tickets.items) < length ks
     few_between rising =
-        fewer_entries (turn_at rs (without_number n ks)) (taken e turns.items) ks n placed_between rising
+        fewer_tickets (ticket_at rs (without_number n ks)) (taken e tickets.items) ks n placed_between rising
         (λ m f h. let at = at_tells rs (without_number n ks) m f h in ap is_some (less_was n ks (without_number n ks) m at.peer (less_is n ks) at.there).1) own_gone (ap is_some there)
 
     d_named : IfSome d (λ f. f.item ≡ n)
-    d_named = turn_named (round_of rs p) n x d d_is
+    d_named = ticket_named (round_of rs p) n x d d_is
 
-    pub sound_sent : (now : ℕ) → now ≡ passed - one_passed p + one_passed x → IsSound (record peers { items = sent }) rounds (record fresh { lists = map (without n) fresh.lists }) (record turns { items = with_mark d (taken e turns.items) }) now
+    pub sound_sent : (now : ℕ) → now ≡ passed - one_passed p + one_passed x → IsSound (record peers { items = sent }) rounds (record fresh { lists = map (without n) fresh.lists }) (record tickets { items = with_mark d (taken e tickets.items) }) now
     sound_sent now is = record {
       fit = fit_set peers.room n x ks sent (put_is n p x ks there) fit sound.fit;
       starts = starts_set n x ks sent (put_is n p x ks there) own sound.starts;
       counted = record { rows = λ i t. sound.counted.rows i t ∙ sym (sent_rows i t); each = sound.counted.each };
       listed = listed_go (list_of rs) ks peers.room fresh sound.listed (list_of rs) n sent (λ b. listed_gone (list_of rs) b n x ks (ap (is_list b) no_list));
-      placed = entry_put (turn_at rs (without_number n ks)) (turn_at rs sent) (taken e turns.items) placed_between n sent_turn d own_gone
-          (d_is ∙ ap (λ r. turn_in r n x) (sym same_as) ∙ sym (at_is rs sent n x (put_is n p x ks there).own)) d_named;
+      placed = ticket_put (ticket_at rs (without_number n ks)) (ticket_at rs sent) (taken e tickets.items) placed_between n sent_ticket d own_gone
+          (d_is ∙ ap (λ r. ticket_in r n x) (sym same_as) ∙ sym (at_is rs sent n x (put_is n p x ks there).own)) d_named;
       passes = omega (arith, is, sound.passes, total_put one_passed n p ks apart there x, total_part one_passed n p ks apart there);
       round_room = sound.round_room;
-      turn_room = sound.turn_room;
+      ticket_room = sound.ticket_room;
     }

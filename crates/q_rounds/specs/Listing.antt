@@ -1,12 +1,12 @@
 -- Where the number of a peer stands: in the list of its round while the message wasn't sent to the
--- site, and among the entries of those that it was sent to after that.
+-- site, and among the tickets of those that it was sent to after that.
 use Rattle.std.specs.Option.{option_map_or}
 use Rattle.std.specs.Prelude.{◌≡◌, ◌<◌, ◌==◌, [], Bool, false, filter, get_or, if◌then◌else◌, length, List, map, None, Option, option_and_then, option_map, Some, ℕ}
 use Rattle.q_chains.specs.Lists.{Lists, pushed}
 use Rattle.q_dest.specs.declared.dest.Dest.{Dest}
 use Rattle.q_heads.specs.Lanes.{is_the, stands}
 use Rattle.q_keyed.specs.Numbered.{item_at, Numbered}
-use Rattle.q_sorted.specs.declared.entry.Entry.{Entry}
+use Rattle.q_sorted.specs.declared.ticket.Ticket.{Ticket}
 use Rattle.q_rounds.specs.declared.peer.Peer.{Peer}
 use Rattle.q_rounds.specs.declared.round.Round.{Round}
 use Rattle.q_rounds.specs.Jobs.{round_of}
@@ -38,22 +38,22 @@ abbrev pub enlisted : Option ℕ → ℕ → List (List ℕ) → List (List ℕ)
 enlisted None n lists = lists
 enlisted (Some b) n lists = pushed b n lists
 
--- an entry stands among these where it is that of the number that it names
-abbrev pub AreEntries : (ℕ → Option Entry) → List Entry → Type 0
-AreEntries entry_at items = (x : Entry) → stands x items ≡ is_the x (entry_at x.item)
+-- a ticket stands among these where it is that of the number that it names
+abbrev pub AreTickets : (ℕ → Option Ticket) → List Ticket → Type 0
+AreTickets at items = (x : Ticket) → stands x items ≡ is_the x (at x.item)
 
-abbrev pub turn_with : ℕ → ℕ → ℕ → Entry
-turn_with last number round = record { key = last; group = round; item = number }
+abbrev pub ticket_with : ℕ → ℕ → ℕ → Ticket
+ticket_with last number round = record { key = last; group = round; item = number }
 
--- the entry of a peer that is of a round
-abbrev pub turn_in : Option ℕ → ℕ → Peer → Option Entry
-turn_in round number p =
-    if is_started p then option_map (turn_with p.last number) round else None
+-- the ticket of a peer that is of a round
+abbrev pub ticket_in : Option ℕ → ℕ → Peer → Option Ticket
+ticket_in round number p =
+    if is_started p then option_map (ticket_with p.last number) round else None
 
 -- that of the peer under a number
-abbrev pub turn_at : List (Numbered Round) → List (Numbered Peer) → ℕ → Option Entry
-turn_at rounds ks number =
-    option_and_then (λ p. turn_in (round_of rounds p) number p) (item_at number ks)
+abbrev pub ticket_at : List (Numbered Round) → List (Numbered Peer) → ℕ → Option Ticket
+ticket_at rounds ks number =
+    option_and_then (λ p. ticket_in (round_of rounds p) number p) (item_at number ks)
 
 -- the site of the peer under a number has space
 abbrev pub space_in : List Dest → List (Numbered Peer) → ℕ → Bool

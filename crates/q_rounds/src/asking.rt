@@ -9,7 +9,7 @@ use crate::counting::rows_in;
 use crate::peer::Peer;
 use crate::round::RoundKey;
 use crate::rounds::Rounds;
-use crate::walking::{first_fresh, first_turn};
+use crate::walking::{first_fresh, first_ticket};
 use q_dest::Sites;
 use q_model::Id;
 
@@ -29,10 +29,10 @@ impl Rounds {
         if let Some(number) = first_fresh(&self.fresh, &self.peers, round, sites) {
             return self.peers.get(number);
         }
-        let Some(turn) = first_turn(&self.turns, &self.peers, round, sites) else {
+        let Some(ticket) = first_ticket(&self.tickets, &self.peers, round, sites) else {
             return None;
         };
-        self.peers.get(turn.item)
+        self.peers.get(ticket.item)
     }
 
     /// How many rows of the message wait at the transport: so few that the rows of one peer more

@@ -5,7 +5,7 @@ ghost use Rattle.q_rounds.specs.Changing.{IsOfSame};
 ghost use Rattle.q_rounds.specs.Rounds.{changed_number, gained, has_last, is_peer, lost, new_peer, started};
 
 use crate::counting::{change_rows, changed_count, round_of};
-use crate::listing::{enlist, list_in, put_in, take_out, turn_in};
+use crate::listing::{enlist, list_in, put_in, take_out, ticket_in};
 use crate::peer::Peer;
 use crate::rounds::Rounds;
 use q_model::{Id, Site};
@@ -26,14 +26,14 @@ impl Rounds {
     {
         self.peers.stand_apart();
         self.rounds.stand_apart();
-        self.turns.stand_sorted();
+        self.tickets.stand_sorted();
         let peer = Peer::new(id, *site, last);
         change_rows(&mut self.rounds, &peer, 0, 1);
         self.rounds.stand_apart();
         let number = self.peers.push(peer);
         let round = round_of(&self.rounds, &peer);
         enlist(&mut self.fresh, list_in(round, &peer), number);
-        put_in(&mut self.turns, turn_in(round, number, &peer));
+        put_in(&mut self.tickets, ticket_in(round, number, &peer));
         number
     }
 
@@ -86,7 +86,7 @@ impl Rounds {
             { items = map (changed_number number (started last)) self.old.items } }
     {
         self.peers.stand_apart();
-        self.turns.stand_sorted();
+        self.tickets.stand_sorted();
         let Some(peer) = self.peers.get(number).copied() else {
             return;
         };
@@ -94,9 +94,9 @@ impl Rounds {
         let next = peer.started(last);
         self.passed = changed_count(self.passed, peer.passed, next.passed);
         self.fresh.remove(number);
-        take_out(&mut self.turns, turn_in(round, number, &peer));
-        self.turns.stand_sorted();
-        put_in(&mut self.turns, turn_in(round, number, &next));
+        take_out(&mut self.tickets, ticket_in(round, number, &peer));
+        self.tickets.stand_sorted();
+        put_in(&mut self.tickets, ticket_in(round, number, &next));
         self.peers.put(number, next);
     }
 
@@ -110,7 +110,7 @@ impl Rounds {
         };
         let round = round_of(&self.rounds, &peer);
         self.fresh.remove(number);
-        take_out(&mut self.turns, turn_in(round, number, &peer));
+        take_out(&mut self.tickets, ticket_in(round, number, &peer));
         change_rows(&mut self.rounds, &peer, peer.waiting, 0);
         self.passed = changed_count(self.passed, peer.passed, false);
         let _peer = self.peers.remove(number);

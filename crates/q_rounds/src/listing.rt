@@ -1,12 +1,12 @@
-//! Numbers of peers in the lists of rounds, and entries of peers.
+//! Numbers of peers in the lists of rounds, and tickets of peers.
 ghost use Rattle.std.specs.Prelude.{◌≡◌, ◌<◌, false, IfSome, length};
 ghost use Rattle.q_chains.specs.Lists.{stands};
 ghost use Rattle.q_heads.specs.Marks.{with_mark, without};
-ghost use Rattle.q_rounds.specs.Listing.{enlisted, list_in, turn_in};
+ghost use Rattle.q_rounds.specs.Listing.{enlisted, list_in, ticket_in};
 
 use crate::peer::Peer;
 use q_chains::Chains;
-use q_sorted::{Entry, Sorted};
+use q_sorted::{Sorted, Ticket};
 
 /// The list of a peer that is of a round, while the message wasn't sent to its site.
 pub(crate) fn list_in(round: Option<u32>, peer: &Peer) -> Option<u32>
@@ -15,15 +15,15 @@ pub(crate) fn list_in(round: Option<u32>, peer: &Peer) -> Option<u32>
     if peer.last > 0 { None } else { round }
 }
 
-/// The entry of a peer that is of a round, where the message was sent to its site.
-pub(crate) fn turn_in(round: Option<u32>, number: u32, peer: &Peer) -> Option<Entry>
-    ensures { result ≡ turn_in round number peer.now }
+/// The ticket of a peer that is of a round, where the message was sent to its site.
+pub(crate) fn ticket_in(round: Option<u32>, number: u32, peer: &Peer) -> Option<Ticket>
+    ensures { result ≡ ticket_in round number peer.now }
 {
     if peer.last == 0 {
         return None;
     }
     let group = round?;
-    Some(Entry {
+    Some(Ticket {
         key: u128::from(peer.last),
         group,
         item: number,
@@ -42,21 +42,21 @@ pub(crate) fn enlist(fresh: &mut Chains, list: Option<u32>, number: u32)
     }
 }
 
-/// Puts the entry in, where there is one.
-pub(crate) fn put_in(turns: &mut Sorted, turn: Option<Entry>)
-    requires { IfSome turn (λ _. length turns.old.items < turns.old.room) }
-    ensures { turns.new ≡ record turns.old { items = with_mark turn turns.old.items } }
+/// Puts the ticket in, where there is one.
+pub(crate) fn put_in(tickets: &mut Sorted, ticket: Option<Ticket>)
+    requires { IfSome ticket (λ _. length tickets.old.items < tickets.old.room) }
+    ensures { tickets.new ≡ record tickets.old { items = with_mark ticket tickets.old.items } }
 {
-    if let Some(turn) = turn {
-        turns.insert(turn);
+    if let Some(ticket) = ticket {
+        tickets.insert(ticket);
     }
 }
 
-/// Takes the entry out, where there is one.
-pub(crate) fn take_out(turns: &mut Sorted, turn: Option<Entry>)
-    ensures { turns.new ≡ record turns.old { items = without turn turns.old.items } }
+/// Takes the ticket out, where there is one.
+pub(crate) fn take_out(tickets: &mut Sorted, ticket: Option<Ticket>)
+    ensures { tickets.new ≡ record tickets.old { items = without ticket tickets.old.items } }
 {
-    if let Some(turn) = turn {
-        turns.remove(&turn);
+    if let Some(ticket) = ticket {
+        tickets.remove(&ticket);
     }
 }

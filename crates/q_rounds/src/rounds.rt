@@ -22,7 +22,7 @@ pub struct Rounds {
     /// For each round the numbers of its peers that were never sent to, in the order of peers.
     pub(crate) fresh: Chains,
     /// The numbers of all other peers, in the groups of their rounds, by when they were sent to.
-    pub(crate) turns: Sorted,
+    pub(crate) tickets: Sorted,
     /// How many peers are passed.
     pub(crate) passed: u32,
 }
@@ -36,7 +36,7 @@ impl Model for Rounds {
 
     ghost view = { λ a. a.peers };
 
-    ghost invariant = { λ a. IsSound a.peers a.rounds a.fresh a.turns a.passed };
+    ghost invariant = { λ a. IsSound a.peers a.rounds a.fresh a.tickets a.passed };
 }
 
 impl Rounds {
@@ -49,12 +49,12 @@ impl Rounds {
         let peers = Keyed::new(alloc, room)?;
         let rounds = Keyed::new(alloc, room)?;
         let fresh = Chains::new(alloc, room, room)?;
-        let turns = Sorted::new(alloc, room)?;
+        let tickets = Sorted::new(alloc, room)?;
         Ok(Rounds {
             peers,
             rounds,
             fresh,
-            turns,
+            tickets,
             passed: 0,
         })
     }

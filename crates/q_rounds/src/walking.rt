@@ -7,7 +7,7 @@ use crate::peer::Peer;
 use q_chains::Chains;
 use q_dest::Sites;
 use q_keyed::Keyed;
-use q_sorted::{Entry, Sorted};
+use q_sorted::{Sorted, Ticket};
 
 /// Whether the site of the peer under a number has space.
 fn has_space(peers: &Keyed<Peer>, number: u32, sites: &Sites) -> bool
@@ -41,25 +41,25 @@ pub(crate) fn first_fresh(
     None
 }
 
-/// The first entry of the round whose peer's site has space.
-pub(crate) fn first_turn(
-    turns: &Sorted,
+/// The first ticket of the round whose peer's site has space.
+pub(crate) fn first_ticket(
+    tickets: &Sorted,
     peers: &Keyed<Peer>,
     round: u32,
     sites: &Sites,
-) -> Option<Entry>
-    ensures { IsFirst (can_start sites.now.items peers.now.items round) turns.now.items result }
+) -> Option<Ticket>
+    ensures { IsFirst (can_start sites.now.items peers.now.items round) tickets.now.items result }
 {
-    turns.stand_sorted();
-    let mut at = turns.first_of(round);
-    while let Some(turn) = at {
-        if turn.group != round {
+    tickets.stand_sorted();
+    let mut at = tickets.first_of(round);
+    while let Some(ticket) = at {
+        if ticket.group != round {
             return None;
         }
-        if has_space(peers, turn.item, sites) {
-            return Some(turn);
+        if has_space(peers, ticket.item, sites) {
+            return Some(ticket);
         }
-        at = turns.behind(&turn);
+        at = tickets.behind(&ticket);
     }
     None
 }

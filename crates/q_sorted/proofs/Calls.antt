@@ -2,9 +2,9 @@
 use Rattle.std.proofs.Common.{◌≡◌, ◌≢◌, ◌≤◌, ◌<◌, ◌+◌, ◌-◌, ap, arith, Bool, cond, false, get_or-set_other, get_or-set_same, length, length-append, List, [], ◌∷◌, min, set, suc, sym, true, zero, ℕ, ◌∙◌, subst}
 use Rattle.std.proofs.lemmas.List.{length-set}
 use Rattle.std.specs.List.{position_or_len}
-use Rattle.q_sorted.specs.declared.entry.Entry.{Entry}
+use Rattle.q_sorted.specs.declared.ticket.Ticket.{Ticket}
 use Rattle.q_sorted.specs.Blocks.{AreSound, block_at, block_room, ends_past, joined, least, mended, most, removed, settled}
-use Rattle.q_sorted.specs.Entries.{inserted, Rises}
+use Rattle.q_sorted.specs.Tickets.{inserted, Rises}
 use Rattle.q_sorted.proofs.Editing.{before, inserted_joined, removed_joined}
 use Rattle.q_sorted.proofs.Filling.{block_filled, block_least, filled_mended, filled_settled, joined_mended, joined_settled, some_mended, some_settled}
 use Rattle.q_sorted.proofs.Filtering.{rises_inserted, rises_removed}
@@ -14,25 +14,25 @@ pub one_at_most : (t : Bool) → cond t 1 0 ≤ 1
 one_at_most true = omega arith
 one_at_most false = omega arith
 
--- how many entries there are once a block has others
-length_joined : (n : ℕ) (lists : List (List Entry)) (ys : List Entry) → n < length lists → length (joined (set lists n ys)) + length (block_at n lists) ≡ length (joined lists) + length ys
+-- how many tickets there are once a block has others
+length_joined : (n : ℕ) (lists : List (List Ticket)) (ys : List Ticket) → n < length lists → length (joined (set lists n ys)) + length (block_at n lists) ≡ length (joined lists) + length ys
 length_joined n [] ys h = absurd (omega (arith, h))
 length_joined zero (xs ∷ lists) ys h = omega (arith, length-append xs (joined lists), length-append ys (joined lists))
 length_joined (suc n) (xs ∷ lists) ys h =
     let rest = length_joined n lists ys (omega (arith, h)) in omega (arith, rest, length-append xs (joined lists), length-append xs (joined (set lists n ys)))
 
-least_at : (n : ℕ) (lists : List (List Entry)) → AreSound lists → n < length lists → 0 < n → least ≤ length (block_at n lists)
+least_at : (n : ℕ) (lists : List (List Ticket)) → AreSound lists → n < length lists → 0 < n → least ≤ length (block_at n lists)
 least_at zero lists s h k = absurd (omega (arith, k))
 least_at (suc n) lists s h k = block_least 0 n lists s.filled h
 
--- the block that an entry goes into, and the place of it
-pub record GoesInto (e : Entry) (n k : ℕ) (lists : List (List Entry)) : Type 0 where
+-- the block that a ticket goes into, and the place of it
+pub record GoesInto (e : Ticket) (n k : ℕ) (lists : List (List Ticket)) : Type 0 where
   pub sound : AreSound lists
   pub place : n ≡ min (position_or_len (ends_past (before e)) lists) (length lists - 1)
   pub count : length (inserted e (block_at n lists)) ≡ length (block_at n lists) + k
   pub few : k ≤ 1
 
-pub goes_into : (e : Entry) (n at count : ℕ) (came : Bool) (lists : List (List Entry)) → AreSound lists → at ≡ position_or_len (ends_past (before e)) lists → count ≡ length lists → n ≡ min at (count - 1)
+pub goes_into : (e : Ticket) (n at count : ℕ) (came : Bool) (lists : List (List Ticket)) → AreSound lists → at ≡ position_or_len (ends_past (before e)) lists → count ≡ length lists → n ≡ min at (count - 1)
     → length (inserted e (block_at n lists)) ≡ length (block_at n lists) + cond came 1 0 → GoesInto e n (cond came 1 0) lists
 goes_into e n at count came lists sound is all place counted = record {
   sound = sound;
@@ -41,7 +41,7 @@ goes_into e n at count came lists sound is all place counted = record {
   few = one_at_most came;
 }
 
-module _ (e : Entry) (n k : ℕ) (lists : List (List Entry)) (into : GoesInto e n k lists) where
+module _ (e : Ticket) (n k : ℕ) (lists : List (List Ticket)) (into : GoesInto e n k lists) where
   within : n < length lists
   within = omega (arith, into.place, into.sound.some)
 
@@ -66,14 +66,14 @@ module _ (e : Entry) (n k : ℕ) (lists : List (List Entry)) (into : GoesInto e 
       let same = ap length (joined_settled n (set lists n (inserted e (block_at n lists)))) in
       omega (arith, same, into.count, length_joined n lists (inserted e (block_at n lists)) within)
 
--- the block that an entry is taken from
-pub record GoesFrom (e : Entry) (n k : ℕ) (lists : List (List Entry)) : Type 0 where
+-- the block that a ticket is taken from
+pub record GoesFrom (e : Ticket) (n k : ℕ) (lists : List (List Ticket)) : Type 0 where
   pub sound : AreSound lists
   pub place : n ≡ position_or_len (ends_past (before e)) lists
   pub within : n < length lists
   pub count : length (removed e (block_at n lists)) + k ≡ length (block_at n lists)
 
-module _ (e : Entry) (n k : ℕ) (lists : List (List Entry)) (from : GoesFrom e n k lists) where
+module _ (e : Ticket) (n k : ℕ) (lists : List (List Ticket)) (from : GoesFrom e n k lists) where
   pub taken_few : length (removed e (block_at n lists)) ≤ most
   taken_few = omega (arith, from.count, block_filled 0 n lists from.sound.filled)
 
@@ -93,7 +93,7 @@ module _ (e : Entry) (n k : ℕ) (lists : List (List Entry)) (from : GoesFrom e 
       omega (arith, same, from.count, length_joined n lists (removed e (block_at n lists)) from.within)
 
 -- the block before that one
-pub before_filled : (n : ℕ) (lists : List (List Entry)) (ys : List Entry) → AreSound lists → n < length lists → length ys ≤ most → length (block_at (n - 1) (set lists n ys)) ≤ most
+pub before_filled : (n : ℕ) (lists : List (List Ticket)) (ys : List Ticket) → AreSound lists → n < length lists → length ys ≤ most → length (block_at (n - 1) (set lists n ys)) ≤ most
 before_filled zero lists ys s h k = rw (get_or-set_same lists zero ys [] h) k
 before_filled (suc n) lists ys s h k =
     let ahead : suc n - 1 ≡ n = omega arith in

@@ -7,4 +7,4 @@ pub mod Filling
 pub mod Laying
 pub mod Filtering
 pub mod Calls
-pub mod EntryRows
+pub mod TicketRows

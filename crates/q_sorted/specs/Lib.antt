@@ -1,2 +1,2 @@
-pub mod Entries
+pub mod Tickets
 pub mod Blocks

@@ -2,14 +2,14 @@
 ghost use Rattle.std.specs.Prelude.{◌≡◌, ◌≤◌, ◌<◌, ◌+◌, ◌-◌, ◌^◌, [], ◌∷◌, find, if◌then◌else◌, IfOk, length, vec_capacity};
 ghost use Rattle.std.specs.List.{position_or_len};
 ghost use Rattle.q_sorted.specs.Blocks.{AreSound, block_at, block_room, blocks_for, ends_past, half, is_past, joined, mended, most, parted, removed, settled, united, with_block};
-ghost use Rattle.q_sorted.specs.Entries.{inserted, Rises};
+ghost use Rattle.q_sorted.specs.Tickets.{inserted, Rises};
 
 use crate::block::Block;
-use crate::entry::{Cut, Entry};
+use crate::ticket::{Cut, Ticket};
 use std::alloc::{AllocError, Global};
 use std::marker::Model;
 
-/// How many entries a block has at most.
+/// How many tickets a block has at most.
 const MOST: usize = 64;
 /// How many each but the first has at least.
 const LEAST: usize = 28;
@@ -33,7 +33,7 @@ impl Model for Blocks {
     ghost invariant = { λ a. HaveRoom a.used a.free };
 }
 
-/// How many blocks so many entries can fill, and one more.
+/// How many blocks so many tickets can fill, and one more.
 pub(crate) fn blocks_for(room: u32) -> usize
     ensures { result ≡ blocks_for room }
 {
@@ -82,8 +82,8 @@ impl Blocks {
         first_ending_past(self.used.as_slice(), cut)
     }
 
-    /// The first entry past the cut.
-    pub(crate) fn first_past(&self, cut: &Cut) -> Option<Entry>
+    /// The first ticket past the cut.
+    pub(crate) fn first_past(&self, cut: &Cut) -> Option<Ticket>
         requires { AreSound self.now.lists }
         ensures { result ≡ find (is_past cut.now) (joined self.now.lists) }
     {
@@ -102,7 +102,7 @@ impl Blocks {
         self.used.len()
     }
 
-    /// How many entries a block has.
+    /// How many tickets a block has.
     fn len_of(&self, place: usize) -> usize
         requires { place < length self.now.lists }
         ensures { result ≡ length (block_at place self.now.lists) }
@@ -110,29 +110,29 @@ impl Blocks {
         self.used[place].len()
     }
 
-    /// Puts the entry into a block, and says whether it is new.
-    fn put(&mut self, place: usize, entry: Entry) -> bool
+    /// Puts the ticket into a block, and says whether it is new.
+    fn put(&mut self, place: usize, ticket: Ticket) -> bool
         requires within { place < length self.old.lists }
         requires rising { Rises (block_at place self.old.lists) }
         requires room { length (block_at place self.old.lists) < block_room }
         ensures put { self.new
-            ≡ with_block place (inserted entry (block_at place self.old.lists)) self.old }
-        ensures counted { length (inserted entry (block_at place self.old.lists))
+            ≡ with_block place (inserted ticket (block_at place self.old.lists)) self.old }
+        ensures counted { length (inserted ticket (block_at place self.old.lists))
             ≡ length (block_at place self.old.lists) + (if result then 1 else 0) }
     {
-        self.used[place].insert(entry)
+        self.used[place].insert(ticket)
     }
 
-    /// Takes the entry out of a block, and says whether it was there.
-    fn take_out(&mut self, place: usize, entry: &Entry) -> bool
+    /// Takes the ticket out of a block, and says whether it was there.
+    fn take_out(&mut self, place: usize, ticket: &Ticket) -> bool
         requires within { place < length self.old.lists }
         requires rising { Rises (block_at place self.old.lists) }
         ensures taken { self.new
-            ≡ with_block place (removed entry.now (block_at place self.old.lists)) self.old }
-        ensures counted { length (removed entry.now (block_at place self.old.lists))
+            ≡ with_block place (removed ticket.now (block_at place self.old.lists)) self.old }
+        ensures counted { length (removed ticket.now (block_at place self.old.lists))
             + (if result then 1 else 0) ≡ length (block_at place self.old.lists) }
     {
-        self.used[place].remove(entry)
+        self.used[place].remove(ticket)
     }
 
     /// Parts a block in two halves.
@@ -187,44 +187,44 @@ impl Blocks {
         }
     }
 
-    /// Puts the entry in its place, and says whether it is new.
-    pub(crate) fn insert(&mut self, entry: Entry) -> bool
+    /// Puts the ticket in its place, and says whether it is new.
+    pub(crate) fn insert(&mut self, ticket: Ticket) -> bool
         requires sound { AreSound self.old.lists }
         requires free { length self.old.lists < self.old.total }
-        ensures inserted { joined self.new.lists ≡ inserted entry (joined self.old.lists) }
+        ensures inserted { joined self.new.lists ≡ inserted ticket (joined self.old.lists) }
         ensures sound { AreSound self.new.lists }
         ensures total { self.new.total ≡ self.old.total }
         ensures counted { length (joined self.new.lists)
             ≡ length (joined self.old.lists) + (if result then 1 else 0) }
     {
         let cut = Cut {
-            entry,
+            ticket,
             behind: false,
         };
         let place = self.place_of(&cut).min(self.count() - 1);
-        let is_new = self.put(place, entry);
+        let is_new = self.put(place, ticket);
         self.settle(place);
         is_new
     }
 
-    /// Takes the entry out, and says whether it was there.
-    pub(crate) fn remove(&mut self, entry: &Entry) -> bool
+    /// Takes the ticket out, and says whether it was there.
+    pub(crate) fn remove(&mut self, ticket: &Ticket) -> bool
         requires { AreSound self.old.lists }
-        ensures removed { joined self.new.lists ≡ removed entry.now (joined self.old.lists) }
+        ensures removed { joined self.new.lists ≡ removed ticket.now (joined self.old.lists) }
         ensures sound { AreSound self.new.lists }
         ensures total { self.new.total ≡ self.old.total }
         ensures counted { length (joined self.new.lists) + (if result then 1 else 0)
             ≡ length (joined self.old.lists) }
     {
         let cut = Cut {
-            entry: *entry,
+            ticket: *ticket,
             behind: false,
         };
         let place = self.place_of(&cut);
         if place >= self.count() {
             return false;
         }
-        let was = self.take_out(place, entry);
+        let was = self.take_out(place, ticket);
         self.mend(place);
         was
     }

@@ -1,13 +1,13 @@
-//! Entries in order.
+//! Tickets in order.
 ghost use Rattle.std.specs.Prelude.{◌≡◌, ◌≤◌, ◌<◌, ◌-◌, ◌^◌, [], filter, find, IfOk, length, not};
-ghost use Rattle.q_sorted.specs.Entries.{goes_before, inserted, is_another, is_of, Rises};
+ghost use Rattle.q_sorted.specs.Tickets.{goes_before, inserted, is_another, is_of, Rises};
 
 use crate::blocks::{Blocks, blocks_for};
-use crate::entry::{Cut, Entry};
+use crate::ticket::{Cut, Ticket};
 use std::alloc::{AllocError, Global};
 use std::marker::Model;
 
-/// Entries in order. A contract sees them as one list, with the room that there is.
+/// Tickets in order. A contract sees them as one list, with the room that there is.
 #[derive(Debug, Drop)]
 pub struct Sorted {
     blocks: Blocks,
@@ -16,10 +16,10 @@ pub struct Sorted {
 }
 
 impl Model for Sorted {
-    ghost use Rattle.q_sorted.specs.Entries.{Entries};
+    ghost use Rattle.q_sorted.specs.Tickets.{Tickets};
     ghost use Rattle.q_sorted.specs.Blocks.{IsSound, joined};
 
-    ghost Value = { Entries };
+    ghost Value = { Tickets };
 
     ghost view = { λ a. record { items = joined a.blocks.lists; room = a.room } };
 
@@ -27,7 +27,7 @@ impl Model for Sorted {
 }
 
 impl Sorted {
-    /// No entry, and room for so many.
+    /// No ticket, and room for so many.
     pub fn new(alloc: Global, room: u32) -> Result<Sorted, AllocError>
         requires some { 1 ≤ room }
         requires few { room < 2 ^ 30 }
@@ -41,7 +41,7 @@ impl Sorted {
         })
     }
 
-    /// The entries stand in order, and there are no more than have room, whatever was called: this
+    /// The tickets stand in order, and there are no more than have room, whatever was called: this
     /// does nothing, and is there for callers whose proofs want to know it.
     pub fn stand_sorted(&self)
         ensures rising { Rises self.now.items }
@@ -50,56 +50,56 @@ impl Sorted {
         let _len = self.len;
     }
 
-    /// How many entries there are.
+    /// How many tickets there are.
     pub fn len(&self) -> u32
         ensures { result ≡ length self.now.items }
     {
         self.len
     }
 
-    /// How many entries more have room.
+    /// How many tickets more have room.
     pub fn spare(&self) -> u32
         ensures { result ≡ self.now.room - length self.now.items }
     {
         self.room - self.len
     }
 
-    /// Puts the entry in its place, and does nothing where it is there already.
-    pub fn insert(&mut self, entry: Entry)
+    /// Puts the ticket in its place, and does nothing where it is there already.
+    pub fn insert(&mut self, ticket: Ticket)
         requires { length self.old.items < self.old.room }
-        ensures { self.new ≡ record self.old { items = inserted entry self.old.items } }
+        ensures { self.new ≡ record self.old { items = inserted ticket self.old.items } }
     {
-        if self.blocks.insert(entry) {
+        if self.blocks.insert(ticket) {
             self.len += 1;
         }
     }
 
-    /// Takes the entry out, and does nothing where it isn't there.
-    pub fn remove(&mut self, entry: &Entry)
+    /// Takes the ticket out, and does nothing where it isn't there.
+    pub fn remove(&mut self, ticket: &Ticket)
         ensures { self.new ≡ record self.old
-            { items = filter (is_another entry.now) self.old.items } }
+            { items = filter (is_another ticket.now) self.old.items } }
     {
-        if self.blocks.remove(entry) {
+        if self.blocks.remove(ticket) {
             self.len -= 1;
         }
     }
 
-    /// The first entry that doesn't go before this one.
-    pub fn first_from(&self, entry: &Entry) -> Option<Entry>
-        ensures { result ≡ find (λ x. not (goes_before x entry.now)) self.now.items }
+    /// The first ticket that doesn't go before this one.
+    pub fn first_from(&self, ticket: &Ticket) -> Option<Ticket>
+        ensures { result ≡ find (λ x. not (goes_before x ticket.now)) self.now.items }
     {
         self.blocks.first_past(&Cut {
-            entry: *entry,
+            ticket: *ticket,
             behind: false,
         })
     }
 
-    /// The first entry of the group.
-    pub fn first_of(&self, group: u32) -> Option<Entry>
+    /// The first ticket of the group.
+    pub fn first_of(&self, group: u32) -> Option<Ticket>
         ensures { result ≡ find (is_of group) self.now.items }
     {
         self.stand_sorted();
-        let least = Entry {
+        let least = Ticket {
             group,
             key: 0,
             item: 0,
@@ -112,12 +112,12 @@ impl Sorted {
         }
     }
 
-    /// The first entry behind this one.
-    pub fn behind(&self, entry: &Entry) -> Option<Entry>
-        ensures { result ≡ find (goes_before entry.now) self.now.items }
+    /// The first ticket behind this one.
+    pub fn behind(&self, ticket: &Ticket) -> Option<Ticket>
+        ensures { result ≡ find (goes_before ticket.now) self.now.items }
     {
         self.blocks.first_past(&Cut {
-            entry: *entry,
+            ticket: *ticket,
             behind: true,
         })
     }

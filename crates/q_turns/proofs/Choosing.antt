@@ -22,8 +22,8 @@ use Rattle.q_model.proofs.IdLaws.{id_eq-refl, id_eq-true, site_eq-true}
 use Rattle.q_model.specs.declared.id.Id.{Id}
 use Rattle.q_model.specs.Ids.{id_eq}
 use Rattle.q_model.specs.Values.{Site}
-use Rattle.q_sorted.specs.declared.entry.Entry.{Entry}
-use Rattle.q_sorted.specs.Entries.{is_of, Rises}
+use Rattle.q_sorted.specs.declared.ticket.Ticket.{Ticket}
+use Rattle.q_sorted.specs.Tickets.{is_of, Rises}
 use Rattle.q_turns.specs.declared.lane.Lane.{Lane}
 use Rattle.q_rounds.specs.declared.peer.Peer.{Peer}
 use Rattle.q_turns.specs.Heading.{head_at, head_with, is_lane_of, lane_of, rank_at, rank_by, sent_in}
@@ -31,7 +31,7 @@ use Rattle.q_turns.specs.Sound.{ArePlaced}
 use Rattle.q_rounds.specs.Rounds.{has_space_at, is_peer_for}
 use Rattle.q_turns.specs.Turns.{is_able}
 use Rattle.q_rounds.proofs.Fewer.{fewer_pass}
-use Rattle.q_rounds.proofs.Entered.{entered, entry_own}
+use Rattle.q_rounds.proofs.Entered.{entered, ticket_own}
 use Rattle.q_turns.proofs.HeadLaws.{at_is, at_tells, head_made, HeadAt, lane_class}
 use Rattle.q_turns.proofs.LaneLaws.{some_from}
 use Rattle.q_rounds.proofs.Lookups.{here_at, later_at}
@@ -65,8 +65,8 @@ sent_step : (ds : List Dest) (p : Peer) (id : Id) (t : Bool) → has_space_at ds
 sent_step ds p id true e h = let same : p.id ≡ id = cc in (e, same)
 sent_step ds p id false e h = absurd cc
 
--- the peer of an entry may be sent
-abbrev pub sends : List Dest → List (Numbered Peer) → Entry → Bool
+-- the peer of a ticket may be sent
+abbrev pub sends : List Dest → List (Numbered Peer) → Ticket → Bool
 sends ds ks x = is_some (sent_in ds x.item ks)
 
 abbrev is_sent : List Dest → Id → ℕ → Peer → Bool
@@ -74,7 +74,7 @@ is_sent ds id t p = is_peer_for id t p && has_space_at ds p.site
 
 module _ (ds : List Dest) (lines : List Jobs) (t : ℕ) (l : Jobs) (at_line : slice_get lines t ≡ Some l) (below : t < length lines) (apart : AreOfOthers l.jobs) (each : length l.ranks ≡ length l.jobs) (rise : AreRising l.ranks)
     (lanes : List (Numbered Lane)) (lanes_apart : AreApart lanes) (ks : List (Numbered Peer)) (peers_apart : AreApart ks) (s : Lanes) (rising : Rises s.items) (places : ArePlaced (rank_by lines) (length lines) lanes ks s) where
-  abbrev passes : Entry → Bool
+  abbrev passes : Ticket → Bool
   passes x = sends ds ks x
 
   abbrev able : Job → Bool
@@ -83,10 +83,10 @@ module _ (ds : List Dest) (lines : List Jobs) (t : ℕ) (l : Jobs) (at_line : sl
   line_rank : (id : Id) → rank_at lines t id ≡ rank_of id l.jobs l.ranks
   line_rank id = ap (option_and_then (λ (l : Jobs). rank_of id l.jobs l.ranks)) at_line
 
-  own : (x : Entry) → stands x s.items ≡ true → HeadAt (rank_by lines) lanes ks x.item x
-  own x there = at_tells (rank_by lines) lanes ks x.item x (entry_own (head_at (rank_by lines) lanes ks) s.items x places.placed there)
+  own : (x : Ticket) → stands x s.items ≡ true → HeadAt (rank_by lines) lanes ks x.item x
+  own x there = at_tells (rank_by lines) lanes ks x.item x (ticket_own (head_at (rank_by lines) lanes ks) s.items x places.placed there)
 
-  passes_from : (x : Entry) (p : Peer) → item_at x.item ks ≡ Some p → has_space_at ds p.site ≡ true → passes x ≡ true
+  passes_from : (x : Ticket) (p : Peer) → item_at x.item ks ≡ Some p → has_space_at ds p.site ≡ true → passes x ≡ true
   passes_from x p there space =
       ap (λ o. is_some (option_and_then (λ (p : Peer). cond (has_space_at ds p.site) (Some p.id) None) o)) there
       ∙ ap (λ b. is_some (cond b (Some p.id) None)) space
@@ -101,12 +101,12 @@ module _ (ds : List Dest) (lines : List Jobs) (t : ℕ) (l : Jobs) (at_line : sl
 
   -- a head that passes, of no greater rank
   record HasAble (r : ℕ) : Type 0 where
-    head : Entry
+    head : Ticket
     is : IsHeadOf t s head
     sends : passes head ≡ true
     low : head.key ≤ r
 
-  behind_key : (e h : Entry) → goes_ahead e h ≡ false → h.key ≤ e.key
+  behind_key : (e h : Ticket) → goes_ahead e h ≡ false → h.key ≤ e.key
   behind_key e h k = grind (arith, nat_tests)
 
   able_of : (m r lane : ℕ) (q : Peer) → item_at m ks ≡ Some q → q.site.transport ≡ t → has_space_at ds q.site ≡ true → rank_by lines q ≡ Some r → lane_of q.site lanes ≡ Some lane → HasAble r
@@ -140,18 +140,18 @@ module _ (ds : List Dest) (lines : List Jobs) (t : ℕ) (l : Jobs) (at_line : sl
   job_rank id j h = some_from (rank_of id l.jobs l.ranks) (ranked_with_job id l.jobs l.ranks each ∙ ap is_some h)
 
   -- no head passes, so no job can be sent anything
-  none_step : (o : Option Job) → find able l.jobs ≡ o → ((x : Entry) → IsHeadOf t s x → passes x ≡ false) → o ≡ None
+  none_step : (o : Option Job) → find able l.jobs ≡ o → ((x : Ticket) → IsHeadOf t s x → passes x ≡ false) → o ≡ None
   none_step None h fails = refl
   none_step (Some j) h fails =
       let rank = job_rank j.id j (found_own able j l.jobs apart h) in
       let has = able_from j.id rank.0 (find-passes able l.jobs j h) rank.1 in
       absurd (both_ways (passes has.head) (fails has.head has.is) has.sends)
 
-  pub none_able : ((x : Entry) → IsHeadOf t s x → passes x ≡ false) → find able l.jobs ≡ None
+  pub none_able : ((x : Ticket) → IsHeadOf t s x → passes x ≡ false) → find able l.jobs ≡ None
   none_able fails = none_step (find able l.jobs) refl fails
 
   -- The head passes, and none ahead of it does.
-  module _ (h : Entry) (is : IsHeadOf t s h) (fail : FailAhead t s passes h) (id : Id) (sent : sent_in ds h.item ks ≡ Some id) where
+  module _ (h : Ticket) (is : IsHeadOf t s h) (fail : FailAhead t s passes h) (id : Id) (sent : sent_in ds h.item ks ≡ Some id) where
     mine : HeadAt (rank_by lines) lanes ks h.item h
     mine = own h (found (is_of h.group) h s.items is.first).0
 
@@ -191,41 +191,41 @@ module _ (ds : List Dest) (lines : List Jobs) (t : ℕ) (l : Jobs) (at_line : sl
     job_first = first_step (find (is_job_of id) l.jobs) refl (sym (ranked_with_job id l.jobs l.ranks each) ∙ ap is_some rank)
 
 -- A walk along the heads.
-abbrev pub AllFail : ℕ → Lanes → (Entry → Bool) → Type 0
-AllFail t s test = (x : Entry) → IsHeadOf t s x → test x ≡ false
+abbrev pub AllFail : ℕ → Lanes → (Ticket → Bool) → Type 0
+AllFail t s test = (x : Ticket) → IsHeadOf t s x → test x ≡ false
 
-abbrev pub WalksAt : ℕ → Lanes → (Entry → Bool) → Option Entry → Type 0
+abbrev pub WalksAt : ℕ → Lanes → (Ticket → Bool) → Option Ticket → Type 0
 WalksAt t s test at = MatchOption at (AllFail t s test) (λ h. IsHeadOf t s h × FailAhead t s test h)
 
-begin_step : (t : ℕ) (s : Lanes) (test : Entry → Bool) (o : Option Entry) → foremost (heads_of t s) ≡ o → WalksAt t s test o
+begin_step : (t : ℕ) (s : Lanes) (test : Ticket → Bool) (o : Option Ticket) → foremost (heads_of t s) ≡ o → WalksAt t s test o
 begin_step t s test None first = λ x is. absurd (no_head t s x first is)
 begin_step t s test (Some h) first = (first_is_head t s h first, fail_ahead_of_first t s test h first)
 
-pub walk_begins : (t : ℕ) (s : Lanes) (test : Entry → Bool) (at : Option Entry) → at ≡ foremost (heads_of t s) → WalksAt t s test at
+pub walk_begins : (t : ℕ) (s : Lanes) (test : Ticket → Bool) (at : Option Ticket) → at ≡ foremost (heads_of t s) → WalksAt t s test at
 walk_begins t s test at is = begin_step t s test at (sym is)
 
-goes_step : (t : ℕ) (s : Lanes) (test : Entry → Bool) (h : Entry) (o : Option Entry) → IsHeadOf t s h → FailAhead t s test h → test h ≡ false → foremost (heads_behind h s) ≡ o → WalksAt t s test o
+goes_step : (t : ℕ) (s : Lanes) (test : Ticket → Bool) (h : Ticket) (o : Option Ticket) → IsHeadOf t s h → FailAhead t s test h → test h ≡ false → foremost (heads_behind h s) ≡ o → WalksAt t s test o
 goes_step t s test h None is fail fails next = λ x own. none_passes t s test h is fail x fails next own
 goes_step t s test h (Some e) is fail fails next = ((next_is_head t s h is.of_class e next).0, fail_ahead_of_next t s test h is fail e fails next)
 
-pub at_head : (t : ℕ) (s : Lanes) (test : Entry → Bool) (h : Entry) (at : Option Entry) → at ≡ Some h → WalksAt t s test at → IsHeadOf t s h × FailAhead t s test h
+pub at_head : (t : ℕ) (s : Lanes) (test : Ticket → Bool) (h : Ticket) (at : Option Ticket) → at ≡ Some h → WalksAt t s test at → IsHeadOf t s h × FailAhead t s test h
 at_head t s test h at here walk = subst (WalksAt t s test) here walk
 
-pub walk_goes : (t : ℕ) (s : Lanes) (test : Entry → Bool) (h : Entry) (at next : Option Entry) → at ≡ Some h → WalksAt t s test at → test h ≡ false → next ≡ foremost (heads_behind h s) → WalksAt t s test next
+pub walk_goes : (t : ℕ) (s : Lanes) (test : Ticket → Bool) (h : Ticket) (at next : Option Ticket) → at ≡ Some h → WalksAt t s test at → test h ≡ false → next ≡ foremost (heads_behind h s) → WalksAt t s test next
 walk_goes t s test h at next here walk fails is = let both = at_head t s test h at here walk in goes_step t s test h next both.0 both.1 fails (sym is)
 
 -- how many heads are left
-abbrev pub heads_left : ℕ → Lanes → Option Entry → ℕ
+abbrev pub heads_left : ℕ → Lanes → Option Ticket → ℕ
 heads_left t s at = option_map_or (λ h. length (filter (goes_ahead h) (heads_of t s)) + 1) at 0
 
-left_step : (t : ℕ) (s : Lanes) (h : Entry) (o : Option Entry) → class_of h.group s.classes ≡ t → foremost (heads_behind h s) ≡ o → heads_left t s o < length (filter (goes_ahead h) (heads_of t s)) + 1
+left_step : (t : ℕ) (s : Lanes) (h : Ticket) (o : Option Ticket) → class_of h.group s.classes ≡ t → foremost (heads_behind h s) ≡ o → heads_left t s o < length (filter (goes_ahead h) (heads_of t s)) + 1
 left_step t s h None of next = omega arith
 left_step t s h (Some e) of next =
     let is = next_is_head t s h of e next in
     let fewer = fewer_pass (goes_ahead h) (goes_ahead e) e (heads_of t s) (λ x ahead. ahead_along h e x is.1 ahead) (head_stands t s e is.0) is.1 (not_ahead_of_itself e) in
     omega (arith, fewer)
 
-pub walk_smaller : (t : ℕ) (s : Lanes) (test : Entry → Bool) (h : Entry) (at next : Option Entry) → at ≡ Some h → WalksAt t s test at → next ≡ foremost (heads_behind h s) → heads_left t s next < heads_left t s at
+pub walk_smaller : (t : ℕ) (s : Lanes) (test : Ticket → Bool) (h : Ticket) (at next : Option Ticket) → at ≡ Some h → WalksAt t s test at → next ≡ foremost (heads_behind h s) → heads_left t s next < heads_left t s at
 walk_smaller t s test h at next here walk is =
     let both = at_head t s test h at here walk in
     subst (λ o. heads_left t s next < heads_left t s o) (sym here) (left_step t s h next both.0.of_class (sym is))

@@ -14,11 +14,11 @@ use Rattle.q_model.specs.declared.id.Id.{Id}
 use Rattle.q_model.specs.Ids.{id_eq}
 use Rattle.q_model.specs.Sites.{site_eq}
 use Rattle.q_model.specs.Values.{Site}
-use Rattle.q_sorted.specs.declared.entry.Entry.{Entry}
-use Rattle.q_sorted.specs.Entries.{goes_before, Rises}
+use Rattle.q_sorted.specs.declared.ticket.Ticket.{Ticket}
+use Rattle.q_sorted.specs.Tickets.{goes_before, Rises}
 use Rattle.q_rounds.specs.declared.peer.Peer.{Peer}
 use Rattle.q_rounds.specs.KeyLaws.{key_eq-refl, key_eq-true}
-use Rattle.q_rounds.specs.Listing.{AreEntries}
+use Rattle.q_rounds.specs.Listing.{AreTickets}
 use Rattle.q_rounds.specs.Rounds.{is_peer, key_eq, key_of}
 use Rattle.q_candidates.proofs.Keys.{own_found}
 use Rattle.q_candidates.specs.declared.candidate.Candidate.{Candidate}
@@ -29,12 +29,12 @@ use Rattle.q_turns.specs.Heading.{is_of_message, least_of, message_at}
 use Rattle.q_turns.proofs.MessageWalk.{begin_step, is_left, left_same, own_past}
 
 -- the walk has passed a peer of the message at the site
-abbrev pub is_done : Id → List (Numbered Peer) → Option Entry → Id → Site → Bool
+abbrev pub is_done : Id → List (Numbered Peer) → Option Ticket → Id → Site → Bool
 is_done id ks at i s =
     id_eq i id && option_map_or (λ n. not (is_left (least_of id) at n)) (first_such (is_peer i s) ks) false
 
 -- those that were passed are filed, and the others stay
-abbrev pub IsFiledTo : Id → List (Numbered Peer) → List (List Job) → Option Facts → Option Entry → List Candidate → List Candidate → Type 0
+abbrev pub IsFiledTo : Id → List (Numbered Peer) → List (List Job) → Option Facts → Option Ticket → List Candidate → List Candidate → Type 0
 IsFiledTo id ks lines facts at old new = (i : Id) (s : Site) →
     find (is_of i s) new ≡ cond (is_done id ks at i s) (candidate_at lines (values_of ks) facts i s) (find (is_of i s) old)
 
@@ -49,7 +49,7 @@ of_step : (lines : List (List Job)) (ps : List Peer) (facts : Option Facts) (i :
 of_step lines ps facts i s o true was h = candidate_peer lines ps facts i s (list_any (is_peer i s) ps) refl h
 of_step lines ps facts i s o false was h = was h
 
-pub of_peers : (id : Id) (ks : List (Numbered Peer)) (lines : List (List Job)) (facts : Option Facts) (at : Option Entry) (old new : List Candidate) → AreOfPeers (values_of ks) old → IsFiledTo id ks lines facts at old new → AreOfPeers (values_of ks) new
+pub of_peers : (id : Id) (ks : List (Numbered Peer)) (lines : List (List Job)) (facts : Option Facts) (at : Option Ticket) (old new : List Candidate) → AreOfPeers (values_of ks) old → IsFiledTo id ks lines facts at old new → AreOfPeers (values_of ks) new
 of_peers id ks lines facts at old new was filed = λ i s h.
     of_step lines (values_of ks) facts i s (find (is_of i s) old) (is_done id ks at i s) (was i s) (sym (ap is_some (filed i s)) ∙ h)
 
@@ -74,8 +74,8 @@ module _ (id : Id) (ks : List (Numbered Peer)) (apart : AreApart ks) (keys : Are
   has_number i s = any_step i s (first_such (is_peer i s) ks) refl
 
   -- The walk begins.
-  module _ (items : List Entry) (listed : AreEntries (message_at ks) items) (rising : Rises items) (lines : List (List Job)) (facts : Option Facts) where
-    none_done : (at : Option Entry) (i : Id) (s : Site) (t : Bool) (o : Option ℕ) → at ≡ find (λ x. not (goes_before x (least_of id))) items → id_eq i id ≡ t → first_such (is_peer i s) ks ≡ o →
+  module _ (items : List Ticket) (listed : AreTickets (message_at ks) items) (rising : Rises items) (lines : List (List Job)) (facts : Option Facts) where
+    none_done : (at : Option Ticket) (i : Id) (s : Site) (t : Bool) (o : Option ℕ) → at ≡ find (λ x. not (goes_before x (least_of id))) items → id_eq i id ≡ t → first_such (is_peer i s) ks ≡ o →
         (t && option_map_or (λ n. not (is_left (least_of id) at n)) o false) ≡ false
     none_done at i s false o first e found = refl
     none_done at i s true None first e found = refl
@@ -84,12 +84,12 @@ module _ (id : Id) (ks : List (Numbered Peer)) (apart : AreApart ks) (keys : Are
         let own = held_id i s it.0 it.2 ∙ id_eq-true i id e in
         ap not (begin_step id ks items listed rising n it.0 at it.1 own (sym first))
 
-    pub filing_begins : (at : Option Entry) (old : List Candidate) → at ≡ find (λ x. not (goes_before x (least_of id))) items → IsFiledTo id ks lines facts at old old
+    pub filing_begins : (at : Option Ticket) (old : List Candidate) → at ≡ find (λ x. not (goes_before x (least_of id))) items → IsFiledTo id ks lines facts at old old
     filing_begins at old first = λ i s.
         sym (ap (λ t. cond t (candidate_at lines (values_of ks) facts i s) (find (is_of i s) old)) (none_done at i s (id_eq i id) (first_such (is_peer i s) ks) first refl refl))
 
     -- One step.
-    module _ (e : Entry) (at next : Option Entry) (here : at ≡ Some e) (stood : stands e items ≡ true) (of : is_of_message (least_of id) e ≡ true) (is : next ≡ find (goes_before e) items) where
+    module _ (e : Ticket) (at next : Option Ticket) (here : at ≡ Some e) (stood : stands e items ≡ true) (of : is_of_message (least_of id) e ≡ true) (is : next ≡ find (goes_before e) items) where
       abbrev site : Option Site
       site = site_in id ks e.item
 
@@ -151,12 +151,12 @@ module _ (id : Id) (ks : List (Numbered Peer)) (apart : AreApart ks) (keys : Are
           step (Some s) is = sym (has_number id s) ∙ ap is_some (its_number id s (id_eq-refl id) (ap (λ o. is_the_site o s) is ∙ site_eq-refl s))
 
   -- It ends.
-  end_step : (at : Option Entry) (i : Id) (s : Site) (t : Bool) (o : Option ℕ) → ((m : ℕ) → is_left (least_of id) at m ≡ false) → (t && option_map_or (λ n. not (is_left (least_of id) at n)) o false) ≡ (t && is_some o)
+  end_step : (at : Option Ticket) (i : Id) (s : Site) (t : Bool) (o : Option ℕ) → ((m : ℕ) → is_left (least_of id) at m ≡ false) → (t && option_map_or (λ n. not (is_left (least_of id) at n)) o false) ≡ (t && is_some o)
   end_step at i s false o none = refl
   end_step at i s true None none = refl
   end_step at i s true (Some n) none = ap not (none n)
 
-  pub filing_ends : (lines : List (List Job)) (facts : Option Facts) (at : Option Entry) (old new : List Candidate) → ((m : ℕ) → is_left (least_of id) at m ≡ false) → IsFiledTo id ks lines facts at old new → IsFiled lines (values_of ks) id facts old new
+  pub filing_ends : (lines : List (List Job)) (facts : Option Facts) (at : Option Ticket) (old new : List Candidate) → ((m : ℕ) → is_left (least_of id) at m ≡ false) → IsFiledTo id ks lines facts at old new → IsFiled lines (values_of ks) id facts old new
   filing_ends lines facts at old new none filed = λ i s.
       filed i s
       ∙ ap (λ t. cond t (candidate_at lines (values_of ks) facts i s) (find (is_of i s) old))

@@ -1,4 +1,4 @@
--- The entries of all peers, as lanes come and go.
+-- The tickets of all peers, as lanes come and go.
 use Rattle.std.proofs.Common.{◌≡◌, ◌≢◌, ◌∙◌, ◌∷◌, ◌++◌, ◌<◌, ◌≤◌, [], ap, arith, Bool, cond, false, inl, inr, length, List, None, Option, option_map, refl, set, Some, subst, sym, true, ℕ, ◌⊎◌}
 use Rattle.std.proofs.lemmas.Bool.{both_ways, cases_Bool, cases_eq, cases_lt, eqb-true}
 use Rattle.std.proofs.lemmas.List.{get_or-set_other, get_or-set_same}
@@ -11,15 +11,15 @@ use Rattle.q_keyed.specs.Numbered.{AreApart, AreKeysApart, first_such, has_numbe
 use Rattle.q_model.proofs.IdLaws.{site_eq-refl, site_eq-true}
 use Rattle.q_model.specs.Sites.{site_eq}
 use Rattle.q_model.specs.Values.{Site}
-use Rattle.q_sorted.specs.declared.entry.Entry.{Entry}
-use Rattle.q_sorted.specs.Entries.{is_of}
+use Rattle.q_sorted.specs.declared.ticket.Ticket.{Ticket}
+use Rattle.q_sorted.specs.Tickets.{is_of}
 use Rattle.q_turns.specs.declared.lane.Lane.{Lane}
 use Rattle.q_rounds.specs.declared.peer.Peer.{Peer}
-use Rattle.q_rounds.specs.Listing.{AreEntries}
+use Rattle.q_rounds.specs.Listing.{AreTickets}
 use Rattle.q_turns.specs.Heading.{head_at, head_in, head_with, is_lane_of, lane_of}
 use Rattle.q_turns.specs.Laning.{empty_lane, HasMade, IsOldOrMade}
 use Rattle.q_turns.specs.Sound.{AreLanes, ArePlaced, HaveLanes, IsLane, IsUsed}
-use Rattle.q_rounds.proofs.Entered.{alike, entered, entry_own}
+use Rattle.q_rounds.proofs.Entered.{alike, entered, ticket_own}
 use Rattle.q_turns.proofs.HeadLaws.{at_is, at_same, at_tells, head_made, head_same, lane_named, no_rank, not_empty}
 use Rattle.q_rounds.proofs.Lookups.{other_left, other_more, own_left, own_more, such_left, such_more, such_stays}
 use Rattle.q_turns.proofs.Placing.{free_at, with_peer}
@@ -87,8 +87,8 @@ module _ (rank : Peer → Option ℕ) (transports : ℕ) (lanes more : List (Num
   one_same m q h (inl own) = own_same m q h (sym (site_eq-true site q.site own)) (cases_Bool (is_some (lane_of site lanes)))
   one_same m q h (inr other) = head_same rank rank lanes more m q q (made.others q.site other) refl
 
-  -- the entries of those that there were stay
-  pub placed_made : AreEntries (head_at rank more ks) before.items
+  -- the tickets of those that there were stay
+  pub placed_made : AreTickets (head_at rank more ks) before.items
   placed_made =
       alike (head_at rank lanes ks) (head_at rank more ks) before.items places.placed
       (λ m. at_same rank rank lanes more ks m (λ q h. one_same m q h (cases_Bool (site_eq site q.site))))
@@ -144,7 +144,7 @@ none_tells false m h = absurd cc
 
 -- A peer went, and with it the lane, where it was the last one there.
 module _ (rank : Peer → Option ℕ) (transports : ℕ) (lanes : List (Numbered Lane)) (apart : AreApart lanes) (keys : AreKeysApart site_eq (λ (l : Lane). l.site) lanes) (ks : List (Numbered Peer)) (n : ℕ) (p : Peer) (there : item_at n ks ≡ Some p) (before after : Lanes) (same_lanes : after.lanes ≡ before.lanes) (same_classes : after.classes ≡ before.classes)
-    (laned : HaveLanes transports lanes ks) (lanes_are : AreLanes lanes ks before) (ranked : (m : ℕ) (q : Peer) → item_at m ks ≡ Some q → q.site.transport < transports → is_some (rank q) ≡ true) (placed : AreEntries (head_at rank lanes (without_number n ks)) after.items) where
+    (laned : HaveLanes transports lanes ks) (lanes_are : AreLanes lanes ks before) (ranked : (m : ℕ) (q : Peer) → item_at m ks ≡ Some q → q.site.transport < transports → is_some (rank q) ≡ true) (placed : AreTickets (head_at rank lanes (without_number n ks)) after.items) where
   abbrev rest : List (Numbered Peer)
   rest = without_number n ks
 
@@ -154,45 +154,45 @@ module _ (rank : Peer → Option ℕ) (transports : ℕ) (lanes : List (Numbered
   was : (m : ℕ) (q : Peer) → item_at m rest ≡ Some q → item_at m ks ≡ Some q
   was m q h = sym (other_left n m ks (not_gone m q h)) ∙ h
 
-  -- a peer is left at the site of an entry's lane
-  used_by : (j : ℕ) (l : Lane) (e : Entry) → item_at j lanes ≡ Some l → find (is_of j) after.items ≡ Some e → IsUsed l.site rest
+  -- a peer is left at the site of a ticket's lane
+  used_by : (j : ℕ) (l : Lane) (e : Ticket) → item_at j lanes ≡ Some l → find (is_of j) after.items ≡ Some e → IsUsed l.site rest
   used_by j l e h first =
       let it = found (is_of j) e after.items first in
-      let own = at_tells rank lanes rest e.item e (entry_own (head_at rank lanes rest) after.items e placed it.0) in
+      let own = at_tells rank lanes rest e.item e (ticket_own (head_at rank lanes rest) after.items e placed it.0) in
       let lane : lane_of own.peer.site lanes ≡ Some j = own.head.lane ∙ ap Some (eqb-true e.group j it.1) in
       record { number = e.item; peer = own.peer; there = own.there; at = sym (lane_named own.peer.site j lanes l apart lane h) }
 
   -- where the lane stays
   kept_step : (j : ℕ) (l : Lane) → item_at j lanes ≡ Some l → (s : IsUsed l.site ks) → (s.number ≡ n) ⊎ (s.number ≢ n) → (lane_of p.site lanes ≡ Some j → is_some (find (is_of j) after.items) ≡ true) → IsUsed l.site rest
-  kept_step j l h s (inr other) entry = record { number = s.number; peer = s.peer; there = other_left n s.number ks other ∙ s.there; at = s.at }
-  kept_step j l h s (inl gone) entry =
+  kept_step j l h s (inr other) ticket = record { number = s.number; peer = s.peer; there = other_left n s.number ks other ∙ s.there; at = s.at }
+  kept_step j l h s (inl gone) ticket =
       let some : Some s.peer ≡ Some p = sym s.there ∙ ap (λ i. item_at i ks) gone ∙ there in
       let its : s.peer ≡ p = cc in
       let site : l.site ≡ p.site = sym s.at ∙ ap (λ (y : Peer). y.site) its in
-      let e = some_from (find (is_of j) after.items) (entry (ap (λ x. lane_of x lanes) (sym site) ∙ such_at j l lanes keys h)) in
+      let e = some_from (find (is_of j) after.items) (ticket (ap (λ x. lane_of x lanes) (sym site) ∙ such_at j l lanes keys h)) in
       used_by j l e.0 h e.1
 
   lane_from : (j : ℕ) (l : Lane) → IsLane j l ks before → IsUsed l.site rest → IsLane j l rest after
   lane_from j l is used = record { below = subst (λ m. j < m) (sym same_lanes) is.below; class = ap (class_of j) same_classes ∙ is.class; used = used }
 
-  entry_there : (o : Option ℕ) (j : ℕ) → lane_of p.site lanes ≡ o → option_and_then (λ m. cond (is_some (find (is_of m) after.items)) None (Some m)) o ≡ None → o ≡ Some j → is_some (find (is_of j) after.items) ≡ true
-  entry_there None j l none h = absurd cc
-  entry_there (Some m) j l none h = let same : m ≡ j = cc in ap (λ i. is_some (find (is_of i) after.items)) (sym same) ∙ none_tells (is_some (find (is_of m) after.items)) m none
+  ticket_there : (o : Option ℕ) (j : ℕ) → lane_of p.site lanes ≡ o → option_and_then (λ m. cond (is_some (find (is_of m) after.items)) None (Some m)) o ≡ None → o ≡ Some j → is_some (find (is_of j) after.items) ≡ true
+  ticket_there None j l none h = absurd cc
+  ticket_there (Some m) j l none h = let same : m ≡ j = cc in ap (λ i. is_some (find (is_of i) after.items)) (sym same) ∙ none_tells (is_some (find (is_of m) after.items)) m none
 
   pub places_kept : empty_lane p.site lanes after.items ≡ None → ArePlaced rank transports lanes rest after
   places_kept none = record {
     placed = placed;
     laned = λ m q h. laned m q (was m q h);
     lanes_are = λ j l h. let is = lanes_are j l h in
-        lane_from j l is (kept_step j l h is.used (cases_eq is.used.number n) (λ own. entry_there (lane_of p.site lanes) j refl none own));
+        lane_from j l is (kept_step j l h is.used (cases_eq is.used.number n) (λ own. ticket_there (lane_of p.site lanes) j refl none own));
   }
 
   -- where it goes
   module _ (d : ℕ) (own : lane_of p.site lanes ≡ Some d) (none : find (is_of d) after.items ≡ None) where
     -- no peer that is left there has a rank
-    no_entry : (m : ℕ) (q : Peer) → item_at m rest ≡ Some q → q.site ≡ p.site → (o : Option ℕ) → rank q ≡ o → o ≡ None
-    no_entry m q h at None r = refl
-    no_entry m q h at (Some k) r =
+    no_ticket : (m : ℕ) (q : Peer) → item_at m rest ≡ Some q → q.site ≡ p.site → (o : Option ℕ) → rank q ≡ o → o ≡ None
+    no_ticket m q h at None r = refl
+    no_ticket m q h at (Some k) r =
         let made = at_is rank lanes rest m (Some q) h ∙ head_made rank lanes m d k q (ap (λ s. lane_of s lanes) at ∙ own) r in
         absurd (not_empty (head_with d m k) d after.items (entered (head_at rank lanes rest) after.items m (head_with d m k) placed made refl) refl none)
 
@@ -203,13 +203,13 @@ module _ (rank : Peer → Option ℕ) (transports : ℕ) (lanes : List (Numbered
 
     one_left : (m : ℕ) (q : Peer) → item_at m rest ≡ Some q → (site_eq p.site q.site ≡ true) ⊎ (site_eq p.site q.site ≡ false) → head_in rank (without_number d lanes) m q ≡ head_in rank lanes m q
     one_left m q h (inl same) =
-        let unranked = no_entry m q h (sym (site_eq-true p.site q.site same)) (rank q) refl in
+        let unranked = no_ticket m q h (sym (site_eq-true p.site q.site same)) (rank q) refl in
         no_rank rank (without_number d lanes) m q unranked ∙ sym (no_rank rank lanes m q unranked)
     one_left m q h (inr other) = head_same rank rank lanes (without_number d lanes) m q q (left_same q other) refl
 
     laned_left : (m : ℕ) (q : Peer) → item_at m rest ≡ Some q → q.site.transport < transports → (site_eq p.site q.site ≡ true) ⊎ (site_eq p.site q.site ≡ false) → is_some (lane_of q.site (without_number d lanes)) ≡ true
     laned_left m q h below (inl same) =
-        let unranked = no_entry m q h (sym (site_eq-true p.site q.site same)) (rank q) refl in
+        let unranked = no_ticket m q h (sym (site_eq-true p.site q.site same)) (rank q) refl in
         absurd (both_ways (is_some (rank q)) (ap is_some unranked) (ranked m q (was m q h) below))
     laned_left m q h below (inr other) = ap is_some (left_same q other) ∙ laned m q (was m q h) below
 
@@ -231,19 +231,19 @@ module _ (rank : Peer → Option ℕ) (transports : ℕ) (lanes : List (Numbered
       lanes_are = λ j l h. lane_left j l h;
     }
 
--- a lane that isn't there has no entry
-free_step : (n : ℕ) (lanes : List (Numbered Lane)) (items : List Entry) (o : Option Entry) → ((e : Entry) → stands e items ≡ true → is_some (item_at e.group lanes) ≡ true) → item_at n lanes ≡ None → find (is_of n) items ≡ o → o ≡ None
+-- a lane that isn't there has no ticket
+free_step : (n : ℕ) (lanes : List (Numbered Lane)) (items : List Ticket) (o : Option Ticket) → ((e : Ticket) → stands e items ≡ true → is_some (item_at e.group lanes) ≡ true) → item_at n lanes ≡ None → find (is_of n) items ≡ o → o ≡ None
 free_step n lanes items None inside none h = refl
 free_step n lanes items (Some e) inside none h =
     let it = found (is_of n) e items h in
     let gone : is_some (item_at e.group lanes) ≡ false = ap (λ i. is_some (item_at i lanes)) (eqb-true e.group n it.1) ∙ ap is_some none in
     absurd (both_ways (is_some (item_at e.group lanes)) gone (inside e it.0))
 
-pub free_lane : (n : ℕ) (lanes : List (Numbered Lane)) (items : List Entry) → ((e : Entry) → stands e items ≡ true → is_some (item_at e.group lanes) ≡ true) → find (has_number n) lanes ≡ None → find (is_of n) items ≡ None
+pub free_lane : (n : ℕ) (lanes : List (Numbered Lane)) (items : List Ticket) → ((e : Ticket) → stands e items ≡ true → is_some (item_at e.group lanes) ≡ true) → find (has_number n) lanes ≡ None → find (is_of n) items ≡ None
 free_lane n lanes items inside fresh = free_step n lanes items (find (is_of n) items) inside (ap (option_map (λ (k : Numbered Lane). k.item)) fresh) refl
 
--- the entries of peers stand in lanes that there are
-pub inside : (rank : Peer → Option ℕ) (lanes : List (Numbered Lane)) (ks : List (Numbered Peer)) (items : List Entry) → AreApart lanes → AreEntries (head_at rank lanes ks) items → (e : Entry) → stands e items ≡ true → is_some (item_at e.group lanes) ≡ true
+-- the tickets of peers stand in lanes that there are
+pub inside : (rank : Peer → Option ℕ) (lanes : List (Numbered Lane)) (ks : List (Numbered Peer)) (items : List Ticket) → AreApart lanes → AreTickets (head_at rank lanes ks) items → (e : Ticket) → stands e items ≡ true → is_some (item_at e.group lanes) ≡ true
 inside rank lanes ks items apart placed e there =
-    let own = at_tells rank lanes ks e.item e (entry_own (head_at rank lanes ks) items e placed there) in
+    let own = at_tells rank lanes ks e.item e (ticket_own (head_at rank lanes ks) items e placed there) in
     ap is_some (held_item (is_lane_of own.peer.site) e.group lanes apart own.head.lane).1

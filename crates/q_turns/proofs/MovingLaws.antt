@@ -1,4 +1,4 @@
--- Walks that put entries where the ranks of their jobs say.
+-- Walks that put tickets where the ranks of their jobs say.
 use Rattle.std.proofs.Common.{◌≡◌, ◌≢◌, ◌∙◌, ◌∷◌, ◌<◌, ◌≤◌, [], ap, arith, Bool, cond, false, inl, inr, length, List, None, Option, option_map, refl, Some, subst, sym, true, ℕ, suc}
 use Rattle.std.proofs.lemmas.Bool.{cases_eq, eq-eqb, ne_eqb}
 use Rattle.std.specs.List.{list_any}
@@ -8,21 +8,21 @@ use Rattle.q_heads.specs.Lanes.{Lanes}
 use Rattle.q_heads.specs.Marks.{with_mark}
 use Rattle.q_jobs.specs.Jobs.{Jobs}
 use Rattle.q_keyed.specs.Numbered.{AreApart, first_number, has_number, item_at, next_number, Numbered}
-use Rattle.q_sorted.specs.declared.entry.Entry.{Entry}
-use Rattle.q_sorted.specs.Entries.{inserted, is_another, Rises}
+use Rattle.q_sorted.specs.declared.ticket.Ticket.{Ticket}
+use Rattle.q_sorted.specs.Tickets.{inserted, is_another, Rises}
 use Rattle.q_turns.specs.declared.lane.Lane.{Lane}
 use Rattle.q_rounds.specs.declared.peer.Peer.{Peer}
-use Rattle.q_rounds.specs.Listing.{AreEntries}
+use Rattle.q_rounds.specs.Listing.{AreTickets}
 use Rattle.q_turns.specs.Heading.{head_at, head_in, rank_by, ranked_elsewhere}
 use Rattle.q_turns.specs.Moving.{missing_head}
 use Rattle.q_turns.specs.Sound.{AreLanes}
-use Rattle.q_rounds.proofs.Entered.{alike, come, fewer_entries, go, none_does, StayBut}
+use Rattle.q_rounds.proofs.Entered.{alike, come, fewer_tickets, go, none_does, StayBut}
 use Rattle.q_turns.proofs.HeadLaws.{at_is, head_below, at_tells, head_same, head_tells, no_rank}
 use Rattle.q_rounds.proofs.NumberedWalk.{from_first, from_on, lacks_own, one_on}
 
--- An entry in the place of another.
-module _ (f h : ℕ → Option Entry) (xs : List Entry) (are : AreEntries f xs) (n : ℕ) (stay : StayBut n f h) where
-  abbrev gone : ℕ → Option Entry
+-- A ticket in the place of another.
+module _ (f h : ℕ → Option Ticket) (xs : List Ticket) (are : AreTickets f xs) (n : ℕ) (stay : StayBut n f h) where
+  abbrev gone : ℕ → Option Ticket
   gone m = cond (m == n) None (f m)
 
   gone_own : gone n ≡ None
@@ -31,7 +31,7 @@ module _ (f h : ℕ → Option Entry) (xs : List Entry) (are : AreEntries f xs) 
   gone_other : (m : ℕ) → m ≢ n → gone m ≡ f m
   gone_other m other = ap (λ t. cond t None (f m)) (ne_eqb m n other)
 
-  pub move : (e d : Entry) → f n ≡ Some e → h n ≡ Some d → e.item ≡ n → d.item ≡ n → AreEntries h (inserted d (filter (is_another e) xs))
+  pub move : (e d : Ticket) → f n ≡ Some e → h n ≡ Some d → e.item ≡ n → d.item ≡ n → AreTickets h (inserted d (filter (is_another e) xs))
   move e d old new named its =
       come gone h (filter (is_another e) xs) (go f gone xs are n gone_other e old gone_own named) n (λ m other. stay m other ∙ sym (gone_other m other)) d gone_own new its
 
@@ -45,8 +45,8 @@ none_at m (k ∷ ls) h = none_step m k ls (k.number == m) h (none_at m ls)
 
 -- The walk along all peers.
 module _ (t : ℕ) (lines : List Jobs) (lanes : List (Numbered Lane)) (ks : List (Numbered Peer)) where
-  -- which entries stand, where those of the peers from this one on are missing
-  abbrev pub put_so_far : Option ℕ → ℕ → Option Entry
+  -- which tickets stand, where those of the peers from this one on are missing
+  abbrev pub put_so_far : Option ℕ → ℕ → Option Ticket
   put_so_far at m = cond (list_any (has_number m) (from_on at ks)) (head_at (ranked_elsewhere t lines) lanes ks m) (head_at (rank_by lines) lanes ks m)
 
   begin_step : (m : ℕ) (b : Bool) → list_any (has_number m) ks ≡ b → cond b (head_at (ranked_elsewhere t lines) lanes ks m) (head_at (rank_by lines) lanes ks m) ≡ head_at (ranked_elsewhere t lines) lanes ks m
@@ -55,13 +55,13 @@ module _ (t : ℕ) (lines : List Jobs) (lanes : List (Numbered Lane)) (ks : List
       let none = none_at m ks h in
       at_is (rank_by lines) lanes ks m None none ∙ sym (at_is (ranked_elsewhere t lines) lanes ks m None none)
 
-  pub put_begins : (xs : List Entry) (at : Option ℕ) → at ≡ first_number ks → AreEntries (head_at (ranked_elsewhere t lines) lanes ks) xs → AreEntries (put_so_far at) xs
+  pub put_begins : (xs : List Ticket) (at : Option ℕ) → at ≡ first_number ks → AreTickets (head_at (ranked_elsewhere t lines) lanes ks) xs → AreTickets (put_so_far at) xs
   put_begins xs at is are =
       alike (head_at (ranked_elsewhere t lines) lanes ks) (put_so_far at) xs are
       (λ m. ap (λ ls. cond (list_any (has_number m) ls) (head_at (ranked_elsewhere t lines) lanes ks m) (head_at (rank_by lines) lanes ks m)) (ap (λ o. from_on o ks) is ∙ from_first ks)
       ∙ begin_step m (list_any (has_number m) ks) refl)
 
-  pub put_ends : (xs : List Entry) (at : Option ℕ) → at ≡ None → AreEntries (put_so_far at) xs → AreEntries (head_at (rank_by lines) lanes ks) xs
+  pub put_ends : (xs : List Ticket) (at : Option ℕ) → at ≡ None → AreTickets (put_so_far at) xs → AreTickets (head_at (rank_by lines) lanes ks) xs
   put_ends xs at none are =
       alike (put_so_far at) (head_at (rank_by lines) lanes ks) xs are
       (λ m. sym (ap (λ o. cond (list_any (has_number m) (from_on o ks)) (head_at (ranked_elsewhere t lines) lanes ks m) (head_at (rank_by lines) lanes ks m)) none))
@@ -95,7 +95,7 @@ module _ (t : ℕ) (lines : List Jobs) (lanes : List (Numbered Lane)) (ks : List
     elsewhere_rank : (b : Bool) → (x.site.transport == t) ≡ b → ranked_elsewhere t lines x ≡ cond b None (rank_by lines x)
     elsewhere_rank b e = ap (λ u. cond u None (rank_by lines x)) e
 
-    step : (xs : List Entry) (b : Bool) (o : Option Entry) → (x.site.transport == t) ≡ b → head_in (rank_by lines) lanes n x ≡ o → AreEntries (put_so_far at) xs → AreEntries (put_so_far next) (with_mark (cond b o None) xs)
+    step : (xs : List Ticket) (b : Bool) (o : Option Ticket) → (x.site.transport == t) ≡ b → head_in (rank_by lines) lanes n x ≡ o → AreTickets (put_so_far at) xs → AreTickets (put_so_far next) (with_mark (cond b o None) xs)
     step xs true None e head are =
         none_does (put_so_far at) (put_so_far next) xs are n stay (was ∙ no_rank (ranked_elsewhere t lines) lanes n x (elsewhere_rank true e)) (will ∙ head)
     step xs true (Some d) e head are =
@@ -109,30 +109,30 @@ module _ (t : ℕ) (lines : List Jobs) (lanes : List (Numbered Lane)) (ks : List
           | inr other ↦ stay m other
         ])
 
-    pub put_goes : (xs : List Entry) → AreEntries (put_so_far at) xs → AreEntries (put_so_far next) (with_mark (missing_head t lines lanes ks n) xs)
+    pub put_goes : (xs : List Ticket) → AreTickets (put_so_far at) xs → AreTickets (put_so_far next) (with_mark (missing_head t lines lanes ks n) xs)
     put_goes xs are =
-        subst (λ o. AreEntries (put_so_far next) (with_mark o xs)) (sym missing) (step xs (x.site.transport == t) (head_in (rank_by lines) lanes n x) refl refl are)
+        subst (λ o. AreTickets (put_so_far next) (with_mark o xs)) (sym missing) (step xs (x.site.transport == t) (head_in (rank_by lines) lanes n x) refl refl are)
 
-    held_step : (m : ℕ) (e : Entry) (b : Bool) → cond b (head_at (ranked_elsewhere t lines) lanes ks m) (head_at (rank_by lines) lanes ks m) ≡ Some e → is_some (item_at m ks) ≡ true
+    held_step : (m : ℕ) (e : Ticket) (b : Bool) → cond b (head_at (ranked_elsewhere t lines) lanes ks m) (head_at (rank_by lines) lanes ks m) ≡ Some e → is_some (item_at m ks) ≡ true
     held_step m e true h = ap is_some (at_tells (ranked_elsewhere t lines) lanes ks m e h).there
     held_step m e false h = ap is_some (at_tells (rank_by lines) lanes ks m e h).there
 
-    held : (m : ℕ) (e : Entry) → put_so_far at m ≡ Some e → is_some (item_at m ks) ≡ true
+    held : (m : ℕ) (e : Ticket) → put_so_far at m ≡ Some e → is_some (item_at m ks) ≡ true
     held m e h = held_step m e (list_any (has_number m) (from_on at ks)) h
 
-    room_step : (xs : List Entry) (room : ℕ) (b : Bool) (o : Option Entry) → (x.site.transport == t) ≡ b → AreEntries (put_so_far at) xs → Rises xs → length ks ≤ room → IfSome (cond b o None) (λ e. length xs < room)
+    room_step : (xs : List Ticket) (room : ℕ) (b : Bool) (o : Option Ticket) → (x.site.transport == t) ≡ b → AreTickets (put_so_far at) xs → Rises xs → length ks ≤ room → IfSome (cond b o None) (λ e. length xs < room)
     room_step xs room false o e are rising within = tt
     room_step xs room true None e are rising within = tt
     room_step xs room true (Some d) e are rising within =
-        let fewer = fewer_entries (put_so_far at) xs ks n are rising held (was ∙ no_rank (ranked_elsewhere t lines) lanes n x (elsewhere_rank true e)) (ap is_some there) in
+        let fewer = fewer_tickets (put_so_far at) xs ks n are rising held (was ∙ no_rank (ranked_elsewhere t lines) lanes n x (elsewhere_rank true e)) (ap is_some there) in
         omega (arith, fewer, within)
 
-    -- there is room for an entry that is missing
-    pub put_room : (xs : List Entry) (room : ℕ) → AreEntries (put_so_far at) xs → Rises xs → length ks ≤ room → IfSome (missing_head t lines lanes ks n) (λ e. length xs < room)
+    -- there is room for a ticket that is missing
+    pub put_room : (xs : List Ticket) (room : ℕ) → AreTickets (put_so_far at) xs → Rises xs → length ks ≤ room → IfSome (missing_head t lines lanes ks n) (λ e. length xs < room)
     put_room xs room are rising within =
         subst (λ o. IfSome o (λ e. length xs < room)) (sym missing) (room_step xs room (x.site.transport == t) (head_in (rank_by lines) lanes n x) refl are rising within)
 
-    known_step : (lanes_apart : AreApart lanes) (heads : Lanes) → AreLanes lanes ks heads → (b : Bool) (o : Option Entry) → head_in (rank_by lines) lanes n x ≡ o → IfSome (cond b o None) (λ e. e.group < heads.lanes)
+    known_step : (lanes_apart : AreApart lanes) (heads : Lanes) → AreLanes lanes ks heads → (b : Bool) (o : Option Ticket) → head_in (rank_by lines) lanes n x ≡ o → IfSome (cond b o None) (λ e. e.group < heads.lanes)
     known_step lanes_apart heads are false o head = tt
     known_step lanes_apart heads are true None head = tt
     known_step lanes_apart heads are true (Some d) head = head_below (rank_by lines) lanes ks heads n x d lanes_apart are head

@@ -1,22 +1,22 @@
--- The entries of a transport, as all its jobs are ranked anew.
+-- The tickets of a transport, as all its jobs are ranked anew.
 use Rattle.std.proofs.Common.{◌≡◌, ◌∙◌, ap, Bool, cond, false, List, None, not, Option, refl, Some, sym, true, ℕ}
 use Rattle.std.proofs.lemmas.Bool.{both_ways, eq-eqb, eqb-true, false_from_ne_true}
 use Rattle.std.specs.Prelude.{◌==◌, ◌&&◌, option_and_then}
 use Rattle.q_heads.specs.Lanes.{class_of, is_the, Lanes, stands}
 use Rattle.q_jobs.specs.Jobs.{Jobs}
 use Rattle.q_keyed.specs.Numbered.{AreApart, item_at, Numbered}
-use Rattle.q_sorted.specs.declared.entry.Entry.{Entry}
+use Rattle.q_sorted.specs.declared.ticket.Ticket.{Ticket}
 use Rattle.q_turns.specs.declared.lane.Lane.{Lane}
 use Rattle.q_rounds.specs.declared.peer.Peer.{Peer}
-use Rattle.q_rounds.specs.Listing.{AreEntries}
+use Rattle.q_rounds.specs.Listing.{AreTickets}
 use Rattle.q_turns.specs.Heading.{head_at, head_in, rank_by, ranked_elsewhere}
 use Rattle.q_turns.specs.Sound.{AreLanes}
 use Rattle.q_rounds.proofs.Entered.{the_is}
 use Rattle.q_turns.proofs.HeadLaws.{at_tells, head_same, head_tells, lane_class, no_rank}
 
--- the entries of other transports stand
+-- the tickets of other transports stand
 abbrev pub AreElsewhere : ℕ → List Jobs → List (Numbered Lane) → List (Numbered Peer) → Lanes → Type 0
-AreElsewhere t lines lanes ks heads = (x : Entry) → (class_of x.group heads.classes ≡ t → ⊥) → stands x heads.items ≡ is_the x (head_at (ranked_elsewhere t lines) lanes ks x.item)
+AreElsewhere t lines lanes ks heads = (x : Ticket) → (class_of x.group heads.classes ≡ t → ⊥) → stands x heads.items ≡ is_the x (head_at (ranked_elsewhere t lines) lanes ks x.item)
 
 and_false : (b : Bool) → (b && false) ≡ false
 and_false true = refl
@@ -30,7 +30,7 @@ module _ (t : ℕ) (lanes : List (Numbered Lane)) (ks : List (Numbered Peer)) (h
   no_rank_here : (lines : List Jobs) (p : Peer) → p.site.transport ≡ t → ranked_elsewhere t lines p ≡ None
   no_rank_here lines p at = ap (λ b. cond b None (rank_by lines p)) (eq-eqb p.site.transport t at)
 
-  not_here : (lines : List Jobs) (x : Entry) → class_of x.group heads.classes ≡ t → is_the x (head_at (ranked_elsewhere t lines) lanes ks x.item) ≡ false
+  not_here : (lines : List Jobs) (x : Ticket) → class_of x.group heads.classes ≡ t → is_the x (head_at (ranked_elsewhere t lines) lanes ks x.item) ≡ false
   not_here lines x of =
       false_from_ne_true (is_the x (head_at (ranked_elsewhere t lines) lanes ks x.item)) (λ h.
       let it = at_tells (ranked_elsewhere t lines) lanes ks x.item x (the_is x (head_at (ranked_elsewhere t lines) lanes ks x.item) h) in
@@ -39,9 +39,9 @@ module _ (t : ℕ) (lanes : List (Numbered Lane)) (ks : List (Numbered Peer)) (h
       let both : ◌≡◌ {A = Option ℕ} None (Some x.key) = sym none ∙ it.head.ranked in
       absurd cc)
 
-  -- after all entries of the transport were taken out
-  pub placed_elsewhere : (lines : List Jobs) (new : List Entry) → AreElsewhere t lines lanes ks heads → ((x : Entry) → stands x new ≡ (stands x heads.items && not (class_of x.group heads.classes == t))) →
-      AreEntries (head_at (ranked_elsewhere t lines) lanes ks) new
+  -- after all tickets of the transport were taken out
+  pub placed_elsewhere : (lines : List Jobs) (new : List Ticket) → AreElsewhere t lines lanes ks heads → ((x : Ticket) → stands x new ≡ (stands x heads.items && not (class_of x.group heads.classes == t))) →
+      AreTickets (head_at (ranked_elsewhere t lines) lanes ks) new
   placed_elsewhere lines new elsewhere gone x = one (class_of x.group heads.classes == t) refl
     where
       one : (b : Bool) → (class_of x.group heads.classes == t) ≡ b → stands x new ≡ is_the x (head_at (ranked_elsewhere t lines) lanes ks x.item)
@@ -52,8 +52,8 @@ module _ (t : ℕ) (lanes : List (Numbered Lane)) (ks : List (Numbered Peer)) (h
           gone x ∙ ap (λ b. stands x heads.items && not b) e ∙ and_true (stands x heads.items)
           ∙ elsewhere x (λ same. both_ways (class_of x.group heads.classes == t) e (eq-eqb (class_of x.group heads.classes) t same))
 
-  module _ (old new : List Jobs) (same : (p : Peer) → (p.site.transport ≡ t → ⊥) → rank_by new p ≡ rank_by old p) (placed : AreEntries (head_at (rank_by old) lanes ks) heads.items) where
-    peer_step : (x : Entry) (p : Peer) (b : Bool) → (p.site.transport == t) ≡ b → (class_of x.group heads.classes ≡ t → ⊥) → is_the x (head_in (rank_by old) lanes x.item p) ≡ is_the x (head_in (ranked_elsewhere t new) lanes x.item p)
+  module _ (old new : List Jobs) (same : (p : Peer) → (p.site.transport ≡ t → ⊥) → rank_by new p ≡ rank_by old p) (placed : AreTickets (head_at (rank_by old) lanes ks) heads.items) where
+    peer_step : (x : Ticket) (p : Peer) (b : Bool) → (p.site.transport == t) ≡ b → (class_of x.group heads.classes ≡ t → ⊥) → is_the x (head_in (rank_by old) lanes x.item p) ≡ is_the x (head_in (ranked_elsewhere t new) lanes x.item p)
     peer_step x p true e other =
         false_from_ne_true (is_the x (head_in (rank_by old) lanes x.item p)) (λ h.
         let head = head_tells (rank_by old) lanes x.item p x (the_is x (head_in (rank_by old) lanes x.item p) h) in
@@ -63,7 +63,7 @@ module _ (t : ℕ) (lanes : List (Numbered Lane)) (ks : List (Numbered Peer)) (h
         ap (is_the x) (sym (head_same (rank_by old) (ranked_elsewhere t new) lanes lanes x.item p p refl
         (ap (λ b. cond b None (rank_by new p)) e ∙ same p (λ at. both_ways (p.site.transport == t) e (eq-eqb p.site.transport t at)))))
 
-    at_step : (x : Entry) (o : Option Peer) → (class_of x.group heads.classes ≡ t → ⊥) → is_the x (option_and_then (head_in (rank_by old) lanes x.item) o) ≡ is_the x (option_and_then (head_in (ranked_elsewhere t new) lanes x.item) o)
+    at_step : (x : Ticket) (o : Option Peer) → (class_of x.group heads.classes ≡ t → ⊥) → is_the x (option_and_then (head_in (rank_by old) lanes x.item) o) ≡ is_the x (option_and_then (head_in (ranked_elsewhere t new) lanes x.item) o)
     at_step x None other = refl
     at_step x (Some p) other = peer_step x p (p.site.transport == t) refl other
 

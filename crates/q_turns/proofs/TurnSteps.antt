@@ -1,4 +1,4 @@
--- What always holds of lines, peers, lanes and their entries, after each call.
+-- What always holds of lines, peers, lanes and their tickets, after each call.
 use Rattle.std.proofs.Common.{◌≡◌, ◌∙◌, ◌∷◌, ◌++◌, ◌<◌, ◌≤◌, [], ap, arith, cond, length, List, map, None, Option, option_map, refl, replicate, set, Some, subst, suc, sym, true, zero, ◌^◌, ℕ}
 use Rattle.std.proofs.lemmas.List.{length-replicate, map-append}
 use Rattle.std.specs.Option.{is_some}
@@ -11,12 +11,12 @@ use Rattle.q_keyed.specs.Numbered.{AreApart, AreKeysApart, has_number, item_at, 
 use Rattle.q_model.specs.declared.id.Id.{Id}
 use Rattle.q_model.specs.Sites.{site_eq}
 use Rattle.q_model.specs.Values.{Site}
-use Rattle.q_sorted.specs.declared.entry.Entry.{Entry}
-use Rattle.q_sorted.specs.Entries.{Entries, inserted, is_another, is_of, Rises}
+use Rattle.q_sorted.specs.declared.ticket.Ticket.{Ticket}
+use Rattle.q_sorted.specs.Tickets.{inserted, is_another, is_of, Rises, Tickets}
 use Rattle.q_turns.specs.declared.lane.Lane.{Lane}
 use Rattle.q_rounds.specs.declared.peer.Peer.{Peer}
-use Rattle.q_rounds.specs.Listing.{AreEntries}
-use Rattle.q_turns.specs.Heading.{head_at, head_in, lane_of, message_at, message_entry, rank_by}
+use Rattle.q_rounds.specs.Listing.{AreTickets}
+use Rattle.q_turns.specs.Heading.{head_at, head_in, lane_of, message_at, message_ticket, rank_by}
 use Rattle.q_turns.specs.Laning.{empty_lane, HasMade, lanes_without}
 use Rattle.q_turns.specs.Sound.{ArePlaced, AreRanked, AreSound, IsSound, jobs_of}
 use Rattle.q_rounds.specs.Rounds.{waits}
@@ -27,28 +27,28 @@ use Rattle.q_turns.proofs.LaneLaws.{lanes_more, laned_more, placed_made, places_
 use Rattle.q_turns.proofs.LineSets.{apart_empty, apart_set, count_set, empty_line, jobs_at, jobs_empty, jobs_set, room_at, room_empty, room_set}
 use Rattle.q_turns.proofs.Placing.{laned_put, lanes_put, listed_less, listed_more, listed_put, placed_less, placed_more, placed_put, with_peer}
 use Rattle.q_turns.proofs.RankSets.{peer_ranked, ranked_set}
-use Rattle.q_rounds.proofs.Entered.{alike, most_entries}
+use Rattle.q_rounds.proofs.Entered.{alike, most_tickets}
 use Rattle.q_turns.proofs.LaneCounts.{few_lanes}
 
 pub values_more : (n : ℕ) (p : Peer) (ks : List (Numbered Peer)) → values_of (with_peer n p ks) ≡ values_of ks ++ p ∷ []
 values_more n p ks = map-append (λ (k : Numbered Peer). k.item) ks (record { number = n; item = p } ∷ [])
 
-map_there : (f : Peer → Entry) (o : Option Peer) (e : Entry) → option_map f o ≡ Some e → is_some o ≡ true
+map_there : (f : Peer → Ticket) (o : Option Peer) (e : Ticket) → option_map f o ≡ Some e → is_some o ≡ true
 map_there f None e h = absurd cc
 map_there f (Some p) e h = refl
 
-test_step : (m d : ℕ) (t : Option Entry) → cond (is_some t) None (Some m) ≡ Some d → (m ≡ d) × (t ≡ None)
+test_step : (m d : ℕ) (t : Option Ticket) → cond (is_some t) None (Some m) ≡ Some d → (m ≡ d) × (t ≡ None)
 test_step m d None h = let same : m ≡ d = cc in (same, refl)
 test_step m d (Some x) h = absurd cc
 
-own_lane : (site : Site) (lanes : List (Numbered Lane)) (items : List Entry) (l : Option ℕ) (d : ℕ) → lane_of site lanes ≡ l → option_and_then (λ m. cond (is_some (find (is_of m) items)) None (Some m)) l ≡ Some d → (lane_of site lanes ≡ Some d) × (find (is_of d) items ≡ None)
+own_lane : (site : Site) (lanes : List (Numbered Lane)) (items : List Ticket) (l : Option ℕ) (d : ℕ) → lane_of site lanes ≡ l → option_and_then (λ m. cond (is_some (find (is_of m) items)) None (Some m)) l ≡ Some d → (lane_of site lanes ≡ Some d) × (find (is_of d) items ≡ None)
 own_lane site lanes items None d l h = absurd cc
 own_lane site lanes items (Some m) d l h =
     let both = test_step m d (find (is_of m) items) h in
     (l ∙ ap Some both.0, ap (λ i. find (is_of i) items) (sym both.0) ∙ both.1)
 
 -- the same in other words
-pub sound_from : (lines : List Jobs) (p q : Items Peer) (l m : Items Lane) (h k : Lanes) (e f : Entries) (room : ℕ) → q ≡ p → m ≡ l → k ≡ h → f ≡ e → IsSound lines p l h e room → IsSound lines q m k f room
+pub sound_from : (lines : List Jobs) (p q : Items Peer) (l m : Items Lane) (h k : Lanes) (e f : Tickets) (room : ℕ) → q ≡ p → m ≡ l → k ≡ h → f ≡ e → IsSound lines p l h e room → IsSound lines q m k f room
 sound_from lines p q l m h k e f room peers lanes heads messages sound =
     subst (λ v. IsSound lines v m k f room) (sym peers) (subst (λ v. IsSound lines p v k f room) (sym lanes) (subst (λ v. IsSound lines p l v f room) (sym heads) (subst (λ v. IsSound lines p l h v room) (sym messages) sound)))
 
@@ -56,13 +56,13 @@ ranked_empty : (line_room n : ℕ) → AreRanked (replicate n (empty_line line_r
 ranked_empty line_room zero = tt
 ranked_empty line_room (suc n) = (refl, ranked_empty line_room n)
 
-module _ (lines : List Jobs) (peers : Items Peer) (lanes : Items Lane) (heads : Lanes) (messages : Entries) (line_room : ℕ) (sound : IsSound lines peers lanes heads messages line_room) where
-  -- entries are no more than peers
+module _ (lines : List Jobs) (peers : Items Peer) (lanes : Items Lane) (heads : Lanes) (messages : Tickets) (line_room : ℕ) (sound : IsSound lines peers lanes heads messages line_room) where
+  -- tickets are no more than peers
   pub few_heads : Rises heads.items → length heads.items ≤ length peers.items
-  few_heads rising = most_entries (head_at (rank_by lines) lanes.items peers.items) heads.items peers.items sound.places.placed rising (λ m e h. ap is_some (at_tells (rank_by lines) lanes.items peers.items m e h).there)
+  few_heads rising = most_tickets (head_at (rank_by lines) lanes.items peers.items) heads.items peers.items sound.places.placed rising (λ m e h. ap is_some (at_tells (rank_by lines) lanes.items peers.items m e h).there)
 
   pub few_messages : Rises messages.items → length messages.items ≤ length peers.items
-  few_messages rising = most_entries (message_at peers.items) messages.items peers.items sound.listed rising (λ m e h. map_there (message_entry m) (item_at m peers.items) e h)
+  few_messages rising = most_tickets (message_at peers.items) messages.items peers.items sound.listed rising (λ m e h. map_there (message_ticket m) (item_at m peers.items) e h)
 
   pub few_lanes_there : AreApart lanes.items → AreKeysApart site_eq (λ (l : Lane). l.site) lanes.items → length lanes.items ≤ length (values_of peers.items)
   few_lanes_there apart keys = few_lanes lanes.items peers.items apart keys (λ j l h. (sound.places.lanes_are j l h).used)
@@ -71,8 +71,8 @@ module _ (lines : List Jobs) (peers : Items Peer) (lanes : Items Lane) (heads : 
   unranked q past = no_line lines q past
 
   -- a peer comes
-  pub sound_more : (n : ℕ) (p : Peer) (more : List (Numbered Lane)) (after : Lanes) (o : Option Entry) → find (has_number n) peers.items ≡ None → HasMade p.site lanes.items more heads after → waits p ≡ true → may_wait (jobs_of lines) p.site.transport p.id ≡ true → o ≡ head_in (rank_by lines) more n p →
-      IsSound lines (record peers { items = with_peer n p peers.items }) (record lanes { items = more }) (record after { items = with_mark o after.items }) (record messages { items = inserted (message_entry n p) messages.items }) line_room
+  pub sound_more : (n : ℕ) (p : Peer) (more : List (Numbered Lane)) (after : Lanes) (o : Option Ticket) → find (has_number n) peers.items ≡ None → HasMade p.site lanes.items more heads after → waits p ≡ true → may_wait (jobs_of lines) p.site.transport p.id ≡ true → o ≡ head_in (rank_by lines) more n p →
+      IsSound lines (record peers { items = with_peer n p peers.items }) (record lanes { items = more }) (record after { items = with_mark o after.items }) (record messages { items = inserted (message_ticket n p) messages.items }) line_room
   sound_more n p more after o free made w m is =
       let old = sound.lines_are in
       let placed = placed_made (rank_by lines) (length lines) lanes.items more peers.items heads after p.site sound.places unranked made in
@@ -85,7 +85,7 @@ module _ (lines : List Jobs) (peers : Items Peer) (lanes : Items Lane) (heads : 
           jobs = subst (HaveJobs (jobs_of lines)) (sym (values_more n p peers.items)) (have_more (jobs_of lines) (values_of peers.items) p old.jobs w m);
         };
         places = record {
-          placed = placed_more (rank_by lines) more peers.items after.items n p o (subst (λ xs. AreEntries (head_at (rank_by lines) more peers.items) xs) (sym (ap (λ (s : Lanes). s.items) made.heads)) placed) free is;
+          placed = placed_more (rank_by lines) more peers.items after.items n p o (subst (λ xs. AreTickets (head_at (rank_by lines) more peers.items) xs) (sym (ap (λ (s : Lanes). s.items) made.heads)) placed) free is;
           laned = laned_more (rank_by lines) (length lines) lanes.items more peers.items heads after p.site sound.places unranked made n p free refl;
           lanes_are = lanes_alike more (with_peer n p peers.items) after (record after { items = with_mark o after.items }) refl refl
               (lanes_more (rank_by lines) (length lines) lanes.items more peers.items heads after p.site sound.places unranked made n p free refl);
@@ -118,7 +118,7 @@ module _ (lines : List Jobs) (peers : Items Peer) (lanes : Items Lane) (heads : 
       }
 
   -- a peer goes
-  module _ (n : ℕ) (p : Peer) (o : Option Entry) (there : item_at n peers.items ≡ Some p) (is : o ≡ head_in (rank_by lines) lanes.items n p) (apart : AreApart lanes.items) (keys : AreKeysApart site_eq (λ (l : Lane). l.site) lanes.items) where
+  module _ (n : ℕ) (p : Peer) (o : Option Ticket) (there : item_at n peers.items ≡ Some p) (is : o ≡ head_in (rank_by lines) lanes.items n p) (apart : AreApart lanes.items) (keys : AreKeysApart site_eq (λ (l : Lane). l.site) lanes.items) where
     abbrev after : Lanes
     after = record heads { items = without o heads.items }
 
@@ -134,7 +134,7 @@ module _ (lines : List Jobs) (peers : Items Peer) (lanes : Items Lane) (heads : 
         (placed_less (rank_by lines) lanes.items peers.items heads.items n p o sound.places.placed there is) d own.0 own.1
 
     pub sound_less : HaveJobs (jobs_of lines) (values_of (without_number n peers.items)) →
-        IsSound lines (record peers { items = without_number n peers.items }) (record lanes { items = lanes_without (empty_lane p.site lanes.items after.items) lanes.items }) after (record messages { items = filter (is_another (message_entry n p)) messages.items }) line_room
+        IsSound lines (record peers { items = without_number n peers.items }) (record lanes { items = lanes_without (empty_lane p.site lanes.items after.items) lanes.items }) after (record messages { items = filter (is_another (message_ticket n p)) messages.items }) line_room
     sound_less jobs =
         let old = sound.lines_are in
         record {
@@ -147,8 +147,8 @@ module _ (lines : List Jobs) (peers : Items Peer) (lanes : Items Lane) (heads : 
           list_room = sound.list_room;
         }
 
-  -- the entries stay where the ranks of all peers do
-  pub placed_kept : (rank : Peer → Option ℕ) → ((m : ℕ) (q : Peer) → item_at m peers.items ≡ Some q → rank q ≡ rank_by lines q) → AreEntries (head_at rank lanes.items peers.items) heads.items
+  -- the tickets stay where the ranks of all peers do
+  pub placed_kept : (rank : Peer → Option ℕ) → ((m : ℕ) (q : Peer) → item_at m peers.items ≡ Some q → rank q ≡ rank_by lines q) → AreTickets (head_at rank lanes.items peers.items) heads.items
   placed_kept rank same =
       alike (head_at (rank_by lines) lanes.items peers.items) (head_at rank lanes.items peers.items) heads.items sound.places.placed
       (λ m. at_same (rank_by lines) rank lanes.items lanes.items peers.items m (λ q h. head_same (rank_by lines) rank lanes.items lanes.items m q q refl (same m q h)))
@@ -166,8 +166,8 @@ module _ (lines : List Jobs) (peers : Items Peer) (lanes : Items Lane) (heads : 
           jobs = subst (λ js. HaveJobs js (values_of peers.items)) (sym (jobs_set t new g lines (is ∙ ap g (sym (jobs_at t lines old there))))) jobs;
         }
 
-    -- where the entries stand as the ranks of its jobs say
-    pub sound_line : (after : Lanes) → after ≡ record heads { items = after.items } → AreEntries (head_at (rank_by (set lines t new)) lanes.items peers.items) after.items → IsSound (set lines t new) peers lanes after messages line_room
+    -- where the tickets stand as the ranks of its jobs say
+    pub sound_line : (after : Lanes) → after ≡ record heads { items = after.items } → AreTickets (head_at (rank_by (set lines t new)) lanes.items peers.items) after.items → IsSound (set lines t new) peers lanes after messages line_room
     sound_line after rest placed = record {
       lines_are = lines_set;
       places = record {

@@ -5,8 +5,8 @@ use Rattle.q_heads.specs.Lanes.{class_of, Lanes}
 use Rattle.q_keyed.specs.Numbered.{item_at, Numbered, without_number}
 use Rattle.q_model.specs.Sites.{site_eq}
 use Rattle.q_model.specs.Values.{Site}
-use Rattle.q_sorted.specs.declared.entry.Entry.{Entry}
-use Rattle.q_sorted.specs.Entries.{is_of}
+use Rattle.q_sorted.specs.declared.ticket.Ticket.{Ticket}
+use Rattle.q_sorted.specs.Tickets.{is_of}
 use Rattle.q_turns.specs.declared.lane.Lane.{Lane}
 use Rattle.q_turns.specs.Heading.{lane_of}
 
@@ -27,8 +27,8 @@ pub record HasMade (site : Site) (old new : List (Numbered Lane)) (before after 
       → IsOldOrMade site old before after number l
   pub heads : after ≡ record before { classes = after.classes }
 
--- the number of the site's lane, where no entry stands in it
-abbrev pub empty_lane : Site → List (Numbered Lane) → List Entry → Option ℕ
+-- the number of the site's lane, where no ticket stands in it
+abbrev pub empty_lane : Site → List (Numbered Lane) → List Ticket → Option ℕ
 empty_lane site lanes items = option_and_then
     (λ n. if is_some (find (is_of n) items) then None else Some n) (lane_of site lanes)
 

@@ -1,4 +1,4 @@
--- What always holds of lines, peers, lanes and their entries.
+-- What always holds of lines, peers, lanes and their tickets.
 use Rattle.std.specs.List.{AllByRecursion}
 use Rattle.std.specs.Option.{is_some}
 use Rattle.std.specs.Prelude.{◌≡◌, ◌<◌, ◌^◌, [], ◌∷◌, length, List, map, Option, Some, true, ℕ}
@@ -7,10 +7,10 @@ use Rattle.q_jobs.specs.declared.job.Job.{Job}
 use Rattle.q_jobs.specs.Jobs.{Jobs}
 use Rattle.q_keyed.specs.Numbered.{item_at, Items, Numbered, values_of}
 use Rattle.q_model.specs.Values.{Site}
-use Rattle.q_sorted.specs.Entries.{Entries}
+use Rattle.q_sorted.specs.Tickets.{Tickets}
 use Rattle.q_turns.specs.declared.lane.Lane.{Lane}
 use Rattle.q_rounds.specs.declared.peer.Peer.{Peer}
-use Rattle.q_rounds.specs.Listing.{AreEntries}
+use Rattle.q_rounds.specs.Listing.{AreTickets}
 use Rattle.q_turns.specs.Heading.{head_at, message_at, lane_of, rank_by}
 use Rattle.q_turns.specs.Turns.{AreLinesApart, HaveJobs}
 
@@ -56,16 +56,16 @@ abbrev pub AreLanes : List (Numbered Lane) → List (Numbered Peer) → Lanes �
 AreLanes lanes peers heads = (number : ℕ) (l : Lane) → item_at number lanes ≡ Some l
     → IsLane number l peers heads
 
--- the entries of all peers stand in their lanes
+-- the tickets of all peers stand in their lanes
 pub record ArePlaced (rank : Peer → Option ℕ) (transports : ℕ) (lanes : List (Numbered Lane)) (peers : List (Numbered Peer)) (heads : Lanes) : Type 0 where
-  pub placed : AreEntries (head_at rank lanes peers) heads.items
+  pub placed : AreTickets (head_at rank lanes peers) heads.items
   pub laned : HaveLanes transports lanes peers
   pub lanes_are : AreLanes lanes peers heads
 
-pub record IsSound (lines : List Jobs) (peers : Items Peer) (lanes : Items Lane) (heads : Lanes) (listing : Entries) (line_room : ℕ) : Type 0 where
+pub record IsSound (lines : List Jobs) (peers : Items Peer) (lanes : Items Lane) (heads : Lanes) (listing : Tickets) (line_room : ℕ) : Type 0 where
   pub lines_are : AreSound lines (values_of peers.items) line_room
   pub places : ArePlaced (rank_by lines) (length lines) lanes.items peers.items heads
-  pub listed : AreEntries (message_at peers.items) listing.items
+  pub listed : AreTickets (message_at peers.items) listing.items
   pub lane_room : lanes.room ≡ peers.room
   pub head_room : heads.room ≡ peers.room
   pub lanes_room : heads.lanes ≡ peers.room

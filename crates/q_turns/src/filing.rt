@@ -91,13 +91,13 @@ impl Turns {
         self.peers.stand_apart();
         self.messages.stand_sorted();
         let mut at = self.messages.first_from(&least_of(id));
-        while let Some(entry) = at {
-            if !is_of_message(&entry, id) {
+        while let Some(ticket) = at {
+            if !is_of_message(&ticket, id) {
                 return;
             }
-            let site = site_in(&self.peers, entry.item, id);
+            let site = site_in(&self.peers, ticket.item, id);
             self.file_at(id, site, facts, candidates);
-            at = self.messages.behind(&entry);
+            at = self.messages.behind(&ticket);
         }
     }
 }

@@ -1,6 +1,6 @@
-//! The entries of peers.
+//! The tickets of peers.
 ghost use Rattle.std.specs.Prelude.{◌≡◌};
-ghost use Rattle.q_turns.specs.Heading.{head_in, is_of_message, least_of, message_entry, rank_at, rank_by, sent_in};
+ghost use Rattle.q_turns.specs.Heading.{head_in, is_of_message, least_of, message_ticket, rank_at, rank_by, sent_in};
 ghost use Rattle.q_rounds.specs.Rounds.{is_peer_for};
 
 use crate::lane::Lane;
@@ -9,7 +9,7 @@ use q_jobs::Line;
 use q_keyed::Keyed;
 use q_model::Id;
 use q_rounds::{Peer, Rounds};
-use q_sorted::Entry;
+use q_sorted::Ticket;
 
 /// The rank of the message's job at the transport.
 pub(crate) fn rank_at(lines: &Vec<Line>, transport: usize, id: Id) -> Option<u64>
@@ -19,51 +19,51 @@ pub(crate) fn rank_at(lines: &Vec<Line>, transport: usize, id: Id) -> Option<u64
     line.rank(id)
 }
 
-/// The entry of a peer in the lane of its site, where there is one and its job has a rank.
+/// The ticket of a peer in the lane of its site, where there is one and its job has a rank.
 pub(crate) fn head_of(
     lines: &Vec<Line>,
     lanes: &Keyed<Lane>,
     number: u32,
     peer: &Peer,
-) -> Option<Entry>
+) -> Option<Ticket>
     ensures { result ≡ head_in (rank_by lines.now.items) lanes.now.items number peer.now }
 {
     let lane = lanes.find(&peer.site)?;
     let rank = rank_at(lines, usize::from(peer.site.transport), peer.id)?;
-    Some(Entry {
+    Some(Ticket {
         key: u128::from(rank),
         group: lane,
         item: number,
     })
 }
 
-/// The entry of a peer among those of its message.
-pub(crate) fn message_entry(peer: &Peer, number: u32) -> Entry
-    ensures { result ≡ message_entry number peer.now }
+/// The ticket of a peer among those of its message.
+pub(crate) fn message_ticket(peer: &Peer, number: u32) -> Ticket
+    ensures { result ≡ message_ticket number peer.now }
 {
-    Entry {
+    Ticket {
         key: u128::from(peer.id.generation),
         group: peer.id.serial,
         item: number,
     }
 }
 
-/// What no entry of the message goes before.
-pub(crate) fn least_of(id: Id) -> Entry
+/// What no ticket of the message goes before.
+pub(crate) fn least_of(id: Id) -> Ticket
     ensures { result ≡ least_of id }
 {
-    Entry {
+    Ticket {
         key: u128::from(id.generation),
         group: id.serial,
         item: 0,
     }
 }
 
-/// Whether the entry is of a message with these numbers: this one, or its bounce.
-pub(crate) fn is_of_message(entry: &Entry, id: Id) -> bool
-    ensures { result ≡ is_of_message (least_of id) entry.now }
+/// Whether the ticket is of a message with these numbers: this one, or its bounce.
+pub(crate) fn is_of_message(ticket: &Ticket, id: Id) -> bool
+    ensures { result ≡ is_of_message (least_of id) ticket.now }
 {
-    entry.group == id.serial && entry.key == u128::from(id.generation)
+    ticket.group == id.serial && ticket.key == u128::from(id.generation)
 }
 
 /// Whether the peer is of the message, at the transport.

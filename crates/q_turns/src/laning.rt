@@ -4,7 +4,7 @@ ghost use Rattle.std.specs.Option.{is_some};
 ghost use Rattle.q_heads.specs.Lanes.{stands};
 ghost use Rattle.q_heads.specs.Marks.{with_mark, without};
 ghost use Rattle.q_keyed.specs.Numbered.{item_at};
-ghost use Rattle.q_sorted.specs.declared.entry.Entry.{Entry};
+ghost use Rattle.q_sorted.specs.declared.ticket.Ticket.{Ticket};
 ghost use Rattle.q_turns.specs.Laning.{empty_lane, HasMade, lanes_without};
 ghost use Rattle.std.specs.Prelude.{IfSome};
 
@@ -12,13 +12,13 @@ use crate::lane::Lane;
 use q_heads::Heads;
 use q_keyed::Keyed;
 use q_model::Site;
-use q_sorted::Entry;
+use q_sorted::Ticket;
 
 /// Makes a lane for the site, where it has none.
 pub(crate) fn make_lane(lanes: &mut Keyed<Lane>, heads: &mut Heads, site: &Site)
     requires room { length lanes.old.items < lanes.old.room }
     requires known { lanes.old.room ≡ heads.old.lanes }
-    requires inside { (e : Entry) → stands e heads.old.items ≡ true
+    requires inside { (e : Ticket) → stands e heads.old.items ≡ true
         → is_some (item_at e.group lanes.old.items) ≡ true }
     ensures lanes { lanes.new ≡ record lanes.old { items = lanes.new.items } }
     ensures made { HasMade site.now lanes.old.items lanes.new.items heads.old heads.new }
@@ -31,7 +31,7 @@ pub(crate) fn make_lane(lanes: &mut Keyed<Lane>, heads: &mut Heads, site: &Site)
     heads.set_class(lane, u32::from(site.transport));
 }
 
-/// Takes the site's lane out, where no entry stands in it.
+/// Takes the site's lane out, where no ticket stands in it.
 pub(crate) fn drop_lane(lanes: &mut Keyed<Lane>, heads: &Heads, site: &Site)
     ensures { lanes.new ≡ record lanes.old {
       items = lanes_without
@@ -46,8 +46,8 @@ pub(crate) fn drop_lane(lanes: &mut Keyed<Lane>, heads: &Heads, site: &Site)
     }
 }
 
-/// Puts the entry in, where there is one.
-pub(crate) fn put_in(heads: &mut Heads, head: Option<Entry>)
+/// Puts the ticket in, where there is one.
+pub(crate) fn put_in(heads: &mut Heads, head: Option<Ticket>)
     requires room { IfSome head (λ _. length heads.old.items < heads.old.room) }
     requires known { IfSome head (λ e. e.group < heads.old.lanes) }
     ensures { heads.new ≡ record heads.old { items = with_mark head heads.old.items } }
@@ -57,8 +57,8 @@ pub(crate) fn put_in(heads: &mut Heads, head: Option<Entry>)
     }
 }
 
-/// Takes the entry out, where there is one.
-pub(crate) fn take_out(heads: &mut Heads, head: Option<Entry>)
+/// Takes the ticket out, where there is one.
+pub(crate) fn take_out(heads: &mut Heads, head: Option<Ticket>)
     ensures { heads.new ≡ record heads.old { items = without head heads.old.items } }
 {
     if let Some(head) = head {

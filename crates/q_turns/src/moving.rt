@@ -1,10 +1,10 @@
-//! Entries move, as jobs get other ranks.
+//! Tickets move, as jobs get other ranks.
 ghost use Rattle.std.specs.Prelude.{◌≡◌, ◌<◌, ◌==◌, ◌&&◌, ◌^◌, IfSome, length, not, true};
 ghost use Rattle.std.specs.Option.{is_some};
 ghost use Rattle.q_heads.specs.Lanes.{class_of, is_the, stands};
 ghost use Rattle.q_heads.specs.Marks.{with_mark};
-ghost use Rattle.q_sorted.specs.declared.entry.Entry.{Entry};
-ghost use Rattle.q_rounds.specs.Listing.{AreEntries};
+ghost use Rattle.q_sorted.specs.declared.ticket.Ticket.{Ticket};
+ghost use Rattle.q_rounds.specs.Listing.{AreTickets};
 ghost use Rattle.q_turns.specs.Heading.{head_at, message_at, rank_at, rank_by, ranked_before, ranked_elsewhere};
 ghost use Rattle.q_turns.specs.Moving.{job_head, missing_head, moved_head, with_key};
 ghost use Rattle.q_turns.specs.Sound.{AreLanes};
@@ -17,12 +17,12 @@ use q_jobs::Line;
 use q_keyed::Keyed;
 use q_model::Id;
 use q_rounds::Rounds;
-use q_sorted::{Entry, Sorted};
+use q_sorted::{Sorted, Ticket};
 
-/// Takes all entries of the transport out.
+/// Takes all tickets of the transport out.
 pub(crate) fn take_all_out(heads: &mut Heads, transport: u32)
     ensures rest { heads.new ≡ record heads.old { items = heads.new.items } }
-    ensures gone { (x : Entry) → stands x heads.new.items ≡ (stands x heads.old.items
+    ensures gone { (x : Ticket) → stands x heads.new.items ≡ (stands x heads.old.items
         && not (class_of x.group heads.old.classes == transport)) }
 {
     while let Some(head) = heads.first(transport) {
@@ -31,7 +31,7 @@ pub(crate) fn take_all_out(heads: &mut Heads, transport: u32)
     heads.stand_sorted();
 }
 
-/// Puts the entry of the peer in, where it is at the transport.
+/// Puts the ticket of the peer in, where it is at the transport.
 fn put_one_in(
     heads: &mut Heads,
     lines: &Vec<Line>,
@@ -57,7 +57,7 @@ fn put_one_in(
     }
 }
 
-/// Puts the entries of all peers at the transport in.
+/// Puts the tickets of all peers at the transport in.
 pub(crate) fn put_all_in(
     heads: &mut Heads,
     lines: &Vec<Line>,
@@ -67,10 +67,10 @@ pub(crate) fn put_all_in(
 )
     requires room { heads.old.room ≡ peers.now.room }
     requires lanes_are { AreLanes lanes.now.items peers.now.items heads.old }
-    requires placed { AreEntries (head_at (ranked_elsewhere transport lines.now.items)
+    requires placed { AreTickets (head_at (ranked_elsewhere transport lines.now.items)
         lanes.now.items peers.now.items) heads.old.items }
     ensures rest { heads.new ≡ record heads.old { items = heads.new.items } }
-    ensures placed { AreEntries (head_at (rank_by lines.now.items) lanes.now.items
+    ensures placed { AreTickets (head_at (rank_by lines.now.items) lanes.now.items
         peers.now.items) heads.new.items }
 {
     peers.stand_apart();
@@ -83,7 +83,7 @@ pub(crate) fn put_all_in(
     }
 }
 
-/// Puts the entries of all peers at the transport where the ranks of its jobs say now, after all
+/// Puts the tickets of all peers at the transport where the ranks of its jobs say now, after all
 /// were ranked anew.
 pub(crate) fn place_anew(
     heads: &mut Heads,
@@ -95,11 +95,11 @@ pub(crate) fn place_anew(
     requires few { transport < 2 ^ 32 }
     requires room { heads.old.room ≡ peers.now.room }
     requires lanes_are { AreLanes lanes.now.items peers.now.items heads.old }
-    requires elsewhere { (x : Entry) → (class_of x.group heads.old.classes ≡ transport → ⊥)
+    requires elsewhere { (x : Ticket) → (class_of x.group heads.old.classes ≡ transport → ⊥)
         → stands x heads.old.items ≡ is_the x (head_at (ranked_elsewhere transport
         lines.now.items) lanes.now.items peers.now.items x.item) }
     ensures rest { heads.new ≡ record heads.old { items = heads.new.items } }
-    ensures placed { AreEntries (head_at (rank_by lines.now.items) lanes.now.items
+    ensures placed { AreTickets (head_at (rank_by lines.now.items) lanes.now.items
         peers.now.items) heads.new.items }
 {
     lanes.stand_apart();
@@ -107,8 +107,8 @@ pub(crate) fn place_anew(
     put_all_in(heads, lines, lanes, peers, transport);
 }
 
-/// Moves the entry of the peer from this rank to that of its job, where it is of the message at the
-/// transport.
+/// Moves the ticket of the peer from this rank to that of its job, where it is of the message at
+/// the transport.
 fn move_one(
     heads: &mut Heads,
     lines: &Vec<Line>,
@@ -136,7 +136,7 @@ fn move_one(
     let Some(head) = head_of(lines, lanes, number, peer) else {
         return;
     };
-    let old = Entry {
+    let old = Ticket {
         key: u128::from(from),
         group: head.group,
         item: head.item,
@@ -145,7 +145,7 @@ fn move_one(
     heads.insert(head);
 }
 
-/// Moves the entries of the message's peers at the transport from the rank that its job had.
+/// Moves the tickets of the message's peers at the transport from the rank that its job had.
 pub(crate) fn move_job(
     heads: &mut Heads,
     lines: &Vec<Line>,
@@ -156,21 +156,21 @@ pub(crate) fn move_job(
     transport: usize,
     from: u64,
 )
-    requires listed { AreEntries (message_at peers.now.items) messages.now.items }
+    requires listed { AreTickets (message_at peers.now.items) messages.now.items }
     requires ranked { is_some (rank_at lines.now.items transport id) ≡ true }
-    requires placed { AreEntries (head_at (ranked_before id transport from lines.now.items)
+    requires placed { AreTickets (head_at (ranked_before id transport from lines.now.items)
         lanes.now.items peers.now.items) heads.old.items }
     ensures rest { heads.new ≡ record heads.old { items = heads.new.items } }
-    ensures placed { AreEntries (head_at (rank_by lines.now.items) lanes.now.items
+    ensures placed { AreTickets (head_at (rank_by lines.now.items) lanes.now.items
         peers.now.items) heads.new.items }
 {
     messages.stand_sorted();
     let mut at = messages.first_from(&least_of(id));
-    while let Some(entry) = at {
-        if !is_of_message(&entry, id) {
+    while let Some(ticket) = at {
+        if !is_of_message(&ticket, id) {
             return;
         }
-        move_one(heads, lines, lanes, peers, entry.item, id, transport, from);
-        at = messages.behind(&entry);
+        move_one(heads, lines, lanes, peers, ticket.item, id, transport, from);
+        at = messages.behind(&ticket);
     }
 }

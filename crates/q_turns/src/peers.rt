@@ -3,14 +3,14 @@ ghost use Rattle.std.specs.Prelude.{◌≡◌, ◌+◌, ◌++◌, ◌<◌, ◌^�
 ghost use Rattle.q_rounds.specs.Rounds.{has_last, is_peer, new_peer};
 ghost use Rattle.q_turns.specs.Turns.{gained_at, lost_at, may_wait, started_at, waiting_for};
 
-use crate::heading::{head_of, message_entry};
+use crate::heading::{head_of, message_ticket};
 use crate::laning::{drop_lane, make_lane, put_in, take_out};
 use crate::turns::Turns;
 use q_model::{Id, Site};
 use q_rounds::{Peer, PeerKey};
 
 impl Turns {
-    /// A peer comes behind all others, with a lane and its entries.
+    /// A peer comes behind all others, with a lane and its tickets.
     fn come(&mut self, id: Id, site: &Site)
         requires absent { find (is_peer id site.now) self.old.peers ≡ None }
         requires job { may_wait self.old.lines site.now.transport id ≡ true }
@@ -32,7 +32,7 @@ impl Turns {
             last: 0,
             passed: false,
         };
-        self.messages.insert(message_entry(&peer, number));
+        self.messages.insert(message_ticket(&peer, number));
         let head = head_of(&self.lines, &self.lanes, number, &peer);
         put_in(&mut self.heads, head);
     }
@@ -101,7 +101,7 @@ impl Turns {
             self.peers.lose(number);
             return;
         }
-        self.messages.remove(&message_entry(&peer, number));
+        self.messages.remove(&message_ticket(&peer, number));
         let head = head_of(&self.lines, &self.lanes, number, &peer);
         take_out(&mut self.heads, head);
         drop_lane(&mut self.lanes, &self.heads, &peer.site);

@@ -1,6 +1,6 @@
 use Rattle.std.proofs.Common.{◌∙◌, ap, arith, find, sym}
 use Rattle.std.specs.Option.{option_copied}
-use Rattle.q_sorted.specs.Entries.{is_of}
+use Rattle.q_sorted.specs.Tickets.{is_of}
 use Rattle.q_candidates.proofs.ArrivalLaws.{is_oldest, none_there, not_gone}
 use Rattle.q_candidates.proofs.arrivals.greatest_age.Goals as goal
 

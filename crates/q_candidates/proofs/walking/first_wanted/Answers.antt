@@ -1,8 +1,8 @@
 use Rattle.std.proofs.Common.{◌∙◌, ◌<◌, ap, Option, subst, sym}
 use Rattle.q_heads.proofs.Standing.{all_stand, found}
 use Rattle.q_heads.specs.Lanes.{foremost, heads_of}
-use Rattle.q_sorted.specs.declared.entry.Entry.{Entry}
-use Rattle.q_sorted.specs.Entries.{is_of}
+use Rattle.q_sorted.specs.declared.ticket.Ticket.{Ticket}
+use Rattle.q_sorted.specs.Tickets.{is_of}
 use Rattle.q_candidates.specs.Filing.{class_for}
 use Rattle.q_candidates.specs.Walking.{nearer}
 use Rattle.q_candidates.proofs.ClassWalk.{at_head, in_begins, in_ends, in_goes, in_past, InWalk, walk_begins, walk_goes, walk_smaller}
@@ -29,7 +29,7 @@ behind-at-requires c =
     let w = c.args.wanted.now in
     let head = c.in-Some.head in
     let is = at_head (class_for w.transport w.need) s head c.loop-at.at c.in-Some.is c.loop-at.invariant.head in
-    all_stand (λ (e : Entry). e.group < s.lanes) head s.items c.stand_sorted.ensures.known (found (is_of head.group) head s.items is.first).0
+    all_stand (λ (e : Ticket). e.group < s.lanes) head s.items c.stand_sorted.ensures.known (found (is_of head.group) head s.items is.first).0
 
 pub loop-at-smaller : goal.loop-at-smaller
 loop-at-smaller c =
@@ -46,7 +46,7 @@ loop-at-preserved c =
     let is = at_head (class_for w.transport w.need) s head c.loop-at.at c.in-Some.is c.loop-at.invariant.head in
     record {
       head = walk_goes (class_for w.transport w.need) s head c.loop-at.at c.behind-at.result c.in-Some.is c.loop-at.invariant.head c.behind-at.ensures;
-      walk = λ key lanes order. subst (λ (o : Option Entry). InWalk key lanes ks s ds w o c.behind-at.result) (sym (c.nearer-found.ensures ∙ ap (nearer c.loop-at.found) c.first_in_lane-own.ensures))
+      walk = λ key lanes order. subst (λ (o : Option Ticket). InWalk key lanes ks s ds w o c.behind-at.result) (sym (c.nearer-found.ensures ∙ ap (nearer c.loop-at.found) c.first_in_lane-own.ensures))
           (in_goes key lanes ks s order c.stand_sorted.ensures.rising ds w head c.loop-at.found c.loop-at.at c.in-Some.is is (c.loop-at.invariant.walk key lanes order) c.behind-at.result c.behind-at.ensures);
     }
 

@@ -4,10 +4,10 @@ use Rattle.std.specs.Prelude.{length, not}
 use Rattle.q_sorted.proofs.Laying.{stands_nowhere, stands_within}
 use Rattle.q_sorted.proofs.block.stands_at.Goals as goal
 
-pub returns-then-place-entries : goal.returns-then-place-entries
-returns-then-place-entries c =
-    ap not c.goes_before.ensures ∙ stands_within c.args.place c.args.entry.now c.args.entries.now _ c.if-place-entries.true
+pub returns-then-place-tickets : goal.returns-then-place-tickets
+returns-then-place-tickets c =
+    ap not c.goes_before.ensures ∙ stands_within c.args.place c.args.ticket.now c.args.tickets.now _ c.if-place-tickets.true
 
-pub returns-else-place-entries : goal.returns-else-place-entries
-returns-else-place-entries c =
-    le-ltb c.args.place (length c.args.entries.now) c.if-place-entries.false ∙ stands_nowhere c.args.place c.args.entry.now c.args.entries.now c.if-place-entries.false
+pub returns-else-place-tickets : goal.returns-else-place-tickets
+returns-else-place-tickets c =
+    le-ltb c.args.place (length c.args.tickets.now) c.if-place-tickets.false ∙ stands_nowhere c.args.place c.args.ticket.now c.args.tickets.now c.if-place-tickets.false

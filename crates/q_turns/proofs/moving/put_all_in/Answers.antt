@@ -4,7 +4,7 @@ use Rattle.q_turns.proofs.HeadLaws.{lanes_alike}
 use Rattle.q_turns.proofs.MovingLaws.{put_begins, put_goes, put_known, put_room, put_smaller, put_so_far}
 use Rattle.q_rounds.proofs.NumberedWalk.{first_stands, item_stands, next_stands}
 use Rattle.q_turns.proofs.TakenOut.{rest_goes}
-use Rattle.q_rounds.specs.Listing.{AreEntries}
+use Rattle.q_rounds.specs.Listing.{AreTickets}
 use Rattle.q_turns.proofs.moving.put_all_in.Goals as goal
 
 pub loop-at-init : goal.loop-at-init
@@ -51,6 +51,6 @@ loop-at-preserved c =
     record {
       rest = rest_goes c.args.heads.now c.loop-at.heads c.put_one_in.new.heads _ c.put_one_in.ensures inv.rest;
       stood = next_stands n c.next-at.result ks c.next-at.ensures;
-      placed = subst (λ (s : Lanes). AreEntries (put_so_far t lines lanes ks c.next-at.result) s.items) (sym c.put_one_in.ensures)
+      placed = subst (λ (s : Lanes). AreTickets (put_so_far t lines lanes ks c.next-at.result) s.items) (sym c.put_one_in.ensures)
           (put_goes t lines lanes ks c.stand_apart.ensures.apart c.loop-at.at c.next-at.result n it.0 c.in-Some.is it.1 c.next-at.ensures c.loop-at.heads.items inv.placed);
     }

@@ -8,10 +8,10 @@ use Rattle.q_rounds.proofs.Lookups.{fewer_at, own_left}
 use Rattle.q_rounds.specs.Rounds.{key_eq}
 use Rattle.q_candidates.specs.Candidates.{is_of, key_of, Listed, put_in}
 use Rattle.q_candidates.specs.declared.candidate.Candidate.{Candidate}
-use Rattle.q_sorted.specs.Entries.{Entries, inserted, is_another}
-use Rattle.q_candidates.specs.Filing.{arrival_at, arrival_entry}
+use Rattle.q_sorted.specs.Tickets.{Tickets, inserted, is_another}
+use Rattle.q_candidates.specs.Filing.{arrival_at, arrival_ticket}
 use Rattle.q_candidates.proofs.ArrivalLaws.{arrived_in, arrived_out, most_arrivals}
-use Rattle.q_rounds.specs.Listing.{AreEntries}
+use Rattle.q_rounds.specs.Listing.{AreTickets}
 use Rattle.q_candidates.proofs.Listing.{held, none_of, put_new, put_old, same_key}
 use Rattle.q_candidates.proofs.Steps.{fit_less, fit_set, is_less, is_more, is_put, sound_from}
 use Rattle.q_candidates.proofs.Views.{listed_of}
@@ -44,11 +44,11 @@ invariant_of-self c =
     let x = c.args.candidate in
     let n = c.push-number.result in
     let more = is_more n x ks c.push-number.ensures.fresh in
-    sound_from _ a.candidates (ks ++ record { number = n; item = x } ∷ []) _ a.index _ a.arrivals (inserted (arrival_entry n x) a.arrivals.items) c.push-number.ensures.items
+    sound_from _ a.candidates (ks ++ record { number = n; item = x } ∷ []) _ a.index _ a.arrivals (inserted (arrival_ticket n x) a.arrivals.items) c.push-number.ensures.items
     (fit_set n x ks (ks ++ record { number = n; item = x } ∷ []) more (record { some = c.requires.some; ranked = omega arith }) c.self.invariant.ordered.fit) c.enter.ensures.laid
     (c.enter.ensures.filed ks (ks ++ record { number = n; item = x } ∷ []) c.self.invariant.ordered.filed (free_item n ks c.push-number.ensures.fresh) more)
     c.enter.ensures.room c.self.invariant.ordered.room
-    (c.insert.ensures ∙ ap (λ e. record a.arrivals { items = inserted e a.arrivals.items }) c.arrival_entry.ensures)
+    (c.insert.ensures ∙ ap (λ e. record a.arrivals { items = inserted e a.arrivals.items }) c.arrival_ticket.ensures)
     (arrived_in n x ks (ks ++ record { number = n; item = x } ∷ []) a.arrivals.items c.self.invariant.arrived (free_item n ks c.push-number.ensures.fresh) more) c.self.invariant.arrival_room
 
 pub returns-in_default : goal.returns-in_default
@@ -97,13 +97,13 @@ invariant_of-self-2 c =
     let n = c.in-Some.number in
     let there = sym (c.copied.ensures ∙ c.get.ensures) ∙ c.in-Some-copied.is in
     let put = is_put n c.in-Some-copied.was x ks there in
-    sound_from _ a.candidates (map (put_at n x) ks) _ a.index _ a.arrivals (inserted (arrival_entry n x) (filter (is_another (arrival_entry n c.in-Some-copied.was)) a.arrivals.items)) c.put.ensures
+    sound_from _ a.candidates (map (put_at n x) ks) _ a.index _ a.arrivals (inserted (arrival_ticket n x) (filter (is_another (arrival_ticket n c.in-Some-copied.was)) a.arrivals.items)) c.put.ensures
     (fit_set n x (without_number n ks) (map (put_at n x) ks) put (record { some = c.requires.some; ranked = omega arith }) (fit_less n ks c.self.invariant.ordered.fit)) c.enter-2.ensures.laid
     (c.enter-2.ensures.filed (without_number n ks) (map (put_at n x) ks) (c.leave.ensures.filed ks (without_number n ks) c.self.invariant.ordered.filed there (is_less n ks)) (own_left n ks) put)
     (c.enter-2.ensures.room ∙ c.leave.ensures.room) c.self.invariant.ordered.room
-    (c.insert-2.ensures ∙ ap (λ e. record c.remove.new.self { items = inserted e c.remove.new.self.items }) c.arrival_entry-3.ensures
-    ∙ ap (λ (w : Entries). record w { items = inserted (arrival_entry n x) w.items }) (c.remove.ensures ∙ ap (λ e. record a.arrivals { items = filter (is_another e) a.arrivals.items }) c.arrival_entry-2.ensures))
-    (arrived_in n x (without_number n ks) (map (put_at n x) ks) (filter (is_another (arrival_entry n c.in-Some-copied.was)) a.arrivals.items)
+    (c.insert-2.ensures ∙ ap (λ e. record c.remove.new.self { items = inserted e c.remove.new.self.items }) c.arrival_ticket-3.ensures
+    ∙ ap (λ (w : Tickets). record w { items = inserted (arrival_ticket n x) w.items }) (c.remove.ensures ∙ ap (λ e. record a.arrivals { items = filter (is_another e) a.arrivals.items }) c.arrival_ticket-2.ensures))
+    (arrived_in n x (without_number n ks) (map (put_at n x) ks) (filter (is_another (arrival_ticket n c.in-Some-copied.was)) a.arrivals.items)
     (arrived_out n c.in-Some-copied.was ks (without_number n ks) a.arrivals.items c.self.invariant.arrived there (is_less n ks)) (own_left n ks) put) c.self.invariant.arrival_room
 
 pub returns : goal.returns
@@ -132,6 +132,6 @@ insert-requires-2 c =
     let ks = a.candidates.items in
     let n = c.in-Some.number in
     let there = sym (c.copied.ensures ∙ c.get.ensures) ∙ c.in-Some-copied.is in
-    let is = c.remove.ensures ∙ ap (λ e. record a.arrivals { items = filter (is_another e) a.arrivals.items }) c.arrival_entry-2.ensures in
-    let arrived = subst (λ (w : Entries). AreEntries (arrival_at (without_number n ks)) w.items) (sym is) (arrived_out n c.in-Some-copied.was ks (without_number n ks) a.arrivals.items c.self.invariant.arrived there (is_less n ks)) in
-    omega (arith, most_arrivals (without_number n ks) c.remove.new.self.items arrived c.stand_sorted-2.ensures.rising, fewer_at n ks (ap is_some there), c.stand_apart.ensures.within, ap (λ (w : Entries). w.room) is, c.self.invariant.arrival_room)
+    let is = c.remove.ensures ∙ ap (λ e. record a.arrivals { items = filter (is_another e) a.arrivals.items }) c.arrival_ticket-2.ensures in
+    let arrived = subst (λ (w : Tickets). AreTickets (arrival_at (without_number n ks)) w.items) (sym is) (arrived_out n c.in-Some-copied.was ks (without_number n ks) a.arrivals.items c.self.invariant.arrived there (is_less n ks)) in
+    omega (arith, most_arrivals (without_number n ks) c.remove.new.self.items arrived c.stand_sorted-2.ensures.rising, fewer_at n ks (ap is_some there), c.stand_apart.ensures.within, ap (λ (w : Tickets). w.room) is, c.self.invariant.arrival_room)

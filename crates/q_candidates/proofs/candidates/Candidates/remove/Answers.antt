@@ -3,8 +3,8 @@ use Rattle.q_keyed.specs.Numbered.{Items, values_of, without_number}
 use Rattle.q_rounds.proofs.ItemSets.{unless_none}
 use Rattle.q_candidates.specs.Candidates.{is_of, Listed}
 use Rattle.q_candidates.specs.declared.candidate.Candidate.{Candidate}
-use Rattle.q_sorted.specs.Entries.{is_another}
-use Rattle.q_candidates.specs.Filing.{arrival_entry}
+use Rattle.q_sorted.specs.Tickets.{is_another}
+use Rattle.q_candidates.specs.Filing.{arrival_ticket}
 use Rattle.q_candidates.proofs.ArrivalLaws.{arrived_out}
 use Rattle.q_candidates.proofs.Listing.{held, left_out, none_left_out}
 use Rattle.q_candidates.proofs.Steps.{fit_less, is_less, sound_from}
@@ -28,10 +28,10 @@ pub invariant_of-self : goal.invariant_of-self
 invariant_of-self c =
     let a = c.self.inside in
     let n = c.in-Some.number in
-    sound_from _ a.candidates (without_number n a.candidates.items) _ a.index _ a.arrivals (filter (is_another (arrival_entry n c.in-Some-copied.candidate)) a.arrivals.items) c.remove-candidate.ensures.items (fit_less n a.candidates.items c.self.invariant.ordered.fit) c.leave.ensures.laid
+    sound_from _ a.candidates (without_number n a.candidates.items) _ a.index _ a.arrivals (filter (is_another (arrival_ticket n c.in-Some-copied.candidate)) a.arrivals.items) c.remove-candidate.ensures.items (fit_less n a.candidates.items c.self.invariant.ordered.fit) c.leave.ensures.laid
     (c.leave.ensures.filed a.candidates.items (without_number n a.candidates.items) c.self.invariant.ordered.filed (sym (c.copied.ensures ∙ c.get.ensures) ∙ c.in-Some-copied.is) (is_less n a.candidates.items))
     c.leave.ensures.room c.self.invariant.ordered.room
-    (c.remove.ensures ∙ ap (λ e. record a.arrivals { items = filter (is_another e) a.arrivals.items }) c.arrival_entry.ensures)
+    (c.remove.ensures ∙ ap (λ e. record a.arrivals { items = filter (is_another e) a.arrivals.items }) c.arrival_ticket.ensures)
     (arrived_out n c.in-Some-copied.candidate a.candidates.items (without_number n a.candidates.items) a.arrivals.items c.self.invariant.arrived (sym (c.copied.ensures ∙ c.get.ensures) ∙ c.in-Some-copied.is) (is_less n a.candidates.items)) c.self.invariant.arrival_room
 
 pub returns : goal.returns

@@ -1,5 +1,5 @@
 use Rattle.std.proofs.Common.{◌∙◌, ap, arith, length}
-use Rattle.q_sorted.specs.Entries.{inserted}
+use Rattle.q_sorted.specs.Tickets.{inserted}
 use Rattle.q_candidates.specs.Filing.{age_key, rank_key}
 use Rattle.q_candidates.proofs.Entering.{filed_with, inside, laid_with, lane_below, most_heads}
 use Rattle.q_candidates.proofs.Lanes.{few_lanes}
@@ -26,7 +26,7 @@ pub insert-requires-clause-known : goal.insert-requires-clause-known
 insert-requires-clause-known c =
     let j = c.make_lane-lane.new.self in
     let low = lane_below c.args.candidate.now c.make_lane-lane.result j.lanes.items j.ages c.stand_apart-2.ensures.apart c.make_lane-lane.ensures.laid.ages c.make_lane-lane.ensures.own in
-    omega (arith, low, ap (λ e. e.group) c.age_entry.ensures)
+    omega (arith, low, ap (λ e. e.group) c.age_ticket.ensures)
 
 pub insert-requires-2-clause-room : goal.insert-requires-2-clause-room
 insert-requires-2-clause-room c =
@@ -38,7 +38,7 @@ pub insert-requires-2-clause-known : goal.insert-requires-2-clause-known
 insert-requires-2-clause-known c =
     let j = c.make_lane-lane.new.self in
     let low = lane_below c.args.candidate.now c.make_lane-lane.result j.lanes.items j.ranks c.stand_apart-2.ensures.apart c.make_lane-lane.ensures.laid.ranks c.make_lane-lane.ensures.own in
-    omega (arith, low, ap (λ e. e.group) c.rank_entry.ensures)
+    omega (arith, low, ap (λ e. e.group) c.rank_ticket.ensures)
 
 pub returns-clause-laid : goal.returns-clause-laid
 returns-clause-laid c = laid_with c.make_lane-lane.new.self c.insert.new.self c.insert-2.new.self _ _ c.insert.ensures c.insert-2.ensures c.make_lane-lane.ensures.laid
@@ -47,5 +47,5 @@ pub returns-clause-filed : goal.returns-clause-filed
 returns-clause-filed c = λ ks new filed free changed.
     let j = c.make_lane-lane.new.self in
     filed_with c.args.candidate.now c.args.number c.make_lane-lane.result c.args.self.now j c.make_lane-lane.ensures.grown c.make_lane-lane.ensures.own ks new filed free changed c.insert.new.self c.insert-2.new.self
-    (c.insert.ensures ∙ ap (λ e. record j.ages { items = inserted e j.ages.items }) c.age_entry.ensures)
-    (c.insert-2.ensures ∙ ap (λ e. record j.ranks { items = inserted e j.ranks.items }) c.rank_entry.ensures)
+    (c.insert.ensures ∙ ap (λ e. record j.ages { items = inserted e j.ages.items }) c.age_ticket.ensures)
+    (c.insert-2.ensures ∙ ap (λ e. record j.ranks { items = inserted e j.ranks.items }) c.rank_ticket.ensures)

@@ -1,9 +1,9 @@
 use Rattle.std.proofs.Common.{◌≡◌, ◌∙◌, ap, arith, None, set, sym}
 use Rattle.q_keyed.specs.Numbered.{Items}
 use Rattle.q_model.specs.Values.{Site}
-use Rattle.q_sorted.specs.Entries.{inserted}
+use Rattle.q_sorted.specs.Tickets.{inserted}
 use Rattle.q_candidates.specs.declared.lane.Lane.{Lane}
-use Rattle.q_candidates.specs.Filing.{class_for, HasGrown, lane_of, need_entry}
+use Rattle.q_candidates.specs.Filing.{class_for, HasGrown, lane_of, need_ticket}
 use Rattle.q_candidates.specs.Sound.{IsLaid}
 use Rattle.q_candidates.proofs.Making.{after_from, free_lane, made_grown, made_laid, made_own, more, most_needs}
 use Rattle.q_candidates.proofs.index.Index.make_lane.Goals as goal
@@ -30,8 +30,8 @@ returns-clause-laid c =
     after_from IsLaid site need i n _ _ _ _ (c.push-number.ensures.items ∙ ap (λ (s : Site). record i.lanes { items = more s need i n }) c.site.view_is)
     (c.set_class.ensures ∙ ap (λ k. record i.ages { classes = set i.ages.classes n k }) class)
     (c.set_class-2.ensures ∙ ap (λ k. record i.ranks { classes = set i.ranks.classes n k }) class)
-    (c.insert.ensures ∙ ap (λ e. record i.needs { items = inserted e i.needs.items }) c.need_entry.ensures
-    ∙ ap (λ (s : Site). record i.needs { items = inserted (need_entry n (record { site = s; need = need })) i.needs.items }) c.site.view_is)
+    (c.insert.ensures ∙ ap (λ e. record i.needs { items = inserted e i.needs.items }) c.need_ticket.ensures
+    ∙ ap (λ (s : Site). record i.needs { items = inserted (need_ticket n (record { site = s; need = need })) i.needs.items }) c.site.view_is)
     (made_laid site need i n c.requires.laid c.push-number.ensures.fresh none c.push-number.ensures.below c.stand_sorted.ensures.classes c.stand_sorted-2.ensures.classes)
 
 pub returns-clause-own : goal.returns-clause-own
@@ -55,6 +55,6 @@ returns-clause-grown c =
     after_from (HasGrown site need i) site need i n _ _ _ _ (c.push-number.ensures.items ∙ ap (λ (s : Site). record i.lanes { items = more s need i n }) c.site.view_is)
     (c.set_class.ensures ∙ ap (λ k. record i.ages { classes = set i.ages.classes n k }) class)
     (c.set_class-2.ensures ∙ ap (λ k. record i.ranks { classes = set i.ranks.classes n k }) class)
-    (c.insert.ensures ∙ ap (λ e. record i.needs { items = inserted e i.needs.items }) c.need_entry.ensures
-    ∙ ap (λ (s : Site). record i.needs { items = inserted (need_entry n (record { site = s; need = need })) i.needs.items }) c.site.view_is)
+    (c.insert.ensures ∙ ap (λ e. record i.needs { items = inserted e i.needs.items }) c.need_ticket.ensures
+    ∙ ap (λ (s : Site). record i.needs { items = inserted (need_ticket n (record { site = s; need = need })) i.needs.items }) c.site.view_is)
     (made_grown site need i n c.requires.laid c.push-number.ensures.fresh none c.push-number.ensures.below)

@@ -1,6 +1,6 @@
 use Rattle.std.proofs.Common.{◌∙◌, ap, find, not, subst, sym}
 use Rattle.std.specs.Option.{option_copied}
-use Rattle.q_sorted.specs.Entries.{goes_before}
+use Rattle.q_sorted.specs.Tickets.{goes_before}
 use Rattle.q_candidates.specs.Choosing.{IsNextNeed}
 use Rattle.q_candidates.proofs.NeedLaws.{lane_from, no_lane, none_from, other_from, past_most}
 use Rattle.q_candidates.proofs.index.Index.next_need.Goals as goal

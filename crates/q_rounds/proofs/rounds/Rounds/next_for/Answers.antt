@@ -1,12 +1,12 @@
 use Rattle.std.proofs.Common.{◌∙◌, ◌<◌, ap, arith, Option, subst, sym}
 use Rattle.std.specs.Prelude.{find}
 use Rattle.q_keyed.specs.Numbered.{Items, values_of}
-use Rattle.q_sorted.specs.declared.entry.Entry.{Entry}
+use Rattle.q_sorted.specs.declared.ticket.Ticket.{Ticket}
 use Rattle.q_rounds.specs.declared.peer.Peer.{Peer}
 use Rattle.q_rounds.specs.Listing.{space_in}
 use Rattle.q_rounds.specs.Rounds.{next_in}
 use Rattle.q_rounds.specs.Walking.{can_start, IsFirst}
-use Rattle.q_rounds.proofs.NextPeer.{next_fresh, next_none, next_nowhere, next_turn}
+use Rattle.q_rounds.proofs.NextPeer.{next_fresh, next_none, next_nowhere, next_ticket}
 use Rattle.q_rounds.proofs.RoundRows.{round_below}
 use Rattle.q_rounds.proofs.rounds.Rounds.next_for.Goals as goal
 
@@ -35,16 +35,16 @@ returns-in-Some-first_fresh c =
     ∙ ap (λ (v : Items Peer). next_in ds c.args.transport c.args.id (values_of v.items)) c.self.view_is in
     cc
 
-pub returns-in_default-first_turn : goal.returns-in_default-first_turn
-returns-in_default-first_turn c =
+pub returns-in_default-first_ticket : goal.returns-in_default-first_ticket
+returns-in_default-first_ticket c =
     let a = c.self.inside in
     let ds = c.args.sites.now.items in
     let found = sym c.find.ensures ∙ c.in-Some.is in
     let below = round_below a.rounds.room a.rounds.items (values_of a.peers.items) c.args.id c.args.transport c.in-Some.round c.stand_apart-2.ensures.apart c.self.invariant.counted found in
     let list = c.self.invariant.listed.each c.in-Some.round (subst (λ m. c.in-Some.round < m) c.self.invariant.round_room below) in
-    let fail = subst (λ (o : Option Entry). IsFirst (can_start ds a.peers.items c.in-Some.round) a.turns.items o) c.in_default-first_turn.is c.first_turn.ensures in
+    let fail = subst (λ (o : Option Ticket). IsFirst (can_start ds a.peers.items c.in-Some.round) a.tickets.items o) c.in_default-first_ticket.is c.first_ticket.ensures in
     sym (next_none ds c.args.id c.args.transport a.peers.room a.rounds.items a.peers.items c.stand_apart.ensures.apart c.self.invariant.fit c.in-Some.round c.stand_apart-2.ensures.apart found
-    (sym (ap (find (space_in ds a.peers.items)) list) ∙ sym c.first_fresh.ensures ∙ c.in_default-first_fresh.is) a.turns.items c.self.invariant.placed fail)
+    (sym (ap (find (space_in ds a.peers.items)) list) ∙ sym c.first_fresh.ensures ∙ c.in_default-first_fresh.is) a.tickets.items c.self.invariant.placed fail)
     ∙ ap (λ (v : Items Peer). next_in ds c.args.transport c.args.id (values_of v.items)) c.self.view_is
 
 pub returns : goal.returns
@@ -54,8 +54,8 @@ returns c =
     let found = sym c.find.ensures ∙ c.in-Some.is in
     let below = round_below a.rounds.room a.rounds.items (values_of a.peers.items) c.args.id c.args.transport c.in-Some.round c.stand_apart-2.ensures.apart c.self.invariant.counted found in
     let list = c.self.invariant.listed.each c.in-Some.round (subst (λ m. c.in-Some.round < m) c.self.invariant.round_room below) in
-    let least = subst (λ (o : Option Entry). IsFirst (can_start ds a.peers.items c.in-Some.round) a.turns.items o) c.in-Some-first_turn.is c.first_turn.ensures in
-    let next = next_turn ds c.args.id c.args.transport a.peers.room a.rounds.items a.peers.items c.stand_apart.ensures.apart c.self.invariant.fit c.in-Some.round c.stand_apart-2.ensures.apart found
-    (sym (ap (find (space_in ds a.peers.items)) list) ∙ sym c.first_fresh.ensures ∙ c.in_default-first_fresh.is) a.turns.items c.self.invariant.placed c.self.invariant.starts c.in-Some-first_turn.turn least
+    let least = subst (λ (o : Option Ticket). IsFirst (can_start ds a.peers.items c.in-Some.round) a.tickets.items o) c.in-Some-first_ticket.is c.first_ticket.ensures in
+    let next = next_ticket ds c.args.id c.args.transport a.peers.room a.rounds.items a.peers.items c.stand_apart.ensures.apart c.self.invariant.fit c.in-Some.round c.stand_apart-2.ensures.apart found
+    (sym (ap (find (space_in ds a.peers.items)) list) ∙ sym c.first_fresh.ensures ∙ c.in_default-first_fresh.is) a.tickets.items c.self.invariant.placed c.self.invariant.starts c.in-Some-first_ticket.ticket least
     ∙ ap (λ (v : Items Peer). next_in ds c.args.transport c.args.id (values_of v.items)) c.self.view_is in
     cc

@@ -1,6 +1,6 @@
 use Rattle.std.proofs.Common.{◌≤◌, ◌∙◌, ap, arith, find, length, List, subst, sym}
-use Rattle.q_sorted.specs.declared.entry.Entry.{Entry}
-use Rattle.q_sorted.specs.Entries.{Rises}
+use Rattle.q_sorted.specs.declared.ticket.Ticket.{Ticket}
+use Rattle.q_sorted.specs.Tickets.{Rises}
 use Rattle.q_sorted.specs.Blocks.{block_at, Blocks, is_past}
 use Rattle.q_sorted.proofs.Finding.{block_rises, found_in, no_block}
 use Rattle.q_sorted.proofs.Laying.{block_read}
@@ -10,7 +10,7 @@ pub first_past-requires : goal.first_past-requires
 first_past-requires c =
     let used = c.self.inside.used.items in
     let own = block_read c.place_of-place.result used c.index.result.now (omega arith) c.index.ensures ∙ ap (block_at c.place_of-place.result) (ap (λ (b : Blocks). b.lists) c.self.view_is) in
-    subst (λ (xs : List Entry). Rises xs) (sym own) (block_rises c.place_of-place.result c.args.self.now.lists c.requires.rising)
+    subst (λ (xs : List Ticket). Rises xs) (sym own) (block_rises c.place_of-place.result c.args.self.now.lists c.requires.rising)
 
 pub returns-then-place-len : goal.returns-then-place-len
 returns-then-place-len c =

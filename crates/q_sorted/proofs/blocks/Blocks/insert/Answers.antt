@@ -1,5 +1,5 @@
 use Rattle.std.proofs.Common.{◌∙◌, ◌≤◌, ap, arith, cond, length, List, subst, sym}
-use Rattle.q_sorted.specs.declared.entry.Entry.{Entry}
+use Rattle.q_sorted.specs.declared.ticket.Ticket.{Ticket}
 use Rattle.q_sorted.specs.Blocks.{AreSound, block_at, block_room, Blocks, joined, settled}
 use Rattle.q_sorted.proofs.Calls.{goes_into, put_counted, put_fits, put_joined, put_sound}
 use Rattle.q_sorted.proofs.Filling.{block_filled}
@@ -14,7 +14,7 @@ put-is_new-requires-clause-room c = omega (arith, block_filled 0 c.min-place.res
 
 pub settle-requires-clause-fits : goal.settle-requires-clause-fits
 settle-requires-clause-fits c =
-    let e = c.args.entry in
+    let e = c.args.ticket in
     let n = c.min-place.result in
     let came = c.put-is_new.result in
     let lists = c.args.self.now.lists in
@@ -23,7 +23,7 @@ settle-requires-clause-fits c =
 
 pub returns-clause-inserted : goal.returns-clause-inserted
 returns-clause-inserted c =
-    let e = c.args.entry in
+    let e = c.args.ticket in
     let n = c.min-place.result in
     let came = c.put-is_new.result in
     let lists = c.args.self.now.lists in
@@ -33,7 +33,7 @@ returns-clause-inserted c =
 
 pub returns-clause-sound : goal.returns-clause-sound
 returns-clause-sound c =
-    let e = c.args.entry in
+    let e = c.args.ticket in
     let n = c.min-place.result in
     let came = c.put-is_new.result in
     let lists = c.args.self.now.lists in
@@ -43,10 +43,10 @@ returns-clause-sound c =
 
 pub returns-clause-counted : goal.returns-clause-counted
 returns-clause-counted c =
-    let e = c.args.entry in
+    let e = c.args.ticket in
     let n = c.min-place.result in
     let came = c.put-is_new.result in
     let lists = c.args.self.now.lists in
     let into = goes_into e n c.place_of.result c.count.result came lists c.requires.sound c.place_of.ensures c.count.ensures c.min-place.ensures c.put-is_new.ensures.counted in
     let left = ap (λ (b : Blocks). b.lists) c.settle.ensures ∙ ap (λ (b : Blocks). settled n b.lists) c.put-is_new.ensures.put in
-    ap (λ (xss : List (List Entry)). length (joined xss)) left ∙ put_counted e n (cond came 1 0) lists into
+    ap (λ (xss : List (List Ticket)). length (joined xss)) left ∙ put_counted e n (cond came 1 0) lists into

@@ -4,8 +4,8 @@ use Rattle.std.specs.Prelude.{find}
 use Rattle.q_heads.specs.Lanes.{Lanes}
 use Rattle.q_keyed.proofs.Values.{none_sought}
 use Rattle.q_keyed.specs.Numbered.{Numbered, values_of}
-use Rattle.q_sorted.specs.declared.entry.Entry.{Entry}
-use Rattle.q_sorted.specs.Entries.{inserted}
+use Rattle.q_sorted.specs.declared.ticket.Ticket.{Ticket}
+use Rattle.q_sorted.specs.Tickets.{inserted}
 use Rattle.q_turns.proofs.HeadLaws.{heads_below, if_some}
 use Rattle.q_turns.proofs.LaneLaws.{inside, lanes_more}
 use Rattle.q_turns.proofs.PeerLaws.{never_last}
@@ -73,5 +73,5 @@ invariant_of-self c =
     let may = subst (λ (s : Turning). may_wait s.lines p.site.transport p.id ≡ true) (sym c.self.view_is) c.requires.job in
     sound_from a.lines.items _ c.add-number.new.self _ c.make_lane.new.lanes _ c.put_in.new.heads _ c.insert.new.self a.line_room
     c.add-number.ensures.items c.make_lane.ensures.lanes c.put_in.ensures
-    (c.insert.ensures ∙ ap (λ (e : Entry). record a.messages { items = inserted e a.messages.items }) c.message_entry.ensures)
+    (c.insert.ensures ∙ ap (λ (e : Ticket). record a.messages { items = inserted e a.messages.items }) c.message_ticket.ensures)
     (sound_more a.lines.items a.peers a.lanes a.heads a.messages a.line_room c.self.invariant n p c.make_lane.new.lanes.items c.make_lane.new.heads c.head_of-head.result c.add-number.ensures.fresh c.make_lane.ensures.made refl may c.head_of-head.ensures)

@@ -5,8 +5,8 @@ use Rattle.std.specs.Prelude.{find, ltb}
 use Rattle.q_heads.proofs.Standing.{all_stand, found}
 use Rattle.q_jobs.specs.declared.job.Job.{Job}
 use Rattle.q_keyed.specs.Numbered.{values_of}
-use Rattle.q_sorted.specs.declared.entry.Entry.{Entry}
-use Rattle.q_sorted.specs.Entries.{is_of}
+use Rattle.q_sorted.specs.declared.ticket.Ticket.{Ticket}
+use Rattle.q_sorted.specs.Tickets.{is_of}
 use Rattle.q_turns.proofs.Choosing.{at_head, job_first, none_able, sends, walk_begins, walk_goes, walk_smaller, WalksAt}
 use Rattle.q_turns.proofs.LineSets.{at_got, jobs_at}
 use Rattle.q_turns.specs.Turns.{is_able, line_at, Turning}
@@ -20,7 +20,7 @@ behind-at-requires c =
     let heads = c.self.inside.heads in
     let head = c.in-Some.head in
     let own = at_head c.args.transport heads (sends c.args.sites.now.items c.self.inside.peers.items) head c.loop-at.at c.in-Some.is c.loop-at.invariant in
-    all_stand (λ (e : Entry). e.group < heads.lanes) head heads.items c.stand_sorted.ensures.known (found (is_of head.group) head heads.items own.0.first).0
+    all_stand (λ (e : Ticket). e.group < heads.lanes) head heads.items c.stand_sorted.ensures.known (found (is_of head.group) head heads.items own.0.first).0
 
 pub loop-at-smaller : goal.loop-at-smaller
 loop-at-smaller c =

@@ -2,8 +2,8 @@ use Rattle.std.proofs.Common.{◌∙◌, ap, refl, subst, sym}
 use Rattle.std.specs.Prelude.{find, IfSome, not, Option}
 use Rattle.q_keyed.specs.Numbered.{values_of}
 use Rattle.q_model.specs.Values.{Site}
-use Rattle.q_sorted.specs.declared.entry.Entry.{Entry}
-use Rattle.q_sorted.specs.Entries.{goes_before}
+use Rattle.q_sorted.specs.declared.ticket.Ticket.{Ticket}
+use Rattle.q_sorted.specs.Tickets.{goes_before}
 use Rattle.q_turns.proofs.FilingLaws.{filing_begins, filing_ends, filing_goes, of_peers, waits_there}
 use Rattle.q_turns.proofs.MessageWalk.{ends_at_none, ends_at_other, stands_found, stood_at, walk_smaller}
 use Rattle.q_turns.specs.Filing.{AreOfPeers, IsFiled, IsFiledAt}
@@ -17,7 +17,7 @@ pub loop-at-init : goal.loop-at-init
 loop-at-init c =
     let a = c.self.inside in
     let items = a.messages.items in
-    let is = c.first_from-at.ensures ∙ ap (λ (e : Entry). find (λ (x : Entry). not (goes_before x e)) items) c.least_of.ensures in
+    let is = c.first_from-at.ensures ∙ ap (λ (e : Ticket). find (λ (x : Ticket). not (goes_before x e)) items) c.least_of.ensures in
     record {
       room = refl;
       stood = stands_found _ items c.first_from-at.result is;
@@ -29,7 +29,7 @@ returns-then-not-is_of_message-clause-filed c =
     let ks = c.self.inside.peers.items in
     subst (λ (t : Turning). IsFiled c.args.self.now.lines t.peers c.args.id c.args.facts c.args.candidates.now.items c.loop-at.candidates.items) c.self.view_is
     (filing_ends c.args.id ks c.stand_apart.ensures.apart c.stand_apart.ensures.keys c.args.self.now.lines c.args.facts c.loop-at.at c.args.candidates.now.items c.loop-at.candidates.items
-    (ends_at_other c.args.id c.loop-at.at c.in-Some.entry c.in-Some.is (sym c.is_of_message.ensures ∙ c.if-not-is_of_message.true)) c.loop-at.invariant.filed)
+    (ends_at_other c.args.id c.loop-at.at c.in-Some.ticket c.in-Some.is (sym c.is_of_message.ensures ∙ c.if-not-is_of_message.true)) c.loop-at.invariant.filed)
 
 pub file_at-requires-clause-peers : goal.file_at-requires-clause-peers
 file_at-requires-clause-peers c =
@@ -42,7 +42,7 @@ pub file_at-requires-clause-there : goal.file_at-requires-clause-there
 file_at-requires-clause-there c =
     let a = c.self.inside in
     let items = a.messages.items in
-    let e = c.in-Some.entry in
+    let e = c.in-Some.ticket in
     let stood = stood_at items c.loop-at.at e c.in-Some.is c.loop-at.invariant.stood in
     let of = sym c.is_of_message.ensures ∙ c.if-not-is_of_message.false in
     subst (λ (t : Turning). IfSome c.site_in-site.result (λ s. list_any (is_peer c.args.id s) t.peers ≡ true)) c.self.view_is
@@ -50,7 +50,7 @@ file_at-requires-clause-there c =
     (waits_there c.args.id a.peers.items c.stand_apart.ensures.apart c.stand_apart.ensures.keys items c.self.invariant.listed c.stand_sorted.ensures.rising c.args.self.now.lines c.args.facts e c.loop-at.at _ c.in-Some.is stood of refl))
 
 pub loop-at-smaller : goal.loop-at-smaller
-loop-at-smaller c = walk_smaller c.self.inside.messages.items c.in-Some.entry c.loop-at.at c.behind-at.result c.in-Some.is c.behind-at.ensures
+loop-at-smaller c = walk_smaller c.self.inside.messages.items c.in-Some.ticket c.loop-at.at c.behind-at.result c.in-Some.is c.behind-at.ensures
 
 pub loop-at-preserved : goal.loop-at-preserved
 loop-at-preserved c =
@@ -58,7 +58,7 @@ loop-at-preserved c =
     let ks = a.peers.items in
     let items = a.messages.items in
     let lines = c.args.self.now.lines in
-    let e = c.in-Some.entry in
+    let e = c.in-Some.ticket in
     let inv = c.loop-at.invariant in
     let stood = stood_at items c.loop-at.at e c.in-Some.is inv.stood in
     let of = sym c.is_of_message.ensures ∙ c.if-not-is_of_message.false in

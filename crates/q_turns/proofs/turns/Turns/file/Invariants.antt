@@ -1,6 +1,6 @@
 use Rattle.std.proofs.Common.{◌≡◌}
 use Rattle.q_turns.proofs.FilingLaws.{IsFiledTo}
-use Rattle.q_turns.proofs.MessageWalk.{entries_left, StandsAt}
+use Rattle.q_turns.proofs.MessageWalk.{StandsAt, tickets_left}
 use Rattle.q_turns.proofs.turns.Turns.file.Given as goal
 
 -- the peers that were passed are filed
@@ -12,4 +12,4 @@ invariant-loop-at l = record {
 }
 
 abbrev pub decreases-loop-at : goal.decreases-loop-at
-decreases-loop-at l = entries_left l.self-inside.messages.items l.at
+decreases-loop-at l = tickets_left l.self-inside.messages.items l.at

@@ -3,8 +3,8 @@ use Rattle.std.specs.Prelude.{filter}
 use Rattle.q_heads.specs.Lanes.{Lanes}
 use Rattle.q_keyed.specs.Numbered.{Items, Numbered, values_of}
 use Rattle.q_rounds.proofs.Changed.{changed_put}
-use Rattle.q_sorted.specs.declared.entry.Entry.{Entry}
-use Rattle.q_sorted.specs.Entries.{is_another}
+use Rattle.q_sorted.specs.declared.ticket.Ticket.{Ticket}
+use Rattle.q_sorted.specs.Tickets.{is_another}
 use Rattle.q_turns.proofs.Having.{all_wait}
 use Rattle.q_turns.proofs.PeerLaws.{go_there, have_less, have_there, lose_nowhere, lose_there, more_left, none_left, not_gone, some_there}
 use Rattle.q_turns.proofs.TurnSteps.{sound_from, sound_less, sound_put}
@@ -67,7 +67,7 @@ invariant_of-self-2 c =
     c.remove-2.ensures
     (c.drop_lane.ensures ∙ ap (λ (v : Lanes). record a.lanes { items = lanes_without (empty_lane p.site a.lanes.items v.items) a.lanes.items }) c.take_out.ensures)
     c.take_out.ensures
-    (c.remove.ensures ∙ ap (λ (e : Entry). record a.messages { items = filter (is_another e) a.messages.items }) c.message_entry.ensures)
+    (c.remove.ensures ∙ ap (λ (e : Ticket). record a.messages { items = filter (is_another e) a.messages.items }) c.message_ticket.ensures)
     (sound_less a.lines.items a.peers a.lanes a.heads a.messages a.line_room c.self.invariant n p c.head_of-head.result (sym (c.copied.ensures ∙ c.get.ensures) ∙ c.in-Some-copied.is) c.head_of-head.ensures c.stand_apart-2.ensures.apart c.stand_apart-2.ensures.keys
     (have_less c.args.id c.args.site.now n p a.peers.items s.apart s.keys (sym c.find.ensures ∙ c.in-Some.is) (sym (c.copied.ensures ∙ c.get.ensures) ∙ c.in-Some-copied.is) (jobs_of a.lines.items) c.self.invariant.lines_are.jobs))
 
