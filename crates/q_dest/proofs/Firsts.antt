@@ -9,7 +9,7 @@ use Rattle.q_keyed.specs.Numbered.{AreApart, first_such, item_at, Numbered, valu
 use Rattle.q_model.specs.declared.rows.Health.{Health}
 use Rattle.q_model.specs.declared.rows.Health.TheVariants as healths
 use Rattle.q_model.specs.Revival.{is_due}
-use Rattle.q_register.specs.Entries.{no_rank}
+use Rattle.q_register.specs.Members.{no_rank}
 
 -- its time has come by its rank
 within_time : (moment : ℕ) → moment < 2 ^ 64 - 1 → (h : Health) → nat_le (time_rank_in h) moment ≡ is_due moment h

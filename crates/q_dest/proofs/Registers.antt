@@ -7,11 +7,11 @@ use Rattle.q_dest.specs.Sound.{Numbers, numbers_by, ranked_at, ranked_by}
 use Rattle.q_dest.specs.declared.dest.Dest.{Dest}
 use Rattle.q_keyed.specs.Numbered.{AreApart, first_such, has_number, item_at, Items, Numbered, put_at, without_number}
 use Rattle.q_chains.proofs.Numbers.{flipped}
-use Rattle.q_register.specs.Entries.{changed, has_key, lacks_key, ranks_within}
-use Rattle.q_register.specs.declared.entry.Entry.{Entry}
+use Rattle.q_register.specs.Members.{changed, has_key, lacks_key, ranks_within}
+use Rattle.q_register.specs.declared.member.Member.{Member}
 
 abbrev pub E : Type 0
-E = Entry ℕ (Unit {0})
+E = Member ℕ (Unit {0})
 
 abbrev pub K : Type 0
 K = Numbered Dest

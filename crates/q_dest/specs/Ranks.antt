@@ -4,7 +4,7 @@ use Rattle.q_dest.specs.declared.dest.Dest.{Dest}
 use Rattle.q_dest.specs.Dests.{is_dead, is_unused}
 use Rattle.q_model.specs.declared.rows.Health.{Health}
 use Rattle.q_model.specs.declared.rows.Health.TheVariants as healths
-use Rattle.q_register.specs.Entries.{no_rank}
+use Rattle.q_register.specs.Members.{no_rank}
 
 -- the moment until which it is dead
 abbrev pub time_rank_in : Health → ℕ

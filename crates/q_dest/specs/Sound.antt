@@ -4,14 +4,14 @@ use Rattle.q_dest.specs.declared.dest.Dest.{Dest}
 use Rattle.q_dest.specs.Dests.{AreBounded}
 use Rattle.q_dest.specs.Ranks.{dead_rank, time_rank}
 use Rattle.q_keyed.specs.Numbered.{Items, Numbered, values_of}
-use Rattle.q_register.specs.Entries.{changed, Entries}
-use Rattle.q_register.specs.declared.entry.Entry.{Entry}
+use Rattle.q_register.specs.Members.{changed, Members}
+use Rattle.q_register.specs.declared.member.Member.{Member}
 
 abbrev pub Numbers : Type 0
-Numbers = Entries ℕ (Unit {0})
+Numbers = Members ℕ (Unit {0})
 
 -- the number of a site, at the site's rank
-abbrev pub ranked_by : (Dest → ℕ) → Numbered Dest → Entry ℕ (Unit {0})
+abbrev pub ranked_by : (Dest → ℕ) → Numbered Dest → Member ℕ (Unit {0})
 ranked_by rank k = record { key = k.number; value = tt; rank = rank k.item }
 
 -- the numbers of the sites in one order with them

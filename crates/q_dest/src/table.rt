@@ -6,7 +6,7 @@ ghost use Rattle.q_dest.specs.Sound.{ranked_at};
 use crate::dest::Dest;
 use q_keyed::Keyed;
 use q_model::{Moment, Site};
-use q_register::{Entry, Register};
+use q_register::{Member, Register};
 use std::alloc::{AllocError, Global};
 use std::marker::Model;
 
@@ -32,11 +32,11 @@ impl Model for Table {
     ghost invariant = { λ a. IsSound a.dests a.times a.dead };
 }
 
-/// The entry of a number.
-fn entry(number: u32, rank: u64) -> Entry<u32, ()>
+/// The member of a number.
+fn member(number: u32, rank: u64) -> Member<u32, ()>
     ensures { result ≡ record { key = number; value = tt; rank = rank } }
 {
-    Entry {
+    Member {
         key: number,
         value: (),
         rank,
@@ -117,8 +117,8 @@ impl Table {
         let time_rank = dest.time_rank();
         let dead_rank = dest.dead_rank();
         let number = self.dests.push(dest);
-        self.times.push(entry(number, time_rank));
-        self.dead.push(entry(number, dead_rank));
+        self.times.push(member(number, time_rank));
+        self.dead.push(member(number, dead_rank));
     }
 
     /// Puts another in the place of the one that was found.
@@ -154,23 +154,23 @@ impl Table {
         ensures { result ≡ find (is_due_at moment) self.now.items }
     {
         self.dests.stand_apart();
-        let entry = self.times.first_within(moment)?;
-        self.dests.get(entry.key).copied()
+        let member = self.times.first_within(moment)?;
+        self.dests.get(member.key).copied()
     }
 
     pub(crate) fn first_dead(&self) -> Option<Dest>
         ensures { result ≡ find is_dead self.now.items }
     {
         self.dests.stand_apart();
-        let entry = self.dead.first_within(1)?;
-        self.dests.get(entry.key).copied()
+        let member = self.dead.first_within(1)?;
+        self.dests.get(member.key).copied()
     }
 
     pub(crate) fn first_remembered(&self) -> Option<Dest>
         ensures { result ≡ find is_remembered self.now.items }
     {
         self.dests.stand_apart();
-        let entry = self.dead.first_within(0)?;
-        self.dests.get(entry.key).copied()
+        let member = self.dead.first_within(0)?;
+        self.dests.get(member.key).copied()
     }
 }

@@ -5,11 +5,11 @@ use Rattle.q_model.specs.declared.id.Id.{Id}
 use Rattle.q_pool.specs.Kept.{is_idle, may_read, unread_of, wants_sync}
 use Rattle.q_pool.specs.Ranks.{AreRanked, message_at, passes_at, rank_of, value_of, values_of}
 use Rattle.q_pool.specs.declared.kept.Kept.{Kept}
-use Rattle.q_register.specs.Entries.{no_rank, ranks_within}
-use Rattle.q_register.specs.declared.entry.Entry.{Entry}
+use Rattle.q_register.specs.Members.{no_rank, ranks_within}
+use Rattle.q_register.specs.declared.member.Member.{Member}
 
 abbrev pub E : Type 0
-E = Entry Id Kept
+E = Member Id Kept
 
 place_step : (p : Kept → Bool) (e : E) (rest : Option (Option E)) (found : Option Kept) → message_at rest ≡ found → (b : Bool) →
     message_at (cond b (Some (Some e)) rest) ≡ cond b (Some (value_of e)) found
@@ -28,7 +28,7 @@ ranked_step false false same e o found h = h
 ranked_step true false same e o found h = cc
 ranked_step false true same e o found h = cc
 
--- an entry stands at the rank of its message
+-- a member stands at the rank of its message
 pub first_ranked : (l m rank : ℕ) (es : List E) → AreRanked l m es → option_map value_of (find (ranks_within rank) es) ≡ find (λ k. nat_le (rank_of l m k) rank) (map value_of es)
 first_ranked l m rank [] h = refl
 first_ranked l m rank (e ∷ es) h =

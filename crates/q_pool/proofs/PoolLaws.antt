@@ -11,9 +11,9 @@ use Rattle.q_pool.specs.Pooled.{AreApart}
 use Rattle.q_pool.specs.Ranks.{AreRanked, IsRanked, rank_of, value_of}
 use Rattle.q_pool.specs.declared.kept.Kept.{Kept}
 use Rattle.q_pool.specs.declared.slot.Slot.{Slot}
-use Rattle.q_register.specs.Entries.{changed, has_key, lacks_key}
-use Rattle.q_register.specs.Entries.{AreApart as AreKeysApart}
-use Rattle.q_register.specs.declared.entry.Entry.{Entry}
+use Rattle.q_register.specs.Members.{changed, has_key, lacks_key}
+use Rattle.q_register.specs.Members.{AreApart as AreKeysApart}
+use Rattle.q_register.specs.declared.member.Member.{Member}
 
 -- how keys are compared
 abbrev pub key_eq : Id → Id → Bool
@@ -36,7 +36,7 @@ pub key_eq-is : (a b : Id) → key_eq a b ≡ id_eq b a
 key_eq-is a b = by_parts a.generation a.serial a.bounce b.generation b.serial b.bounce ∙ swapped a b (id_eq a b) (id_eq b a) refl refl
 
 abbrev E : Type 0
-E = Entry Id Kept
+E = Member Id Kept
 
 found_step : (b : Bool) (e : E) (o : Option E) → option_map value_of (cond b (Some e) o) ≡ cond b (Some (value_of e)) (option_map value_of o)
 found_step true e o = refl

@@ -8,7 +8,7 @@ ghost use Rattle.q_pool.specs.Ranks.{values_of};
 use crate::kept::Kept;
 use crate::slot::Slot;
 use q_model::Id;
-use q_register::{Entry, Register};
+use q_register::{Member, Register};
 use std::alloc::{AllocError, Global};
 use std::marker::Model;
 
@@ -75,13 +75,13 @@ impl Pool {
         ensures { option_copied result ≡ find (is_of id) self.now.items }
     {
         match self.register.get(&id) {
-            Some(entry) => Some(&entry.value),
+            Some(member) => Some(&member.value),
             None => None,
         }
     }
 
     /// The messages as they stand in memory, with places between them that are empty.
-    pub fn places(&self) -> &[Option<Entry<Id, Kept>>]
+    pub fn places(&self) -> &[Option<Member<Id, Kept>>]
         ensures { values_of result.now ≡ self.now.items }
     {
         self.register.places()
@@ -102,7 +102,7 @@ impl Pool {
             flying: 0,
             unsettled: 0,
         };
-        self.register.push(Entry {
+        self.register.push(Member {
             key: slot.id,
             value,
             rank: value.rank(self.sync_limit, self.minimum),

@@ -3,62 +3,62 @@ ghost use Rattle.std.specs.Prelude.{◌≡◌, ◌<◌, find};
 ghost use Rattle.std.specs.Option.{option_copied};
 ghost use Rattle.q_pool.specs.Kept.{is_idle, may_read, wants_sync};
 ghost use Rattle.q_pool.specs.Ranks.{IsFirstWithin, message_at, passes_at, values_of};
-ghost use Rattle.q_register.specs.Entries.{no_rank};
+ghost use Rattle.q_register.specs.Members.{no_rank};
 
 use crate::kept::Kept;
 use crate::pool::Pool;
 use q_model::Id;
-use q_register::Entry;
+use q_register::Member;
 
 /// The message at a place.
-fn message_at<'a>(place: Option<&'a Option<Entry<Id, Kept>>>) -> Option<&'a Kept>
+fn message_at<'a>(place: Option<&'a Option<Member<Id, Kept>>>) -> Option<&'a Kept>
     ensures { option_copied result ≡ message_at (option_copied place.entry) }
 {
     match place {
-        Some(Some(entry)) => Some(&entry.value),
+        Some(Some(member)) => Some(&member.value),
         Some(None) => None,
         None => None,
     }
 }
 
 /// Whether an idle message stands at the place.
-fn is_idle_place(place: &Option<Entry<Id, Kept>>) -> bool
+fn is_idle_place(place: &Option<Member<Id, Kept>>) -> bool
     ensures { result ≡ passes_at is_idle place.now }
 {
     match place {
-        Some(entry) => entry.value.is_idle(),
+        Some(member) => member.value.is_idle(),
         None => false,
     }
 }
 
-fn first_idle_place(places: &[Option<Entry<Id, Kept>>]) -> Option<&Option<Entry<Id, Kept>>>
+fn first_idle_place(places: &[Option<Member<Id, Kept>>]) -> Option<&Option<Member<Id, Kept>>>
     ensures { option_copied result ≡ find (passes_at is_idle) places.now }
 {
     places.iter().find(|place| is_idle_place(place))
 }
 
 /// The first idle one, by a walk.
-fn idle_among(places: &[Option<Entry<Id, Kept>>]) -> Option<&Kept>
+fn idle_among(places: &[Option<Member<Id, Kept>>]) -> Option<&Kept>
     ensures { option_copied result ≡ find is_idle (values_of places.now) }
 {
     message_at(first_idle_place(places))
 }
 
 /// Whether a message that may read stands at the place.
-fn is_reader_place(place: &Option<Entry<Id, Kept>>, minimum: u32, free: u32) -> bool
+fn is_reader_place(place: &Option<Member<Id, Kept>>, minimum: u32, free: u32) -> bool
     ensures { result ≡ passes_at (may_read minimum free) place.now }
 {
     match place {
-        Some(entry) => entry.value.may_read(minimum, free),
+        Some(member) => member.value.may_read(minimum, free),
         None => false,
     }
 }
 
 fn first_reader_place(
-    places: &[Option<Entry<Id, Kept>>],
+    places: &[Option<Member<Id, Kept>>],
     minimum: u32,
     free: u32,
-) -> Option<&Option<Entry<Id, Kept>>>
+) -> Option<&Option<Member<Id, Kept>>>
     ensures { option_copied result ≡ find (passes_at (may_read minimum free)) places.now }
 {
     places
@@ -67,7 +67,7 @@ fn first_reader_place(
 }
 
 /// The first that may read, by a walk.
-fn reader_among(places: &[Option<Entry<Id, Kept>>], minimum: u32, free: u32) -> Option<&Kept>
+fn reader_among(places: &[Option<Member<Id, Kept>>], minimum: u32, free: u32) -> Option<&Kept>
     ensures { option_copied result ≡ find (may_read minimum free) (values_of places.now) }
 {
     message_at(first_reader_place(places, minimum, free))
@@ -80,7 +80,7 @@ impl Pool {
         ensures { IsFirstWithin self.now rank (option_copied result) }
     {
         match self.register.first_within(rank) {
-            Some(entry) => Some(&entry.value),
+            Some(member) => Some(&member.value),
             None => None,
         }
     }

@@ -1,3 +1,3 @@
-pub mod Entries
+pub mod Members
 pub mod Places
 pub mod Sound

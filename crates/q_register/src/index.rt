@@ -1,22 +1,22 @@
-//! Which place an entry has.
+//! Which place a member has.
 ghost use Rattle.std.specs.Prelude.{◌≡◌, ◌<◌, ◌≤◌, ◌+◌, IfSome, slice_get, Some, vec_len};
 ghost use Rattle.std.specs.HashMap.{Updates, get, spare};
 ghost use Rattle.indexmap.specs.IndexMap.{index_map_len};
 ghost use Rattle.std.specs.Option.{IfNone};
 ghost use Rattle.q_register.specs.Places.{IsAbsent, IsFound, IsIndexed};
 
-use crate::entry::Entry;
+use crate::member::Member;
 use indexmap::IndexMap;
 use std::hash::Hash;
 
-/// An entry and its place.
+/// A member and its place.
 #[derive(Clone, Copy, Debug)]
 pub(crate) struct Found<K, T> {
     pub(crate) place: u32,
-    pub(crate) entry: Entry<K, T>,
+    pub(crate) member: Member<K, T>,
 }
 
-/// The place of the entry under a key.
+/// The place of the member under a key.
 fn place_of<K: Eq + Hash>(index: &IndexMap<K, u32>, key: &K) -> Option<u32>
     ensures { result ≡ get K.eq index.now key.now }
 {
@@ -28,18 +28,18 @@ fn place_of<K: Eq + Hash>(index: &IndexMap<K, u32>, key: &K) -> Option<u32>
 
 /// What stands at a place.
 fn standing_at<K: Copy, T: Copy>(
-    places: &Vec<Option<Entry<K, T>>>,
+    places: &Vec<Option<Member<K, T>>>,
     place: u32,
-) -> Option<Entry<K, T>>
+) -> Option<Member<K, T>>
     requires { place < vec_len places.now }
     ensures { slice_get places.now.items place ≡ Some result }
 {
     places[place as usize]
 }
 
-/// The entry under a key, and its place.
+/// The member under a key, and its place.
 pub(crate) fn seek<K: Eq + Hash + Copy, T: Copy>(
-    places: &Vec<Option<Entry<K, T>>>,
+    places: &Vec<Option<Member<K, T>>>,
     index: &IndexMap<K, u32>,
     key: &K,
 ) -> Option<Found<K, T>>
@@ -48,11 +48,11 @@ pub(crate) fn seek<K: Eq + Hash + Copy, T: Copy>(
     ensures some { IfSome result (IsFound K.eq key.now places.now.items) }
 {
     let place = place_of(index, key)?;
-    let entry = standing_at(places, place)?;
-    Some(Found { place, entry })
+    let member = standing_at(places, place)?;
+    Some(Found { place, member })
 }
 
-/// Notes the place of an entry, over that of one that went.
+/// Notes the place of a member, over that of one that went.
 pub(crate) fn enter<K: Eq + Hash + Drop>(index: &mut IndexMap<K, u32>, key: K, place: u32)
     requires { 0 < spare index.old }
     ensures updates { Updates K.eq index.old index.new key (Some place) }

@@ -3,30 +3,30 @@ ghost use Rattle.std.specs.Prelude.{◌≡◌, ◌<◌, ◌≤◌, ◌+◌, ◌+
 ghost use Rattle.std.specs.HashMap.{spare};
 ghost use Rattle.indexmap.specs.IndexMap.{index_map_len};
 ghost use Rattle.std.specs.Option.{IfNone, OnSome, option_copied};
-ghost use Rattle.q_register.specs.Entries.{changed, first_ranked, has_key, lacks_key, no_rank, ranks_within};
-ghost use Rattle.q_register.specs.Places.{IsPlaced, entries_of, standing};
+ghost use Rattle.q_register.specs.Members.{changed, first_ranked, has_key, lacks_key, no_rank, ranks_within};
+ghost use Rattle.q_register.specs.Places.{IsPlaced, members_of, standing};
 
-use crate::entry::Entry;
 use crate::index::{enter, seek};
+use crate::member::Member;
 use indexmap::IndexMap;
 use q_least::Least;
 use std::hash::Hash;
 
-/// Adds an entry behind all others.
+/// Adds a member behind all others.
 pub(crate) fn append<K: Eq + Hash + Copy + Drop, T: Copy>(
-    places: &mut Vec<Option<Entry<K, T>>>,
+    places: &mut Vec<Option<Member<K, T>>>,
     index: &mut IndexMap<K, u32>,
     ranks: &mut Least,
-    entry: Entry<K, T>,
+    member: Member<K, T>,
 )
-    requires absent { find (has_key K.eq entry.key) (entries_of places.old.items) ≡ None }
+    requires absent { find (has_key K.eq member.key) (members_of places.old.items) ≡ None }
     requires room { length places.old.items < vec_capacity places.old }
     requires few { length places.old.items < 2 ^ 32 }
     requires ranks { length places.old.items < length ranks.old }
     requires spare { 0 < spare index.old }
     requires placed { IsPlaced K.eq places.old.items index.old ranks.old }
     ensures placed { IsPlaced K.eq places.new.items index.new ranks.new }
-    ensures entries { entries_of places.new.items ≡ entries_of places.old.items ++ entry ∷ [] }
+    ensures members { members_of places.new.items ≡ members_of places.old.items ++ member ∷ [] }
     ensures len { length places.new.items ≡ length places.old.items + 1 }
     ensures capacity { vec_capacity places.new ≡ vec_capacity places.old }
     ensures index { index_map_len index.new ≤ index_map_len index.old + 1 }
@@ -35,25 +35,25 @@ pub(crate) fn append<K: Eq + Hash + Copy + Drop, T: Copy>(
     ensures ranks { length ranks.new ≡ length ranks.old }
 {
     let place = places.len() as u32;
-    enter(index, entry.key, place);
-    ranks.set(place, entry.rank);
-    places.push_reserved(Some(entry));
+    enter(index, member.key, place);
+    ranks.set(place, member.rank);
+    places.push_reserved(Some(member));
 }
 
-/// Takes the entry under a key out.
+/// Takes the member under a key out.
 pub(crate) fn take_out<K: Eq + Hash + Copy, T: Copy>(
-    places: &mut Vec<Option<Entry<K, T>>>,
+    places: &mut Vec<Option<Member<K, T>>>,
     index: &IndexMap<K, u32>,
     ranks: &mut Least,
     key: &K,
-) -> Option<Entry<K, T>>
+) -> Option<Member<K, T>>
     requires { IsPlaced K.eq places.old.items index.now ranks.old }
     ensures placed { IsPlaced K.eq places.new.items index.now ranks.new }
-    ensures taken { result ≡ find (has_key K.eq key.now) (entries_of places.old.items) }
-    ensures entries { entries_of places.new.items
-        ≡ filter (lacks_key K.eq key.now) (entries_of places.old.items) }
-    ensures fewer { OnSome result (length (entries_of places.new.items) + 1
-        ≡ length (entries_of places.old.items)) }
+    ensures taken { result ≡ find (has_key K.eq key.now) (members_of places.old.items) }
+    ensures members { members_of places.new.items
+        ≡ filter (lacks_key K.eq key.now) (members_of places.old.items) }
+    ensures fewer { OnSome result (length (members_of places.new.items) + 1
+        ≡ length (members_of places.old.items)) }
     ensures same { IfNone result (places.new.items ≡ places.old.items) }
     ensures len { length places.new.items ≡ length places.old.items }
     ensures capacity { vec_capacity places.new ≡ vec_capacity places.old }
@@ -62,12 +62,12 @@ pub(crate) fn take_out<K: Eq + Hash + Copy, T: Copy>(
     let found = seek(places, index, key)?;
     places[found.place as usize] = None;
     ranks.set(found.place, Least::NONE);
-    Some(found.entry)
+    Some(found.member)
 }
 
 /// Puts another value and rank under a key.
 pub(crate) fn put<K: Eq + Hash + Copy, T: Copy>(
-    places: &mut Vec<Option<Entry<K, T>>>,
+    places: &mut Vec<Option<Member<K, T>>>,
     index: &IndexMap<K, u32>,
     ranks: &mut Least,
     key: &K,
@@ -76,8 +76,8 @@ pub(crate) fn put<K: Eq + Hash + Copy, T: Copy>(
 )
     requires { IsPlaced K.eq places.old.items index.now ranks.old }
     ensures placed { IsPlaced K.eq places.new.items index.now ranks.new }
-    ensures entries { entries_of places.new.items
-        ≡ map (changed K.eq key.now value rank) (entries_of places.old.items) }
+    ensures members { members_of places.new.items
+        ≡ map (changed K.eq key.now value rank) (members_of places.old.items) }
     ensures len { length places.new.items ≡ length places.old.items }
     ensures capacity { vec_capacity places.new ≡ vec_capacity places.old }
     ensures ranks { length ranks.new ≡ length ranks.old }
@@ -85,62 +85,62 @@ pub(crate) fn put<K: Eq + Hash + Copy, T: Copy>(
     let Some(found) = seek(places, index, key) else {
         return;
     };
-    places[found.place as usize] = Some(found.entry.changed_to(value, rank));
+    places[found.place as usize] = Some(found.member.changed_to(value, rank));
     ranks.set(found.place, rank);
 }
 
 /// What stands at a place, if the place is there.
-fn entry_at<K, T>(places: &[Option<Entry<K, T>>], place: u32) -> Option<&Entry<K, T>>
+fn member_at<K, T>(places: &[Option<Member<K, T>>], place: u32) -> Option<&Member<K, T>>
     ensures { option_copied result ≡ standing (slice_get places.now place) }
 {
     match places.get(place as usize) {
-        Some(Some(entry)) => Some(entry),
+        Some(Some(member)) => Some(member),
         _ => None,
     }
 }
 
-/// The entry under a key.
+/// The member under a key.
 pub(crate) fn find_in<'a, K: Eq + Hash + Copy, T: Copy>(
-    places: &'a Vec<Option<Entry<K, T>>>,
+    places: &'a Vec<Option<Member<K, T>>>,
     index: &IndexMap<K, u32>,
     ranks: &Least,
     key: &K,
-) -> Option<&'a Entry<K, T>>
+) -> Option<&'a Member<K, T>>
     requires { IsPlaced K.eq places.now.items index.now ranks.now }
-    ensures { option_copied result ≡ find (has_key K.eq key.now) (entries_of places.now.items) }
+    ensures { option_copied result ≡ find (has_key K.eq key.now) (members_of places.now.items) }
 {
     match seek(places, index, key) {
-        Some(found) => entry_at(places, found.place),
+        Some(found) => member_at(places, found.place),
         None => None,
     }
 }
 
-/// The first entry of those with the least rank.
+/// The first member of those with the least rank.
 pub(crate) fn first_in<'a, K: Eq + Hash, T>(
-    places: &'a Vec<Option<Entry<K, T>>>,
+    places: &'a Vec<Option<Member<K, T>>>,
     index: &IndexMap<K, u32>,
     ranks: &Least,
-) -> Option<&'a Entry<K, T>>
+) -> Option<&'a Member<K, T>>
     requires { IsPlaced K.eq places.now.items index.now ranks.now }
-    ensures { option_copied result ≡ first_ranked (entries_of places.now.items) }
+    ensures { option_copied result ≡ first_ranked (members_of places.now.items) }
 {
     match ranks.first() {
-        Some(place) => entry_at(places, place),
+        Some(place) => member_at(places, place),
         None => None,
     }
 }
 
-/// The first entry whose rank is at most the bound.
+/// The first member whose rank is at most the bound.
 pub(crate) fn first_within_in<'a, K: Eq + Hash, T>(
-    places: &'a Vec<Option<Entry<K, T>>>,
+    places: &'a Vec<Option<Member<K, T>>>,
     index: &IndexMap<K, u32>,
     ranks: &Least,
     bound: u64,
-) -> Option<&'a Entry<K, T>>
+) -> Option<&'a Member<K, T>>
     requires placed { IsPlaced K.eq places.now.items index.now ranks.now }
     requires ranked { bound < no_rank }
-    ensures { option_copied result ≡ find (ranks_within bound) (entries_of places.now.items) }
+    ensures { option_copied result ≡ find (ranks_within bound) (members_of places.now.items) }
 {
     let place = ranks.first_within(bound)?;
-    entry_at(places, place)
+    member_at(places, place)
 }

@@ -1,11 +1,11 @@
 //! The register.
 ghost use Rattle.std.specs.Prelude.{◌≡◌, ◌<◌, ◌≤◌, ◌-◌, ◌++◌, ◌^◌, [], ◌∷◌, IfOk, filter, find, length, map, None};
 ghost use Rattle.std.specs.Option.{option_copied};
-ghost use Rattle.q_register.specs.Entries.{AreApart, changed, first_ranked, has_key, lacks_key, no_rank, ranks_within};
-ghost use Rattle.q_register.specs.Places.{entries_of};
+ghost use Rattle.q_register.specs.Members.{AreApart, changed, first_ranked, has_key, lacks_key, no_rank, ranks_within};
+ghost use Rattle.q_register.specs.Places.{members_of};
 ghost use Rattle.q_register.specs.Sound.{places_for};
 
-use crate::entry::Entry;
+use crate::member::Member;
 use crate::places::{append, find_in, first_in, first_within_in, put, take_out};
 use crate::together::make_place;
 use indexmap::IndexMap;
@@ -14,34 +14,34 @@ use std::alloc::{AllocError, Global};
 use std::hash::Hash;
 use std::marker::Model;
 
-/// Entries by key, in the order in which they came. A contract sees them as one list.
+/// Members by key, in the order in which they came. A contract sees them as one list.
 #[derive(Debug, Drop)]
 pub struct Register<K: Eq + Hash, T> {
-    places: Vec<Option<Entry<K, T>>>,
+    places: Vec<Option<Member<K, T>>>,
     index: IndexMap<K, u32>,
     ranks: Least,
-    /// The entries while they move together.
-    kept: Vec<Entry<K, T>>,
+    /// The members while they move together.
+    kept: Vec<Member<K, T>>,
     live: u32,
     room: u32,
 }
 
 impl<K: Eq + Hash, T> Model for Register<K, T> {
     ghost use Rattle.std.specs.Prelude.{length};
-    ghost use Rattle.q_register.specs.Entries.{Entries, entries_code};
-    ghost use Rattle.q_register.specs.Places.{entries_of};
+    ghost use Rattle.q_register.specs.Members.{Members, members_code};
+    ghost use Rattle.q_register.specs.Places.{members_of};
     ghost use Rattle.q_register.specs.Sound.{IsSound};
 
-    ghost Value = { Entries K T };
+    ghost Value = { Members K T };
 
-    ghost coded = { entries_code K.code T.code };
+    ghost coded = { members_code K.code T.code };
 
-    ghost view = { λ a. record { items = entries_of a.places.items; room = a.room } };
+    ghost view = { λ a. record { items = members_of a.places.items; room = a.room } };
 
     ghost invariant = { λ a. IsSound K.eq a.places a.index a.ranks a.kept a.live a.room };
 }
 
-/// How many places there are for so many entries: half as many again, so that entries move together
+/// How many places there are for so many members: half as many again, so that members move together
 /// only now and then.
 fn places_for(room: u32) -> u32
     requires { room < 2 ^ 31 }
@@ -51,12 +51,12 @@ fn places_for(room: u32) -> u32
 }
 
 impl<K: Eq + Hash + Copy + Drop, T: Copy> Register<K, T> {
-    /// The rank of an entry that is never the first, and the greatest.
+    /// The rank of a member that is never the first, and the greatest.
     pub const UNRANKED: u64 = Least::NONE;
 
-    /// No entry, and room for so many. It takes memory for two and a half times as many entries, for
-    /// half as many keys again in an index, and for ranks, below 96 bytes for each entry that has
-    /// room.
+    /// No member, and room for so many. It takes memory for two and a half times as many members,
+    /// for half as many keys again in an index, and for ranks, below 96 bytes for each member that
+    /// has room.
     pub fn new(alloc: Global, room: u32) -> Result<Register<K, T>, AllocError>
         requires some { 1 ≤ room }
         requires few { room < 2 ^ 31 }
@@ -77,7 +77,7 @@ impl<K: Eq + Hash + Copy + Drop, T: Copy> Register<K, T> {
         })
     }
 
-    /// No two entries stand under one key, and there are no more than have room, whatever was
+    /// No two members stand under one key, and there are no more than have room, whatever was
     /// called: this does nothing, and is there for callers whose proofs want to know it.
     pub fn stand_apart(&self)
         ensures apart { AreApart K.eq self.now.items }
@@ -86,54 +86,54 @@ impl<K: Eq + Hash + Copy + Drop, T: Copy> Register<K, T> {
         let _live = self.live;
     }
 
-    /// The entries in order as they stand, with places between them that are empty.
-    pub fn places(&self) -> &[Option<Entry<K, T>>]
-        ensures { entries_of result.now ≡ self.now.items }
+    /// The members in order as they stand, with places between them that are empty.
+    pub fn places(&self) -> &[Option<Member<K, T>>]
+        ensures { members_of result.now ≡ self.now.items }
     {
         self.places.as_slice()
     }
 
-    /// How many entries there are.
+    /// How many members there are.
     pub fn len(&self) -> usize
         ensures { result ≡ length self.now.items }
     {
         self.live as usize
     }
 
-    /// How many entries more have room.
+    /// How many members more have room.
     pub fn spare(&self) -> u32
         ensures { result ≡ self.now.room - length self.now.items }
     {
         self.room - self.live
     }
 
-    /// The entry under a key.
-    pub fn get(&self, key: &K) -> Option<&Entry<K, T>>
+    /// The member under a key.
+    pub fn get(&self, key: &K) -> Option<&Member<K, T>>
         ensures { option_copied result ≡ find (has_key K.eq key.now) self.now.items }
     {
         find_in(&self.places, &self.index, &self.ranks, key)
     }
 
-    /// The first entry of those with the least rank, or None where no entry has a rank.
-    pub fn first(&self) -> Option<&Entry<K, T>>
+    /// The first member of those with the least rank, or None where no member has a rank.
+    pub fn first(&self) -> Option<&Member<K, T>>
         ensures { option_copied result ≡ first_ranked self.now.items }
     {
         first_in(&self.places, &self.index, &self.ranks)
     }
 
-    /// The first entry whose rank is at most `bound`; those without a rank aside.
-    pub fn first_within(&self, bound: u64) -> Option<&Entry<K, T>>
+    /// The first member whose rank is at most `bound`; those without a rank aside.
+    pub fn first_within(&self, bound: u64) -> Option<&Member<K, T>>
         requires { bound < no_rank }
         ensures { option_copied result ≡ find (ranks_within bound) self.now.items }
     {
         first_within_in(&self.places, &self.index, &self.ranks, bound)
     }
 
-    /// Adds an entry behind all others.
-    pub fn push(&mut self, entry: Entry<K, T>)
-        requires absent { find (has_key K.eq entry.key) self.old.items ≡ None }
+    /// Adds a member behind all others.
+    pub fn push(&mut self, member: Member<K, T>)
+        requires absent { find (has_key K.eq member.key) self.old.items ≡ None }
         requires room { length self.old.items < self.old.room }
-        ensures { self.new ≡ record self.old { items = self.old.items ++ entry ∷ [] } }
+        ensures { self.new ≡ record self.old { items = self.old.items ++ member ∷ [] } }
     {
         make_place(
             &mut self.places,
@@ -142,11 +142,11 @@ impl<K: Eq + Hash + Copy + Drop, T: Copy> Register<K, T> {
             &mut self.kept,
             places_for(self.room) as usize,
         );
-        append(&mut self.places, &mut self.index, &mut self.ranks, entry);
+        append(&mut self.places, &mut self.index, &mut self.ranks, member);
         self.live += 1;
     }
 
-    /// Puts another value and rank under a key, if an entry stands under it.
+    /// Puts another value and rank under a key, if a member stands under it.
     pub fn set(&mut self, key: &K, value: T, rank: u64)
         ensures { self.new ≡ record self.old
             { items = map (changed K.eq key.now value rank) self.old.items } }
@@ -161,8 +161,8 @@ impl<K: Eq + Hash + Copy + Drop, T: Copy> Register<K, T> {
         );
     }
 
-    /// Takes the entry under a key out.
-    pub fn remove(&mut self, key: &K) -> Option<Entry<K, T>>
+    /// Takes the member under a key out.
+    pub fn remove(&mut self, key: &K) -> Option<Member<K, T>>
         ensures taken { result ≡ find (has_key K.eq key.now) self.old.items }
         ensures items { self.new ≡ record self.old
             { items = filter (lacks_key K.eq key.now) self.old.items } }

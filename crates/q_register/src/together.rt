@@ -1,46 +1,46 @@
-//! Entries move together, where places between them are empty.
+//! Members move together, where places between them are empty.
 ghost use Rattle.std.specs.Prelude.{◌≡◌, ◌<◌, ◌≤◌, ◌+◌, ◌++◌, ◌^◌, [], ◌∷◌, length, slice_get, Some, vec_capacity, vec_len};
 ghost use Rattle.std.specs.HashMap.{spare};
 ghost use Rattle.indexmap.specs.IndexMap.{index_map_len};
-ghost use Rattle.q_register.specs.Entries.{AreApart};
-ghost use Rattle.q_register.specs.Places.{IsPlaced, entries_of};
+ghost use Rattle.q_register.specs.Members.{AreApart};
+ghost use Rattle.q_register.specs.Places.{IsPlaced, members_of};
 
-use crate::entry::Entry;
+use crate::member::Member;
 use crate::places::append;
 use indexmap::IndexMap;
 use q_least::Least;
 use std::hash::Hash;
 
-/// Adds the entry of a place.
-fn keep<K: Copy, T: Copy>(kept: &mut Vec<Entry<K, T>>, place: Option<Entry<K, T>>)
-    requires { vec_len kept.old + length (entries_of (place ∷ [])) ≤ vec_capacity kept.old }
-    ensures items { kept.new.items ≡ kept.old.items ++ entries_of (place ∷ []) }
+/// Adds the member of a place.
+fn keep<K: Copy, T: Copy>(kept: &mut Vec<Member<K, T>>, place: Option<Member<K, T>>)
+    requires { vec_len kept.old + length (members_of (place ∷ [])) ≤ vec_capacity kept.old }
+    ensures items { kept.new.items ≡ kept.old.items ++ members_of (place ∷ []) }
     ensures capacity { vec_capacity kept.new ≡ vec_capacity kept.old }
 {
-    if let Some(entry) = place {
-        kept.push_reserved(entry);
+    if let Some(member) = place {
+        kept.push_reserved(member);
     }
 }
 
-fn place_at<K: Copy, T: Copy>(places: &[Option<Entry<K, T>>], i: usize) -> Option<Entry<K, T>>
+fn place_at<K: Copy, T: Copy>(places: &[Option<Member<K, T>>], i: usize) -> Option<Member<K, T>>
     requires { i < length places.now }
     ensures { slice_get places.now i ≡ Some result }
 {
     places[i]
 }
 
-fn kept_at<K: Copy, T: Copy>(kept: &[Entry<K, T>], i: usize) -> Entry<K, T>
+fn kept_at<K: Copy, T: Copy>(kept: &[Member<K, T>], i: usize) -> Member<K, T>
     requires { i < length kept.now }
     ensures { slice_get kept.now i ≡ Some result }
 {
     kept[i]
 }
 
-/// Keeps the entries of all places.
-fn keep_all<K: Copy, T: Copy>(kept: &mut Vec<Entry<K, T>>, places: &[Option<Entry<K, T>>])
+/// Keeps the members of all places.
+fn keep_all<K: Copy, T: Copy>(kept: &mut Vec<Member<K, T>>, places: &[Option<Member<K, T>>])
     requires empty { kept.old.items ≡ [] }
-    requires room { length (entries_of places.now) ≤ vec_capacity kept.old }
-    ensures items { kept.new.items ≡ entries_of places.now }
+    requires room { length (members_of places.now) ≤ vec_capacity kept.old }
+    ensures items { kept.new.items ≡ members_of places.now }
     ensures capacity { vec_capacity kept.new ≡ vec_capacity kept.old }
 {
     for i in 0..places.len() {
@@ -48,12 +48,12 @@ fn keep_all<K: Copy, T: Copy>(kept: &mut Vec<Entry<K, T>>, places: &[Option<Entr
     }
 }
 
-/// Adds these entries again.
+/// Adds these members again.
 fn put_back<K: Eq + Hash + Copy + Drop, T: Copy>(
-    places: &mut Vec<Option<Entry<K, T>>>,
+    places: &mut Vec<Option<Member<K, T>>>,
     index: &mut IndexMap<K, u32>,
     ranks: &mut Least,
-    kept: &[Entry<K, T>],
+    kept: &[Member<K, T>],
 )
     requires empty { places.old.items ≡ [] }
     requires placed { IsPlaced K.eq places.old.items index.old ranks.old }
@@ -63,7 +63,7 @@ fn put_back<K: Eq + Hash + Copy + Drop, T: Copy>(
     requires ranks { length kept.now ≤ length ranks.old }
     requires index { index_map_len index.old + length kept.now ≤ spare index.old }
     ensures placed { IsPlaced K.eq places.new.items index.new ranks.new }
-    ensures entries { entries_of places.new.items ≡ kept.now }
+    ensures members { members_of places.new.items ≡ kept.now }
     ensures len { length places.new.items ≡ length kept.now }
     ensures capacity { vec_capacity places.new ≡ vec_capacity places.old }
     ensures ranks { length ranks.new ≡ length ranks.old }
@@ -76,22 +76,22 @@ fn put_back<K: Eq + Hash + Copy + Drop, T: Copy>(
     }
 }
 
-/// Moves the entries together.
+/// Moves the members together.
 fn move_together<K: Eq + Hash + Copy + Drop, T: Copy>(
-    places: &mut Vec<Option<Entry<K, T>>>,
+    places: &mut Vec<Option<Member<K, T>>>,
     index: &mut IndexMap<K, u32>,
     ranks: &mut Least,
-    kept: &mut Vec<Entry<K, T>>,
+    kept: &mut Vec<Member<K, T>>,
 )
     requires placed { IsPlaced K.eq places.old.items index.old ranks.old }
     requires empty { kept.old.items ≡ [] }
-    requires room { length (entries_of places.old.items) ≤ vec_capacity kept.old }
+    requires room { length (members_of places.old.items) ≤ vec_capacity kept.old }
     requires capacity { length places.old.items ≤ vec_capacity places.old }
     requires few { length places.old.items < 2 ^ 32 }
     requires index { length places.old.items ≤ index_map_len index.old + spare index.old }
     ensures placed { IsPlaced K.eq places.new.items index.new ranks.new }
-    ensures entries { entries_of places.new.items ≡ entries_of places.old.items }
-    ensures len { length places.new.items ≡ length (entries_of places.old.items) }
+    ensures members { members_of places.new.items ≡ members_of places.old.items }
+    ensures len { length places.new.items ≡ length (members_of places.old.items) }
     ensures capacity { vec_capacity places.new ≡ vec_capacity places.old }
     ensures ranks { length ranks.new ≡ length ranks.old }
     ensures index { index_map_len index.new ≤ length places.new.items }
@@ -110,23 +110,23 @@ fn move_together<K: Eq + Hash + Copy + Drop, T: Copy>(
 
 /// Sees to it that one of so many places is behind the others.
 pub(crate) fn make_place<K: Eq + Hash + Copy + Drop, T: Copy>(
-    places: &mut Vec<Option<Entry<K, T>>>,
+    places: &mut Vec<Option<Member<K, T>>>,
     index: &mut IndexMap<K, u32>,
     ranks: &mut Least,
-    kept: &mut Vec<Entry<K, T>>,
+    kept: &mut Vec<Member<K, T>>,
     count: usize,
 )
     requires placed { IsPlaced K.eq places.old.items index.old ranks.old }
     requires empty { kept.old.items ≡ [] }
-    requires room { length (entries_of places.old.items) ≤ vec_capacity kept.old }
-    requires live { length (entries_of places.old.items) < count }
+    requires room { length (members_of places.old.items) ≤ vec_capacity kept.old }
+    requires live { length (members_of places.old.items) < count }
     requires within { length places.old.items ≤ count }
     requires capacity { count ≤ vec_capacity places.old }
     requires few { count < 2 ^ 32 }
     requires fewer { index_map_len index.old ≤ length places.old.items }
     requires index { count ≤ index_map_len index.old + spare index.old }
     ensures placed { IsPlaced K.eq places.new.items index.new ranks.new }
-    ensures entries { entries_of places.new.items ≡ entries_of places.old.items }
+    ensures members { members_of places.new.items ≡ members_of places.old.items }
     ensures len { length places.new.items < count }
     ensures capacity { vec_capacity places.new ≡ vec_capacity places.old }
     ensures ranks { length ranks.new ≡ length ranks.old }

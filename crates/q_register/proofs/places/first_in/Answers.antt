@@ -12,7 +12,7 @@ returns-in-Some g c =
     let ranked = c.requires.ranked in
     let least = subst (λ (rs : List ℕ). IsLeastAt rs place) ranked c.in-Some.ensures.least in
     let keyed = subst (λ (rs : List ℕ). key_at rs place < no_key) ranked c.in-Some.ensures.keyed in
-    c.entry_at.ensures ∙ ap (λ ys. standing (slice_get ys place)) c.deref.ensures.value ∙ first_by_ranks n place xs c.requires.within least keyed
+    c.member_at.ensures ∙ ap (λ ys. standing (slice_get ys place)) c.deref.ensures.value ∙ first_by_ranks n place xs c.requires.within least keyed
 
 pub returns-in-None : goal.returns-in-None
 returns-in-None g c =

@@ -16,5 +16,5 @@ returns g c =
     let bound = c.args.bound in
     let place = c.in_ok-place.place in
     let is = sym c.in_ok-place.was ∙ c.first_within.ensures ∙ ap (position (is_within bound)) c.requires.placed.ranked in
-    c.entry_at.ensures ∙ ap (λ xs. standing (slice_get xs place)) c.deref.ensures.value
+    c.member_at.ensures ∙ ap (λ xs. standing (slice_get xs place)) c.deref.ensures.value
     ∙ some_within (length c.args.ranks.now) bound place c.args.places.now.items c.requires.placed.within c.requires.ranked is

@@ -6,8 +6,8 @@ use Rattle.q_register.proofs.places.take_out.Goals as goal
 pub returns-in_err-found-clause-taken : goal.returns-in_err-found-clause-taken
 returns-in_err-found-clause-taken g c = c.from_residual.ensures ∙ sym (find_none g.K.PartialEq.eq c.args.key.now c.args.places.now.items c.in_err-found.ensures.none)
 
-pub returns-in_err-found-clause-entries : goal.returns-in_err-found-clause-entries
-returns-in_err-found-clause-entries g c = sym (filter_none g.K.PartialEq.eq c.args.key.now c.args.places.now.items c.in_err-found.ensures.none)
+pub returns-in_err-found-clause-members : goal.returns-in_err-found-clause-members
+returns-in_err-found-clause-members g c = sym (filter_none g.K.PartialEq.eq c.args.key.now c.args.places.now.items c.in_err-found.ensures.none)
 
 pub returns-clause-placed : goal.returns-clause-placed
 returns-clause-placed g c =
@@ -18,15 +18,15 @@ pub returns-clause-taken : goal.returns-clause-taken
 returns-clause-taken g c =
     let f = c.in_ok-found.found in
     let found = c.in_ok-found.ensures.some in
-    sym (find_sole g.K.PartialEq.eq c.args.key.now c.args.places.now.items f.place f.entry found.stands found.key found.sole)
+    sym (find_sole g.K.PartialEq.eq c.args.key.now c.args.places.now.items f.place f.member found.stands found.key found.sole)
 
-pub returns-clause-entries : goal.returns-clause-entries
-returns-clause-entries g c =
+pub returns-clause-members : goal.returns-clause-members
+returns-clause-members g c =
     let f = c.in_ok-found.found in
     let found = c.in_ok-found.ensures.some in
-    filter_sole g.K.PartialEq.eq c.args.key.now c.args.places.now.items f.place f.entry found.stands found.key found.sole
+    filter_sole g.K.PartialEq.eq c.args.key.now c.args.places.now.items f.place f.member found.stands found.key found.sole
 
 pub returns-clause-fewer : goal.returns-clause-fewer
 returns-clause-fewer g c =
     let f = c.in_ok-found.found in
-    one_fewer c.args.places.now.items f.place f.entry c.in_ok-found.ensures.some.stands
+    one_fewer c.args.places.now.items f.place f.member c.in_ok-found.ensures.some.stands

@@ -1,6 +1,6 @@
 use Rattle.std.proofs.Common.{◌≡◌, ◌+◌, ◌∙◌, ◌∷◌, ◌++◌, [], ap, sym, arith, length, take, suc}
 use Rattle.std.proofs.lemmas.Grind.{common_steps}
-use Rattle.q_register.specs.Places.{entries_of}
+use Rattle.q_register.specs.Places.{members_of}
 use Rattle.q_register.proofs.Gathered.{fewer, gathered}
 use Rattle.q_register.proofs.together.keep_all.Goals as goal
 
@@ -18,6 +18,6 @@ loop-i-preserved g c =
     let xs = c.args.places.now in
     let next : suc i ≡ i + 1 = omega arith in
     record {
-      kept = c.keep.ensures.items ∙ ap (λ es. es ++ entries_of (c.place_at.result ∷ [])) c.loop-i.invariant.kept ∙ sym (gathered i xs c.place_at.result c.place_at.ensures) ∙ ap (λ n. entries_of (take n xs)) next;
+      kept = c.keep.ensures.items ∙ ap (λ es. es ++ members_of (c.place_at.result ∷ [])) c.loop-i.invariant.kept ∙ sym (gathered i xs c.place_at.result c.place_at.ensures) ∙ ap (λ n. members_of (take n xs)) next;
       capacity = c.keep.ensures.capacity ∙ c.loop-i.invariant.capacity;
     }

@@ -9,7 +9,7 @@ use Rattle.q_dest.specs.declared.dest.Dest.{Dest}
 use Rattle.q_dest.specs.Dests.{AreBounded, Dests, is_at}
 use Rattle.q_dest.specs.Ranks.{dead_rank, time_rank}
 use Rattle.q_dest.specs.Sound.{numbers_by}
-use Rattle.q_register.specs.Entries.{has_key}
+use Rattle.q_register.specs.Members.{has_key}
 use Rattle.q_dest.proofs.table.Table.push.Goals as goal
 
 pub push-number-requires-clause-absent : goal.push-number-requires-clause-absent
@@ -20,13 +20,13 @@ push-number-requires-clause-absent c =
 pub push-requires-clause-absent : goal.push-requires-clause-absent
 push-requires-clause-absent c =
     let a = c.self.inside in
-    ap (λ (e : E). find (has_key same_number e.key) a.times.items) c.entry.ensures
+    ap (λ (e : E). find (has_key same_number e.key) a.times.items) c.member.ensures
     ∙ absent time_rank a.dests a.times c.self.invariant.times_are c.push-number.result c.push-number.ensures.fresh
 
 pub push-requires-2-clause-absent : goal.push-requires-2-clause-absent
 push-requires-2-clause-absent c =
     let a = c.self.inside in
-    ap (λ (e : E). find (has_key same_number e.key) a.dead.items) c.entry-2.ensures
+    ap (λ (e : E). find (has_key same_number e.key) a.dead.items) c.member-2.ensures
     ∙ absent dead_rank a.dests a.dead c.self.invariant.dead_are c.push-number.result c.push-number.ensures.fresh
 
 pub invariant_of-self : goal.invariant_of-self
@@ -36,10 +36,10 @@ invariant_of-self c =
     let next = sym c.push-number.ensures.items in
     record {
       times_are = c.push.ensures
-          ∙ more time_rank a.dests a.times c.self.invariant.times_are n c.args.dest c.entry.result (c.entry.ensures ∙ ap (λ r. record { key = n; value = tt; rank = r }) c.time_rank-time_rank.ensures)
+          ∙ more time_rank a.dests a.times c.self.invariant.times_are n c.args.dest c.member.result (c.member.ensures ∙ ap (λ r. record { key = n; value = tt; rank = r }) c.time_rank-time_rank.ensures)
           ∙ ap (numbers_by time_rank) next;
       dead_are = c.push-2.ensures
-          ∙ more dead_rank a.dests a.dead c.self.invariant.dead_are n c.args.dest c.entry-2.result (c.entry-2.ensures ∙ ap (λ r. record { key = n; value = tt; rank = r }) c.dead_rank-dead_rank.ensures)
+          ∙ more dead_rank a.dests a.dead c.self.invariant.dead_are n c.args.dest c.member-2.result (c.member-2.ensures ∙ ap (λ r. record { key = n; value = tt; rank = r }) c.dead_rank-dead_rank.ensures)
           ∙ ap (numbers_by dead_rank) next;
       bounded = subst (λ (x : Items Dest). AreBounded (values_of x.items)) next
           (subst AreBounded (sym (map-append (λ (k : Numbered Dest). k.item) a.dests.items (record { number = n; item = c.args.dest } ∷ [])))

@@ -5,7 +5,7 @@ use Rattle.q_pool.specs.Kept.{is_of}
 use Rattle.q_pool.specs.Pooled.{Pooled}
 use Rattle.q_pool.specs.Ranks.{AreRanked, value_of}
 use Rattle.q_pool.specs.declared.kept.Kept.{Kept}
-use Rattle.q_register.specs.Entries.{lacks_key}
+use Rattle.q_register.specs.Members.{lacks_key}
 use Rattle.q_pool.proofs.pool.Pool.remove.Goals as goal
 
 pub invariant_of-self : goal.invariant_of-self

@@ -1,5 +1,5 @@
 use Rattle.std.proofs.Common.{◌∙◌, ap, arith, length}
-use Rattle.q_register.specs.Places.{entries_of}
+use Rattle.q_register.specs.Places.{members_of}
 use Rattle.q_register.proofs.register.Register.remove.Goals as goal
 
 pub invariant_of-self : goal.invariant_of-self
@@ -10,7 +10,7 @@ invariant_of-self g c =
       few = inv.few;
       ranked = c.take_out.ensures.ranks ∙ inv.ranked;
       inside = omega (arith, c.take_out.ensures.len, inv.inside);
-      count = omega (arith, ap length (ap entries_of c.in_err-taken.ensures.same), inv.count);
+      count = omega (arith, ap length (ap members_of c.in_err-taken.ensures.same), inv.count);
       within = inv.within;
       capacity = omega (arith, c.take_out.ensures.capacity, inv.capacity);
       fewer = omega (arith, c.take_out.ensures.len, inv.fewer);

@@ -1,20 +1,20 @@
 //! What stands in a register.
 ghost use Rattle.std.specs.Prelude.{◌≡◌};
 
-/// An entry: what is kept under a key, and its rank. An entry with the rank `Register::UNRANKED` is
+/// A member: what is kept under a key, and its rank. A member with the rank `Register::UNRANKED` is
 /// never the first.
 #[derive(Clone, Copy, Debug)]
-pub struct Entry<K, T> {
+pub struct Member<K, T> {
     pub key: K,
     pub value: T,
     pub rank: u64,
 }
 
-impl<K: Copy, T: Copy> Entry<K, T> {
-    pub(crate) fn changed_to(self, value: T, rank: u64) -> Entry<K, T>
+impl<K: Copy, T: Copy> Member<K, T> {
+    pub(crate) fn changed_to(self, value: T, rank: u64) -> Member<K, T>
         ensures { result ≡ record self { value = value; rank = rank } }
     {
-        Entry {
+        Member {
             key: self.key,
             value,
             rank,
