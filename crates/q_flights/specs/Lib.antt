@@ -1,3 +1,3 @@
 pub mod Flying
-pub mod Entries
+pub mod Heads
 pub mod Sound

@@ -6,8 +6,8 @@ ghost use Rattle.q_model.specs.Lists.{least};
 ghost use Rattle.q_positions.specs.Rows.{row_shown};
 
 use crate::counts::{Counts, count_begun, count_ended};
+use crate::delivery_head::DeliveryHead;
 use crate::delivery_ref::DeliveryRef;
-use crate::entry::Entry;
 use q_keyed::Keyed;
 use q_positions::{Lists, RowRef};
 use std::alloc::{AllocError, Global};
@@ -16,8 +16,8 @@ use std::marker::Model;
 /// The deliveries in flight. A contract sees them as a list.
 #[derive(Debug, Drop)]
 pub struct Flights {
-    entries: Keyed<Entry>,
-    /// The positions of each delivery, by the number of its entry.
+    heads: Keyed<DeliveryHead>,
+    /// The positions of each delivery, by the number of its head.
     positions: Lists,
     /// How many of them are at each transport.
     counts: Counts,
@@ -28,16 +28,16 @@ impl Model for Flights {
 
     ghost Value = { Flying };
 
-    ghost use Rattle.q_flights.specs.Entries.{deliveries_of};
+    ghost use Rattle.q_flights.specs.Heads.{deliveries_of};
     ghost use Rattle.q_flights.specs.Sound.{AreKept};
 
     ghost view = { λ a. record {
-      items = deliveries_of a.positions.lists a.entries.items;
-      room = a.entries.room;
+      items = deliveries_of a.positions.lists a.heads.items;
+      room = a.heads.room;
       most = a.positions.most;
     } };
 
-    ghost invariant = { λ a. AreKept a.entries a.positions a.counts };
+    ghost invariant = { λ a. AreKept a.heads a.positions a.counts };
 }
 
 impl Flights {
@@ -51,10 +51,10 @@ impl Flights {
         ensures { IfOk result (λ made. made
             ≡ record { items = []; room = room; most = most }) }
     {
-        let entries = Keyed::new(alloc, room)?;
+        let heads = Keyed::new(alloc, room)?;
         let positions = Lists::new(alloc, room, most)?;
         Ok(Flights {
-            entries,
+            heads,
             positions,
             counts: [0; 256],
         })
@@ -68,40 +68,40 @@ impl Flights {
         ensures within { length self.now.items ≤ self.now.room }
         ensures few { self.now.room < 2 ^ 30 }
     {
-        self.entries.stand_apart();
+        self.heads.stand_apart();
     }
 
     /// How many there are.
     pub fn len(&self) -> usize
         ensures { result ≡ length self.now.items }
     {
-        self.entries.len()
+        self.heads.len()
     }
 
     /// How many more have room.
     pub fn spare(&self) -> u32
         ensures { result ≡ self.now.room - length self.now.items }
     {
-        self.entries.spare()
+        self.heads.spare()
     }
 
     /// The delivery of this number.
     pub fn get(&self, number: u64) -> Option<DeliveryRef<'_>>
         ensures { option_map delivery_shown result ≡ find (has_number number) self.now.items }
     {
-        self.entries.stand_apart();
-        let at = self.entries.find(&number)?;
-        let entry = self.entries.get(at)?;
-        Some(entry.with(self.positions.get(at)))
+        self.heads.stand_apart();
+        let at = self.heads.find(&number)?;
+        let head = self.heads.get(at)?;
+        Some(head.with(self.positions.get(at)))
     }
 
     /// The delivery with the least number.
     pub fn first(&self) -> Option<DeliveryRef<'_>>
         ensures { option_map delivery_shown result ≡ least started_earlier self.now.items }
     {
-        let at = self.entries.first()?;
-        let entry = self.entries.get(at)?;
-        Some(entry.with(self.positions.get(at)))
+        let at = self.heads.first()?;
+        let head = self.heads.get(at)?;
+        Some(head.with(self.positions.get(at)))
     }
 
     /// How many are at the transport.
@@ -120,14 +120,14 @@ impl Flights {
           items = self.old.items ++ record { number = number; row = row_shown row.entry } ∷ [];
         } }
     {
-        self.entries.stand_apart();
-        let entry = Entry {
+        self.heads.stand_apart();
+        let head = DeliveryHead {
             number,
             id: row.id,
             site: *row.site,
         };
-        count_begun(&mut self.counts, entry.transport());
-        let at = self.entries.push(entry);
+        count_begun(&mut self.counts, head.transport());
+        let at = self.heads.push(head);
         self.positions.set(at, row.positions);
     }
 
@@ -137,14 +137,14 @@ impl Flights {
         ensures items { self.new ≡ record self.old
             { items = filter (is_other number) self.old.items } }
     {
-        self.entries.stand_apart();
-        let Some(at) = self.entries.find(&number) else {
+        self.heads.stand_apart();
+        let Some(at) = self.heads.find(&number) else {
             return false;
         };
-        let Some(entry) = self.entries.remove(at) else {
+        let Some(head) = self.heads.remove(at) else {
             return false;
         };
-        count_ended(&mut self.counts, entry.transport());
+        count_ended(&mut self.counts, head.transport());
         true
     }
 }

@@ -15,8 +15,8 @@
 #![tactic(auto)]
 
 mod counts;
+mod delivery_head;
 mod delivery_ref;
-mod entry;
 mod flights;
 
 pub use delivery_ref::DeliveryRef;

@@ -1,6 +1,6 @@
 //! Deliveries as they are found by their numbers.
 ghost use Rattle.std.specs.Prelude.{◌≡◌};
-ghost use Rattle.q_flights.specs.Entries.{delivery_of};
+ghost use Rattle.q_flights.specs.Heads.{delivery_of};
 ghost use Rattle.q_flights.specs.Flying.{delivery_shown};
 
 use crate::delivery_ref::DeliveryRef;
@@ -10,13 +10,13 @@ use q_positions::RowRef;
 
 /// A delivery without the positions of its row.
 #[derive(Debug, Drop)]
-pub(crate) struct Entry {
+pub(crate) struct DeliveryHead {
     pub(crate) number: u64,
     pub(crate) id: Id,
     pub(crate) site: Site,
 }
 
-impl HasKey for Entry {
+impl HasKey for DeliveryHead {
     ghost use Rattle.std.proofs.lemmas.Bool.{eq-eqb, eqb-true};
     ghost use Rattle.std.specs.Prelude.{◌==◌, ◌%◌, ◌^◌, refl};
 
@@ -33,7 +33,7 @@ impl HasKey for Entry {
     }
 
     fn hash(&self) -> u32 {
-        Entry::hash_of(&self.number)
+        DeliveryHead::hash_of(&self.number)
     }
 
     fn hash_of(key: &u64) -> u32 {
@@ -45,7 +45,7 @@ impl HasKey for Entry {
     ghost is_own = { λ a. eq-eqb a a refl };
 }
 
-impl Entry {
+impl DeliveryHead {
     pub(crate) fn transport(&self) -> u8
         ensures { result ≡ self.now.site.transport }
     {
