@@ -8,7 +8,7 @@ use Rattle.q_host.specs.Files.{Placed, same_place}
 use Rattle.q_mem_host.specs.declared.rot.Rot.{Rot}
 use Rattle.q_mem_host.specs.Kept.{Kept, is_soft, rotten, fallen}
 use Rattle.q_mem_host.specs.Data.{kept, table}
-use Rattle.q_mem_host.specs.declared.entries.Entry.{Entry}
+use Rattle.q_mem_host.specs.declared.placed_files.PlacedFile.{PlacedFile}
 use Rattle.q_mem_host.proofs.Tables.{table-push, or_else}
 
 -- ---- rotten bytes
@@ -26,15 +26,15 @@ pub is_rotten : (b : ℕ) (soft : List (ℕ × ℕ)) (xs ys : List ℕ) → leng
 is_rotten b soft xs ys long each = ext_get_or 0 ys (rotten b soft 0 xs) (long ∙ sym (length-rotten b soft 0 xs))
     (λ k h. let lt : k < length xs = omega (arith, long) in each k lt ∙ sym (get_or-rotten b soft 0 xs k lt ∙ ap (λ i. if is_soft soft i then b else get_or xs k 0) (let e : 0 + k ≡ k = omega arith in e)))
 
--- ---- one entry after another
+-- ---- one file after another
 
 abbrev pub fall_of : Rot → Placed Kept → Placed Kept
 fall_of rot t = λ a n. option_map (fallen rot) (t a n)
 
-last_drop : (i : ℕ) (xs : List Entry) → drop (i + 1) xs ≡ drop 1 (drop i xs)
+last_drop : (i : ℕ) (xs : List PlacedFile) → drop (i + 1) xs ≡ drop 1 (drop i xs)
 last_drop i xs = sym (drop-drop 1 i xs)
 
-fall_push : (rot : Rot) (xs ys : List Entry) (e new : Entry) → table xs ≡ fall_of rot (table ys) → new.area ≡ e.area → new.name ≡ e.name → kept new.file ≡ fallen rot (kept e.file)
+fall_push : (rot : Rot) (xs ys : List PlacedFile) (e new : PlacedFile) → table xs ≡ fall_of rot (table ys) → new.area ≡ e.area → new.name ≡ e.name → kept new.file ≡ fallen rot (kept e.file)
     → table (xs ++ new ∷ []) ≡ fall_of rot (table (ys ++ e ∷ []))
 fall_push rot xs ys e new so_far area name file = fun_ext (λ a. fun_ext (λ n.
     table-push xs new a n ∙ ap (λ (t : Placed Kept). or_else (t a n) (table (new ∷ []) a n)) so_far
@@ -53,20 +53,20 @@ fall_push rot xs ys e new so_far area name file = fun_ext (λ a. fun_ext (λ n.
     both None p = refl
     both (Some k) p = refl
 
-pub fall_more : (rot : Rot) (xs ys : List Entry) (i : ℕ) (d new : Entry) → i < length xs → length xs ≡ length ys → drop i xs ≡ drop i ys → table (take i xs) ≡ fall_of rot (table (take i ys))
+pub fall_more : (rot : Rot) (xs ys : List PlacedFile) (i : ℕ) (d new : PlacedFile) → i < length xs → length xs ≡ length ys → drop i xs ≡ drop i ys → table (take i xs) ≡ fall_of rot (table (take i ys))
     → new.area ≡ (get_or xs i d).area → new.name ≡ (get_or xs i d).name → kept new.file ≡ fallen rot (kept (get_or xs i d).file) → table (take (i + 1) (slice_set xs i new)) ≡ fall_of rot (table (take (i + 1) ys))
 fall_more rot xs ys i d new lt long rest so_far area name file =
-    ap (λ (l : List Entry). table l) (take_more_set xs i new lt) ∙ fall_push rot (take i xs) (take i ys) (get_or xs i d) new so_far area name file
-    ∙ ap (λ (l : List Entry). fall_of rot (table l)) (sym (take_more ys i d (omega (arith, long)) ∙ ap (λ (x : Entry). take i ys ++ x ∷ []) same))
+    ap (λ (l : List PlacedFile). table l) (take_more_set xs i new lt) ∙ fall_push rot (take i xs) (take i ys) (get_or xs i d) new so_far area name file
+    ∙ ap (λ (l : List PlacedFile). fall_of rot (table l)) (sym (take_more ys i d (omega (arith, long)) ∙ ap (λ (x : PlacedFile). take i ys ++ x ∷ []) same))
   where
-    at_rest : (l : List Entry) → get_or (drop i l) 0 d ≡ get_or l i d
+    at_rest : (l : List PlacedFile) → get_or (drop i l) 0 d ≡ get_or l i d
     at_rest l = get_or-drop i l 0 d ∙ ap (λ n. get_or l n d) (let q : i + 0 ≡ i = omega arith in q)
 
     same : get_or ys i d ≡ get_or xs i d
-    same = sym (at_rest ys) ∙ ap (λ (l : List Entry). get_or l 0 d) (sym rest) ∙ at_rest xs
+    same = sym (at_rest ys) ∙ ap (λ (l : List PlacedFile). get_or l 0 d) (sym rest) ∙ at_rest xs
 
-pub rest_more : (xs ys : List Entry) (i : ℕ) (new : Entry) → drop i xs ≡ drop i ys → drop (i + 1) (slice_set xs i new) ≡ drop (i + 1) ys
-rest_more xs ys i new rest = drop-set-lt (i + 1) xs i new (omega arith) ∙ last_drop i xs ∙ ap (λ (l : List Entry). drop 1 l) rest ∙ sym (last_drop i ys)
+pub rest_more : (xs ys : List PlacedFile) (i : ℕ) (new : PlacedFile) → drop i xs ≡ drop i ys → drop (i + 1) (slice_set xs i new) ≡ drop (i + 1) ys
+rest_more xs ys i new rest = drop-set-lt (i + 1) xs i new (omega arith) ∙ last_drop i xs ∙ ap (λ (l : List PlacedFile). drop 1 l) rest ∙ sym (last_drop i ys)
 
-pub all_fallen : (rot : Rot) (xs ys : List Entry) (i : ℕ) → length xs ≤ i → length xs ≡ length ys → table (take i xs) ≡ fall_of rot (table (take i ys)) → table xs ≡ fall_of rot (table ys)
-all_fallen rot xs ys i le long h = ap (λ (l : List Entry). table l) (sym (take_all i xs le)) ∙ h ∙ ap (λ (l : List Entry). fall_of rot (table l)) (take_all i ys (omega (arith, long)))
+pub all_fallen : (rot : Rot) (xs ys : List PlacedFile) (i : ℕ) → length xs ≤ i → length xs ≡ length ys → table (take i xs) ≡ fall_of rot (table (take i ys)) → table xs ≡ fall_of rot (table ys)
+all_fallen rot xs ys i le long h = ap (λ (l : List PlacedFile). table l) (sym (take_all i xs le)) ∙ h ∙ ap (λ (l : List PlacedFile). fall_of rot (table l)) (take_all i ys (omega (arith, long)))

@@ -49,32 +49,32 @@ at_place disk f a n x each = subst (λ (o : Option Kept). IsLeft o (f a n)) (put
 -- ---- files made and taken away
 
 -- a file with these bytes on the disk, or none
-abbrev Held : Option (List ℕ) → Option Kept
-Held = option_map firm
+abbrev AllFirm : Option (List ℕ) → Option Kept
+AllFirm = option_map firm
 
-held_left : (x o : Option (List ℕ)) → IsLeft (Held x) o → o ≡ x
-held_left None o h = none_left o h
-held_left (Some bytes) o h = firm_left bytes o h
+all_firm_left : (x o : Option (List ℕ)) → IsLeft (AllFirm x) o → o ≡ x
+all_firm_left None o h = none_left o h
+all_firm_left (Some bytes) o h = firm_left bytes o h
 
 put_step : (s : HostState) (a : Area) (n : List ℕ) (x : Option (List ℕ)) (c : Remains)
-    → MayLeave (record { disk = put s.disk a n (Held x); told = s.told }) c → After (Become (λ f. put f a n x)) (MayLeave s) c
+    → MayLeave (record { disk = put s.disk a n (AllFirm x); told = s.told }) c → After (Become (λ f. put f a n x)) (MayLeave s) c
 put_step s a n x c left = (
   record { files = put c.files a n (read_of (s.disk a n)); told = c.told },
-  record { told = left.told; each = left_but s.disk c.files a n (Held x) (read_of (s.disk a n)) left.each (reads_left (s.disk a n)) },
-  (put-is (put c.files a n (read_of (s.disk a n))) c.files a n x (held_left x (c.files a n) (at_place s.disk c.files a n (Held x) left.each)) (λ b m e. sym (put-other c.files a n (read_of (s.disk a n)) b m e)), refl),
+  record { told = left.told; each = left_but s.disk c.files a n (AllFirm x) (read_of (s.disk a n)) left.each (reads_left (s.disk a n)) },
+  (put-is (put c.files a n (read_of (s.disk a n))) c.files a n x (all_firm_left x (c.files a n) (at_place s.disk c.files a n (AllFirm x) left.each)) (λ b m e. sym (put-other c.files a n (read_of (s.disk a n)) b m e)), refl),
 )
 
-read_held : (x : Option (List ℕ)) → read_of (Held x) ≡ x
-read_held None = refl
-read_held (Some bytes) = refl
+read_all_firm : (x : Option (List ℕ)) → read_of (AllFirm x) ≡ x
+read_all_firm None = refl
+read_all_firm (Some bytes) = refl
 
 files_put : (disk : Placed Kept) (a : Area) (n : List ℕ) (x : Option Kept) → files_of (put disk a n x) ≡ put (files_of disk) a n (read_of x)
 files_put disk a n x = put-is (files_of disk) (files_of (put disk a n x)) a n (read_of x) (ap read_of (put-here disk a n x)) (λ b m e. ap read_of (put-other disk a n x b m e))
 
-put_changes : (h : List Event) (e : Event) (a : Area) (n : List ℕ) (x : Option (List ℕ)) → host_state_after e (host_state_of h) ≡ record { disk = put (host_state_of h).disk a n (Held x); told = (host_state_of h).told }
+put_changes : (h : List Event) (e : Event) (a : Area) (n : List ℕ) (x : Option (List ℕ)) → host_state_after e (host_state_of h) ≡ record { disk = put (host_state_of h).disk a n (AllFirm x); told = (host_state_of h).told }
     → Changes (λ f. put f a n x) (view_of h) (view_of (h ++ e ∷ []))
 put_changes h e a n x is = record {
-  files = ap (λ (s : HostState). files_of s.disk) (state_more h e ∙ is) ∙ files_put (host_state_of h).disk a n (Held x) ∙ ap (λ (o : Option (List ℕ)). put (files_of (host_state_of h).disk) a n o) (read_held x);
+  files = ap (λ (s : HostState). files_of s.disk) (state_more h e ∙ is) ∙ files_put (host_state_of h).disk a n (AllFirm x) ∙ ap (λ (o : Option (List ℕ)). put (files_of (host_state_of h).disk) a n o) (read_all_firm x);
   told = ap (λ (s : HostState). s.told) (state_more h e ∙ is);
   goes = goes_by (Become (λ f. put f a n x)) (Become (λ f. put f a n x)) h e (λ c left. put_step (host_state_of h) a n x c (subst (λ (s : HostState). MayLeave s c) is left)) (λ d c st. st);
 }

@@ -7,8 +7,8 @@ ghost use Rattle.q_mem_host.specs.Left.{view_of};
 ghost use Rattle.q_mem_host.specs.Planned.{Did, IsPlanned};
 
 use crate::MemHost;
-use crate::entries::{move_file, overwrite_at, put_file, sync_at, take_away};
 use crate::file::File;
+use crate::placed_files::{move_file, overwrite_at, put_file, sync_at, take_away};
 use crate::record::{Call, make_room, note};
 use q_host::HostError;
 use q_model::{Area, Name};
@@ -43,10 +43,10 @@ impl MemHost {
         ensures planned { IsPlanned HostError.Disk self.old self.new result }
     {
         self.pass()?;
-        self.entries.reserve(1)?;
+        self.files.reserve(1)?;
         make_room(&mut self.calls)?;
         let file = File::firm(self.alloc, Vec::new(self.alloc));
-        put_file(&mut self.entries, area, name, file);
+        put_file(&mut self.files, area, name, file);
         note(&mut self.calls, &mut self.crashed, Call::Create(area, name));
         Ok(())
     }
@@ -67,7 +67,7 @@ impl MemHost {
         self.pass()?;
         let copy = bytes.to_vec(self.alloc)?;
         make_room(&mut self.calls)?;
-        overwrite_at(self.alloc, &mut self.entries, area, name, at, bytes)?;
+        overwrite_at(self.alloc, &mut self.files, area, name, at, bytes)?;
         note(
             &mut self.calls,
             &mut self.crashed,
@@ -85,7 +85,7 @@ impl MemHost {
     {
         self.pass()?;
         make_room(&mut self.calls)?;
-        sync_at(&mut self.entries, area, name);
+        sync_at(&mut self.files, area, name);
         note(&mut self.calls, &mut self.crashed, Call::Sync(area, name));
         Ok(())
     }
@@ -105,7 +105,7 @@ impl MemHost {
     {
         self.pass()?;
         make_room(&mut self.calls)?;
-        move_file(&mut self.entries, area, name, to, new);
+        move_file(&mut self.files, area, name, to, new);
         note(
             &mut self.calls,
             &mut self.crashed,
@@ -122,7 +122,7 @@ impl MemHost {
     {
         self.pass()?;
         make_room(&mut self.calls)?;
-        take_away(&mut self.entries, area, name);
+        take_away(&mut self.files, area, name);
         note(&mut self.calls, &mut self.crashed, Call::Remove(area, name));
         Ok(())
     }

@@ -23,7 +23,7 @@ fn names_after(
     ensures ok { OnOk result (IsListing ((view_of host.now.history).files area) after out.new) }
     ensures few { OnOk result (length out.new ≤ 64) }
 {
-    list_names(&host.entries, area, after, out)
+    list_names(&host.files, area, after, out)
 }
 
 // The bytes of a file that is there.

@@ -7,15 +7,15 @@
 //!
 //! Files stand in the order of their areas and names. So a call finds a place by a search, and looks
 //! at no other files but those that it lists; only a crash goes over all of them. A file that comes or
-//! goes moves the entries behind it in memory.
+//! goes moves the files behind it in memory.
 #![tactic(auto)]
 
 mod changes;
-mod entries;
 mod file;
 mod host;
 mod listing;
 mod mem_host;
+mod placed_files;
 mod plan;
 mod record;
 mod rot;

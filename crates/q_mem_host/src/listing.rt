@@ -4,47 +4,47 @@ ghost use Rattle.q_host.specs.Reads.{IsListing};
 ghost use Rattle.q_mem_host.specs.Data.{table};
 ghost use Rattle.q_mem_host.specs.Order.{InOrder, is_past, IsCut};
 
-use crate::entries::{Entry, compare, number};
+use crate::placed_files::{PlacedFile, compare, number};
 use q_model::{Area, Name, Names, NoMemory};
 
-// Whether the entry is behind a name of an area, or at the area's beginning or behind it.
-fn is_past(entry: &Entry, area: Area, after: &Option<Name>) -> bool
-    ensures { result ≡ is_past area after.now entry.now }
+// Whether the file is behind a name of an area, or at the area's beginning or behind it.
+fn is_past(placed: &PlacedFile, area: Area, after: &Option<Name>) -> bool
+    ensures { result ≡ is_past area after.now placed.now }
 {
     match after {
-        None => number(area) <= number(entry.area),
-        Some(name) => compare(entry, area, name).is_gt(),
+        None => number(area) <= number(placed.area),
+        Some(name) => compare(placed, area, name).is_gt(),
     }
 }
 
-// The index of the first entry that is past.
-fn first_past(entries: &[Entry], area: Area, after: &Option<Name>) -> usize
-    requires { InOrder entries.now }
-    ensures { IsCut entries.now result area after.now }
+// The index of the first file that is past.
+fn first_past(files: &[PlacedFile], area: Area, after: &Option<Name>) -> usize
+    requires { InOrder files.now }
+    ensures { IsCut files.now result area after.now }
 {
-    entries.partition_point(|entry| !is_past(entry, area, after))
+    files.partition_point(|placed| !is_past(placed, area, after))
 }
 
 /// The 64 least names of an area after one, or all of them, in place of what stood in `out`.
 pub(crate) fn list_names(
-    entries: &[Entry],
+    files: &[PlacedFile],
     area: Area,
     after: Option<Name>,
     out: &mut Names,
 ) -> Result<(), NoMemory>
-    requires { InOrder entries.now }
-    ensures ok { OnOk result (IsListing (table entries.now area) after out.new) }
+    requires { InOrder files.now }
+    ensures ok { OnOk result (IsListing (table files.now area) after out.new) }
     ensures few { OnOk result (length out.new ≤ 64) }
 {
     out.clear();
-    let start = first_past(entries, area, &after);
-    let count = Names::ROOM.min(entries.len() - start);
+    let start = first_past(files, area, &after);
+    let count = Names::ROOM.min(files.len() - start);
     for i in start..start + count {
-        let entry = &entries[i];
-        if number(entry.area) != number(area) {
+        let placed = &files[i];
+        if number(placed.area) != number(area) {
             return Ok(());
         }
-        out.push(entry.name)?;
+        out.push(placed.name)?;
     }
     Ok(())
 }

@@ -8,8 +8,8 @@ ghost use Rattle.q_mem_host.specs.Memo.{new_memo, with_event, with_plan};
 ghost use Rattle.q_mem_host.specs.Plans.{no_plan, stopping, failing_at};
 
 use crate::Rot;
-use crate::entries::{Entry, fall_all, find, put_file};
 use crate::file::File;
+use crate::placed_files::{PlacedFile, fall_all, find, put_file};
 use crate::plan::Plan;
 use crate::record::{Call, make_room, note};
 use q_model::{Area, Name, NoMemory};
@@ -21,7 +21,7 @@ use std::marker::Model;
 #[derive(Drop)]
 pub struct MemHost {
     pub(crate) alloc: Global,
-    pub(crate) entries: Vec<Entry>,
+    pub(crate) files: Vec<PlacedFile>,
     pub(crate) told: Vec<u8>,
     pub(crate) calls: Vec<Call>,
     // a crash behind the calls that isn't noted yet
@@ -44,7 +44,7 @@ impl Model for MemHost {
       plan = m.plan;
     } };
 
-    ghost invariant = { λ m. KeepsUp m.entries.items m.told.items (history m.calls.items m.crashed) };
+    ghost invariant = { λ m. KeepsUp m.files.items m.told.items (history m.calls.items m.crashed) };
 }
 
 impl MemHost {
@@ -56,7 +56,7 @@ impl MemHost {
     {
         MemHost {
             alloc,
-            entries: Vec::new(alloc),
+            files: Vec::new(alloc),
             told: Vec::new(alloc),
             calls: Vec::new(alloc),
             crashed: None,
@@ -74,9 +74,9 @@ impl MemHost {
     {
         let copy = bytes.to_vec(self.alloc)?;
         let file = File::firm(self.alloc, bytes.to_vec(self.alloc)?);
-        self.entries.reserve(1)?;
+        self.files.reserve(1)?;
         make_room(&mut self.calls)?;
-        put_file(&mut self.entries, area, name, file);
+        put_file(&mut self.files, area, name, file);
         note(
             &mut self.calls,
             &mut self.crashed,
@@ -89,7 +89,7 @@ impl MemHost {
     pub fn file(&self, area: Area, name: Name) -> Option<&[u8]>
         ensures { option_copied result ≡ (view_of self.now.history).files area name }
     {
-        match find(&self.entries, area, name) {
+        match find(&self.files, area, name) {
             Some(file) => Some(file.bytes.as_slice()),
             None => None,
         }
@@ -127,7 +127,7 @@ impl MemHost {
         // After a crash all is on the disk, so another one changes nothing.
         match self.crashed {
             None => {
-                fall_all(&mut self.entries, choice);
+                fall_all(&mut self.files, choice);
                 self.crashed = Some(choice);
             }
             Some(_) => {}

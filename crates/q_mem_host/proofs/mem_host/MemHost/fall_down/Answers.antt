@@ -12,7 +12,7 @@ noted calls crashed choice is = sym (ap (λ (o : Option Rot). history calls o ++
 
 pub invariant_of-self : goal.invariant_of-self
 invariant_of-self c =
-    keeps_fallen c.self.inside.entries.items _ _ (history c.self.inside.calls.items c.self.inside.crashed) _ c.args.choice c.self.invariant c.fall_all.ensures.fallen c.fall_all.ensures.order (noted c.self.inside.calls.items c.self.inside.crashed c.args.choice c.in-None.is)
+    keeps_fallen c.self.inside.files.items _ _ (history c.self.inside.calls.items c.self.inside.crashed) _ c.args.choice c.self.invariant c.fall_all.ensures.fallen c.fall_all.ensures.order (noted c.self.inside.calls.items c.self.inside.crashed c.args.choice c.in-None.is)
 
 pub returns-in-None-clause-left : goal.returns-in-None-clause-left
 returns-in-None-clause-left c = state_fallen c.args.self.now.history (history c.self.inside.calls.items c.self.inside.crashed) _ c.args.choice (sym (ap (λ (m : Memo). m.history) c.self.view_is)) (noted c.self.inside.calls.items c.self.inside.crashed c.args.choice c.in-None.is)
