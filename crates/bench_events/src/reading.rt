@@ -1,5 +1,5 @@
 //! Reading an event list through its end.
-use q_events::{EventError, Events, Item};
+use q_events::{EventError, Events, ListItem};
 use q_stream::Source;
 use std::alloc::Global;
 
@@ -9,9 +9,9 @@ pub(crate) fn read_through<S: Source>(alloc: Global, source: &mut S) -> Result<u
     let mut count: u64 = 0;
     loop {
         match events.read_event(alloc, source)? {
-            Item::End => return Ok(count),
-            Item::Step { .. } => count = count.saturating_add(1),
-            Item::Restart => count = count.saturating_add(1),
+            ListItem::End => return Ok(count),
+            ListItem::Step { .. } => count = count.saturating_add(1),
+            ListItem::Restart => count = count.saturating_add(1),
         }
     }
 }

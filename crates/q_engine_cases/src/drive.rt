@@ -5,7 +5,7 @@ ghost use Rattle.q_events.specs.Forms.{IsItemInForm};
 ghost use Rattle.q_settings.specs.Ranges.{IsInRange};
 
 use q_engine::{Engine, EngineError, begin};
-use q_events::{EventError, Events, Item};
+use q_events::{EventError, Events, ListItem};
 use q_model::{Mode, NoMemory};
 use q_params::read_params;
 use q_settings::Params;
@@ -73,7 +73,7 @@ fn turn(
     host: &mut SilentHost,
     params: Params,
     engine: Engine,
-    item: Item,
+    item: ListItem,
 ) -> Result<Engine, Stop>
     requires range { IsInRange params }
     requires ready { IsReady engine }
@@ -81,12 +81,12 @@ fn turn(
     ensures { IfOk result IsReady }
 {
     match item {
-        Item::Step { event, .. } => Ok(engine.step(alloc, host, event)?),
-        Item::Restart => {
+        ListItem::Step { event, .. } => Ok(engine.step(alloc, host, event)?),
+        ListItem::Restart => {
             let table = engine.release();
             Ok(begin(alloc, host, params, table, Mode::Deliver)?)
         }
-        Item::End => Ok(engine),
+        ListItem::End => Ok(engine),
     }
 }
 
@@ -106,7 +106,7 @@ fn turns(
     let mut engine = engine;
     for _ in 0..u64::MAX {
         let item = events.read_event(alloc, source)?;
-        if let Item::End = item {
+        if let ListItem::End = item {
             return Ok(engine);
         }
         engine = turn(alloc, host, params, engine, item)?;
@@ -132,7 +132,7 @@ pub(crate) fn live(
 }
 
 /// The reply that all recipients of the delivery were reached, as a list says it.
-fn all_reached(alloc: Global, engine: &Engine, number: u64) -> Result<Item, Stop>
+fn all_reached(alloc: Global, engine: &Engine, number: u64) -> Result<ListItem, Stop>
     ensures { IfOk result IsItemInForm }
 {
     let mut line = format!(in alloc; "reply {number} up")?;

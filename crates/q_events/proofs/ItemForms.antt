@@ -20,7 +20,7 @@ use Rattle.q_events.specs.EventLines.{command_of, has_front, is_body, is_passed,
 use Rattle.q_events.specs.EventList.{item_of}
 use Rattle.q_events.specs.Forms.{IsInForm, IsItemInForm, IsMailInForm}
 use Rattle.q_events.specs.declared.error.EventError.{EventError}
-use Rattle.q_events.specs.declared.item.Item.{Item}
+use Rattle.q_events.specs.declared.list_item.ListItem.{ListItem}
 use Rattle.q_events.specs.declared.line.Line.{Line}
 use Rattle.q_events.specs.declared.line.Line.TheVariants.{Body, Passed, Told}
 use Rattle.q_events.specs.declared.line.Command.{Command}
@@ -173,7 +173,7 @@ line_form line =
 
 -- ---- items
 
-abbrev OptionInForm : Option Item → Type 0
+abbrev OptionInForm : Option ListItem → Type 0
 OptionInForm o = IfSome o IsItemInForm
 
 item_form : (content : List ℕ) (n : ℕ) (command : Command) → CommandInForm command → OptionInForm (item_of content n command)
@@ -182,7 +182,7 @@ item_form content n (commands.Plain event) h = by_test IsItemInForm (has_none co
 item_form content n commands.Restart h = by_test IsItemInForm (has_none content) _ None tt tt
 item_form content n commands.End h = by_test IsItemInForm (has_none content) _ None tt tt
 
-answered : (o : Option Item) (e : EventError) → OptionInForm o → IfOk (ok_or o e) IsItemInForm
+answered : (o : Option ListItem) (e : EventError) → OptionInForm o → IfOk (ok_or o e) IsItemInForm
 answered None e h = tt
 answered (Some item) e h = h
 
@@ -190,7 +190,7 @@ told : (said : Line) (command : Command) → LineInForm said → said ≡ Told c
 told said command h e = subst LineInForm e h
 
 -- the item of a line
-pub item_in_form : (line content : List ℕ) (n : ℕ) (said : Line) (command : Command) (o : Option Item) (e : EventError) → meaning_of_line line ≡ Some said → said ≡ Told command → o ≡ item_of content n command → IfOk (ok_or o e) IsItemInForm
+pub item_in_form : (line content : List ℕ) (n : ℕ) (said : Line) (command : Command) (o : Option ListItem) (e : EventError) → meaning_of_line line ≡ Some said → said ≡ Told command → o ≡ item_of content n command → IfOk (ok_or o e) IsItemInForm
 item_in_form line content n said command o e is_said is_told is =
     let line : LineInForm said = subst (λ (x : Option Line). IfSome x LineInForm) is_said (line_form line) in
     answered o e (subst OptionInForm (sym is) (item_form content n command (told said command line is_told)))

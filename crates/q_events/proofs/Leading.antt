@@ -13,8 +13,8 @@ use Rattle.q_events.specs.States.{EventsState}
 use Rattle.q_events.specs.TextLines.{TextLine, whole, cut, is_long, lines_from}
 use Rattle.q_events.specs.declared.error.EventError.{EventError}
 use Rattle.q_events.specs.declared.error.EventError.TheVariants as errors
-use Rattle.q_events.specs.declared.item.Item.{Item}
-use Rattle.q_events.specs.declared.item.Item.TheVariants as items
+use Rattle.q_events.specs.declared.list_item.ListItem.{ListItem}
+use Rattle.q_events.specs.declared.list_item.ListItem.TheVariants as items
 use Rattle.q_events.specs.declared.line.Line.{Line}
 use Rattle.q_events.specs.declared.line.Line.TheVariants.{Body, Passed, Told}
 use Rattle.q_events.specs.declared.line.Command.{Command}
@@ -133,7 +133,7 @@ line_reading e now later bytes content text mid rest others o is same at short s
     ∙ ap (λ n. item_at content n (whole text ∷ more)) (sym count) ∙ at_line content text later.lines more o short said
 
 -- the item of a command
-pub item_found : (e now later : EventsState) (old mid new : Option (List ℕ)) (content text : List ℕ) (command : Command) (item : Item) → Led e old content now mid → LineAt now mid later new text → length text ≤ 16777216
+pub item_found : (e now later : EventsState) (old mid new : Option (List ℕ)) (content text : List ℕ) (command : Command) (item : ListItem) → Led e old content now mid → LineAt now mid later new text → length text ≤ 16777216
     → meaning_of_line text ≡ Some (Told command) → item_of content later.lines command ≡ Some item → later.lines ≡ now.lines + 1
     → IfSome old (λ bytes. (rest : List ℕ) × (new ≡ Some rest) × (reading e bytes ≡ found item later.lines (lines_from later.budget rest)))
 item_found e now later None mid new content text command item led at short said h count = tt
@@ -143,7 +143,7 @@ item_found e now later (Some bytes) (Some mid) new content text command item (re
       others,
       n,
       line_reading e now later bytes content text mid rest others (Some (Told command)) is same at short said refl count
-          ∙ ap (λ (o : Option Item). option_map_or (λ item. found item later.lines (lines_from later.budget others)) o (bad later.lines)) h,
+          ∙ ap (λ (o : Option ListItem). option_map_or (λ item. found item later.lines (lines_from later.budget others)) o (bad later.lines)) h,
     )
 
 -- a command that can't have this content
@@ -155,7 +155,7 @@ no_item e now later (Some bytes) None new content text command (rest, m, is) at 
 no_item e now later (Some bytes) (Some mid) new content text command (rest, m, is) (others, n, at) short said h count =
     let same : mid ≡ rest = cc in
     line_reading e now later bytes content text mid rest others (Some (Told command)) is same at short said refl count
-    ∙ ap (λ (o : Option Item). option_map_or (λ item. found item later.lines (lines_from later.budget others)) o (bad later.lines)) h
+    ∙ ap (λ (o : Option ListItem). option_map_or (λ item. found item later.lines (lines_from later.budget others)) o (bad later.lines)) h
 
 -- a line that is none of an event list
 pub bad_line : (e now later : EventsState) (old mid new : Option (List ℕ)) (content text : List ℕ) → Led e old content now mid → LineAt now mid later new text → length text ≤ 16777216
@@ -214,7 +214,7 @@ line_fails e now later old mid new source content errors.Source led at = stopped
 line_fails e now later old mid new source content (errors.BadEvent line) led at = answered e now old mid content (bad line) led at
 line_fails e now later old mid new source content (errors.Limit bound) led at = (at.0, answered e now old mid content past_limit led at.1)
 
-command_gives : (e now later : EventsState) (old mid new source : Option (List ℕ)) (content text : List ℕ) (command : Command) (r : Option Item) → Led e old content now mid → LineAt now mid later new text → length text ≤ 16777216
+command_gives : (e now later : EventsState) (old mid new source : Option (List ℕ)) (content text : List ℕ) (command : Command) (r : Option ListItem) → Led e old content now mid → LineAt now mid later new text → length text ≤ 16777216
     → meaning_of_line text ≡ Some (Told command) → r ≡ item_of content later.lines command → later.lines ≡ now.lines + 1 → GivesItem e old later new source (ok_or r (errors.BadEvent later.lines))
 command_gives e now later old mid new source content text command None led at short said h count = no_item e now later old mid new content text command led at short said (sym h) count
 command_gives e now later old mid new source content text command (Some item) led at short said h count = item_found e now later old mid new content text command item led at short said (sym h) count
@@ -224,7 +224,7 @@ is_told Passed command h = cc
 is_told Body command h = cc
 is_told (Told other) command h = let same : other ≡ command = cc in ap Told same
 
-pub told_gives : (e now later : EventsState) (old mid new source : Option (List ℕ)) (content more text : List ℕ) (said : Line) (command : Command) (r : Option Item) → Led e old content now mid → LineAt now mid later new text → length text ≤ 16777216
+pub told_gives : (e now later : EventsState) (old mid new source : Option (List ℕ)) (content more text : List ℕ) (said : Line) (command : Command) (r : Option ListItem) → Led e old content now mid → LineAt now mid later new text → length text ≤ 16777216
     → meaning_of_line text ≡ Some said → command_in (Some said) ≡ Some command → more ≡ content ++ content_by text (Some said) → r ≡ item_of more later.lines command → later.lines ≡ now.lines + 1
     → GivesItem e old later new source (ok_or r (errors.BadEvent later.lines))
 told_gives e now later old mid new source content more text said command r led at short is_said told added h count =

@@ -7,8 +7,8 @@ use Rattle.q_model.specs.TextParts.{text_line}
 use Rattle.q_model.specs.declared.event.Event.TheVariants as events
 use Rattle.q_events.specs.EventLines.{meaning_of_line}
 use Rattle.q_events.specs.TextLines.{cut, is_long, TextLine, whole, bytes_of}
-use Rattle.q_events.specs.declared.item.Item.{Item}
-use Rattle.q_events.specs.declared.item.Item.TheVariants as items
+use Rattle.q_events.specs.declared.list_item.ListItem.{ListItem}
+use Rattle.q_events.specs.declared.list_item.ListItem.TheVariants as items
 use Rattle.q_events.specs.declared.line.Line.{Line}
 use Rattle.q_events.specs.declared.line.Line.TheVariants.{Body, Passed, Told}
 use Rattle.q_events.specs.declared.line.Command.{Command}
@@ -40,7 +40,7 @@ abbrev pub content_of : TextLine → List ℕ
 content_of line = content_by (bytes_of line) (meaning line)
 
 -- the item of a command in line n behind this content, which only a mail may have
-abbrev pub item_of : List ℕ → ℕ → Command → Option Item
+abbrev pub item_of : List ℕ → ℕ → Command → Option ListItem
 item_of content n (commands.Mail sender to) = Some (items.Step (events.Mail sender to content) n)
 item_of content n (commands.Plain event) =
     if has_none content then Some (items.Step event n) else None
@@ -50,7 +50,7 @@ item_of content n commands.End = if has_none content then Some items.End else No
 -- what stands first in an event list: an item, with the number of its line and the lines behind it; a line
 -- that can't stand there; or the end of the bytes that a list may have
 pub data FirstItem : Type 0 where
-  found : Item → ℕ → List TextLine → FirstItem
+  found : ListItem → ℕ → List TextLine → FirstItem
   bad : ℕ → FirstItem
   past_limit : FirstItem
 
@@ -67,7 +67,7 @@ passes_limit (whole line) = false
 passes_limit (cut line) = not (is_long (cut line))
 
 -- the item of a line, which has number n and stands behind this content
-abbrev pub item_in : List ℕ → ℕ → TextLine → Option Item
+abbrev pub item_in : List ℕ → ℕ → TextLine → Option ListItem
 item_in content n line = option_and_then (item_of content n) (command_in (meaning line))
 
 -- what the first of these lines gives; where there is none, `end` is missing

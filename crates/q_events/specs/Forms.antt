@@ -6,8 +6,8 @@ use Rattle.q_model.specs.declared.event.Event.{Event}
 use Rattle.q_model.specs.declared.event.Event.TheVariants as events
 use Rattle.q_model.specs.Texts.{is_address}
 use Rattle.q_text.specs.ValueForms.{IsListOf, IsOutcomeAt}
-use Rattle.q_events.specs.declared.item.Item.{Item}
-use Rattle.q_events.specs.declared.item.Item.TheVariants as items
+use Rattle.q_events.specs.declared.list_item.ListItem.{ListItem}
+use Rattle.q_events.specs.declared.list_item.ListItem.TheVariants as items
 
 -- the sender, unless it is the null sender, and each recipient have the form of an address, and there is a
 -- recipient
@@ -24,7 +24,7 @@ IsInForm (events.Reply number site outcomes) = IsListOf (IsOutcomeAt site) outco
 IsInForm (events.Trigger kind) = Unit {0}
 
 -- an item whose event, where it is one, is in form
-abbrev pub IsItemInForm : Item → Type 0
+abbrev pub IsItemInForm : ListItem → Type 0
 IsItemInForm (items.Step event line) = IsInForm event
 IsItemInForm items.Restart = Unit {0}
 IsItemInForm items.End = Unit {0}

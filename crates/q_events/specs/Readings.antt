@@ -7,8 +7,8 @@ use Rattle.q_events.specs.TextLines.{lines_from, TextLine}
 use Rattle.q_model.specs.declared.limits.Bound.TheVariants.{Input}
 use Rattle.q_events.specs.declared.error.EventError.{EventError}
 use Rattle.q_events.specs.declared.error.EventError.TheVariants as errors
-use Rattle.q_events.specs.declared.item.Item.{Item}
-use Rattle.q_events.specs.declared.item.Item.TheVariants as items
+use Rattle.q_events.specs.declared.list_item.ListItem.{ListItem}
+use Rattle.q_events.specs.declared.list_item.ListItem.TheVariants as items
 
 -- What stands first in these bytes. Behind `end` nothing is looked at, and the answer stays.
 abbrev pub reading : EventsState → List ℕ → FirstItem
@@ -17,7 +17,7 @@ reading e bytes =
     else first_item (e.lines + 1) (lines_from e.budget bytes)
 
 -- the item is the end of the list
-abbrev pub is_list_end : Item → Bool
+abbrev pub is_list_end : ListItem → Bool
 is_list_end (items.Step event line) = false
 is_list_end items.Restart = false
 is_list_end items.End = true
@@ -37,7 +37,7 @@ StopsBefore e old source =
 -- A call gives what stands first in the bytes that are left, `old`; behind an item `new` is left, and its
 -- lines are those behind the item.
 abbrev pub GivesItem : EventsState → Option (List ℕ) → EventsState → Option (List ℕ) → Option (List ℕ)
-    → Result Item EventError → Type 0
+    → Result ListItem EventError → Type 0
 GivesItem e old e' new source (Ok item) =
     IfSome old (λ bytes. (rest : List ℕ) × (new ≡ Some rest)
     × (reading e bytes ≡ found item e'.lines (lines_from e'.budget rest)))
@@ -48,7 +48,7 @@ GivesItem e old e' new source (Err errors.Source) = StopsBefore e old source
 GivesItem e old e' new source (Err errors.NoMemory) = Unit {0}
 
 -- the same, by what is buffered and what the source has
-abbrev pub Reads : EventsState → Option (List ℕ) → EventsState → Option (List ℕ) → Result Item EventError
+abbrev pub Reads : EventsState → Option (List ℕ) → EventsState → Option (List ℕ) → Result ListItem EventError
     → Type 0
 Reads e old e' new result =
     GivesItem e (text_left e.buffered old) e' (text_left e'.buffered new) new result

@@ -9,9 +9,9 @@ ghost use Rattle.q_events.specs.Readings.{GivesNoMore, is_list_end, Reads};
 ghost use Rattle.q_events.specs.States.{unread_list};
 
 use crate::error::EventError;
-use crate::item::Item;
 use crate::line::{Command, Line, parse};
 use crate::line_reader::{LineError, LineReader, NextLine};
+use crate::list_item::ListItem;
 use q_model::{Bound, Bytes, Event, NoMemory};
 use q_stream::Source;
 use std::alloc::Global;
@@ -70,7 +70,7 @@ fn add_line(content: &mut Vec<u8>, line: &[u8], said: Line) -> Result<Option<Com
 }
 
 /// The item of a command behind this content, which only a mail may have.
-fn item(command: Command, line: u64, content: Vec<u8>) -> Option<Item>
+fn item(command: Command, line: u64, content: Vec<u8>) -> Option<ListItem>
     ensures { result ≡ item_of content.items line command }
 {
     let bare = content.is_empty();
@@ -82,11 +82,11 @@ fn item(command: Command, line: u64, content: Vec<u8>) -> Option<Item>
                 to,
                 content,
             };
-            Some(Item::Step { event, line })
+            Some(ListItem::Step { event, line })
         }
-        Command::Plain(event) => bare.then_some(Item::Step { event, line }),
-        Command::Restart => bare.then_some(Item::Restart),
-        Command::End => bare.then_some(Item::End),
+        Command::Plain(event) => bare.then_some(ListItem::Step { event, line }),
+        Command::Restart => bare.then_some(ListItem::Restart),
+        Command::End => bare.then_some(ListItem::End),
     }
 }
 
@@ -141,7 +141,11 @@ impl Events {
     }
 
     /// The next item, where `end` wasn't read.
-    fn read_item<S: Source>(&mut self, alloc: Global, source: &mut S) -> Result<Item, EventError>
+    fn read_item<S: Source>(
+        &mut self,
+        alloc: Global,
+        source: &mut S,
+    ) -> Result<ListItem, EventError>
         requires { self.old.ended ≡ false }
         ensures going { self.new.ended ≡ false }
         ensures exact { Reads self.old (S.left source.old) self.new (S.left source.new) result }
@@ -179,7 +183,7 @@ impl Events {
         &mut self,
         alloc: Global,
         source: &mut S,
-    ) -> Result<Item, EventError>
+    ) -> Result<ListItem, EventError>
         ensures exact { Reads self.old (S.left source.old) self.new (S.left source.new) result }
         // From here on also where the source doesn't tell what is left of it.
         ensures form { IfOk result IsItemInForm }
@@ -196,11 +200,11 @@ impl Events {
         ensures faultless { IfOk result (λ _. S.faults source.new ≡ S.faults source.old) }
     {
         if self.ended {
-            return Ok(Item::End);
+            return Ok(ListItem::End);
         }
         match self.read_item(alloc, source) {
             Ok(item) => {
-                self.ended = matches!(item, Item::End);
+                self.ended = matches!(item, ListItem::End);
                 Ok(item)
             }
             Err(error) => {

@@ -8,10 +8,10 @@
 
 mod error;
 mod events;
-mod item;
 mod line;
 mod line_reader;
+mod list_item;
 
 pub use error::EventError;
 pub use events::Events;
-pub use item::Item;
+pub use list_item::ListItem;

@@ -17,7 +17,7 @@ use Rattle.q_model.specs.SpoolFiles.{Files}
 use Rattle.q_model.specs.Book.{Book}
 use Rattle.q_model.specs.declared.event.Mode.{Mode}
 use Rattle.q_model.specs.declared.spot.Area.{Area}
-use Rattle.q_events.specs.declared.item.Item.{Item as ListItem}
+use Rattle.q_events.specs.declared.list_item.ListItem.{ListItem}
 use Rattle.q_replay.specs.DamagedSpools.{NamesDamage, NamesOnlyDamage, RefusesDamage}
 use Rattle.q_replay.specs.Reading.{TakenItems}
 use Rattle.q_replay.specs.RunEnds.{RunEnds}

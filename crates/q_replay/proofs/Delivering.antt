@@ -25,7 +25,7 @@ use Rattle.q_engine.specs.declared.error.EngineError.TheVariants as engine_error
 use Rattle.q_entries.specs.Runs.{PlaysRun}
 use Rattle.q_model.specs.declared.limits.Bound.{Bound}
 use Rattle.q_model.specs.declared.limits.Bound.TheVariants.{Content, Deliveries, Generation, Input, Recipients, Serial}
-use Rattle.q_events.specs.declared.item.Item.TheVariants.{End, Restart}
+use Rattle.q_events.specs.declared.list_item.ListItem.TheVariants.{End, Restart}
 use Rattle.q_host.specs.View.{View}
 use Rattle.q_host.specs.declared.error.HostError.{HostError}
 use Rattle.q_host.specs.declared.error.HostError.TheVariants as faults

@@ -6,7 +6,7 @@ use Rattle.std.specs.Prelude.{option_and_then}
 use Rattle.std.proofs.lemmas.Bool.{and_parts}
 use Rattle.q_events.specs.EventList.{FirstItem, found, bad, past_limit, command_in, content_of, first_item, item_at, item_of, leads, meaning, passes_limit}
 use Rattle.q_events.specs.TextLines.{TextLine}
-use Rattle.q_events.specs.declared.item.Item.{Item}
+use Rattle.q_events.specs.declared.list_item.ListItem.{ListItem}
 use Rattle.q_replay.specs.Listings.{Listing, listing}
 use Rattle.q_replay.specs.Listings.{gives as says, bad as breaks, past_limit as passes}
 
@@ -54,11 +54,11 @@ said (found item n more) = says item n (listing [] (n + 1) more)
 said (bad n) = breaks n
 said past_limit = passes
 
-said_by : (n : ℕ) (more : Lines) (o : Option Item) → option_map_or (λ item. says item n (listing [] (n + 1) more)) o (breaks n) ≡ said (option_map_or (λ item. found item n more) o (bad n))
+said_by : (n : ℕ) (more : Lines) (o : Option ListItem) → option_map_or (λ item. says item n (listing [] (n + 1) more)) o (breaks n) ≡ said (option_map_or (λ item. found item n more) o (bad n))
 said_by n more None = refl
 said_by n more (Some item) = refl
 
-said_at : (n : ℕ) (more : Lines) (b : Bool) (o : Option Item) → (if b then passes else option_map_or (λ item. says item n (listing [] (n + 1) more)) o (breaks n)) ≡ said (if b then past_limit else option_map_or (λ item. found item n more) o (bad n))
+said_at : (n : ℕ) (more : Lines) (b : Bool) (o : Option ListItem) → (if b then passes else option_map_or (λ item. says item n (listing [] (n + 1) more)) o (breaks n)) ≡ said (if b then past_limit else option_map_or (λ item. found item n more) o (bad n))
 said_at n more true o = refl
 said_at n more false o = said_by n more o
 
@@ -92,13 +92,13 @@ listed n lines = listed_from [] n lines
 
 -- ---- the lines up to an item, whatever stands behind them
 
-pub record IsUpTo (content : List ℕ) (n : ℕ) (lines : Lines) (item : Item) (k : ℕ) (more : Lines) : Type 0 where
+pub record IsUpTo (content : List ℕ) (n : ℕ) (lines : Lines) (item : ListItem) (k : ℕ) (more : Lines) : Type 0 where
   pub front : Lines
   pub all : lines ≡ front ++ more
   pub number : k + 1 ≡ n + length front
   pub gives : (others : Lines) → listing content n (front ++ others) ≡ says item k (listing [] (k + 1) others)
 
-found_by : (content : List ℕ) (n : ℕ) (line : TextLine) (lines : Lines) (item : Item) (k : ℕ) (more : Lines) (b : Bool) (o : Option Item) → leads line ≡ false → passes_limit line ≡ b → option_and_then (item_of content n) (command_in (meaning line)) ≡ o
+found_by : (content : List ℕ) (n : ℕ) (line : TextLine) (lines : Lines) (item : ListItem) (k : ℕ) (more : Lines) (b : Bool) (o : Option ListItem) → leads line ≡ false → passes_limit line ≡ b → option_and_then (item_of content n) (command_in (meaning line)) ≡ o
     → (if b then past_limit else option_map_or (λ item. found item n lines) o (bad n)) ≡ found item k more → IsUpTo content n (line ∷ lines) item k more
 found_by content n line lines item k more true o h p e is = absurd cc
 found_by content n line lines item k more false None h p e is = absurd cc
@@ -112,12 +112,12 @@ found_by content n line lines item k more false (Some other) h p e is =
       number = omega (arith, same);
       gives = λ others. listed_here content n line others h
           ∙ ap (λ b. said (if b then past_limit else option_map_or (λ item. found item n others) (option_and_then (item_of content n) (command_in (meaning line))) (bad n))) p
-          ∙ ap (λ (x : Option Item). said (option_map_or (λ item. found item n others) x (bad n))) e
+          ∙ ap (λ (x : Option ListItem). said (option_map_or (λ item. found item n others) x (bad n))) e
           ∙ ap (λ x. says x n (listing [] (n + 1) others)) same_item
           ∙ ap (λ j. says item j (listing [] (j + 1) others)) same;
     }
 
-up_line : (content : List ℕ) (n : ℕ) (line : TextLine) (lines : Lines) (item : Item) (k : ℕ) (more : Lines) (b : Bool) → leads line ≡ b
+up_line : (content : List ℕ) (n : ℕ) (line : TextLine) (lines : Lines) (item : ListItem) (k : ℕ) (more : Lines) (b : Bool) → leads line ≡ b
     → (first_from (content ++ content_of line) (n + 1) lines ≡ found item k more → IsUpTo (content ++ content_of line) (n + 1) lines item k more) → first_from content n (line ∷ lines) ≡ found item k more → IsUpTo content n (line ∷ lines) item k more
 up_line content n line lines item k more true h behind_line is =
     let r = behind_line (sym (first_led content n line lines h) ∙ is) in
@@ -129,11 +129,11 @@ up_line content n line lines item k more true h behind_line is =
     }
 up_line content n line lines item k more false h behind_line is = found_by content n line lines item k more (passes_limit line) (option_and_then (item_of content n) (command_in (meaning line))) h refl refl (sym (first_here content n line lines h) ∙ is)
 
-up_from : (content : List ℕ) (n : ℕ) (lines : Lines) (item : Item) (k : ℕ) (more : Lines) → first_from content n lines ≡ found item k more → IsUpTo content n lines item k more
+up_from : (content : List ℕ) (n : ℕ) (lines : Lines) (item : ListItem) (k : ℕ) (more : Lines) → first_from content n lines ≡ found item k more → IsUpTo content n lines item k more
 up_from content n [] item k more is = absurd cc
 up_from content n (line ∷ lines) item k more is = up_line content n line lines item k more (leads line) refl (up_from (content ++ content_of line) (n + 1) lines item k more) is
 
-pub up_to : (n : ℕ) (lines : Lines) (item : Item) (k : ℕ) (more : Lines) → first_item n lines ≡ found item k more → IsUpTo [] n lines item k more
+pub up_to : (n : ℕ) (lines : Lines) (item : ListItem) (k : ℕ) (more : Lines) → first_item n lines ≡ found item k more → IsUpTo [] n lines item k more
 up_to n lines item k more is = up_from [] n lines item k more is
 
 -- lines that stand before an item lack the line behind them

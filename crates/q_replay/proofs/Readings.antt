@@ -18,8 +18,8 @@ use Rattle.q_events.specs.Readings.{is_list_end, reading}
 use Rattle.q_events.specs.States.{EventsState}
 use Rattle.q_events.specs.TextLines.{lines_from}
 use Rattle.q_model.specs.declared.limits.Bound.TheVariants.{Input}
-use Rattle.q_events.specs.declared.item.Item.{Item as ListItem}
-use Rattle.q_events.specs.declared.item.Item.TheVariants.{End, Restart}
+use Rattle.q_events.specs.declared.list_item.ListItem.{ListItem}
+use Rattle.q_events.specs.declared.list_item.ListItem.TheVariants.{End, Restart}
 use Rattle.q_replay.specs.Listings.{Listing, gives, bad, past_limit, lines_of, listing}
 use Rattle.q_replay.specs.Reading.{TakenItems, behind_item, ended, event_of, faulty, items_in, limited, read_items, read_text, reading_behind, refusal_at, refused_in}
 use Rattle.q_replay.specs.RunEnds.{entries_on}

@@ -14,8 +14,8 @@ use Rattle.q_events.specs.TextLines.{lines_from}
 use Rattle.q_model.specs.declared.limits.Bound.{Bound}
 use Rattle.q_events.specs.declared.error.EventError.{EventError}
 use Rattle.q_events.specs.declared.error.EventError.TheVariants as event_errors
-use Rattle.q_events.specs.declared.item.Item.{Item as ListItem}
-use Rattle.q_events.specs.declared.item.Item.TheVariants.{Restart}
+use Rattle.q_events.specs.declared.list_item.ListItem.{ListItem}
+use Rattle.q_events.specs.declared.list_item.ListItem.TheVariants.{Restart}
 use Rattle.q_host.specs.View.{View}
 use Rattle.q_host.specs.declared.error.HostError.TheVariants as faults
 use Rattle.q_model.specs.Book.{Book}

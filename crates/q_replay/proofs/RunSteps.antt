@@ -10,7 +10,7 @@ use Rattle.q_entries.specs.Runs.{HaltsRun, PlaysRun}
 use Rattle.q_entries.proofs.Playing.{halts_behind, plays_given_up, plays_none, plays_then}
 use Rattle.q_events.specs.Readings.{is_list_end}
 use Rattle.q_model.specs.declared.limits.Bound.{Bound}
-use Rattle.q_events.specs.declared.item.Item.{Item as ListItem}
+use Rattle.q_events.specs.declared.list_item.ListItem.{ListItem}
 use Rattle.q_host.specs.View.{View}
 use Rattle.q_host.specs.declared.error.HostError.{HostError}
 use Rattle.q_host.specs.declared.error.HostError.TheVariants as faults

@@ -8,7 +8,7 @@ use Rattle.q_engine.specs.declared.error.EngineError.{EngineError}
 use Rattle.q_engine.specs.declared.error.EngineError.TheVariants as engine_errors
 use Rattle.q_engine.specs.declared.engine.Engine.{Engine}
 use Rattle.q_events.specs.Readings.{is_list_end}
-use Rattle.q_events.specs.declared.item.Item.{Item as ListItem}
+use Rattle.q_events.specs.declared.list_item.ListItem.{ListItem}
 use Rattle.q_host.specs.Faults.{Faults}
 use Rattle.q_host.specs.View.{View}
 use Rattle.q_model.specs.Book.{Book}

@@ -20,8 +20,8 @@ use Rattle.q_entries.specs.Runs.{HaltsRun, IsLeftOfRun, PlaysRun}
 use Rattle.q_entries.proofs.Playing.{plays_given_up, plays_halts, plays_more, plays_none, plays_reads}
 use Rattle.q_model.specs.declared.limits.Bound.{Bound}
 use Rattle.q_model.specs.declared.limits.Bound.TheVariants.{Generation}
-use Rattle.q_events.specs.declared.item.Item.{Item as ListItem}
-use Rattle.q_events.specs.declared.item.Item.TheVariants.{End, Restart, Step}
+use Rattle.q_events.specs.declared.list_item.ListItem.{ListItem}
+use Rattle.q_events.specs.declared.list_item.ListItem.TheVariants.{End, Restart, Step}
 use Rattle.q_host.specs.Calls.{Stays}
 use Rattle.q_host.proofs.Moments.{leaves_here, leaves_on}
 use Rattle.q_host.specs.View.{Remains, View}

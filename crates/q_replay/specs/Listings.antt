@@ -5,8 +5,8 @@ use Rattle.q_model.specs.declared.event.LifeEvent.TheVariants.{Begin, Heard, Fin
 use Rattle.q_model.specs.declared.event.LifeEvent.{LifeEvent}
 use Rattle.q_events.specs.EventList.{command_in, content_of, item_of, leads, meaning, passes_limit}
 use Rattle.q_events.specs.TextLines.{lines_from, TextLine}
-use Rattle.q_events.specs.declared.item.Item.{Item as ListItem}
-use Rattle.q_events.specs.declared.item.Item.TheVariants.{Step, Restart, End}
+use Rattle.q_events.specs.declared.list_item.ListItem.{ListItem}
+use Rattle.q_events.specs.declared.list_item.ListItem.TheVariants.{Step, Restart, End}
 
 -- An item with the number of its line, and what the lines behind it say; a line that can't stand
 -- there, or the one behind the last where `end` is missing; or the end of the bytes that a list may

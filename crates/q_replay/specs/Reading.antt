@@ -6,8 +6,8 @@ use Rattle.q_engine.specs.declared.error.EngineError.{EngineError}
 use Rattle.q_engine.specs.declared.error.EngineError.TheVariants as errors
 use Rattle.q_model.specs.declared.limits.Bound.{Bound}
 use Rattle.q_model.specs.declared.limits.Bound.TheVariants.{Generation, Input}
-use Rattle.q_events.specs.declared.item.Item.{Item as ListItem}
-use Rattle.q_events.specs.declared.item.Item.TheVariants.{End, Restart, Step}
+use Rattle.q_events.specs.declared.list_item.ListItem.{ListItem}
+use Rattle.q_events.specs.declared.list_item.ListItem.TheVariants.{End, Restart, Step}
 use Rattle.q_events.specs.Readings.{is_list_end}
 use Rattle.q_model.specs.Book.{Book}
 use Rattle.q_model.specs.Ledger.{Ledger, opening}

@@ -4,7 +4,7 @@ use Rattle.q_books.specs.HostStands.{HostStands}
 use Rattle.q_engine.specs.Beginnings.{InWorlds}
 use Rattle.q_events.specs.Readings.{is_in_line}
 use Rattle.q_events.specs.TextLines.{lines_from, TextLine}
-use Rattle.q_events.specs.declared.item.Item.TheVariants.{Restart}
+use Rattle.q_events.specs.declared.list_item.ListItem.TheVariants.{Restart}
 use Rattle.q_host.specs.View.{View}
 use Rattle.q_model.specs.Book.{Book}
 use Rattle.q_model.specs.Ledger.{opening}

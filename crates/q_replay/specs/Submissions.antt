@@ -1,6 +1,6 @@
 -- A submission: one intake life, which takes one message.
 use Rattle.std.specs.Prelude.{ℕ}
-use Rattle.q_events.specs.declared.item.Item.TheVariants.{End, Restart, Step}
+use Rattle.q_events.specs.declared.list_item.ListItem.TheVariants.{End, Restart, Step}
 use Rattle.q_model.specs.Book.{Book}
 use Rattle.q_model.specs.Ledger.{opening}
 use Rattle.q_model.specs.Settings.{World}

@@ -9,10 +9,10 @@ use Rattle.q_engine.specs.declared.engine.Engine.{Engine}
 use Rattle.q_engine.specs.declared.error.EngineError.{EngineError}
 use Rattle.q_engine.specs.declared.error.EngineError.TheVariants as engine_errors
 use Rattle.q_entries.specs.Runs.{HaltsRun, PlaysRun}
-use Rattle.q_events.specs.declared.item.Item.{Item as ListItem}
+use Rattle.q_events.specs.declared.list_item.ListItem.{ListItem}
 use Rattle.q_events.specs.declared.error.EventError.{EventError}
 use Rattle.q_events.specs.declared.error.EventError.TheVariants as event_errors
-use Rattle.q_events.specs.declared.item.Item.TheVariants.{Restart}
+use Rattle.q_events.specs.declared.list_item.ListItem.TheVariants.{Restart}
 use Rattle.q_host.specs.Faults.{Faults}
 use Rattle.q_host.specs.View.{View}
 use Rattle.q_host.specs.declared.error.HostError.{HostError}

@@ -4,7 +4,7 @@ ghost use Rattle.q_engine.specs.Stands.{IsReady};
 ghost use Rattle.q_engine.specs.Steps.{StandsForSome};
 ghost use Rattle.q_events.specs.Forms.{IsInForm, IsItemInForm};
 ghost use Rattle.q_events.specs.Readings.{is_list_end};
-ghost use Rattle.q_events.specs.declared.item.Item.TheVariants as items;
+ghost use Rattle.q_events.specs.declared.list_item.ListItem.TheVariants as items;
 ghost use Rattle.q_host.specs.View.{Told};
 ghost use Rattle.q_settings.specs.Ranges.{IsInRange};
 ghost use Rattle.q_restart.specs.Damages.{IsUndamaged};
@@ -13,7 +13,7 @@ ghost use Rattle.q_replay.specs.Takings.{BeginsAnew, GivesUpItem, GivesUpNext, i
 
 use crate::error::{ReplayError, replay_error};
 use q_engine::{Engine, begin};
-use q_events::Item;
+use q_events::ListItem;
 use q_host::Host;
 use q_model::{Event, Mode};
 use q_settings::Params;
@@ -102,7 +102,7 @@ pub(crate) fn take<H: Host>(
     host: &mut H,
     params: Params,
     engine: Engine,
-    item: Item,
+    item: ListItem,
     line: u64,
 ) -> Result<Option<Engine>, ReplayError>
     requires range { IsInRange params }
@@ -120,12 +120,12 @@ pub(crate) fn take<H: Host>(
     ensures cause { ReplayCause (H.faults host.old) (H.faults host.new) result }
 {
     match item {
-        Item::Step { event, .. } => Ok(Some(hear(alloc, host, engine, event, line)?)),
-        Item::Restart => {
+        ListItem::Step { event, .. } => Ok(Some(hear(alloc, host, engine, event, line)?)),
+        ListItem::Restart => {
             let table = engine.release();
             Ok(Some(begin_life(alloc, host, params, table, Mode::Deliver, line)?))
         }
-        Item::End => {
+        ListItem::End => {
             end(alloc, host, engine, line)?;
             Ok(None)
         }

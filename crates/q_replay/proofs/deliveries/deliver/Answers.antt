@@ -7,7 +7,7 @@ use Rattle.q_drain.specs.Swept.{Outsides}
 use Rattle.q_drain.specs.declared.driver.Drained.{Drained}
 use Rattle.q_drain.specs.declared.driver.Drained.TheVariants.{Quiet, Unfinished}
 use Rattle.q_engine.specs.declared.error.EngineError.{EngineError}
-use Rattle.q_events.specs.declared.item.Item.TheVariants.{End}
+use Rattle.q_events.specs.declared.list_item.ListItem.TheVariants.{End}
 use Rattle.q_model.specs.Ledger.{opening}
 use Rattle.q_model.specs.declared.event.Mode.TheVariants.{Deliver}
 use Rattle.q_replay.proofs.DamagedSpools.{only_passed, refused_passed, untaken_only}

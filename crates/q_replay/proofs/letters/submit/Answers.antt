@@ -1,7 +1,7 @@
 use Rattle.std.proofs.Common.{arith, refl, ◌≡◌, false}
 use Rattle.std.specs.Prelude.{Result, IfErr}
 use Rattle.q_books.specs.HostStands.{TellsCrashes}
-use Rattle.q_events.specs.declared.item.Item.TheVariants.{End, Restart, Step}
+use Rattle.q_events.specs.declared.list_item.ListItem.TheVariants.{End, Restart, Step}
 use Rattle.q_model.specs.Ledger.{opening}
 use Rattle.q_model.specs.declared.event.Event.TheVariants as events
 use Rattle.q_model.specs.declared.event.Mode.TheVariants.{Intake}

@@ -1,7 +1,7 @@
 use Rattle.std.proofs.Common.{arith, None, Option, Some, ◌≡◌, false}
 use Rattle.std.specs.Prelude.{Result, IfErr}
 use Rattle.q_engine.specs.declared.engine.Engine.{Engine}
-use Rattle.q_events.specs.declared.item.Item.TheVariants.{End, Step}
+use Rattle.q_events.specs.declared.list_item.ListItem.TheVariants.{End, Step}
 use Rattle.q_replay.proofs.Replaying.{passed_as}
 use Rattle.q_replay.proofs.Submitting.{cause_on, ok_lists}
 use Rattle.q_replay.proofs.Takings.{for_item, for_item_up, never_restarts, passed_on, restarts}
