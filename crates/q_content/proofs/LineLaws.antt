@@ -10,7 +10,7 @@ use Rattle.std.proofs.lemmas.List.Elements.{All-from_recursion}
 use Rattle.std.proofs.lemmas.List.Splits.{length-slice_split, slice_split_at, slice_split_none}
 use Rattle.q_smtp.specs.ContentLines.{crlf, dotted, sent_content, sent_line}
 use Rattle.q_content.specs.Encoding.{behind_byte, behind_bytes, held_back, line_start, sent_byte, sent_bytes, sent_end, sent_rest}
-use Rattle.q_content.specs.declared.encoding.Line.{Line}
+use Rattle.q_content.specs.declared.encoding.ContentLine.{ContentLine}
 use Rattle.q_content.proofs.EncodingLaws.{sent_rest-append}
 
 abbrev is_lf : ℕ → Bool
@@ -24,12 +24,12 @@ no_end-push : (bytes : List ℕ) (b : ℕ) → HasNoEnd bytes → is_lf b ≡ fa
 no_end-push [] b none other = (other, tt)
 no_end-push (a ∷ bytes) b none other = (none.0, no_end-push bytes b none.1 other)
 
-begun_behind : (l : Line) (b : ℕ) (cr : Bool) → is_lf b ≡ false → (b == 13) ≡ cr → (behind_byte l b).begun ≡ true
+begun_behind : (l : ContentLine) (b : ℕ) (cr : Bool) → is_lf b ≡ false → (b == 13) ≡ cr → (behind_byte l b).begun ≡ true
 begun_behind l b true lf is_cr = rw (lf, is_cr) refl
 begun_behind l b false lf is_cr = rw (lf, is_cr) refl
 
 -- a byte within a line is sent or held back
-byte_kept : (l : Line) (b : ℕ) (cr dot : Bool) → is_lf b ≡ false → (b == 13) ≡ cr → (b == 46) ≡ dot → l.begun ≡ true → sent_byte l b ++ held_back (behind_byte l b) ≡ held_back l ++ b ∷ []
+byte_kept : (l : ContentLine) (b : ℕ) (cr dot : Bool) → is_lf b ≡ false → (b == 13) ≡ cr → (b == 46) ≡ dot → l.begun ≡ true → sent_byte l b ++ held_back (behind_byte l b) ≡ held_back l ++ b ∷ []
 byte_kept l b true dot lf is_cr is_dot begun =
     let same : b ≡ 13 = eqb-true b 13 is_cr in
     rw same refl
@@ -37,11 +37,11 @@ byte_kept l b false true lf is_cr is_dot begun = rw (lf, is_cr, is_dot, begun) (
 byte_kept l b false false lf is_cr is_dot begun = rw (lf, is_cr, is_dot) (append-nil (held_back l ++ b ∷ []))
 
 -- so are all bytes of a line that has begun
-record IsKept (l : Line) (bytes : List ℕ) : Type 0 where
+record IsKept (l : ContentLine) (bytes : List ℕ) : Type 0 where
   sent : sent_bytes l bytes ++ held_back (behind_bytes l bytes) ≡ held_back l ++ bytes
   begun : (behind_bytes l bytes).begun ≡ true
 
-kept : (l : Line) (bytes : List ℕ) → HasNoEnd bytes → l.begun ≡ true → IsKept l bytes
+kept : (l : ContentLine) (bytes : List ℕ) → HasNoEnd bytes → l.begun ≡ true → IsKept l bytes
 unfolding sent_bytes behind_bytes
 kept l [] none begun = record { sent = sym (append-nil (held_back l)); begun = begun }
 kept l (b ∷ bytes) none begun =
@@ -105,12 +105,12 @@ last_line (b ∷ bytes) none =
     ∙ ap (λ (x : List (List ℕ)). flat_map sent_line x ++ 46 ∷ crlf) (sym (one_line b bytes))
     ∙ ap (λ (x : List (List ℕ)). flat_map sent_line (lines_of_parts x) ++ 46 ∷ crlf) (sym parts)
 
-held_behind : (l : Line) (b : ℕ) (cr : Bool) → is_lf b ≡ false → (b == 13) ≡ cr → (behind_byte l b).held ≡ cr
+held_behind : (l : ContentLine) (b : ℕ) (cr : Bool) → is_lf b ≡ false → (b == 13) ≡ cr → (behind_byte l b).held ≡ cr
 held_behind l b true lf is_cr = rw (lf, is_cr) refl
 held_behind l b false lf is_cr = rw (lf, is_cr) refl
 
 -- a CR is held back exactly where it is the last byte
-held_last : (l : Line) (b : ℕ) (bytes : List ℕ) → HasNoEnd (b ∷ bytes) → (behind_bytes l (b ∷ bytes)).held ≡ (slice_index (b ∷ bytes) (length bytes) == 13)
+held_last : (l : ContentLine) (b : ℕ) (bytes : List ℕ) → HasNoEnd (b ∷ bytes) → (behind_bytes l (b ∷ bytes)).held ≡ (slice_index (b ∷ bytes) (length bytes) == 13)
 unfolding behind_bytes
 held_last l b [] none = held_behind l b (b == 13) none.0 refl
 held_last l b (next ∷ bytes) none = held_last (behind_byte l b) next bytes none.1
@@ -147,7 +147,7 @@ lines_behind : (line : List ℕ) (parts : List (List ℕ)) → 0 < length parts 
 lines_behind line [] some = absurd (omega arith)
 lines_behind line (part ∷ parts) some = refl
 
-rest_behind : (l : Line) (content : List ℕ) → sent_rest l (10 ∷ content) ≡ crlf ++ sent_rest line_start content
+rest_behind : (l : ContentLine) (content : List ℕ) → sent_rest l (10 ∷ content) ≡ crlf ++ sent_rest line_start content
 unfolding sent_bytes behind_bytes
 rest_behind l content = append_assoc crlf (sent_bytes line_start content) (sent_end (behind_bytes line_start content))
 

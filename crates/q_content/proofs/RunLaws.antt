@@ -9,12 +9,12 @@ use Rattle.std.proofs.lemmas.List.{append-nil}
 use Rattle.std.proofs.lemmas.List.Sums.{prefix_len-le-length}
 use Rattle.q_content.specs.Encoding.{behind_byte, behind_bytes, sent_byte, sent_bytes, within_line}
 use Rattle.q_content.specs.Runs.{ends_run, IsPlain}
-use Rattle.q_content.specs.declared.encoding.Line.{Line}
+use Rattle.q_content.specs.declared.encoding.ContentLine.{ContentLine}
 
 abbrev run : List ℕ → List ℕ
 run bytes = take (position_or_len ends_run bytes) bytes
 
-pub plain_none : (l : Line) → IsPlain l []
+pub plain_none : (l : ContentLine) → IsPlain l []
 unfolding sent_bytes behind_bytes
 plain_none l = record { sent = refl; line = refl }
 
@@ -41,20 +41,20 @@ place_or : (n len : ℕ) → n ≤ len → unwrap_or (cond (nat_lt n len) (Some 
 place_or n len h = grind (arith, nat_tests)
 
 -- the bytes up to the next CR or LF, of a line that has begun and holds nothing back
-pub plain_run : (l : Line) (bytes : List ℕ) (place : Option ℕ) (n : ℕ) → l.held ≡ false → not l.begun ≡ false → place ≡ position ends_run bytes → n ≡ unwrap_or place (length bytes) → IsPlain l (take n bytes)
+pub plain_run : (l : ContentLine) (bytes : List ℕ) (place : Option ℕ) (n : ℕ) → l.held ≡ false → not l.begun ≡ false → place ≡ position ends_run bytes → n ≡ unwrap_or place (length bytes) → IsPlain l (take n bytes)
 plain_run l bytes place n held begun first whole =
     let here : within_line ≡ l = ap (λ (x : Bool). record { begun = x; held = false }) (sym (not-false l.begun begun)) ∙ ap (λ (x : Bool). record { begun = l.begun; held = x }) (sym held) in
     let at = position_or_len ends_run bytes in
     let far : at ≡ n =
     sym (whole ∙ ap (λ (o : Option ℕ). unwrap_or o (length bytes)) first ∙ place_or at (length bytes) (prefix_len-le-length (λ x. not (ends_run x)) bytes)) in
-    subst (λ (m : Line). IsPlain m (take n bytes)) here (subst (λ (k : ℕ). IsPlain within_line (take k bytes)) far (run_plain bytes))
+    subst (λ (m : ContentLine). IsPlain m (take n bytes)) here (subst (λ (k : ℕ). IsPlain within_line (take k bytes)) far (run_plain bytes))
 
 -- one byte
-pub record IsFirst (l : Line) (bytes : List ℕ) (b : ℕ) : Type 0 where
+pub record IsFirst (l : ContentLine) (bytes : List ℕ) (b : ℕ) : Type 0 where
   pub sent : sent_bytes l (take 1 bytes) ≡ sent_byte l b
   pub line : behind_bytes l (take 1 bytes) ≡ behind_byte l b
 
-pub first_byte : (l : Line) (bytes : List ℕ) → 0 < length bytes → IsFirst l bytes (slice_index bytes 0)
+pub first_byte : (l : ContentLine) (bytes : List ℕ) → 0 < length bytes → IsFirst l bytes (slice_index bytes 0)
 unfolding sent_bytes behind_bytes
 first_byte l [] some = absurd (omega arith)
 first_byte l (b ∷ bytes) some = record { sent = append-nil (sent_byte l b); line = refl }

@@ -6,7 +6,7 @@ use crate::runs::{held_back, put, send_some};
 
 /// How far a line has come.
 #[derive(Clone, Copy, Debug, PartialEq, Eq)]
-pub struct Line {
+pub struct ContentLine {
     /// A byte of it came.
     pub begun: bool,
     /// Its last byte is a CR, which is sent only if no LF follows.
@@ -17,17 +17,17 @@ pub struct Line {
 #[derive(Clone, Copy, Debug, PartialEq, Eq)]
 pub struct Encoded {
     /// The line behind the piece.
-    pub line: Line,
+    pub line: ContentLine,
     /// How many bytes stand at the buffer's front.
     pub count: usize,
 }
 
-impl Line {
+impl ContentLine {
     /// The start of a line, as that of the content is.
-    pub fn start() -> Line
+    pub fn start() -> ContentLine
         ensures { result ≡ line_start }
     {
-        Line {
+        ContentLine {
             begun: false,
             held: false,
         }
@@ -35,7 +35,7 @@ impl Line {
 }
 
 /// Puts a piece of the content, as it is sent, at the front of a buffer.
-pub fn encode(line: Line, piece: &[u8], out: &mut [u8]) -> Encoded
+pub fn encode(line: ContentLine, piece: &[u8], out: &mut [u8]) -> Encoded
     requires room { 3 * length piece.now ≤ length out.old }
     ensures line { result.line ≡ behind_bytes line piece.now }
     ensures count { result.count ≡ length (sent_bytes line piece.now) }
@@ -59,7 +59,7 @@ pub fn encode(line: Line, piece: &[u8], out: &mut [u8]) -> Encoded
 }
 
 /// Puts the end of the content, as it is sent, at the front of a buffer, and answers its length.
-pub fn encode_end(line: Line, out: &mut [u8]) -> usize
+pub fn encode_end(line: ContentLine, out: &mut [u8]) -> usize
     requires room { 6 ≤ length out.old }
     ensures count { result ≡ length (sent_end line) }
     ensures few { result ≤ 6 }
@@ -72,7 +72,7 @@ pub fn encode_end(line: Line, out: &mut [u8]) -> usize
 }
 
 // What ends a line that has begun.
-fn line_end(line: Line) -> &'static [u8]
+fn line_end(line: ContentLine) -> &'static [u8]
     ensures { result.now ≡ line_end line }
 {
     if line.begun { b"\r\n" } else { b"" }

@@ -9,5 +9,5 @@ mod encoding;
 mod laws;
 mod runs;
 
-pub use encoding::{Encoded, Line, encode, encode_end};
+pub use encoding::{ContentLine, Encoded, encode, encode_end};
 pub use laws::lines_are_sent;

@@ -3,13 +3,13 @@ ghost use Rattle.std.specs.Prelude.{◌≡◌, ◌+◌, ◌*◌, ◌<◌, ◌≤
 ghost use Rattle.q_content.specs.Encoding.{behind_byte, behind_bytes, held_back, sent_byte, sent_bytes};
 ghost use Rattle.q_content.specs.Runs.{ends_run, IsPlain};
 
-use crate::Line;
+use crate::ContentLine;
 
 /// What was sent of a piece.
 #[derive(Clone, Copy)]
 pub(crate) struct Sent {
     /// The line behind it.
-    pub(crate) line: Line,
+    pub(crate) line: ContentLine,
     /// How many bytes of the piece it took.
     pub(crate) taken: usize,
     /// How many bytes stand at the buffer's front.
@@ -17,7 +17,7 @@ pub(crate) struct Sent {
 }
 
 /// Sends the first bytes of what is left of a piece: a run within a line, or one byte.
-pub(crate) fn send_some(line: Line, rest: &[u8], out: &mut [u8], count: usize) -> Sent
+pub(crate) fn send_some(line: ContentLine, rest: &[u8], out: &mut [u8], count: usize) -> Sent
     requires some { 0 < length rest.now }
     requires room { count + 3 * length rest.now ≤ length out.old }
     ensures moves { 0 < result.taken }
@@ -57,7 +57,7 @@ pub(crate) fn put(out: &mut [u8], count: usize, bytes: &[u8]) -> usize
 }
 
 /// The CR that a line holds back.
-pub(crate) fn held_back(line: Line) -> &'static [u8]
+pub(crate) fn held_back(line: ContentLine) -> &'static [u8]
     ensures { result.now ≡ held_back line }
 {
     if line.held { b"\r" } else { b"" }
@@ -65,7 +65,7 @@ pub(crate) fn held_back(line: Line) -> &'static [u8]
 
 // How many bytes are sent as they are, up to the next CR or LF. Only a line that has begun and
 // holds nothing back sends any so.
-fn run_length(line: Line, rest: &[u8]) -> usize
+fn run_length(line: ContentLine, rest: &[u8]) -> usize
     ensures within { result ≤ length rest.now }
     ensures plain { IsPlain line (take result rest.now) }
 {
@@ -85,16 +85,16 @@ fn place_of_end(bytes: &[u8]) -> Option<usize>
         .position(|byte| *byte == b'\n' || *byte == b'\r')
 }
 
-fn line_behind(byte: u8) -> Line
-    ensures { (l : Line) → result ≡ behind_byte l byte }
+fn line_behind(byte: u8) -> ContentLine
+    ensures { (l : ContentLine) → result ≡ behind_byte l byte }
 {
-    Line {
+    ContentLine {
         begun: byte != b'\n',
         held: byte == b'\r',
     }
 }
 
-fn send_byte(line: Line, byte: u8, out: &mut [u8], count: usize) -> usize
+fn send_byte(line: ContentLine, byte: u8, out: &mut [u8], count: usize) -> usize
     requires room { count + 3 ≤ length out.old }
     ensures count { result ≡ count + length (sent_byte line byte) }
     ensures bytes { take result out.new ≡ take count out.old ++ sent_byte line byte }

@@ -21,8 +21,8 @@ use Rattle.q_events.specs.EventList.{item_of}
 use Rattle.q_events.specs.Forms.{IsInForm, IsItemInForm, IsMailInForm}
 use Rattle.q_events.specs.declared.error.EventError.{EventError}
 use Rattle.q_events.specs.declared.list_item.ListItem.{ListItem}
-use Rattle.q_events.specs.declared.line.Line.{Line}
-use Rattle.q_events.specs.declared.line.Line.TheVariants.{Body, Passed, Told}
+use Rattle.q_events.specs.declared.line.ListLine.{ListLine}
+use Rattle.q_events.specs.declared.line.ListLine.TheVariants.{Body, Passed, Told}
 use Rattle.q_events.specs.declared.line.Command.{Command}
 use Rattle.q_events.specs.declared.line.Command.TheVariants as commands
 
@@ -32,7 +32,7 @@ CommandInForm (commands.Plain event) = IsInForm event
 CommandInForm commands.Restart = Unit {0}
 CommandInForm commands.End = Unit {0}
 
-abbrev LineInForm : Line → Type 0
+abbrev LineInForm : ListLine → Type 0
 LineInForm Passed = Unit {0}
 LineInForm Body = Unit {0}
 LineInForm (Told command) = CommandInForm command
@@ -186,11 +186,11 @@ answered : (o : Option ListItem) (e : EventError) → OptionInForm o → IfOk (o
 answered None e h = tt
 answered (Some item) e h = h
 
-told : (said : Line) (command : Command) → LineInForm said → said ≡ Told command → CommandInForm command
+told : (said : ListLine) (command : Command) → LineInForm said → said ≡ Told command → CommandInForm command
 told said command h e = subst LineInForm e h
 
 -- the item of a line
-pub item_in_form : (line content : List ℕ) (n : ℕ) (said : Line) (command : Command) (o : Option ListItem) (e : EventError) → meaning_of_line line ≡ Some said → said ≡ Told command → o ≡ item_of content n command → IfOk (ok_or o e) IsItemInForm
+pub item_in_form : (line content : List ℕ) (n : ℕ) (said : ListLine) (command : Command) (o : Option ListItem) (e : EventError) → meaning_of_line line ≡ Some said → said ≡ Told command → o ≡ item_of content n command → IfOk (ok_or o e) IsItemInForm
 item_in_form line content n said command o e is_said is_told is =
-    let line : LineInForm said = subst (λ (x : Option Line). IfSome x LineInForm) is_said (line_form line) in
+    let line : LineInForm said = subst (λ (x : Option ListLine). IfSome x LineInForm) is_said (line_form line) in
     answered o e (subst OptionInForm (sym is) (item_form content n command (told said command line is_told)))

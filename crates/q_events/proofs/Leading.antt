@@ -15,8 +15,8 @@ use Rattle.q_events.specs.declared.error.EventError.{EventError}
 use Rattle.q_events.specs.declared.error.EventError.TheVariants as errors
 use Rattle.q_events.specs.declared.list_item.ListItem.{ListItem}
 use Rattle.q_events.specs.declared.list_item.ListItem.TheVariants as items
-use Rattle.q_events.specs.declared.line.Line.{Line}
-use Rattle.q_events.specs.declared.line.Line.TheVariants.{Body, Passed, Told}
+use Rattle.q_events.specs.declared.line.ListLine.{ListLine}
+use Rattle.q_events.specs.declared.line.ListLine.TheVariants.{Body, Passed, Told}
 use Rattle.q_events.specs.declared.line.Command.{Command}
 
 -- ---- the lines before an item
@@ -94,12 +94,12 @@ led_more e now later bytes content more rest others line is at lead text count =
   number = omega (arith, is.number, count, length_push is.lines line);
 }
 
-no_command : (said : Line) → command_in (Some said) ≡ None → is_leading (Some said) ≡ true
+no_command : (said : ListLine) → command_in (Some said) ≡ None → is_leading (Some said) ≡ true
 no_command Passed h = refl
 no_command Body h = refl
 no_command (Told command) h = cc
 
-pub line_led : (e now later : EventsState) (old mid new : Option (List ℕ)) (content more text : List ℕ) (said : Line) → Led e old content now mid → LineAt now mid later new text → length text ≤ 16777216
+pub line_led : (e now later : EventsState) (old mid new : Option (List ℕ)) (content more text : List ℕ) (said : ListLine) → Led e old content now mid → LineAt now mid later new text → length text ≤ 16777216
     → meaning_of_line text ≡ Some said → command_in (Some said) ≡ None → more ≡ content ++ content_by text (Some said) → later.lines ≡ now.lines + 1 → Led e old more later new
 line_led e now later None mid new content more text said led at short is_said none added count = tt
 line_led e now later (Some bytes) None new content more text said (rest, m, is) at short is_said none added count = absurd (cc)
@@ -109,7 +109,7 @@ line_led e now later (Some bytes) (Some mid) new content more text said (rest, m
       others,
       n,
       led_more e now later bytes content more rest others (whole text) is (ap (lines_from now.budget) (sym same) ∙ at) (ap is_leading meant ∙ no_command said none)
-          (added ∙ ap (λ (o : Option Line). content ++ content_by text o) (sym meant)) count,
+          (added ∙ ap (λ (o : Option ListLine). content ++ content_by text o) (sym meant)) count,
     )
 
 -- ---- a line that is no leading one
@@ -117,14 +117,14 @@ line_led e now later (Some bytes) (Some mid) new content more text said (rest, m
 no_front : (x : TextLine) (xs : List TextLine) → leads x ≡ false → take_while leads (x ∷ xs) ≡ []
 no_front x xs h = ap (λ b. take (cond b (1 + prefix_len leads xs) 0) (x ∷ xs)) h
 
-at_line : (content text : List ℕ) (n : ℕ) (more : List TextLine) (o : Option Line) → length text ≤ 16777216 → meaning_of_line text ≡ o
+at_line : (content text : List ℕ) (n : ℕ) (more : List TextLine) (o : Option ListLine) → length text ≤ 16777216 → meaning_of_line text ≡ o
     → item_at content n (whole text ∷ more) ≡ option_map_or (λ item. found item n more) (option_and_then (item_of content n) (command_in o)) (bad n)
-at_line content text n more o short said = ap (λ (x : Option Line). option_map_or (λ item. found item n more) (option_and_then (item_of content n) (command_in x)) (bad n)) (meaning_of text short ∙ said)
+at_line content text n more o short said = ap (λ (x : Option ListLine). option_map_or (λ item. found item n more) (option_and_then (item_of content n) (command_in x)) (bad n)) (meaning_of text short ∙ said)
 
-stops_at : (text : List ℕ) (more : List TextLine) (o : Option Line) → length text ≤ 16777216 → meaning_of_line text ≡ o → is_leading o ≡ false → take_while leads (whole text ∷ more) ≡ []
+stops_at : (text : List ℕ) (more : List TextLine) (o : Option ListLine) → length text ≤ 16777216 → meaning_of_line text ≡ o → is_leading o ≡ false → take_while leads (whole text ∷ more) ≡ []
 stops_at text more o short said h = no_front (whole text) more (ap is_leading (meaning_of text short ∙ said) ∙ h)
 
-line_reading : (e now later : EventsState) (bytes content text mid rest others : List ℕ) (o : Option Line) → IsLed e bytes content now rest → mid ≡ rest → lines_from now.budget mid ≡ whole text ∷ lines_from later.budget others
+line_reading : (e now later : EventsState) (bytes content text mid rest others : List ℕ) (o : Option ListLine) → IsLed e bytes content now rest → mid ≡ rest → lines_from now.budget mid ≡ whole text ∷ lines_from later.budget others
     → length text ≤ 16777216 → meaning_of_line text ≡ o → is_leading o ≡ false → later.lines ≡ now.lines + 1
     → reading e bytes ≡ option_map_or (λ item. found item later.lines (lines_from later.budget others)) (option_and_then (item_of content later.lines) (command_in o)) (bad later.lines)
 line_reading e now later bytes content text mid rest others o is same at short said h count =
@@ -219,17 +219,17 @@ command_gives : (e now later : EventsState) (old mid new source : Option (List �
 command_gives e now later old mid new source content text command None led at short said h count = no_item e now later old mid new content text command led at short said (sym h) count
 command_gives e now later old mid new source content text command (Some item) led at short said h count = item_found e now later old mid new content text command item led at short said (sym h) count
 
-pub is_told : (said : Line) (command : Command) → command_in (Some said) ≡ Some command → said ≡ Told command
+pub is_told : (said : ListLine) (command : Command) → command_in (Some said) ≡ Some command → said ≡ Told command
 is_told Passed command h = cc
 is_told Body command h = cc
 is_told (Told other) command h = let same : other ≡ command = cc in ap Told same
 
-pub told_gives : (e now later : EventsState) (old mid new source : Option (List ℕ)) (content more text : List ℕ) (said : Line) (command : Command) (r : Option ListItem) → Led e old content now mid → LineAt now mid later new text → length text ≤ 16777216
+pub told_gives : (e now later : EventsState) (old mid new source : Option (List ℕ)) (content more text : List ℕ) (said : ListLine) (command : Command) (r : Option ListItem) → Led e old content now mid → LineAt now mid later new text → length text ≤ 16777216
     → meaning_of_line text ≡ Some said → command_in (Some said) ≡ Some command → more ≡ content ++ content_by text (Some said) → r ≡ item_of more later.lines command → later.lines ≡ now.lines + 1
     → GivesItem e old later new source (ok_or r (errors.BadEvent later.lines))
 told_gives e now later old mid new source content more text said command r led at short is_said told added h count =
     let is = is_told said command told in
-    let bare : more ≡ content = added ∙ ap (λ (x : Line). content ++ content_by text (Some x)) is ∙ append-nil content in
+    let bare : more ≡ content = added ∙ ap (λ (x : ListLine). content ++ content_by text (Some x)) is ∙ append-nil content in
     command_gives e now later old mid new source content text command r led at short (is_said ∙ ap Some is) (h ∙ ap (λ (x : List ℕ). item_of x later.lines command) bare) count
 
 -- ---- behind the end

@@ -7,8 +7,8 @@ use Rattle.q_model.specs.declared.outcome.SiteState.{SiteState}
 use Rattle.q_numbers.specs.Numbers.{number_within}
 use Rattle.q_numbers.specs.Pieces.{one_or_more, words_in}
 use Rattle.q_text.specs.ValueTexts.{address_of, outcome_of, sender_of_text, state_of_text, trigger_of}
-use Rattle.q_events.specs.declared.line.Line.{Line}
-use Rattle.q_events.specs.declared.line.Line.TheVariants.{Body, Passed, Told}
+use Rattle.q_events.specs.declared.line.ListLine.{ListLine}
+use Rattle.q_events.specs.declared.line.ListLine.TheVariants.{Body, Passed, Told}
 use Rattle.q_events.specs.declared.line.Command.{Command}
 use Rattle.q_events.specs.declared.line.Command.TheVariants as commands
 
@@ -74,7 +74,7 @@ abbrev pub is_body : List ℕ → Bool
 is_body line = bytes_eq line (codes "body") || has_front (codes "body ") line
 
 -- what a line says, if it is one of an event list
-unfoldable pub meaning_of_line : List ℕ → Option Line
+unfoldable pub meaning_of_line : List ℕ → Option ListLine
 meaning_of_line line =
     if is_passed line then Some Passed
     else if is_body line then Some Body

@@ -9,18 +9,18 @@ use Rattle.q_events.specs.EventLines.{meaning_of_line}
 use Rattle.q_events.specs.TextLines.{cut, is_long, TextLine, whole, bytes_of}
 use Rattle.q_events.specs.declared.list_item.ListItem.{ListItem}
 use Rattle.q_events.specs.declared.list_item.ListItem.TheVariants as items
-use Rattle.q_events.specs.declared.line.Line.{Line}
-use Rattle.q_events.specs.declared.line.Line.TheVariants.{Body, Passed, Told}
+use Rattle.q_events.specs.declared.line.ListLine.{ListLine}
+use Rattle.q_events.specs.declared.line.ListLine.TheVariants.{Body, Passed, Told}
 use Rattle.q_events.specs.declared.line.Command.{Command}
 use Rattle.q_events.specs.declared.line.Command.TheVariants as commands
 
 -- what a line says, if it is whole and not too long
-abbrev pub meaning : TextLine → Option Line
+abbrev pub meaning : TextLine → Option ListLine
 meaning (whole line) = if is_long (whole line) then None else meaning_of_line line
 meaning (cut line) = None
 
 -- the lines that may stand before a mail: those that are passed over, and those of its content
-abbrev pub is_leading : Option Line → Bool
+abbrev pub is_leading : Option ListLine → Bool
 is_leading None = false
 is_leading (Some Passed) = true
 is_leading (Some Body) = true
@@ -30,7 +30,7 @@ abbrev pub leads : TextLine → Bool
 leads line = is_leading (meaning line)
 
 -- a line of content is TEXT, which stands behind `body` and a space, and LF
-abbrev pub content_by : List ℕ → Option Line → List ℕ
+abbrev pub content_by : List ℕ → Option ListLine → List ℕ
 content_by text None = []
 content_by text (Some Passed) = []
 content_by text (Some Body) = text_line (drop 5 text)
@@ -55,7 +55,7 @@ pub data FirstItem : Type 0 where
   past_limit : FirstItem
 
 -- the command of a line
-abbrev pub command_in : Option Line → Option Command
+abbrev pub command_in : Option ListLine → Option Command
 command_in None = None
 command_in (Some Passed) = None
 command_in (Some Body) = None

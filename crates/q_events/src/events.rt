@@ -9,7 +9,7 @@ ghost use Rattle.q_events.specs.Readings.{GivesNoMore, is_list_end, Reads};
 ghost use Rattle.q_events.specs.States.{unread_list};
 
 use crate::error::EventError;
-use crate::line::{Command, Line, parse};
+use crate::line::{Command, ListLine, parse};
 use crate::line_reader::{LineError, LineReader, NextLine};
 use crate::list_item::ListItem;
 use q_model::{Bound, Bytes, Event, NoMemory};
@@ -54,18 +54,18 @@ fn add_text(content: &mut Vec<u8>, line: &[u8]) -> Result<(), NoMemory>
 }
 
 /// What a line says: its text is added to the content, or it is the command that is given.
-fn add_line(content: &mut Vec<u8>, line: &[u8], said: Line) -> Result<Option<Command>, NoMemory>
+fn add_line(content: &mut Vec<u8>, line: &[u8], said: ListLine) -> Result<Option<Command>, NoMemory>
     ensures command { IfOk result (λ command. command ≡ command_in (Some said)) }
     ensures content { OnOk result (content.new.items
         ≡ content.old.items ++ content_by line.now (Some said)) }
 {
     match said {
-        Line::Passed => Ok(None),
-        Line::Body => {
+        ListLine::Passed => Ok(None),
+        ListLine::Body => {
             add_text(content, line)?;
             Ok(None)
         }
-        Line::Told(command) => Ok(Some(command)),
+        ListLine::Told(command) => Ok(Some(command)),
     }
 }
 

@@ -10,7 +10,7 @@ use std::alloc::Global;
 
 /// What a line says.
 #[derive(Debug, Drop)]
-pub(crate) enum Line {
+pub(crate) enum ListLine {
     /// Nothing: it is empty, or begins with `#`.
     Passed,
     /// It is one of content, whose text stands behind `body` and a space.
@@ -142,17 +142,17 @@ fn is_body(line: &[u8]) -> bool
 
 /// What a line says; `None` where it is none of an event list.
 #[tactic(auto, unfolding(crate::specs::EventLines::meaning_of_line))]
-pub(crate) fn parse(alloc: Global, line: &[u8]) -> Result<Option<Line>, NoMemory>
+pub(crate) fn parse(alloc: Global, line: &[u8]) -> Result<Option<ListLine>, NoMemory>
     ensures { IfOk result (λ said. said ≡ meaning_of_line line.now) }
 {
     if is_passed(line) {
-        return Ok(Some(Line::Passed));
+        return Ok(Some(ListLine::Passed));
     }
     if is_body(line) {
-        return Ok(Some(Line::Body));
+        return Ok(Some(ListLine::Body));
     }
     let Some(command) = parse_command(alloc, line)? else {
         return Ok(None);
     };
-    Ok(Some(Line::Told(command)))
+    Ok(Some(ListLine::Told(command)))
 }

@@ -4,7 +4,7 @@ use Rattle.std.specs.Option.{IfSome, option_and_then, option_map}
 use Rattle.std.proofs.Math.Seq.{drop-append-add}
 use Rattle.std.proofs.lemmas.List.{append-nil, drop-append-le, drop-drop, drop_all, length-append, length-drop, take-append-drop, take-append-le}
 use Rattle.q_content.specs.Encoding.{behind_bytes, sent_bytes, sent_end, sent_rest}
-use Rattle.q_content.specs.declared.encoding.Line.{Line}
+use Rattle.q_content.specs.declared.encoding.ContentLine.{ContentLine}
 use Rattle.q_content.proofs.EncodingLaws.{sent_rest-append}
 use Rattle.q_model.specs.QueueFile.{queue_file}
 use Rattle.q_session.specs.Mails.{Mail, mail_of}
@@ -58,7 +58,7 @@ piece_is file mail c piece k placed few read =
     ∙ take-append-le (length piece) left k.back (omega (arith, length-drop (length mail.content - c.left) mail.content, placed.left, few))
 
 -- what is sent of the piece and of the rest
-sent_on : (content piece : List ℕ) (line : Line) (left : ℕ) → left ≤ length content → length piece ≤ left → piece ≡ take (length piece) (drop (length content - left) content) → sent_bytes line piece ++ sent_rest (behind_bytes line piece) (drop (length content - (left - length piece)) content) ≡ sent_rest line (drop (length content - left) content)
+sent_on : (content piece : List ℕ) (line : ContentLine) (left : ℕ) → left ≤ length content → length piece ≤ left → piece ≡ take (length piece) (drop (length content - left) content) → sent_bytes line piece ++ sent_rest (behind_bytes line piece) (drop (length content - (left - length piece)) content) ≡ sent_rest line (drop (length content - left) content)
 sent_on content piece line left within few is =
     let n = length piece in
     let before = length content - left in
@@ -70,7 +70,7 @@ sent_on content piece line left within few is =
     ∙ ap (sent_rest line) (take-append-drop n (drop before content))
 
 -- the next piece is in the outbox
-pub piece_fills : (o : Option (List ℕ)) (mail : Mail) (c : Content) (piece : List ℕ) (whole : Bool) (at count : ℕ) (line : Line) (out : Outgoing) → Says o mail → IsPlaced mail c → length piece ≡ count → count ≤ c.left → IfSome o (IsPieceAt c.at piece whole) → whole ≡ true → c.idle ≡ false → at ≡ min (c.at + count) 18446744073709551615 → line ≡ behind_bytes c.line piece → out ≡ record { bytes = sent_bytes c.line piece; gone = 0 } → Fills mail c (record c { at = at; left = c.left - count; line = line }) out
+pub piece_fills : (o : Option (List ℕ)) (mail : Mail) (c : Content) (piece : List ℕ) (whole : Bool) (at count : ℕ) (line : ContentLine) (out : Outgoing) → Says o mail → IsPlaced mail c → length piece ≡ count → count ≤ c.left → IfSome o (IsPieceAt c.at piece whole) → whole ≡ true → c.idle ≡ false → at ≡ min (c.at + count) 18446744073709551615 → line ≡ behind_bytes c.line piece → out ≡ record { bytes = sent_bytes c.line piece; gone = 0 } → Fills mail c (record c { at = at; left = c.left - count; line = line }) out
 piece_fills o mail c piece false at count line out says placed size few read is idle place behind bytes = absurd cc
 piece_fills o mail c piece true at count line out says placed size few read is idle place behind bytes =
     let f = file_content o mail says in
@@ -81,7 +81,7 @@ piece_fills o mail c piece true at count line out says placed size few read is i
     record {
       bytes = ap (λ (x : Outgoing). x.bytes ++ unsent content (record c { at = at; left = c.left - count; line = line })) bytes
           ∙ ap (λ (b : Bool). sent_bytes c.line piece ++ cond b [] (sent_rest line (drop (length content - (c.left - count)) content))) idle
-          ∙ ap (λ (l : Line). sent_bytes c.line piece ++ sent_rest l (drop (length content - (c.left - count)) content)) behind
+          ∙ ap (λ (l : ContentLine). sent_bytes c.line piece ++ sent_rest l (drop (length content - (c.left - count)) content)) behind
           ∙ ap (λ (n : ℕ). sent_bytes c.line piece ++ sent_rest (behind_bytes c.line piece) (drop (length content - (c.left - n)) content)) (sym size)
           ∙ sent_on content piece c.line c.left placed.left short next;
       gone = ap (λ (x : Outgoing). x.gone) bytes;

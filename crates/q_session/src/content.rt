@@ -7,7 +7,7 @@ ghost use Rattle.q_session.specs.Mails.{Mail, StandsAt};
 ghost use Rattle.q_session.specs.Sending.{Fills, IsPieceAt, IsPlaced, pieces_left};
 
 use crate::outbox::Outbox;
-use q_content::Line;
+use q_content::ContentLine;
 use q_host::{Host, HostError};
 use q_model::{FileHead, Spot};
 
@@ -21,7 +21,7 @@ pub(crate) struct Content {
     // the offset of the next byte, and how many there are from it on
     pub(crate) at: u64,
     pub(crate) left: u32,
-    pub(crate) line: Line,
+    pub(crate) line: ContentLine,
     // nothing is to be sent, since it isn't asked for yet or is sent
     pub(crate) idle: bool,
 }
@@ -40,7 +40,7 @@ impl Content {
             spot,
             at: file.content_at,
             left: file.content_len,
-            line: Line::start(),
+            line: ContentLine::start(),
             idle: true,
         }
     }

@@ -5,7 +5,7 @@ ghost use Rattle.q_session.specs.Outgoing.{pending};
 ghost use Rattle.q_session.specs.Polls.{SendsOnce};
 ghost use Rattle.q_session.specs.Traffic.{Gave, GoesOn, Sends, Tells, waits_of_sent};
 
-use q_content::{Line, encode, encode_end};
+use q_content::{ContentLine, encode, encode_end};
 use q_link::{Link, Put};
 use std::marker::Model;
 
@@ -72,7 +72,7 @@ impl Outbox {
 
     /// Holds a piece of the content as it is sent, in place of what it held, and answers the line
     /// behind it.
-    pub(crate) fn encode(&mut self, line: Line, piece: &[u8]) -> Line
+    pub(crate) fn encode(&mut self, line: ContentLine, piece: &[u8]) -> ContentLine
         requires few { 3 * length piece.now ≤ 6160 }
         ensures line { result ≡ behind_bytes line piece.now }
         ensures bytes { self.new ≡ record { bytes = sent_bytes line piece.now; gone = 0 } }
@@ -84,7 +84,7 @@ impl Outbox {
     }
 
     /// Holds the end of the content as it is sent, in place of what it held.
-    pub(crate) fn encode_end(&mut self, line: Line)
+    pub(crate) fn encode_end(&mut self, line: ContentLine)
         ensures bytes { self.new ≡ record { bytes = sent_end line; gone = 0 } }
     {
         self.to = encode_end(line, &mut self.bytes);

@@ -15,11 +15,11 @@ use std::marker::Model;
 
 /// A line that grows by words, each behind a space. A contract sees it as its bytes.
 #[derive(Drop)]
-pub(crate) struct Line {
+pub(crate) struct TraceLine {
     bytes: Vec<u8>,
 }
 
-impl Model for Line {
+impl Model for TraceLine {
     ghost use Rattle.std.specs.Prelude.{List, ℕ};
 
     ghost Value = { List ℕ };
@@ -27,12 +27,12 @@ impl Model for Line {
     ghost view = { λ l. l.bytes.items };
 }
 
-impl Line {
-    pub(crate) fn new(alloc: Global, word: &[u8]) -> Result<Line, NoMemory>
+impl TraceLine {
+    pub(crate) fn new(alloc: Global, word: &[u8]) -> Result<TraceLine, NoMemory>
         ensures { IfOk result (λ l. l ≡ word.now) }
     {
         let bytes = Vec::from_slice(alloc, word)?;
-        Ok(Line { bytes })
+        Ok(TraceLine { bytes })
     }
 
     pub(crate) fn word(&mut self, word: &[u8]) -> Result<(), NoMemory>

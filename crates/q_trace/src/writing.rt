@@ -6,7 +6,7 @@ ghost use Rattle.q_model.specs.Text.{joined, line, mode_words, trigger_text};
 ghost use Rattle.q_trace.specs.Bounds.{IsAloneInLine};
 ghost use Rattle.q_transport.specs.Routing.{table_of};
 
-use crate::line::Line;
+use crate::line::TraceLine;
 use q_model::{
     Address, Addresses, Bytes, Entry, Failure, Id, Mode, Moment, NoMemory, Outcomes, Positions,
     Site, SiteState, Trigger, Why,
@@ -14,15 +14,15 @@ use q_model::{
 use q_transport::Table;
 use std::alloc::Global;
 
-fn id_line(alloc: Global, word: &[u8], id: &Id) -> Result<Line, NoMemory>
+fn id_line(alloc: Global, word: &[u8], id: &Id) -> Result<TraceLine, NoMemory>
     ensures { IfOk result (λ l. l ≡ joined (word.now ∷ id_text id.now ∷ [])) }
 {
-    let mut line = Line::new(alloc, word)?;
+    let mut line = TraceLine::new(alloc, word)?;
     line.id(id)?;
     Ok(line)
 }
 
-fn id_number_line(alloc: Global, word: &[u8], id: &Id, number: u64) -> Result<Line, NoMemory>
+fn id_number_line(alloc: Global, word: &[u8], id: &Id, number: u64) -> Result<TraceLine, NoMemory>
     ensures { IfOk result (λ l. l ≡ joined (word.now ∷ id_text id.now ∷ decimal number ∷ [])) }
 {
     let mut line = id_line(alloc, word, id)?;
@@ -30,10 +30,10 @@ fn id_number_line(alloc: Global, word: &[u8], id: &Id, number: u64) -> Result<Li
     Ok(line)
 }
 
-fn life_line(alloc: Global, generation: u32, mode: Mode) -> Result<Line, NoMemory>
+fn life_line(alloc: Global, generation: u32, mode: Mode) -> Result<TraceLine, NoMemory>
     ensures { IfOk result (λ l. l ≡ joined (codes "life" ∷ decimal generation ∷ mode_words mode)) }
 {
-    let mut line = Line::new(alloc, b"life")?;
+    let mut line = TraceLine::new(alloc, b"life")?;
     line.number(alloc, u64::from(generation))?;
     if mode == Mode::Intake {
         line.word(b"intake")?;
@@ -41,10 +41,10 @@ fn life_line(alloc: Global, generation: u32, mode: Mode) -> Result<Line, NoMemor
     Ok(line)
 }
 
-fn at_line(alloc: Global, moment: Moment) -> Result<Line, NoMemory>
+fn at_line(alloc: Global, moment: Moment) -> Result<TraceLine, NoMemory>
     ensures { IfOk result (λ l. l ≡ joined (codes "at" ∷ decimal moment ∷ [])) }
 {
-    let mut line = Line::new(alloc, b"at")?;
+    let mut line = TraceLine::new(alloc, b"at")?;
     line.number(alloc, moment)?;
     Ok(line)
 }
@@ -55,7 +55,7 @@ fn arrive_line(
     sender: &Option<Address>,
     to: &Addresses,
     content: &Bytes,
-) -> Result<Line, NoMemory>
+) -> Result<TraceLine, NoMemory>
     ensures { IfOk result (λ l. l ≡ joined (arrive_words id.now sender.now to.now content.now)) }
 {
     let mut line = id_line(alloc, b"arrive", id)?;
@@ -65,7 +65,7 @@ fn arrive_line(
     Ok(line)
 }
 
-fn load_line(alloc: Global, id: &Id, from: u32, to: u32) -> Result<Line, NoMemory>
+fn load_line(alloc: Global, id: &Id, from: u32, to: u32) -> Result<TraceLine, NoMemory>
     ensures { IfOk result (λ l. l
         ≡ joined (codes "load" ∷ id_text id.now ∷ decimal from ∷ decimal to ∷ [])) }
 {
@@ -81,11 +81,11 @@ fn start_line(
     site: &Site,
     positions: &Positions,
     table: &Table,
-) -> Result<Line, NoMemory>
+) -> Result<TraceLine, NoMemory>
     ensures { IfOk result (WritesEntry (table_of table.now)
         (Entry.Start number id.now site.now positions.now)) }
 {
-    let mut line = Line::new(alloc, b"start")?;
+    let mut line = TraceLine::new(alloc, b"start")?;
     line.number(alloc, number)?;
     line.id(id)?;
     line.site(table, site)?;
@@ -100,7 +100,7 @@ fn preempt_line(
     transport: u8,
     need: u32,
     table: &Table,
-) -> Result<Line, NoMemory>
+) -> Result<TraceLine, NoMemory>
     ensures { IfOk result (WritesEntry (table_of table.now)
         (Entry.Preempt child.now parent.now transport need)) }
 {
@@ -116,10 +116,10 @@ fn reply_line(
     number: u64,
     site: SiteState,
     outcomes: &Outcomes,
-) -> Result<Line, NoMemory>
+) -> Result<TraceLine, NoMemory>
     ensures { IfOk result (λ l. l ≡ joined (reply_words number site outcomes.now)) }
 {
-    let mut line = Line::new(alloc, b"reply")?;
+    let mut line = TraceLine::new(alloc, b"reply")?;
     line.number(alloc, number)?;
     match site {
         SiteState::Up => line.word(b"up")?,
@@ -135,7 +135,7 @@ fn skip_line(
     site: &Site,
     positions: &Positions,
     table: &Table,
-) -> Result<Line, NoMemory>
+) -> Result<TraceLine, NoMemory>
     ensures { IfOk result (WritesEntry (table_of table.now) (Entry.Skip id.now site.now positions.now)) }
 {
     let mut line = id_line(alloc, b"skip", id)?;
@@ -144,7 +144,7 @@ fn skip_line(
     Ok(line)
 }
 
-fn log_line(alloc: Global, id: &Id, failure: &Failure) -> Result<Line, NoMemory>
+fn log_line(alloc: Global, id: &Id, failure: &Failure) -> Result<TraceLine, NoMemory>
     ensures { IfOk result (λ l. l
         ≡ joined (log_words id.now failure.now)) }
 {
@@ -157,10 +157,10 @@ fn log_line(alloc: Global, id: &Id, failure: &Failure) -> Result<Line, NoMemory>
     Ok(line)
 }
 
-fn trigger_line(alloc: Global, kind: Trigger) -> Result<Line, NoMemory>
+fn trigger_line(alloc: Global, kind: Trigger) -> Result<TraceLine, NoMemory>
     ensures { IfOk result (λ l. l ≡ joined (codes "trigger" ∷ trigger_text kind ∷ [])) }
 {
-    let mut line = Line::new(alloc, b"trigger")?;
+    let mut line = TraceLine::new(alloc, b"trigger")?;
     match kind {
         Trigger::D => line.word(b"D")?,
         Trigger::A => line.word(b"A")?,
@@ -169,7 +169,7 @@ fn trigger_line(alloc: Global, kind: Trigger) -> Result<Line, NoMemory>
     Ok(line)
 }
 
-fn entry_line(alloc: Global, entry: &Entry, table: &Table) -> Result<Line, NoMemory>
+fn entry_line(alloc: Global, entry: &Entry, table: &Table) -> Result<TraceLine, NoMemory>
     ensures { IfOk result (WritesEntry (table_of table.now) entry.now) }
 {
     match entry {
@@ -214,7 +214,7 @@ fn entry_line(alloc: Global, entry: &Entry, table: &Table) -> Result<Line, NoMem
         Entry::Remove { id } => id_line(alloc, b"remove", id),
         Entry::Corrupt { id } => id_line(alloc, b"corrupt", id),
         Entry::Trigger { kind } => trigger_line(alloc, *kind),
-        Entry::End => Line::new(alloc, b"end"),
+        Entry::End => TraceLine::new(alloc, b"end"),
     }
 }
 

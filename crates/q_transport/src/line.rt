@@ -11,7 +11,7 @@ use q_text::{is_text, trim_start};
 
 /// A pattern, the name of a transport, and a next hop; none is the domain of the recipient.
 #[derive(Debug, Drop)]
-pub(crate) struct Line<'a> {
+pub(crate) struct TableLine<'a> {
     pub(crate) pattern: &'a [u8],
     pub(crate) transport: Hop,
     pub(crate) hop: Option<Hop>,
@@ -37,12 +37,12 @@ fn next_hop(text: &[u8]) -> Option<Option<Hop>>
     Some(Some(Hop::new(text)?))
 }
 
-fn parts<'a>(pattern: &'a [u8], name: &[u8], text: &[u8]) -> Option<Line<'a>>
+fn parts<'a>(pattern: &'a [u8], name: &[u8], text: &[u8]) -> Option<TableLine<'a>>
     ensures { option_map seen result ≡ parts_of pattern.now name.now text.now }
 {
     let transport = transport(name)?;
     let hop = next_hop(text)?;
-    Some(Line {
+    Some(TableLine {
         pattern,
         transport,
         hop,
@@ -50,7 +50,7 @@ fn parts<'a>(pattern: &'a [u8], name: &[u8], text: &[u8]) -> Option<Line<'a>>
 }
 
 /// The first colon stands between the name and the next hop.
-fn behind_pattern<'a>(pattern: &'a [u8], text: &[u8]) -> Option<Line<'a>>
+fn behind_pattern<'a>(pattern: &'a [u8], text: &[u8]) -> Option<TableLine<'a>>
     ensures { option_map seen result ≡ behind_pattern pattern.now text.now }
 {
     let (name, hop) = cut(text, b':')?;
@@ -58,7 +58,7 @@ fn behind_pattern<'a>(pattern: &'a [u8], text: &[u8]) -> Option<Line<'a>>
 }
 
 /// The first blank stands behind the pattern, which isn't empty.
-fn divided(line: &[u8]) -> Option<Line<'_>>
+fn divided(line: &[u8]) -> Option<TableLine<'_>>
     ensures { option_map seen result ≡ divided_line line.now }
 {
     let at = blank(line)?;
@@ -70,7 +70,7 @@ fn divided(line: &[u8]) -> Option<Line<'_>>
 }
 
 /// The parts of a line that isn't passed over.
-pub(crate) fn parse(line: &[u8]) -> Option<Line<'_>>
+pub(crate) fn parse(line: &[u8]) -> Option<TableLine<'_>>
     ensures { option_map seen result ≡ parts_of_line line.now }
 {
     if !is_text(line) {

@@ -14,7 +14,7 @@ ghost use Rattle.q_transport.specs.Texts.{is_transport};
 
 use crate::entries::{Entries, Target};
 use crate::error::TableError;
-use crate::line::{Line, parse};
+use crate::line::{TableLine, parse};
 use crate::lookup::deciding;
 use crate::text::lowered;
 use q_model::{Address, Hop, Site, split_domain};
@@ -114,7 +114,7 @@ impl Table {
     }
 
     /// Adds the line of this number.
-    fn add(&mut self, alloc: Global, number: u64, line: &Line<'_>) -> Result<(), TableError>
+    fn add(&mut self, alloc: Global, number: u64, line: &TableLine<'_>) -> Result<(), TableError>
         requires { AreParts (seen line.now) }
         ensures { BecomesTable result self.new (add_parts number self.old (seen line.now)) }
     {
