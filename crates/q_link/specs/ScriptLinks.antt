@@ -4,8 +4,8 @@ use Rattle.q_link.specs.declared.link.Got.{Got}
 use Rattle.q_link.specs.declared.link.Got.TheVariants as got
 use Rattle.q_link.specs.declared.link.Put.{Put}
 use Rattle.q_link.specs.declared.link.Put.TheVariants as put
-use Rattle.q_link.specs.declared.waiting.Waiting.{Waiting}
-use Rattle.q_link.specs.declared.waiting.Waiting.TheVariants as waiting
+use Rattle.q_link.specs.declared.link_wait.LinkWait.{LinkWait}
+use Rattle.q_link.specs.declared.link_wait.LinkWait.TheVariants as link_waits
 use Rattle.q_link.specs.Reads.{with_not_yet, with_received, with_sent}
 use Rattle.q_link.specs.Records.{counted}
 use Rattle.q_link.specs.Scripts.{Script, steps_after, writes_after}
@@ -17,10 +17,10 @@ pub record ScriptLink : Type 0 where
   pub view : View
 
 -- for what a link waits, by how it is kept
-abbrev pub wait_of : Waiting → Wait
-wait_of waiting.No = NoWait
-wait_of waiting.ForRead = ForRead
-wait_of waiting.ForWrite = ForWrite
+abbrev pub wait_of : LinkWait → Wait
+wait_of link_waits.No = NoWait
+wait_of link_waits.ForRead = ForRead
+wait_of link_waits.ForWrite = ForWrite
 
 -- a link after a rest
 abbrev pub rested : ScriptLink → ScriptLink

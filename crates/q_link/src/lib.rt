@@ -12,12 +12,12 @@
 mod closed_link;
 mod hops;
 mod link;
+mod link_wait;
 mod piece;
 mod route;
 mod script;
 mod script_hops;
 mod script_link;
-mod waiting;
 
 pub use hops::{Hops, NoLink};
 pub use link::{Got, Link, Put};

@@ -16,9 +16,9 @@ ghost use Rattle.q_link.specs.ScriptLinks.{rested};
 ghost use Rattle.q_link.specs.declared.hops.NoLink.TheVariants.{NoRoute, NoMemory as OutOfMemory};
 
 use crate::closed_link::ClosedLink;
+use crate::link_wait::LinkWait;
 use crate::piece::Piece;
 use crate::script::{Script, Step};
-use crate::waiting::Waiting;
 use crate::{Hops, NoLink, ScriptLink, address_of};
 use q_model::{Hop, NoMemory};
 use std::alloc::Global;

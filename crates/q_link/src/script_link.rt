@@ -8,8 +8,8 @@ ghost use Rattle.q_link.specs.Scripts.{next_bytes, read_answer, write_answer};
 ghost use Rattle.q_link.specs.Playback.{IsFront};
 ghost use Rattle.q_link.specs.ScriptLinks.{IsSent, IsWritten, after_read, fails, new_view, rested, wait_of, waits};
 
+use crate::link_wait::LinkWait;
 use crate::script::{Playback, Script, WritePlan};
-use crate::waiting::Waiting;
 use crate::{Got, Link, Put};
 use q_model::Hop;
 use std::alloc::Global;
@@ -21,7 +21,7 @@ pub struct ScriptLink {
     pub(crate) playback: Playback,
     pub(crate) writes: WritePlan,
     pub(crate) faults: u64,
-    pub(crate) wait: Waiting,
+    pub(crate) wait: LinkWait,
     pub(crate) ended: bool,
     pub(crate) hop: Hop,
     pub(crate) sent: Vec<u8>,
@@ -71,7 +71,7 @@ impl ScriptLink {
             playback: Playback::new(steps),
             writes,
             faults: 0,
-            wait: Waiting::No,
+            wait: LinkWait::No,
             ended: false,
             hop: *hop,
             sent: Vec::new(alloc),
@@ -92,11 +92,11 @@ impl ScriptLink {
     pub(crate) fn rest(&mut self)
         ensures { self.new ≡ rested self.old }
     {
-        self.wait = Waiting::No;
+        self.wait = LinkWait::No;
     }
 
     // Nothing came or went yet.
-    fn put_off(&mut self, wait: Waiting)
+    fn put_off(&mut self, wait: LinkWait)
         ensures script { self.new.script ≡ self.old.script }
         ensures view { self.new.view ≡ waits (wait_of wait) self.old.view }
     {
@@ -112,7 +112,7 @@ impl ScriptLink {
         ensures view { self.new.view ≡ fails self.old.view }
         ensures counted { Fails self.old.view self.new.view }
     {
-        self.wait = Waiting::No;
+        self.wait = LinkWait::No;
         self.faults = self.faults.saturating_add(1);
     }
 
@@ -121,7 +121,7 @@ impl ScriptLink {
         ensures script { self.new.script ≡ self.old.script }
         ensures view { IsSent bytes.now self.old.view self.new.view }
     {
-        self.wait = Waiting::No;
+        self.wait = LinkWait::No;
         if self.tells {
             self.tells = self.sent.extend_from_slice(bytes).is_ok();
         }
@@ -141,15 +141,15 @@ impl Link for ScriptLink {
     {
         match self.playback.take(buf) {
             Got::Took(count) => {
-                self.wait = Waiting::No;
+                self.wait = LinkWait::No;
                 Got::Took(count)
             }
             Got::NotYet => {
-                self.put_off(Waiting::ForRead);
+                self.put_off(LinkWait::ForRead);
                 Got::NotYet
             }
             Got::End => {
-                self.wait = Waiting::No;
+                self.wait = LinkWait::No;
                 self.ended = true;
                 Got::End
             }
@@ -173,7 +173,7 @@ impl Link for ScriptLink {
                 Put::Gave(count)
             }
             Put::NotYet => {
-                self.put_off(Waiting::ForWrite);
+                self.put_off(LinkWait::ForWrite);
                 Put::NotYet
             }
             Put::Failed => {

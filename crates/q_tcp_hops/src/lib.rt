@@ -13,7 +13,7 @@
 
 mod hops;
 mod link;
-mod waiting;
+mod link_wait;
 
 pub use hops::TcpHops;
 pub use link::TcpLink;

@@ -4,7 +4,7 @@ ghost use Rattle.std.specs.Prelude.{◌≡◌, ◌<◌, length};
 ghost use Rattle.q_link.specs.Reads.{Fails, Reads, Writes};
 ghost use Rattle.q_tcp_hops.specs.TcpLinks.{fresh, rested};
 
-use crate::waiting::Waiting;
+use crate::link_wait::LinkWait;
 use mio::net::TcpStream;
 use q_link::{Got, Link, Put};
 use std::io;
@@ -16,7 +16,7 @@ use std::marker::Model;
 pub struct TcpLink {
     stream: TcpStream,
     pub(crate) faults: u64,
-    waiting: Waiting,
+    waiting: LinkWait,
     pub(crate) ended: bool,
 }
 
@@ -52,7 +52,7 @@ impl TcpLink {
         TcpLink {
             stream,
             faults: 0,
-            waiting: Waiting::No,
+            waiting: LinkWait::No,
             ended: false,
         }
     }
@@ -61,13 +61,13 @@ impl TcpLink {
     pub(crate) fn rest(&mut self)
         ensures { self.new ≡ rested self.old }
     {
-        self.waiting = Waiting::No;
+        self.waiting = LinkWait::No;
     }
 
     fn fail(&mut self)
         ensures { Fails self.old self.new }
     {
-        self.waiting = Waiting::No;
+        self.waiting = LinkWait::No;
         self.faults = self.faults.saturating_add(1);
     }
 }
@@ -81,16 +81,16 @@ impl Link for TcpLink {
     {
         match self.stream.read(buf) {
             Ok(0) => {
-                self.waiting = Waiting::No;
+                self.waiting = LinkWait::No;
                 self.ended = true;
                 Got::End
             }
             Ok(count) => {
-                self.waiting = Waiting::No;
+                self.waiting = LinkWait::No;
                 Got::Took(count)
             }
             Err(error) if is_not_yet(&error) => {
-                self.waiting = Waiting::ForRead;
+                self.waiting = LinkWait::ForRead;
                 Got::NotYet
             }
             Err(_) => {
@@ -106,15 +106,15 @@ impl Link for TcpLink {
     {
         match self.stream.write(bytes) {
             Ok(0) => {
-                self.waiting = Waiting::ForWrite;
+                self.waiting = LinkWait::ForWrite;
                 Put::NotYet
             }
             Ok(count) => {
-                self.waiting = Waiting::No;
+                self.waiting = LinkWait::No;
                 Put::Gave(count)
             }
             Err(error) if is_not_yet(&error) => {
-                self.waiting = Waiting::ForWrite;
+                self.waiting = LinkWait::ForWrite;
                 Put::NotYet
             }
             Err(_) => {

@@ -2,7 +2,7 @@
 //! another call. Nothing here is an error to call.
 
 #[derive(Clone, Copy, Debug, PartialEq, Eq)]
-pub(crate) enum Waiting {
+pub(crate) enum LinkWait {
     No,
     ForRead,
     ForWrite,
