@@ -8,7 +8,7 @@ use Rattle.q_core.proofs.ChoiceLaws.{least-map, least-same, list_all-filter}
 use Rattle.q_core.proofs.EarlyLaws.{no_process}
 use Rattle.q_core.proofs.LineSteps.{able_behind}
 use Rattle.q_core.proofs.ListLaws.{filter-map}
-use Rattle.q_core.specs.Choosing.{best_in, candidate_slot, current_in, is_better_in, is_fresh_among, is_fresh_in, jobs_at, pays_in, rest_in}
+use Rattle.q_core.specs.Choosing.{best_in, candidate_slot, current_in, is_better_in, is_fresh_among, is_fresh_in, job_left_in, jobs_at, pays_in}
 use Rattle.q_core.specs.declared.state.Core.{Core}
 use Rattle.q_core.specs.Held.{slot_in, unread_in}
 use Rattle.q_core.specs.RowWalks.{is_row_for}
@@ -73,16 +73,16 @@ filter_where q p r same (x ∷ xs) all =
     kept_step x (p x) (r x) (filter p xs) (filter r xs) (same x parts.0) (filter_where q p r same xs parts.1)
 
 module _ (c : Core) (ds : List Dest) (ps : List Peer) (t most : ℕ) (parent : Job) (rows : (id : Id) → rows_left id t ps ≡ count_by (is_row_for id t) c.waiting) (able : (id : Id) → is_able ds ps t id ≡ can_start_in c t id) (apart : AreOfOthers (jobs_at c t)) (current : current_in c t ≡ Some parent)
-    (pays : (need : ℕ) → need < 2 ^ 64 → (not (c.params.slot_cost == 0) && pays_in c.params parent (rest_in c t parent.id) need) ≡ nat_le need most) where
+    (pays : (need : ℕ) → need < 2 ^ 64 → (not (c.params.slot_cost == 0) && pays_in c.params parent (job_left_in c t parent.id) need) ≡ nat_le need most) where
   -- what is unread of it is what its slot says, and it isn't too much
   abbrev is_known : Slot → Bool
-  is_known s = (unread_in c s.id == unread_of s) && nat_lt (rest_in c t s.id) (2 ^ 64)
+  is_known s = (unread_in c s.id == unread_of s) && nat_lt (job_left_in c t s.id) (2 ^ 64)
 
   same_unread : (s : Slot) → is_known s ≡ true → unread_in c s.id ≡ unread_of s
-  same_unread s h = eqb-true (unread_in c s.id) (unread_of s) (and_parts (unread_in c s.id == unread_of s) (nat_lt (rest_in c t s.id) (2 ^ 64)) h).0
+  same_unread s h = eqb-true (unread_in c s.id) (unread_of s) (and_parts (unread_in c s.id == unread_of s) (nat_lt (job_left_in c t s.id) (2 ^ 64)) h).0
 
-  few_left : (s : Slot) → is_known s ≡ true → rest_in c t s.id < 2 ^ 64
-  few_left s h = ltb-true (rest_in c t s.id) (2 ^ 64) (and_parts (unread_in c s.id == unread_of s) (nat_lt (rest_in c t s.id) (2 ^ 64)) h).1
+  few_left : (s : Slot) → is_known s ≡ true → job_left_in c t s.id < 2 ^ 64
+  few_left s h = ltb-true (job_left_in c t s.id) (2 ^ 64) (and_parts (unread_in c s.id == unread_of s) (nat_lt (job_left_in c t s.id) (2 ^ 64)) h).1
 
   abbrev may : Slot → Bool
   may s = may_preempt ds c.lines ps t most parent.id (admitted_of s)
@@ -90,26 +90,26 @@ module _ (c : Core) (ds : List Dest) (ps : List Peer) (t most : ℕ) (parent : J
   abbrev better : Slot → Slot → Bool
   better a b = is_better ps t c.clock.seconds (admitted_of a) (admitted_of b)
 
-  rest_is : (s : Slot) → is_known s ≡ true → rows_left s.id t ps + unread_of s ≡ rest_in c t s.id
-  rest_is s h = ap (λ n. n + unread_of s) (rows s.id) ∙ ap (λ n. count_by (is_row_for s.id t) c.waiting + n) (sym (same_unread s h))
+  job_left_is : (s : Slot) → is_known s ≡ true → rows_left s.id t ps + unread_of s ≡ job_left_in c t s.id
+  job_left_is s h = ap (λ n. n + unread_of s) (rows s.id) ∙ ap (λ n. count_by (is_row_for s.id t) c.waiting + n) (sym (same_unread s h))
 
   may_same : (s : Slot) → is_known s ≡ true → candidate_slot c t (behind_jobs parent.id (jobs_at c t)) parent s ≡ may s
   may_same s h =
-      arranged (not (c.params.slot_cost == 0)) (is_fresh_in (jobs_at c t) s.id) (is_fresh_among (behind_jobs parent.id (jobs_at c t)) s.id) (can_start_in c t s.id) (pays_in c.params parent (rest_in c t parent.id) (rest_in c t s.id)) (id_eq s.id parent.id) (nat_le (rest_in c t s.id) most)
-      (able_behind (can_start_in c t) s.id parent (jobs_at c t) apart current) (pays (rest_in c t s.id) (few_left s h))
-      ∙ ap (λ b. is_fresh_in (jobs_at c t) s.id && b && nat_le (rest_in c t s.id) most && not (id_eq s.id parent.id)) (sym (able s.id))
-      ∙ ap (λ n. is_fresh_in (jobs_at c t) s.id && is_able ds ps t s.id && nat_le n most && not (id_eq s.id parent.id)) (sym (rest_is s h))
+      arranged (not (c.params.slot_cost == 0)) (is_fresh_in (jobs_at c t) s.id) (is_fresh_among (behind_jobs parent.id (jobs_at c t)) s.id) (can_start_in c t s.id) (pays_in c.params parent (job_left_in c t parent.id) (job_left_in c t s.id)) (id_eq s.id parent.id) (nat_le (job_left_in c t s.id) most)
+      (able_behind (can_start_in c t) s.id parent (jobs_at c t) apart current) (pays (job_left_in c t s.id) (few_left s h))
+      ∙ ap (λ b. is_fresh_in (jobs_at c t) s.id && b && nat_le (job_left_in c t s.id) most && not (id_eq s.id parent.id)) (sym (able s.id))
+      ∙ ap (λ n. is_fresh_in (jobs_at c t) s.id && is_able ds ps t s.id && nat_le n most && not (id_eq s.id parent.id)) (sym (job_left_is s h))
 
   better_same : (a b : Slot) → is_known a ≡ true → is_known b ≡ true → is_better_in c t a b ≡ better a b
   better_same a b h k =
-      ap (λ n. nat_lt ((c.clock.seconds - b.arrival + 1) * n) ((c.clock.seconds - a.arrival + 1) * rest_in c t b.id)) (sym (rest_is a h))
-      ∙ ap (λ n. nat_lt ((c.clock.seconds - b.arrival + 1) * (rows_left a.id t ps + unread_of a)) ((c.clock.seconds - a.arrival + 1) * n)) (sym (rest_is b k))
+      ap (λ n. nat_lt ((c.clock.seconds - b.arrival + 1) * n) ((c.clock.seconds - a.arrival + 1) * job_left_in c t b.id)) (sym (job_left_is a h))
+      ∙ ap (λ n. nat_lt ((c.clock.seconds - b.arrival + 1) * (rows_left a.id t ps + unread_of a)) ((c.clock.seconds - a.arrival + 1) * n)) (sym (job_left_is b k))
 
-  known_all : (slots : List Slot) → AllByRecursion (λ s. slot_in c s.id ≡ Some s) slots → AllByRecursion (λ s. rest_in c t s.id < 2 ^ 64) slots → list_all is_known slots ≡ true
+  known_all : (slots : List Slot) → AllByRecursion (λ s. slot_in c s.id ≡ Some s) slots → AllByRecursion (λ s. job_left_in c t s.id < 2 ^ 64) slots → list_all is_known slots ≡ true
   known_all [] all few = refl
   known_all (s ∷ slots) all few =
       ap (λ b. b && list_all is_known slots)
-      (and_from (unread_in c s.id == unread_of s) (nat_lt (rest_in c t s.id) (2 ^ 64)) (eq-eqb (unread_in c s.id) (unread_of s) (ap (λ o. option_map_or unread_of o 0) all.0)) (lt-ltb (rest_in c t s.id) (2 ^ 64) few.0))
+      (and_from (unread_in c s.id == unread_of s) (nat_lt (job_left_in c t s.id) (2 ^ 64)) (eq-eqb (unread_in c s.id) (unread_of s) (ap (λ o. option_map_or unread_of o 0) all.0)) (lt-ltb (job_left_in c t s.id) (2 ^ 64) few.0))
       ∙ known_all slots all.1 few.1
 
   -- the best of both
@@ -131,7 +131,7 @@ module _ (c : Core) (ds : List Dest) (ps : List Peer) (t most : ℕ) (parent : J
   slot_step (Some s) is there = there s refl
 
   -- the slot of the message that the schedule finds
-  pub best_found : (ms : List Admitted) (o : Option Id) → ms ≡ map admitted_of c.admitted → AllByRecursion (λ s. slot_in c s.id ≡ Some s) c.admitted → AllByRecursion (λ s. rest_in c t s.id < 2 ^ 64) c.admitted → o ≡ option_map (λ (m : Admitted). m.id) (best_of ds c.lines ps t most c.clock.seconds parent.id ms) →
+  pub best_found : (ms : List Admitted) (o : Option Id) → ms ≡ map admitted_of c.admitted → AllByRecursion (λ s. slot_in c s.id ≡ Some s) c.admitted → AllByRecursion (λ s. job_left_in c t s.id < 2 ^ 64) c.admitted → o ≡ option_map (λ (m : Admitted). m.id) (best_of ds c.lines ps t most c.clock.seconds parent.id ms) →
       option_and_then (slot_in c) o ≡ best_in c t (behind_jobs parent.id (jobs_at c t)) parent
   best_found ms o tied found few is =
       ap (option_and_then (slot_in c))
@@ -151,13 +151,13 @@ none_kept : {X : Type 0} (p : X → Bool) (xs : List X) → AllByRecursion (λ x
 none_kept p [] all = refl
 none_kept p (x ∷ xs) all = ap (λ b. cond b (x ∷ filter p xs) (filter p xs)) all.0 ∙ none_kept p xs all.1
 
-module _ (c : Core) (t : ℕ) (parent : Job) (pays : (need : ℕ) → need < 2 ^ 64 → (not (c.params.slot_cost == 0) && pays_in c.params parent (rest_in c t parent.id) need) ≡ false) where
-  none_pay : (behind : List Job) (slots : List Slot) → AllByRecursion (λ s. rest_in c t s.id < 2 ^ 64) slots → AllByRecursion (λ s. candidate_slot c t behind parent s ≡ false) slots
+module _ (c : Core) (t : ℕ) (parent : Job) (pays : (need : ℕ) → need < 2 ^ 64 → (not (c.params.slot_cost == 0) && pays_in c.params parent (job_left_in c t parent.id) need) ≡ false) where
+  none_pay : (behind : List Job) (slots : List Slot) → AllByRecursion (λ s. job_left_in c t s.id < 2 ^ 64) slots → AllByRecursion (λ s. candidate_slot c t behind parent s ≡ false) slots
   none_pay behind [] few = tt
   none_pay behind (s ∷ slots) few =
-      (none_step (not (c.params.slot_cost == 0)) (is_fresh_among behind s.id) (can_start_in c t s.id) (pays_in c.params parent (rest_in c t parent.id) (rest_in c t s.id)) (pays (rest_in c t s.id) few.0), none_pay behind slots few.1)
+      (none_step (not (c.params.slot_cost == 0)) (is_fresh_among behind s.id) (can_start_in c t s.id) (pays_in c.params parent (job_left_in c t parent.id) (job_left_in c t s.id)) (pays (job_left_in c t s.id) few.0), none_pay behind slots few.1)
 
-  pub none_best : (behind : List Job) → AllByRecursion (λ s. rest_in c t s.id < 2 ^ 64) c.admitted → best_in c t behind parent ≡ None
+  pub none_best : (behind : List Job) → AllByRecursion (λ s. job_left_in c t s.id < 2 ^ 64) c.admitted → best_in c t behind parent ≡ None
   none_best behind few = ap (least (is_better_in c t)) (none_kept (candidate_slot c t behind parent) c.admitted (none_pay behind c.admitted few))
 
 -- what a message has left is few
@@ -168,14 +168,14 @@ few_unread ms slots tied few = step slots (subst (λ xs. AllByRecursion (λ m. m
     step [] few = tt
     step (s ∷ slots) few = (few.0, step slots few.1)
 
-few_rest_step : (c : Core) (t : ℕ) (bound : (id : Id) → count_by (is_row_for id t) c.waiting < 2 ^ 30) (slots : List Slot) → AllByRecursion (λ s. slot_in c s.id ≡ Some s) slots → AllByRecursion (λ s. unread_of s < 2 ^ 32) slots → AllByRecursion (λ s. rest_in c t s.id < 2 ^ 64) slots
-few_rest_step c t bound [] found few = tt
-few_rest_step c t bound (s ∷ slots) found few =
+few_job_left_step : (c : Core) (t : ℕ) (bound : (id : Id) → count_by (is_row_for id t) c.waiting < 2 ^ 30) (slots : List Slot) → AllByRecursion (λ s. slot_in c s.id ≡ Some s) slots → AllByRecursion (λ s. unread_of s < 2 ^ 32) slots → AllByRecursion (λ s. job_left_in c t s.id < 2 ^ 64) slots
+few_job_left_step c t bound [] found few = tt
+few_job_left_step c t bound (s ∷ slots) found few =
     let unread : unread_in c s.id ≡ unread_of s = ap (λ o. option_map_or unread_of o 0) found.0 in
-    (omega (arith, unread, few.0, bound s.id), few_rest_step c t bound slots found.1 few.1)
+    (omega (arith, unread, few.0, bound s.id), few_job_left_step c t bound slots found.1 few.1)
 
-pub few_rest : (c : Core) (t : ℕ) (ms : List Admitted) → ((id : Id) → count_by (is_row_for id t) c.waiting < 2 ^ 30) → ms ≡ map admitted_of c.admitted → AllByRecursion (λ s. slot_in c s.id ≡ Some s) c.admitted → AllByRecursion (λ m. m.unread < 2 ^ 32) ms → AllByRecursion (λ s. rest_in c t s.id < 2 ^ 64) c.admitted
-few_rest c t ms bound tied found few = few_rest_step c t bound c.admitted found (few_unread ms c.admitted tied few)
+pub few_job_left : (c : Core) (t : ℕ) (ms : List Admitted) → ((id : Id) → count_by (is_row_for id t) c.waiting < 2 ^ 30) → ms ≡ map admitted_of c.admitted → AllByRecursion (λ s. slot_in c s.id ≡ Some s) c.admitted → AllByRecursion (λ m. m.unread < 2 ^ 32) ms → AllByRecursion (λ s. job_left_in c t s.id < 2 ^ 64) c.admitted
+few_job_left c t ms bound tied found few = few_job_left_step c t bound c.admitted found (few_unread ms c.admitted tied few)
 
 -- a current job begins something, so it may
 process_step : (c : Core) (t : ℕ) (parent : Job) (b : Bool) → nat_lt (flights_at c t) c.params.process_limit ≡ b → current_in c t ≡ Some parent → b ≡ true

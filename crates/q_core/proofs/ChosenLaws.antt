@@ -10,7 +10,7 @@ use Rattle.q_model.proofs.IdLaws.{site_eq-refl, site_eq-true}
 use Rattle.q_model.specs.Candidates.{best}
 use Rattle.q_model.specs.Choice.{choice, last_start, next_row, start_of}
 use Rattle.q_model.specs.Sites.{site_eq}
-use Rattle.q_model.specs.Accounts.{rest}
+use Rattle.q_model.specs.Accounts.{job_left}
 use Rattle.q_model.specs.Ids.{id_eq}
 use Rattle.q_model.specs.Ledger.{Ledger}
 use Rattle.q_model.specs.Lists.{first_some, least}
@@ -74,11 +74,11 @@ record IsNextRow (w : World) (l : Ledger) (e : Entry) : Type 0 where
   entry : start_of l row ≡ e
 
 abbrev preempt_or : Ledger → ℕ → Id → Option Id → Option Row → Option Entry
-preempt_or l t parent o q = option_map_or (λ child. Some (entries.Preempt child parent t (rest l child t))) o (option_map (start_of l) q)
+preempt_or l t parent o q = option_map_or (λ child. Some (entries.Preempt child parent t (job_left l child t))) o (option_map (start_of l) q)
 
 row_chosen : (w : World) (l : Ledger) (t : ℕ) (parent : Id) (number : ℕ) (id : Id) (site : Site) (ps : List ℕ) (o : Option Id) (q : Option Row) → next_row w l t parent ≡ q →
     preempt_or l t parent o q ≡ Some (entries.Start number id site ps) → IsNextRow w l (entries.Start number id site ps)
-row_chosen w l t parent number id site ps (Some child) q e h = let bad = same_Some (entries.Preempt child parent t (rest l child t)) (entries.Start number id site ps) h in cc
+row_chosen w l t parent number id site ps (Some child) q e h = let bad = same_Some (entries.Preempt child parent t (job_left l child t)) (entries.Start number id site ps) h in cc
 row_chosen w l t parent number id site ps None None e h = cc
 row_chosen w l t parent number id site ps None (Some r) e h = record { transport = t; parent = parent; row = r; next = e; entry = same_Some (start_of l r) (entries.Start number id site ps) h }
 

@@ -5,7 +5,7 @@ use Rattle.std.specs.Prelude.{◌&&◌, ◌==◌, ◌^◌, filter, find, nat_lt,
 use Rattle.q_core.proofs.KindLaws.{start_first}
 use Rattle.q_core.proofs.LineSteps.{none_fresh}
 use Rattle.q_core.proofs.ListLaws.{find-any}
-use Rattle.q_core.specs.Choosing.{best_in, candidate_slot, choice_in, choices_from, current_in, is_better_in, is_fresh_among, jobs_at, pays_in, preempt_or, rest_in}
+use Rattle.q_core.specs.Choosing.{best_in, candidate_slot, choice_in, choices_from, current_in, is_better_in, is_fresh_among, job_left_in, jobs_at, pays_in, preempt_or}
 use Rattle.q_core.specs.Deciding.{decide_in}
 use Rattle.q_core.specs.declared.decision.Decision.{Decision}
 use Rattle.q_core.specs.declared.decision.Decision.TheVariants as decisions
@@ -45,7 +45,7 @@ module _ (c : Core) (child parent : Id) (t need : ℕ) where
       let passes : candidate_slot c u behind p s ≡ true =
       (in_filtered (candidate_slot c u behind p) s c.admitted (least_in (is_better_in c u) s (filter (candidate_slot c u behind p) c.admitted) is)).1 in
       let fresh : is_fresh_among behind s.id ≡ true =
-      second (not (c.params.slot_cost == 0)) (is_fresh_among behind s.id) (can_start_in c u s.id) (pays_in c.params p (rest_in c u p.id) (rest_in c u s.id)) passes in (
+      second (not (c.params.slot_cost == 0)) (is_fresh_among behind s.id) (can_start_in c u s.id) (pays_in c.params p (job_left_in c u p.id) (job_left_in c u s.id)) passes in (
         p,
         of,
         ap (current_in c) (sym at) ∙ cur,

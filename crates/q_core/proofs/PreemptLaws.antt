@@ -11,12 +11,12 @@ use Rattle.q_core.proofs.JobLaws.{moved_map}
 use Rattle.q_core.proofs.ListLaws.{length-numbered}
 use Rattle.q_core.proofs.NameLaws.{and_true_parts, id_eq-same, id_eq-true, or_right}
 use Rattle.q_core.proofs.TidyLaws.{tidy_law}
-use Rattle.q_core.proofs.StartLaws.{same_rest}
+use Rattle.q_core.proofs.StartLaws.{same_job_left}
 use Rattle.q_core.proofs.StepLaws.{HoldsRaw, IsStillSeen, raw_law}
 use Rattle.q_core.specs.Agrees.{Agrees, AgreesButScan, Matches, job_of, jobs_of}
 use Rattle.q_core.specs.Sending.{charged_job, IsPreempted, moved_line, preempted_line, with_charge}
 use Rattle.q_core.specs.Changes.{IsTidied, is_looked_at}
-use Rattle.q_core.specs.Choosing.{rest_in}
+use Rattle.q_core.specs.Choosing.{job_left_in}
 use Rattle.q_jobs.specs.declared.job.Job.{Job}
 use Rattle.q_core.specs.declared.state.Core.{Core}
 use Rattle.q_core.specs.declared.state.Seen.{Seen}
@@ -24,7 +24,7 @@ use Rattle.q_core.specs.declared.state.Seen.TheVariants.{Known, Unknown}
 use Rattle.q_laws.proofs.Members.{all_at, any_from, any_in, in_filtered, least_in}
 use Rattle.q_laws.proofs.Places.{got_in}
 use Rattle.q_laws.specs.Consistency.{IsConsistent}
-use Rattle.q_model.specs.Accounts.{charged, rest, starts_of}
+use Rattle.q_model.specs.Accounts.{charged, job_left, starts_of}
 use Rattle.q_model.specs.Candidates.{ids_behind, best, candidates, is_better, is_candidate, pays}
 use Rattle.q_model.specs.Choice.{choice, next_row, start_of}
 use Rattle.q_model.specs.Ids.{are_distinct, id_eq}
@@ -51,25 +51,25 @@ same_Some x y h = cc
 record IsBest (w : World) (l : Ledger) (child parent : Id) (transport need : ℕ) : Type 0 where
   few : nat_lt (starts l) (2 ^ 48) ≡ true
   best : best w l transport parent ≡ Some child
-  needs : rest l child transport ≡ need
+  needs : job_left l child transport ≡ need
 
 abbrev preempt_or : Ledger → ℕ → Id → Option Id → Option Row → Option Entry
-preempt_or l t parent o q = option_map_or (λ child. Some (entries.Preempt child parent t (rest l child t))) o (option_map (start_of l) q)
+preempt_or l t parent o q = option_map_or (λ child. Some (entries.Preempt child parent t (job_left l child t))) o (option_map (start_of l) q)
 
 best_chosen : (w : World) (l : Ledger) (t : ℕ) (first : Id) (child parent : Id) (transport need : ℕ) (o : Option Id) (q : Option Row) → nat_lt (starts l) (2 ^ 48) ≡ true → best w l t first ≡ o →
     preempt_or l t first o q ≡ Some (entries.Preempt child parent transport need) → IsBest w l child parent transport need
 best_chosen w l t first child parent transport need None None few e h = cc
 best_chosen w l t first child parent transport need None (Some r) few e h = let bad = same_Some (start_of l r) (entries.Preempt child parent transport need) h in cc
 best_chosen w l t first child parent transport need (Some x) q few e h =
-    let same = same_Some (entries.Preempt x first t (rest l x t)) (entries.Preempt child parent transport need) h in
+    let same = same_Some (entries.Preempt x first t (job_left l x t)) (entries.Preempt child parent transport need) h in
     let name : x ≡ child = cc in
     let before : first ≡ parent = cc in
     let line : t ≡ transport = cc in
-    let count : rest l x t ≡ need = cc in
+    let count : job_left l x t ≡ need = cc in
     record {
       few = few;
       best = ap (λ i. best w l transport i) (sym before) ∙ ap (λ n. best w l n first) (sym line) ∙ e ∙ ap Some name;
-      needs = ap (λ i. rest l i transport) (sym name) ∙ ap (rest l x) (sym line) ∙ count;
+      needs = ap (λ i. job_left l i transport) (sym name) ∙ ap (job_left l x) (sym line) ∙ count;
     }
 
 current_chosen : (w : World) (l : Ledger) (t : ℕ) (child parent : Id) (transport need : ℕ) (o : Option Id) → nat_lt (starts l) (2 ^ 48) ≡ true →
@@ -88,7 +88,7 @@ chosen_on w l child parent transport need true few h =
 record IsPaid (w : World) (l : Ledger) (child parent : Id) (transport need : ℕ) : Type 0 where
   few : starts l < 2 ^ 48
   behind_it : list_any (id_eq child) (ids_behind parent (line_of l transport)) ≡ true
-  paid : need + charged l parent transport ≤ starts_of l parent transport + rest l parent transport
+  paid : need + charged l parent transport ≤ starts_of l parent transport + job_left l parent transport
 
 some_cost : (cost need owed credit : ℕ) → not (cost == 0) ≡ true → cost * need + cost * owed ≤ credit → need + owed ≤ credit
 some_cost zero need owed credit some h = cc
@@ -101,14 +101,14 @@ paid w l child parent transport need b =
     let inside = list_any (id_eq child) (ids_behind parent (line_of l transport)) in
     let fresh = starts_of l child transport == 0 in
     let starts = can_start w l transport child in
-    let one = and_true_parts (cost && inside && fresh && starts) (pays w l transport parent (rest l child transport)) good in
+    let one = and_true_parts (cost && inside && fresh && starts) (pays w l transport parent (job_left l child transport)) good in
     let two = and_true_parts (cost && inside && fresh) starts one.0 in
     let three = and_true_parts (cost && inside) fresh two.0 in
     let four = and_true_parts cost inside three.0 in
-    let need' = rest l child transport in
+    let need' = job_left l child transport in
     let begun = starts_of l parent transport in
     let owed = w.settings.slot_cost * charged l parent transport in
-    let left = rest l parent transport in
+    let left = job_left l parent transport in
     let price = nat_le (need' * (100 - w.settings.slot_discount) * w.settings.slot_cost + 100 * owed) (100 * (begun + w.settings.slot_loan * w.settings.slot_cost)) in
     let held = nat_le (w.settings.slot_cost * need' + owed) (begun + left) in
     let many = nat_le (w.settings.slot_cost * w.settings.minimum_slots) (begun + left) in
@@ -151,7 +151,7 @@ charge_is need left j true paid few =
 few_left : (starts begun left : ℕ) → starts < 2 ^ 48 → begun ≤ starts → left ≤ 2 ^ 63 + 2 ^ 32 → begun + left ≤ 2 ^ 64 - 1
 few_left starts begun left few most less = omega (arith, few, most, less)
 
-job_paid : (w : World) (l : Ledger) (child parent : Id) (transport need left t : ℕ) → IsPaid w l child parent transport need → left ≡ rest l parent transport → left ≤ 2 ^ 63 + 2 ^ 32 → (k : Id) →
+job_paid : (w : World) (l : Ledger) (child parent : Id) (transport need left t : ℕ) → IsPaid w l child parent transport need → left ≡ job_left l parent transport → left ≤ 2 ^ 63 + 2 ^ 32 → (k : Id) →
     charged_job parent transport need left t (job_of l t k) ≡ job_of (noted (entries.Preempt child parent transport need) l) t k
 job_paid w l child parent transport need left t p same less k =
     charge_is need left (job_of l t k) (id_eq parent k && (transport == t)) (λ e.
@@ -178,7 +178,7 @@ line_there l child parent transport j i ids single inside e there same =
       any_flip child ids (ap (list_any (id_eq child)) (sym line) ∙ any_behind child parent (line_of l transport) inside),
     )
 
-lines_preempted : (w : World) (l : Ledger) (child parent : Id) (transport need left : ℕ) → list_all are_distinct l.lines ≡ true → IsPaid w l child parent transport need → left ≡ rest l parent transport → left ≤ 2 ^ 63 + 2 ^ 32 →
+lines_preempted : (w : World) (l : Ledger) (child parent : Id) (transport need left : ℕ) → list_all are_distinct l.lines ≡ true → IsPaid w l child parent transport need → left ≡ job_left l parent transport → left ≤ 2 ^ 63 + 2 ^ 32 →
     map (preempted_line child parent transport need left) (enumerate_from 0 (map (jobs_of l) (enumerate_from 0 l.lines))) ≡
     map (jobs_of (noted (entries.Preempt child parent transport need) l)) (enumerate_from 0 (map (preempt_line child parent transport) (enumerate_from 0 l.lines)))
 lines_preempted w l child parent transport need left single p same less =
@@ -191,7 +191,7 @@ still_preempted : (seen : Seen) (l : Ledger) (ls : List (List Id)) (es : List En
 still_preempted Unknown l ls es h = tt
 still_preempted (Known found) l ls es h = h
 
-preempt_raw : {w : World} {c d : Core} {l : Ledger} → HoldsRaw w c l → IsConsistent w l → (child parent : Id) (transport need left : ℕ) → IsPaid w l child parent transport need → left ≡ rest_in c transport parent → left ≤ 2 ^ 63 + 2 ^ 32 →
+preempt_raw : {w : World} {c d : Core} {l : Ledger} → HoldsRaw w c l → IsConsistent w l → (child parent : Id) (transport need left : ℕ) → IsPaid w l child parent transport need → left ≡ job_left_in c transport parent → left ≤ 2 ^ 63 + 2 ^ 32 →
     IsPreempted c d child parent transport need left → HoldsRaw w d (noted (entries.Preempt child parent transport need) (after_preempt l child parent transport))
 preempt_raw {w = w} {c = c} {d = d} {l = l} r k child parent transport need left p same less change =
     let h = r.parts in
@@ -199,7 +199,7 @@ preempt_raw {w = w} {c = c} {d = d} {l = l} r k child parent transport need left
     let lines : d.lines ≡ map (jobs_of next) (enumerate_from 0 next.lines) =
     change.lines
     ∙ ap (λ (js : List (List Job)). map (preempted_line child parent transport need left) (enumerate_from 0 js)) h.lines
-    ∙ lines_preempted w l child parent transport need left k.memory.single p (same ∙ same_rest h transport parent) less in
+    ∙ lines_preempted w l child parent transport need left k.memory.single p (same ∙ same_job_left h transport parent) less in
     let parts : AgreesButScan w (record c { lines = d.lines }) next = record {
       settings = h.settings;
       count = (h.count ∙ sym (length-numbered (preempt_line child parent transport) 0 l.lines));
@@ -227,7 +227,7 @@ preempt_raw {w = w} {c = c} {d = d} {l = l} r k child parent transport need left
     subst (λ x. HoldsRaw w x next) (sym change.rest) raw
 
 -- the whole entry
-pub preempt_law : {w : World} {c u d : Core} {l : Ledger} → Agrees w c l → IsTrue (is_looked_at c) → (child parent : Id) (transport need left : ℕ) → start_rule w l ≡ Some (entries.Preempt child parent transport need) → left ≡ rest_in c transport parent → left ≤ 2 ^ 63 + 2 ^ 32 →
+pub preempt_law : {w : World} {c u d : Core} {l : Ledger} → Agrees w c l → IsTrue (is_looked_at c) → (child parent : Id) (transport need left : ℕ) → start_rule w l ≡ Some (entries.Preempt child parent transport need) → left ≡ job_left_in c transport parent → left ≤ 2 ^ 63 + 2 ^ 32 →
     IsPreempted c u child parent transport need left → IsTidied u d → Matches w d (tidied w l (noted (entries.Preempt child parent transport need) (after_preempt l child parent transport)))
 preempt_law {w = w} {c = c} {u = u} {d = d} {l = l} a looked child parent transport need left rule same less change s =
     let p = paid w l child parent transport need (chosen_on w l child parent transport need (nat_lt (starts l) (2 ^ 48)) refl rule) in

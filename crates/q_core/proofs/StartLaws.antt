@@ -10,9 +10,9 @@ use Rattle.q_core.proofs.ListLaws.{filter-map, filter-same, find-map, find-same,
 use Rattle.q_core.proofs.NameLaws.{id_eq-true}
 use Rattle.q_core.specs.Agrees.{AgreesButScan, job_of, jobs_of, slot_of}
 use Rattle.q_laws.proofs.Members.{IsIn, in_filtered, least_in}
-use Rattle.q_laws.proofs.Rests.{rest_few}
+use Rattle.q_laws.proofs.JobsLeft.{job_left_few}
 use Rattle.q_laws.specs.Consistency.{IsMemoryConsistent, is_present}
-use Rattle.q_core.specs.Choosing.{best_in, choice_in, choices_from, choose_in, current_in, is_better_in, is_candidate_in, is_fresh_among, jobs_at, need_in, next_start_in, pays_in, preempt_or, rest_in}
+use Rattle.q_core.specs.Choosing.{best_in, choice_in, choices_from, choose_in, current_in, is_better_in, is_candidate_in, is_fresh_among, job_left_in, jobs_at, need_in, next_start_in, pays_in, preempt_or}
 use Rattle.q_core.specs.Decisions.{IsRule}
 use Rattle.q_core.specs.Held.{unread_in}
 use Rattle.q_core.specs.Starting.{can_start_in, flights_at, has_room_in, is_startable_in, last_start_in, next_row_in, rows_for, start_in, start_of_row}
@@ -20,7 +20,7 @@ use Rattle.q_core.specs.declared.decision.Decision.{Decision}
 use Rattle.q_jobs.specs.declared.job.Job.{Job}
 use Rattle.q_pool.specs.declared.slot.Slot.{Slot}
 use Rattle.q_core.specs.declared.state.Core.{Core}
-use Rattle.q_model.specs.Accounts.{charged, rest, starts_of}
+use Rattle.q_model.specs.Accounts.{charged, job_left, starts_of}
 use Rattle.q_model.specs.Book.{message_of}
 use Rattle.q_model.specs.Candidates.{age, ids_behind, best, is_better, is_candidate, pays}
 use Rattle.q_model.specs.Choice.{choice, last_start, next_row, start_of}
@@ -63,8 +63,8 @@ same_for h id t r = ap (λ b. id_eq r.id id && (r.site.transport == t) && b) (sa
 same_can_start : {w : World} {c : Core} {l : Ledger} → AgreesButScan w c l → (t : ℕ) (id : Id) → can_start_in c t id ≡ can_start w l t id
 same_can_start {w = w} {c = c} {l = l} h t id = ap (list_any (rows_for c id t)) h.waiting ∙ list_any-same (rows_for c id t) (rows_of w l id t) (same_for h id t) l.waiting
 
-pub same_rest : {w : World} {c : Core} {l : Ledger} → AgreesButScan w c l → (t : ℕ) (id : Id) → rest_in c t id ≡ rest l id t
-same_rest {c = c} {l = l} h t id =
+pub same_job_left : {w : World} {c : Core} {l : Ledger} → AgreesButScan w c l → (t : ℕ) (id : Id) → job_left_in c t id ≡ job_left l id t
+same_job_left {c = c} {l = l} h t id =
     ap (λ (rs : List Row). count_by (λ r. id_eq r.id id && (r.site.transport == t)) rs + unread_in c id) h.waiting
     ∙ ap (λ n. count_by (λ r. id_eq r.id id && (r.site.transport == t)) l.waiting + n) (same_unread h id)
 
@@ -113,12 +113,12 @@ same_fresh l t id (x ∷ xs) =
     ap (λ b. (id_eq id x && (starts_of l x t == 0)) || b) (same_fresh l t id xs)
     ∙ fresh_step l t id x (id_eq id x) (list_any (id_eq id) xs) refl
 
-same_pays : {w : World} {c : Core} {l : Ledger} → AgreesButScan w c l → (t : ℕ) (parent : Id) (need : ℕ) → pays_in c.params (job_of l t parent) (rest l parent t) need ≡ pays w l t parent need
+same_pays : {w : World} {c : Core} {l : Ledger} → AgreesButScan w c l → (t : ℕ) (parent : Id) (need : ℕ) → pays_in c.params (job_of l t parent) (job_left l parent t) need ≡ pays w l t parent need
 same_pays {w = w} {c = c} {l = l} h t parent need =
     ap (λ (s : Settings).
     nat_le (need * (100 - s.slot_discount) * s.slot_cost + 100 * (s.slot_cost * charged l parent t)) (100 * (starts_of l parent t + s.slot_loan * s.slot_cost))
-    && nat_le (s.slot_cost * need + s.slot_cost * charged l parent t) (starts_of l parent t + rest l parent t)
-    && nat_le (s.slot_cost * s.minimum_slots) (starts_of l parent t + rest l parent t)) h.settings
+    && nat_le (s.slot_cost * need + s.slot_cost * charged l parent t) (starts_of l parent t + job_left l parent t)
+    && nat_le (s.slot_cost * s.minimum_slots) (starts_of l parent t + job_left l parent t)) h.settings
 
 and_split : (a f s c p : Bool) → (a && (f && s) && c && p) ≡ (a && f && s && c && p)
 and_split true f s c p = refl
@@ -127,14 +127,14 @@ and_split false f s c p = refl
 same_candidate : {w : World} {c : Core} {l : Ledger} → AgreesButScan w c l → (t : ℕ) (parent id : Id) →
     is_candidate_in c t (behind_jobs parent (jobs_at c t)) (job_of l t parent) id ≡ is_candidate w l t parent id
 same_candidate {w = w} {c = c} {l = l} h t parent id =
-    ap (λ (s : Settings). not (s.slot_cost == 0) && is_fresh_among (behind_jobs parent (jobs_at c t)) id && can_start_in c t id && pays_in c.params (job_of l t parent) (rest_in c t parent) (rest_in c t id)) h.settings
-    ∙ ap (λ f. not (w.settings.slot_cost == 0) && f && can_start_in c t id && pays_in c.params (job_of l t parent) (rest_in c t parent) (rest_in c t id))
+    ap (λ (s : Settings). not (s.slot_cost == 0) && is_fresh_among (behind_jobs parent (jobs_at c t)) id && can_start_in c t id && pays_in c.params (job_of l t parent) (job_left_in c t parent) (job_left_in c t id)) h.settings
+    ∙ ap (λ f. not (w.settings.slot_cost == 0) && f && can_start_in c t id && pays_in c.params (job_of l t parent) (job_left_in c t parent) (job_left_in c t id))
     (ap (λ js. is_fresh_among js id) (ap (behind_jobs parent) (same_jobs_at h t) ∙ same_behind l t parent (line_of l t)) ∙ same_fresh l t id (ids_behind parent (line_of l t)))
-    ∙ ap (λ b. not (w.settings.slot_cost == 0) && (list_any (id_eq id) (ids_behind parent (line_of l t)) && (starts_of l id t == 0)) && b && pays_in c.params (job_of l t parent) (rest_in c t parent) (rest_in c t id)) (same_can_start h t id)
-    ∙ ap (λ n. not (w.settings.slot_cost == 0) && (list_any (id_eq id) (ids_behind parent (line_of l t)) && (starts_of l id t == 0)) && can_start w l t id && pays_in c.params (job_of l t parent) n (rest_in c t id)) (same_rest h t parent)
-    ∙ ap (λ n. not (w.settings.slot_cost == 0) && (list_any (id_eq id) (ids_behind parent (line_of l t)) && (starts_of l id t == 0)) && can_start w l t id && pays_in c.params (job_of l t parent) (rest l parent t) n) (same_rest h t id)
-    ∙ ap (λ b. not (w.settings.slot_cost == 0) && (list_any (id_eq id) (ids_behind parent (line_of l t)) && (starts_of l id t == 0)) && can_start w l t id && b) (same_pays h t parent (rest l id t))
-    ∙ and_split (not (w.settings.slot_cost == 0)) (list_any (id_eq id) (ids_behind parent (line_of l t))) (starts_of l id t == 0) (can_start w l t id) (pays w l t parent (rest l id t))
+    ∙ ap (λ b. not (w.settings.slot_cost == 0) && (list_any (id_eq id) (ids_behind parent (line_of l t)) && (starts_of l id t == 0)) && b && pays_in c.params (job_of l t parent) (job_left_in c t parent) (job_left_in c t id)) (same_can_start h t id)
+    ∙ ap (λ n. not (w.settings.slot_cost == 0) && (list_any (id_eq id) (ids_behind parent (line_of l t)) && (starts_of l id t == 0)) && can_start w l t id && pays_in c.params (job_of l t parent) n (job_left_in c t id)) (same_job_left h t parent)
+    ∙ ap (λ n. not (w.settings.slot_cost == 0) && (list_any (id_eq id) (ids_behind parent (line_of l t)) && (starts_of l id t == 0)) && can_start w l t id && pays_in c.params (job_of l t parent) (job_left l parent t) n) (same_job_left h t id)
+    ∙ ap (λ b. not (w.settings.slot_cost == 0) && (list_any (id_eq id) (ids_behind parent (line_of l t)) && (starts_of l id t == 0)) && can_start w l t id && b) (same_pays h t parent (job_left l id t))
+    ∙ and_split (not (w.settings.slot_cost == 0)) (list_any (id_eq id) (ids_behind parent (line_of l t))) (starts_of l id t == 0) (can_start w l t id) (pays w l t parent (job_left l id t))
 
 abbrev arrival_at : Option Message → ℕ
 arrival_at o = option_map_or (λ m. m.arrival) o 0
@@ -152,10 +152,10 @@ same_age {l = l} h x there = ap (λ n. n - arrival_at (message_of l.book x.id)) 
 same_better : {w : World} {c : Core} {l : Ledger} → AgreesButScan w c l → (t : ℕ) (x y : Admitted) → is_present l x ≡ true → is_present l y ≡ true →
     is_better_in c t (slot_of l x) (slot_of l y) ≡ is_better l t x.id y.id
 same_better {c = c} {l = l} h t x y px py =
-    ap (λ n. nat_lt ((n + 1) * rest_in c t x.id) ((c.clock.seconds - (slot_of l x).arrival + 1) * rest_in c t y.id)) (same_age h y py)
-    ∙ ap (λ n. nat_lt ((age l y.id + 1) * rest_in c t x.id) ((n + 1) * rest_in c t y.id)) (same_age h x px)
-    ∙ ap (λ n. nat_lt ((age l y.id + 1) * n) ((age l x.id + 1) * rest_in c t y.id)) (same_rest h t x.id)
-    ∙ ap (λ n. nat_lt ((age l y.id + 1) * rest l x.id t) ((age l x.id + 1) * n)) (same_rest h t y.id)
+    ap (λ n. nat_lt ((n + 1) * job_left_in c t x.id) ((c.clock.seconds - (slot_of l x).arrival + 1) * job_left_in c t y.id)) (same_age h y py)
+    ∙ ap (λ n. nat_lt ((age l y.id + 1) * job_left_in c t x.id) ((n + 1) * job_left_in c t y.id)) (same_age h x px)
+    ∙ ap (λ n. nat_lt ((age l y.id + 1) * n) ((age l x.id + 1) * job_left_in c t y.id)) (same_job_left h t x.id)
+    ∙ ap (λ n. nat_lt ((age l y.id + 1) * job_left l x.id t) ((age l x.id + 1) * n)) (same_job_left h t y.id)
 
 -- the admitted message that preempts
 abbrev best_admitted : World → Ledger → ℕ → Id → Option Admitted
@@ -205,15 +205,15 @@ start_of_job {w = w} {c = c} {l = l} h t id =
     subst (λ o. IsRule c (option_map (start_of_row c) o) (option_map (start_of l) (next_row w l t id))) (sym (same_row h t id)) (start_found h (next_row w l t id))
 
 abbrev preempt_on : World → Ledger → ℕ → Id → Option Id → Option Entry
-preempt_on w l t parent o = option_map_or (λ child. Some (entries.Preempt child parent t (rest l child t))) o (option_map (start_of l) (next_row w l t parent))
+preempt_on w l t parent o = option_map_or (λ child. Some (entries.Preempt child parent t (job_left l child t))) o (option_map (start_of l) (next_row w l t parent))
 
 least_is : (a b : ℕ) → a ≤ b → min a b ≡ a
 least_is a b h = grind (arith, h)
 
 -- the need of a message in memory is all that it has left
-same_need : {w : World} {c : Core} {l : Ledger} → AgreesButScan w c l → IsMemoryConsistent w l → (t : ℕ) (x : Admitted) → IsIn x l.admitted → need_in c t (slot_of l x) ≡ rest l x.id t
+same_need : {w : World} {c : Core} {l : Ledger} → AgreesButScan w c l → IsMemoryConsistent w l → (t : ℕ) (x : Admitted) → IsIn x l.admitted → need_in c t (slot_of l x) ≡ job_left l x.id t
 same_need {w = w} {c = c} {l = l} h m t x inside =
-    ap (λ n. min n (slot_of l x).recipients) (same_rest h t x.id) ∙ least_is (rest l x.id t) (slot_of l x).recipients (rest_few w l x t m inside)
+    ap (λ n. min n (slot_of l x).recipients) (same_job_left h t x.id) ∙ least_is (job_left l x.id t) (slot_of l x).recipients (job_left_few w l x t m inside)
 
 preempt_found : {w : World} {c : Core} {l : Ledger} → AgreesButScan w c l → IsMemoryConsistent w l → (t : ℕ) (parent : Id) (o : Option Admitted) → ((x : Admitted) → o ≡ Some x → IsIn x l.admitted) →
     IsRule c (preempt_or c t (job_of l t parent) (option_map (slot_of l) o)) (preempt_on w l t parent (option_map (λ (a : Admitted). a.id) o))

@@ -314,8 +314,8 @@ left_sum : (id : Id) (t : ℕ) (ps : List Peer) → rows_left id t ps ≡ kept_s
 left_sum id t [] = refl
 left_sum id t (p ∷ ps) = ap (λ n. cond (id_eq p.id id && (p.site.transport == t)) p.waiting 0 + n) (left_sum id t ps)
 
-pub rest_counted : (id : Id) (t : ℕ) (ps : List Peer) (rows : List Row) → AreApart ps → ArePeersTied ps rows → rows_left id t ps ≡ count_by (is_row_for id t) rows
-rest_counted id t ps rows apart tie =
+pub rows_left_counted : (id : Id) (t : ℕ) (ps : List Peer) (rows : List Row) → AreApart ps → ArePeersTied ps rows → rows_left id t ps ≡ count_by (is_row_for id t) rows
+rows_left_counted id t ps rows apart tie =
     left_sum id t ps ∙ sum_counted key_eq key_of key_eq-true key_eq-refl (λ p. p.waiting) name_of (λ (k : PeerKey). id_eq k.id id && (k.site.transport == t)) ps rows apart tie
 
 -- at the beginning there is nothing

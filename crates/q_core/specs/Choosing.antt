@@ -16,13 +16,13 @@ use Rattle.q_core.specs.declared.state.Core.{Core}
 use Rattle.q_core.specs.declared.decision.Decision.TheVariants.{Preempt}
 
 -- what the message has left at the transport: its rows that wait, and its unread recipients
-abbrev pub rest_in : Core → ℕ → Id → ℕ
-rest_in c transport id = count_by (λ r. id_eq r.id id && (r.site.transport == transport)) c.waiting + unread_in c id
+abbrev pub job_left_in : Core → ℕ → Id → ℕ
+job_left_in c transport id = count_by (λ r. id_eq r.id id && (r.site.transport == transport)) c.waiting + unread_in c id
 
 -- The need of a message that preempts: what it has left, and no more than its recipients. For a
 -- ledger with which the core agrees, it is all that is left.
 abbrev pub need_in : Core → ℕ → Slot → ℕ
-need_in c transport s = min (rest_in c transport s.id) s.recipients
+need_in c transport s = min (job_left_in c transport s.id) s.recipients
 
 -- the jobs of a transport in order
 abbrev pub jobs_at : Core → ℕ → List Job
@@ -54,7 +54,7 @@ abbrev pub is_candidate_in : Core → ℕ → List Job → Job → Id → Bool
 is_candidate_in c transport behind parent id = not (c.params.slot_cost == 0)
     && is_fresh_among behind id
     && can_start_in c transport id
-    && pays_in c.params parent (rest_in c transport parent.id) (rest_in c transport id)
+    && pays_in c.params parent (job_left_in c transport parent.id) (job_left_in c transport id)
 
 -- the same of its slot
 abbrev pub candidate_slot : Core → ℕ → List Job → Job → Slot → Bool
@@ -62,8 +62,8 @@ candidate_slot c transport behind parent s = is_candidate_in c transport behind 
 
 -- (age + 1) / need is greater
 abbrev pub is_better_in : Core → ℕ → Slot → Slot → Bool
-is_better_in c transport a b = nat_lt ((c.clock.seconds - b.arrival + 1) * rest_in c transport a.id)
-    ((c.clock.seconds - a.arrival + 1) * rest_in c transport b.id)
+is_better_in c transport a b = nat_lt ((c.clock.seconds - b.arrival + 1) * job_left_in c transport a.id)
+    ((c.clock.seconds - a.arrival + 1) * job_left_in c transport b.id)
 
 -- the best candidate; among equals the first admitted
 abbrev pub best_in : Core → ℕ → List Job → Job → Option Slot

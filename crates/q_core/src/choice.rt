@@ -3,7 +3,7 @@
 ghost use Rattle.q_jobs.specs.Jobs.{AreOfOthers, behind_jobs, first_job};
 ghost use Rattle.std.specs.Prelude.{Some, ◌≡◌, ◌≤◌, ◌<◌, ◌+◌, ◌^◌};
 ghost use Rattle.std.specs.Option.{option_copied};
-ghost use Rattle.q_core.specs.Choosing.{best_in, choice_in, choices_from, choose_in, current_in, jobs_at, need_in, next_start_in, rest_in};
+ghost use Rattle.q_core.specs.Choosing.{best_in, choice_in, choices_from, choose_in, current_in, job_left_in, jobs_at, need_in, next_start_in};
 
 use crate::decision::Decision;
 use crate::paying::most_need;
@@ -16,8 +16,8 @@ use q_pool::Slot;
 impl Core {
     /// The deliveries that the message has left at the transport, where each unread recipient
     /// counts as one.
-    pub(crate) fn rest(&self, id: Id, transport: u8) -> u64
-        ensures value { result ≡ rest_in self.now transport id }
+    pub(crate) fn job_left(&self, id: Id, transport: u8) -> u64
+        ensures value { result ≡ job_left_in self.now transport id }
         ensures few { result ≤ 2 ^ 63 + 2 ^ 32 }
     {
         let at = usize::from(transport);
@@ -30,7 +30,7 @@ impl Core {
         ensures { result ≡ need_in self.now transport slot.now }
     {
         let most = u64::from(slot.recipients);
-        self.rest(slot.id, transport).min(most) as u32
+        self.job_left(slot.id, transport).min(most) as u32
     }
 
     /// The first job of the transport; none where it has no line.
@@ -77,7 +77,7 @@ impl Core {
         self.turns.stand_apart();
         self.admitted.stand_apart();
         self.waiting.stand_apart();
-        let left = self.rest(parent.id, transport);
+        let left = self.job_left(parent.id, transport);
         let most = most_need(&self.params, parent, left)?;
         let now = self.clock.seconds;
         let child = self

@@ -70,7 +70,7 @@ impl Core {
         requires parent { has_job self.old.lines transport parent ≡ true }
         ensures { FollowsRule self.old self.new start_rule (Entry.Preempt child parent transport need) }
     {
-        let left = self.rest(parent, transport);
+        let left = self.job_left(parent, transport);
         self.move_job(child, parent, transport, u64::from(need), left);
         self.tidy();
     }

@@ -23,7 +23,7 @@ pub(crate) fn waiting_for(turns: &Schedule, waiting: &Rows, id: Id, transport: u
 {
     turns.stand_apart();
     waiting.stand_apart();
-    turns.rest(id, transport)
+    turns.rows_left(id, transport)
 }
 
 /// Whether a row of the message waits for the transport.

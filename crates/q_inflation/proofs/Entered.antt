@@ -6,7 +6,7 @@ use Rattle.std.proofs.lemmas.List.Sums.{take_while-cons}
 use Rattle.std.proofs.lemmas.Option.{same_Some}
 use Rattle.std.specs.Option.{option_map_or}
 use Rattle.std.specs.Prelude.{◌==◌, ◌&&◌}
-use Rattle.q_inflation.proofs.Rests.{after_same, count_none, is_of, unread_in, waiting_of}
+use Rattle.q_inflation.proofs.JobsLeft.{after_same, count_none, is_of, unread_in, waiting_of}
 use Rattle.q_laws.proofs.InPlace.{on_change}
 use Rattle.q_laws.proofs.Leaving.{absent_rows}
 use Rattle.q_laws.proofs.Members.{find_none_from, none_at}
@@ -15,7 +15,7 @@ use Rattle.q_laws.proofs.Picked.{picked_out}
 use Rattle.q_laws.proofs.Synced.{admitted_active}
 use Rattle.q_laws.specs.Consistency.{IsConsistent}
 use Rattle.q_model.proofs.IdLaws.{id_eq-refl}
-use Rattle.q_model.specs.Accounts.{is_admit_of, is_start_of, rest, starts_of}
+use Rattle.q_model.specs.Accounts.{is_admit_of, is_start_of, job_left, starts_of}
 use Rattle.q_model.specs.Admissions.{cause_gone, has_room, may_admit}
 use Rattle.q_model.specs.Book.{Book, message_of}
 use Rattle.q_model.specs.BookChanges.{move_message}
@@ -69,7 +69,7 @@ not_admitted w l id m c there out true e =
 -- of a message that comes into memory
 pub record IsNew (w : World) (l : Ledger) (id : Id) (t : ℕ) (m : Message) : Type 0 where
   pub starts : starts_of (after w l (entries.Admit id)) id t ≡ 0
-  pub left : rest (after w l (entries.Admit id)) id t ≤ length m.recipients
+  pub left : job_left (after w l (entries.Admit id)) id t ≤ length m.recipients
 
 new_starts : (w : World) (l : Ledger) (id : Id) (t : ℕ) → starts_of (after w l (entries.Admit id)) id t ≡ 0
 new_starts w l id t =
@@ -89,5 +89,5 @@ entered w l id t m c may there =
     let waits : waiting_of id t (after_pick l).waiting ≡ waiting_of id t l.waiting = ap (waiting_of id t) (picked_waiting l (pick l)) in
     let none : waiting_of id t l.waiting ≡ 0 = count_none (is_of id t) l.waiting (λ r inside. ap (λ b. b && (r.site.transport == t)) (none_at (λ (x : Row). id_eq x.id id) r l.waiting rows.waiting inside)) in
     let unread : unread_in (l.admitted ++ new_admitted id ∷ []) (move_message l.book id places.Active) id ≡ length m.recipients - 0 = entered_unread l.admitted l.book id m absent there in
-    let same : rest (after w l (entries.Admit id)) id t ≡ rest (change w l (entries.Admit id)) id t = (after_same w l (entries.Admit id) id t).rest in
+    let same : job_left (after w l (entries.Admit id)) id t ≡ job_left (change w l (entries.Admit id)) id t = (after_same w l (entries.Admit id) id t).job_left in
     record { starts = new_starts w l id t; left = omega (arith, waits, none, unread, same) }

@@ -6,7 +6,7 @@ use Rattle.std.specs.List.{list_any}
 use Rattle.std.specs.Option.{option_map_or}
 use Rattle.std.specs.Prelude.{◌==◌, ◌&&◌, ◌||◌, nat_le}
 use Rattle.q_inflation.proofs.Loading.{load_falls}
-use Rattle.q_inflation.proofs.Rests.{after_same, charged_more, count_dropped, is_of, starts_more, unread_changed, unread_in, unread_same, unread_without, waiting_of}
+use Rattle.q_inflation.proofs.JobsLeft.{after_same, charged_more, count_dropped, is_of, starts_more, unread_changed, unread_in, unread_same, unread_without, waiting_of}
 use Rattle.q_laws.proofs.Added.{find_passed, still_found}
 use Rattle.q_laws.proofs.Decisions.{next_decided}
 use Rattle.q_laws.proofs.Delivered.{this_row}
@@ -15,7 +15,7 @@ use Rattle.q_laws.proofs.Members.{IsIn, all_at, any_from, any_in}
 use Rattle.q_laws.proofs.Moved.{move_to, other_left, other_moved}
 use Rattle.q_laws.specs.Consistency.{IsConsistent, is_present}
 use Rattle.q_laws.specs.Traces.{IsEntryOf, is_outside}
-use Rattle.q_model.specs.Accounts.{charge_of, charged, is_admit_of, is_start_of, rest, starts_of}
+use Rattle.q_model.specs.Accounts.{charge_of, charged, is_admit_of, is_start_of, job_left, starts_of}
 use Rattle.q_model.specs.Batches.{load_rows}
 use Rattle.q_model.specs.Book.{Book, message_of}
 use Rattle.q_model.specs.Places.{is_active}
@@ -69,34 +69,34 @@ use Rattle.q_model.specs.declared.rows.Request.TheVariants as requests
 -- what happened is as before, and what the job has left is at least n less
 pub record IsLess (n : ℕ) (l k : Ledger) (id : Id) (t : ℕ) : Type 0 where
   pub past : k.past ≡ l.past
-  pub rest : n + rest k id t ≤ rest l id t
+  pub job_left : n + job_left k id t ≤ job_left l id t
 
 same_less : (l : Ledger) (id : Id) (t : ℕ) → IsLess 0 l l id t
-same_less l id t = record { past = refl; rest = omega arith }
+same_less l id t = record { past = refl; job_left = omega arith }
 
 -- ---- the clock and triggers
 
 asked_less : (l k : Ledger) (request : Request) (id : Id) (t : ℕ) (o : Option Scan) → IsLess 0 l k id t → IsLess 0 l (option_map_or (λ s. record k { asked = Some (joined_request k.asked request); ignores = false }) o (record k { scan = Some (new_scan k.now request); ignores = false })) id t
-asked_less l k request id t None h = record { past = h.past; rest = h.rest }
-asked_less l k request id t (Some s) h = record { past = h.past; rest = h.rest }
+asked_less l k request id t None h = record { past = h.past; job_left = h.job_left }
+asked_less l k request id t (Some s) h = record { past = h.past; job_left = h.job_left }
 
 ask_less : (l k : Ledger) (id : Id) (t : ℕ) → IsLess 0 l k id t → IsLess 0 l (ask_scan k) id t
 ask_less l k id t h = asked_less l k (if k.ignores then requests.All else requests.Due) id t k.scan h
 
 at_less : (w : World) (l : Ledger) (moment : ℕ) (id : Id) (t : ℕ) (b : Bool) → IsLess 0 l (if b then ask_scan (scheduled w l moment) else woken w l moment) id t
-at_less w l moment id t true = ask_less l (scheduled w l moment) id t (record { past = refl; rest = omega arith })
-at_less w l moment id t false = record { past = refl; rest = omega arith }
+at_less w l moment id t true = ask_less l (scheduled w l moment) id t (record { past = refl; job_left = omega arith })
+at_less w l moment id t false = record { past = refl; job_left = omega arith }
 
 trigger_less : (w : World) (l : Ledger) (kind : Trigger) (id : Id) (t : ℕ) → IsLess 0 l (after_trigger w l kind) id t
 trigger_less w l triggers.D id t = ask_less l l id t (same_less l id t)
-trigger_less w l triggers.A id t = record { past = refl; rest = omega arith }
-trigger_less w l triggers.F id t = record { past = refl; rest = omega arith }
+trigger_less w l triggers.A id t = record { past = refl; job_left = omega arith }
+trigger_less w l triggers.F id t = record { past = refl; job_left = omega arith }
 
 -- ---- the book beside those in memory
 
 -- another book in which no message in memory has more unread
 book_less : (l : Ledger) (b : Book) (id : Id) (t : ℕ) → unread_in l.admitted b id ≤ unread_in l.admitted l.book id → IsLess 0 l (record l { book = b }) id t
-book_less l b id t h = record { past = refl; rest = omega (arith, h) }
+book_less l b id t h = record { past = refl; job_left = omega (arith, h) }
 
 present_found : (w : World) (l : Ledger) (a : Admitted) → IsConsistent w l → IsIn a l.admitted → (m : Message) × (message_of l.book a.id ≡ Some m)
 present_found w l a c inside = on (message_of l.book a.id) refl (all_at (is_present l) a l.admitted c.memory.present inside)
@@ -151,20 +151,20 @@ some_row w l i site ps h =
 outcomes_less : (w : World) (l k : Ledger) (id : Id) (t n : ℕ) (ps : List ℕ) (os : List Outcome) (o : Option Message) → IsLess n l k id t →
     IsLess n l (option_map_or (λ (m : Message). record k { unsettled = k.unsettled ++ needs_of w k.now m ps os }) o k) id t
 outcomes_less w l k id t n ps os None h = h
-outcomes_less w l k id t n ps os (Some m) h = record { past = h.past; rest = h.rest }
+outcomes_less w l k id t n ps os (Some m) h = record { past = h.past; job_left = h.job_left }
 
 reply_less : (w : World) (l : Ledger) (state : SiteState) (os : List Outcome) (id : Id) (t : ℕ) (o : Option Delivery) → IsLess 0 l (option_map_or (λ (f : Delivery). replied w l state os f) o l) id t
 reply_less w l state os id t None = same_less l id t
-reply_less w l state os id t (Some f) = outcomes_less w l (landed w l state f) id t 0 f.row.positions os (message_of l.book f.row.id) (record { past = refl; rest = omega arith })
+reply_less w l state os id t (Some f) = outcomes_less w l (landed w l state f) id t 0 f.row.positions os (message_of l.book f.row.id) (record { past = refl; job_left = omega arith })
 
 skip_less : (w : World) (l : Ledger) (i : Id) (site : Site) (ps : List ℕ) (id : Id) (t : ℕ) → list_any (is_row i site ps) l.waiting ≡ true → IsLess 0 l (unqueued l i site ps) id t
-skip_less w l i site ps id t h = let fall = row_falls l i site ps id t h in record { past = refl; rest = omega (arith, fall) }
+skip_less w l i site ps id t h = let fall = row_falls l i site ps id t h in record { past = refl; job_left = omega (arith, fall) }
 
 -- ---- those in memory
 
 passed_less : (l : Ledger) (id : Id) (t : ℕ) (p : Pick) → IsLess 0 l (passed p l) id t
-passed_less l id t (from_incoming i) = record { past = refl; rest = omega arith }
-passed_less l id t (from_deferred name) = record { past = refl; rest = omega arith }
+passed_less l id t (from_incoming i) = record { past = refl; job_left = omega arith }
+passed_less l id t (from_deferred name) = record { past = refl; job_left = omega arith }
 
 -- of a ledger from which a file is after_pick only the turn and the scan change
 record IsPickedFrom (l k : Ledger) : Type 0 where
@@ -193,20 +193,20 @@ admit_less : (l k : Ledger) (i id : Id) (t : ℕ) → IsPickedFrom l k → id_eq
 admit_less l k i id t from other =
     let unread = admit_unread l i id other in
     let waits : waiting_of id t k.waiting ≡ waiting_of id t l.waiting = ap (waiting_of id t) from.waiting in
-    record { past = from.past; rest = omega (arith, unread, waits) }
+    record { past = from.past; job_left = omega (arith, unread, waits) }
 
 corrupt_less : (l k : Ledger) (i id : Id) (t : ℕ) → IsPickedFrom l k → IsLess 0 l (record k { book = move_damaged l.book i places.Corrupt }) id t
 corrupt_less l k i id t from =
     let waits : waiting_of id t k.waiting ≡ waiting_of id t l.waiting = ap (waiting_of id t) from.waiting in
     let unread : unread_in k.admitted (move_damaged l.book i places.Corrupt) id ≡ unread_in l.admitted l.book id = ap (λ rows. unread_in rows l.book id) from.admitted in
-    record { past = from.past; rest = omega (arith, waits, unread) }
+    record { past = from.past; job_left = omega (arith, waits, unread) }
 
 corrupt_from : (l : Ledger) (b : Bool) → IsPickedFrom l (if b then l else after_pick l)
 corrupt_from l true = record { past = refl; waiting = refl; admitted = refl; book = refl }
 corrupt_from l false = picked_from l (pick l)
 
 leave_less : (l : Ledger) (b : Book) (i id : Id) (t : ℕ) → ((j : Id) → id_eq j i ≡ false → message_of b j ≡ message_of l.book j) → IsLess 0 l (record l { book = b; admitted = without i l.admitted }) id t
-leave_less l b i id t same = let fall = unread_without l.admitted l.book b i id same in record { past = refl; rest = omega (arith, fall) }
+leave_less l b i id t same = let fall = unread_without l.admitted l.book b i id same in record { past = refl; job_left = omega (arith, fall) }
 
 -- ---- loads
 
@@ -215,9 +215,9 @@ read_less w l i from to load id t =
     let rows = load_rows w load.message from to in
     let known = (records_is w rows l).1 in
     let fall = load_falls w l i from to load id t in
-    let left : rest (loaded w l i to rows) id t ≤ rest l id t =
-    subst (λ (b : Book). waiting_of id t (l.waiting ++ rows) + unread_in (map (λ (a : Admitted). if id_eq a.id i then record a { unread = to } else a) l.admitted) b id ≤ rest l id t) (sym (ap (λ (x : Ledger). x.book) known)) fall in
-    record { past = ap (λ (x : Ledger). x.past) known; rest = omega (arith, left) }
+    let left : job_left (loaded w l i to rows) id t ≤ job_left l id t =
+    subst (λ (b : Book). waiting_of id t (l.waiting ++ rows) + unread_in (map (λ (a : Admitted). if id_eq a.id i then record a { unread = to } else a) l.admitted) b id ≤ job_left l id t) (sym (ap (λ (x : Ledger). x.book) known)) fall in
+    record { past = ap (λ (x : Ledger). x.past) known; job_left = omega (arith, left) }
 
 -- ---- each entry
 
@@ -226,7 +226,7 @@ load_less w l i from to id t load =
     subst (λ (o : Option Message). IsLess 0 l (option_map_or (λ (m : Message). loaded w l i to (load_rows w m from to)) o l) id t) (sym load.there) (read_less w l i from to load id t)
 
 start_less : (w : World) (l : Ledger) (number : ℕ) (i : Id) (site : Site) (ps : List ℕ) (id : Id) (t : ℕ) → list_any (is_row i site ps) l.waiting ≡ true → IsLess (cond (id_eq i id && (site.transport == t)) 1 0) l (change w l (entries.Start number i site ps)) id t
-start_less w l number i site ps id t h = let fall = row_falls l i site ps id t h in record { past = refl; rest = omega (arith, fall) }
+start_less w l number i site ps id t h = let fall = row_falls l i site ps id t h in record { past = refl; job_left = omega (arith, fall) }
 
 remove_same : (w : World) (l : Ledger) (i : Id) → IsConsistent w l → (j : Id) → id_eq j i ≡ false → message_of (remove_message l.book i) j ≡ message_of l.book j
 remove_same w l i c j other = other_left l.book i j c.book.distinct other
@@ -241,14 +241,14 @@ less_of w l (entries.Admit i) id t c h goes = admit_less l (after_pick l) i id t
 less_of w l (entries.Load i from to) id t c h goes = load_less w l i from to id t (load_on w l i from to (admitted_of l i) (message_of l.book i) c refl refl h)
 less_of w l (entries.Start number i site ps) id t c h goes =
     start_less w l number i site ps id t (some_row w l i site ps (and_parts (number == starts l + 1) (list_any (λ (r : Row). is_row i site ps r && is_startable w l r) l.waiting) h).1)
-less_of w l (entries.Preempt child parent transport need) id t c h goes = record { past = refl; rest = omega arith }
+less_of w l (entries.Preempt child parent transport need) id t c h goes = record { past = refl; job_left = omega arith }
 less_of w l (entries.Reply number state os) id t c h goes = reply_less w l state os id t (flight_of l number)
 less_of w l (entries.Skip i site ps) id t c h goes =
     outcomes_less w l (unqueued l i site ps) id t 0 ps (replicate (length ps) (outcomes.Later 0)) (message_of l.book i)
     (skip_less w l i site ps id t (and_parts (list_any (is_row i site ps) l.waiting) (is_dead_site l site) h).0)
-less_of w l (entries.Log i failure) id t c h goes = let less = changed_same l i (with_failure failure) id (λ m. refl) (λ m. refl) in record { past = refl; rest = omega (arith, less) }
-less_of w l (entries.Mark i position) id t c h goes = let less = changed_same l i (with_mark position) id (λ m. refl) (λ m. marked_length position 0 m.recipients) in record { past = refl; rest = omega (arith, less) }
-less_of w l (entries.Sync i) id t c h goes = let less = changed_same l i sync_all id (λ m. refl) (λ m. synced_length m) in record { past = refl; rest = omega (arith, less) }
+less_of w l (entries.Log i failure) id t c h goes = let less = changed_same l i (with_failure failure) id (λ m. refl) (λ m. refl) in record { past = refl; job_left = omega (arith, less) }
+less_of w l (entries.Mark i position) id t c h goes = let less = changed_same l i (with_mark position) id (λ m. refl) (λ m. marked_length position 0 m.recipients) in record { past = refl; job_left = omega (arith, less) }
+less_of w l (entries.Sync i) id t c h goes = let less = changed_same l i sync_all id (λ m. refl) (λ m. synced_length m) in record { past = refl; job_left = omega (arith, less) }
 less_of w l (entries.Defer i due) id t c h goes = leave_less l (move_message l.book i (places.Deferred due)) i id t (λ j other. other_moved l.book i j (move_to (places.Deferred due)) (λ m. refl) other)
 less_of w l (entries.Bounce i) id t c h goes = bounce_less w l id t (message_of l.book i) c
 less_of w l (entries.Remove i) id t c h goes = leave_less l (remove_message l.book i) i id t (remove_same w l i c)
@@ -260,9 +260,9 @@ less_of w l entries.End id t c h goes = same_less l id t
 pub record IsFall (w : World) (l : Ledger) (e : Entry) (id : Id) (t : ℕ) : Type 0 where
   pub starts : starts_of (after w l e) id t ≡ cond (is_start_of id t e) 1 0 + starts_of l id t
   pub charged : charged (after w l e) id t ≡ charge_of id t e + charged l id t
-  pub rest : cond (is_start_of id t e) 1 0 + rest (after w l e) id t ≤ rest l id t
+  pub job_left : cond (is_start_of id t e) 1 0 + job_left (after w l e) id t ≤ job_left l id t
 
-fall_from : (w : World) (l k : Ledger) (e : Entry) (id : Id) (t n : ℕ) → k.past ≡ e ∷ l.past → n + rest k id t ≤ rest l id t → is_admit_of id e ≡ false →
+fall_from : (w : World) (l k : Ledger) (e : Entry) (id : Id) (t n : ℕ) → k.past ≡ e ∷ l.past → n + job_left k id t ≤ job_left l id t → is_admit_of id e ≡ false →
     (starts_of k id t ≡ cond (is_start_of id t e) 1 0 + starts_of l id t) × (charged k id t ≡ charge_of id t e + charged l id t)
 fall_from w l k e id t n past less goes = (
   ap (λ (es : List Entry). count_by (is_start_of id t) (take_while (λ x. not (is_admit_of id x)) es)) past ∙ starts_more l e id t goes,
@@ -276,11 +276,11 @@ falls w l e id t c h goes =
     let same = after_same w l e id t in
     let k = after w l e in
     let past : k.past ≡ e ∷ l.past = same.past ∙ ap (λ (es : List Entry). e ∷ es) less.past in
-    let was : rest k id t ≡ rest (change w l e) id t = same.rest in
-    let fall : n + rest (change w l e) id t ≤ rest l id t = less.rest in
-    let left : n + rest k id t ≤ rest l id t = omega (arith, was, fall) in
+    let was : job_left k id t ≡ job_left (change w l e) id t = same.job_left in
+    let fall : n + job_left (change w l e) id t ≤ job_left l id t = less.job_left in
+    let left : n + job_left k id t ≤ job_left l id t = omega (arith, was, fall) in
     let two = fall_from w l k e id t n past left (or_parts (is_admit_of id e) (is_life e) goes).0 in
-    record { starts = two.0; charged = two.1; rest = left }
+    record { starts = two.0; charged = two.1; job_left = left }
 
 -- an entry of a trace is allowed
 pub entry_may : (w : World) (l : Ledger) (e : Entry) → IsConsistent w l → IsEntryOf w l e → may w l e ≡ true

@@ -14,7 +14,7 @@ use Rattle.q_laws.proofs.Runs.{front_consistent, run_entries}
 use Rattle.q_laws.specs.Consistency.{IsConsistent, IsUsable}
 use Rattle.q_laws.specs.Traces.{AreAllowed, AreEntriesOf}
 use Rattle.q_model.proofs.IdLaws.{id_eq-true}
-use Rattle.q_model.specs.Accounts.{charge_of, charged, is_start_of, rest, starts_of}
+use Rattle.q_model.specs.Accounts.{charge_of, charged, is_start_of, job_left, starts_of}
 use Rattle.q_model.specs.Book.{Book, message_of}
 use Rattle.q_model.specs.Candidates.{ids_behind, best, candidates, is_better, is_candidate, pays}
 use Rattle.q_model.specs.Book.{all_ids}
@@ -44,16 +44,16 @@ use Rattle.q_model.specs.declared.entry.Entry.TheVariants as entries
 record IsPaid (w : World) (l : Ledger) (child id : Id) (t need : ℕ) : Type 0 where
   cost : (w.settings.slot_cost == 0) ≡ false
   new : starts_of l child t ≡ 0
-  same : need ≡ rest l child t
-  paid : w.settings.slot_cost * need + w.settings.slot_cost * charged l id t ≤ starts_of l id t + rest l id t
+  same : need ≡ job_left l child t
+  paid : w.settings.slot_cost * need + w.settings.slot_cost * charged l id t ≤ starts_of l id t + job_left l id t
 
-candidate_paid : (w : World) (l : Ledger) (id b : Id) (t need : ℕ) → need ≡ rest l b t → is_candidate w l t id b ≡ true → IsPaid w l b id t need
+candidate_paid : (w : World) (l : Ledger) (id b : Id) (t need : ℕ) → need ≡ job_left l b t → is_candidate w l t id b ≡ true → IsPaid w l b id t need
 candidate_paid w l id b t need same h =
     let cost = w.settings.slot_cost in
     let owes = cost * charged l id t in
-    let left = rest l id t in
+    let left = job_left l id t in
     let started = starts_of l id t in
-    let n = rest l b t in
+    let n = job_left l b t in
     let has = not (cost == 0) in
     let stands = list_any (id_eq b) (ids_behind id (line_of l t)) in
     let new = starts_of l b t == 0 in
@@ -70,7 +70,7 @@ candidate_paid w l id b t need same h =
       paid = subst (λ x. cost * x + owes ≤ started + left) (sym same) (leb-true (cost * n + owes) (started + left) second);
     }
 
-best_paid : (w : World) (l : Ledger) (id child : Id) (t need : ℕ) (o : Option Id) → best w l t id ≡ o → option_map_or (λ b. id_eq b child) o false ≡ true → need ≡ rest l child t → IsPaid w l child id t need
+best_paid : (w : World) (l : Ledger) (id child : Id) (t need : ℕ) (o : Option Id) → best w l t id ≡ o → option_map_or (λ b. id_eq b child) o false ≡ true → need ≡ job_left l child t → IsPaid w l child id t need
 best_paid w l id child t need None e h same = absurd cc
 best_paid w l id child t need (Some b) e h same =
     let name : b ≡ child = id_eq-true b child h in
@@ -79,9 +79,9 @@ best_paid w l id child t need (Some b) e h same =
 
 preempt_paid : (w : World) (l : Ledger) (child id : Id) (t need : ℕ) → may_preempt w l child id t need ≡ true → IsPaid w l child id t need
 preempt_paid w l child id t need may =
-    let two = and_parts (is_current w l t id && is_best w l t id child) (need == rest l child t) may in
+    let two = and_parts (is_current w l t id && is_best w l t id child) (need == job_left l child t) may in
     let one = and_parts (is_current w l t id) (is_best w l t id child) two.0 in
-    best_paid w l id child t need (best w l t id) refl one.1 (eqb-true need (rest l child t) two.1)
+    best_paid w l id child t need (best w l t id) refl one.1 (eqb-true need (job_left l child t) two.1)
 
 -- what an entry charges a job for
 record IsCharge (w : World) (l : Ledger) (e : Entry) (id : Id) (t : ℕ) : Type 0 where
@@ -156,19 +156,19 @@ through_parts id t (e ∷ es) = which (ends_job id e) (through_parts id t es)
     which false h = omega (arith, h)
 
 -- a job starts no more than it has left
-starts_fit : (w : World) (l : Ledger) (id : Id) (t : ℕ) (es : List Entry) → IsConsistent w l → AreEntriesOf w l es → own_starts id t es ≤ rest l id t
+starts_fit : (w : World) (l : Ledger) (id : Id) (t : ℕ) (es : List Entry) → IsConsistent w l → AreEntriesOf w l es → own_starts id t es ≤ job_left l id t
 starts_fit w l id t [] c h = omega arith
 starts_fit w l id t (e ∷ es) c h = which (ends_job id e) refl (starts_fit w (after w l e) id t es (entry_consistent w l e c h.0) h.1)
   where
-    which : (b : Bool) → ends_job id e ≡ b → own_starts id t es ≤ rest (after w l e) id t → (if b then 0 else cond (is_start_of id t e) 1 0 + own_starts id t es) ≤ rest l id t
+    which : (b : Bool) → ends_job id e ≡ b → own_starts id t es ≤ job_left (after w l e) id t → (if b then 0 else cond (is_start_of id t e) 1 0 + own_starts id t es) ≤ job_left l id t
     which true goes later = omega arith
     which false goes later =
-        let fall : cond (is_start_of id t e) 1 0 + rest (after w l e) id t ≤ rest l id t = (falls w l e id t c (entry_may w l e c h.0) goes).rest in
+        let fall : cond (is_start_of id t e) 1 0 + job_left (after w l e) id t ≤ job_left l id t = (falls w l e id t c (entry_may w l e c h.0) goes).job_left in
         omega (arith, fall, later)
 
 -- a job is charged nothing more, or all of it was paid
 abbrev IsCovered : World → Ledger → Id → ℕ → ℕ → Type 0
-IsCovered w l id t n = (n ≡ 0) ⊎ (w.settings.slot_cost * (charged l id t + n) ≤ starts_of l id t + rest l id t)
+IsCovered w l id t n = (n ≡ 0) ⊎ (w.settings.slot_cost * (charged l id t + n) ≤ starts_of l id t + job_left l id t)
 
 covered_more : (w : World) (l : Ledger) (e : Entry) (id : Id) (t n : ℕ) → IsFall w l e id t → Charges w l e id t → IsCovered w (after w l e) id t n → IsCovered w l id t (charge_of id t e + n)
 covered_more w l e id t n fall (inl none) (inl nothing) =
@@ -176,7 +176,7 @@ covered_more w l e id t n fall (inl none) (inl nothing) =
     inl (omega (arith, k, nothing))
 covered_more w l e id t n fall (inr charge) (inl nothing) =
     let cost = w.settings.slot_cost in
-    let paid : cost * charge.need + cost * charged l id t ≤ starts_of l id t + rest l id t = charge.paid.paid in
+    let paid : cost * charge.need + cost * charged l id t ≤ starts_of l id t + job_left l id t = charge.paid.paid in
     let sum : charged l id t + (charge_of id t e + n) ≡ charged l id t + (charge.need + 0) = ap (λ x. charged l id t + (x + n)) charge.charge ∙ ap (λ x. charged l id t + (charge.need + x)) nothing in
     let all : cost * (charged l id t + (charge_of id t e + n)) ≡ cost * (charged l id t + (charge.need + 0)) = ap (λ x. cost * x) sum in
     inr (omega (arith, paid, all))
@@ -185,7 +185,7 @@ covered_more w l e id t n fall charge (inr covered) =
     let sum : charged (after w l e) id t + n ≡ charged l id t + (charge_of id t e + n) = (let k = fall.charged in omega (arith, k)) in
     let all : cost * (charged (after w l e) id t + n) ≡ cost * (charged l id t + (charge_of id t e + n)) = ap (λ x. cost * x) sum in
     let started = fall.starts in
-    let left : cond (is_start_of id t e) 1 0 + rest (after w l e) id t ≤ rest l id t = fall.rest in
+    let left : cond (is_start_of id t e) 1 0 + job_left (after w l e) id t ≤ job_left l id t = fall.job_left in
     inr (omega (arith, covered, all, started, left))
 
 charges_covered : (w : World) (l : Ledger) (id : Id) (t : ℕ) (es : List Entry) → IsConsistent w l → AreEntriesOf w l es → IsCovered w l id t (charges_in id t es)
@@ -227,13 +227,13 @@ child_fits w l child id t need es c h paid =
     let fall = falls w l e child t c (entry_may w l e c h.0) refl in
     let next = entry_consistent w l e c h.0 in
     let started : starts_of k child t ≡ 0 + starts_of l child t = fall.starts in
-    let left : 0 + rest k child t ≤ rest l child t = fall.rest in
+    let left : 0 + job_left k child t ≤ job_left l child t = fall.job_left in
     let same = paid.same in
     let new = paid.new in
     let starts = starts_fit w k child t es next h.1 in
     (omega (arith, starts, left, same), owed (charges_covered w k child t es next h.1) (omega (arith, started, left, same, new)))
   where
-    owed : IsCovered w (after w l (entries.Preempt child id t need)) child t (charges_in child t es) → starts_of (after w l (entries.Preempt child id t need)) child t + rest (after w l (entries.Preempt child id t need)) child t ≤ need → w.settings.slot_cost * charges_in child t es ≤ need
+    owed : IsCovered w (after w l (entries.Preempt child id t need)) child t (charges_in child t es) → starts_of (after w l (entries.Preempt child id t need)) child t + job_left (after w l (entries.Preempt child id t need)) child t ≤ need → w.settings.slot_cost * charges_in child t es ≤ need
     owed (inl none) few =
         let zero : w.settings.slot_cost * charges_in child t es ≡ w.settings.slot_cost * 0 = ap (λ x. w.settings.slot_cost * x) none in
         omega (arith, zero)
@@ -289,10 +289,10 @@ job_inflation w l id t m fs c h there =
     let next = entry_consistent w l e c h.0 in
     let new = entered w l id t m c (entry_may w l e c h.0) there in
     let bound : preempting_starts id t fs * (w.settings.slot_cost - 1) ≤ w.settings.slot_cost * charges_in id t fs = charges_bound w k id t fs next h.1 in
-    let few : starts_of k id t + rest k id t ≤ length m.recipients = (let a = new.starts in let b : rest k id t ≤ length m.recipients = new.left in omega (arith, a, b)) in
+    let few : starts_of k id t + job_left k id t ≤ length m.recipients = (let a = new.starts in let b : job_left k id t ≤ length m.recipients = new.left in omega (arith, a, b)) in
     le_trans bound (all (charges_covered w k id t fs next h.1) few)
   where
-    all : IsCovered w (after w l (entries.Admit id)) id t (charges_in id t fs) → starts_of (after w l (entries.Admit id)) id t + rest (after w l (entries.Admit id)) id t ≤ length m.recipients → w.settings.slot_cost * charges_in id t fs ≤ length m.recipients
+    all : IsCovered w (after w l (entries.Admit id)) id t (charges_in id t fs) → starts_of (after w l (entries.Admit id)) id t + job_left (after w l (entries.Admit id)) id t ≤ length m.recipients → w.settings.slot_cost * charges_in id t fs ≤ length m.recipients
     all (inl none) few =
         let zero : w.settings.slot_cost * charges_in id t fs ≡ w.settings.slot_cost * 0 = ap (λ x. w.settings.slot_cost * x) none in
         omega (arith, zero)

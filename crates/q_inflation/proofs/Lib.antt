@@ -1,4 +1,4 @@
-pub mod Rests
+pub mod JobsLeft
 pub mod Loading
 pub mod Falling
 pub mod Entered

@@ -3,7 +3,7 @@ use Rattle.std.proofs.Common.{◌≡◌, ℕ, suc, ◌+◌, ◌-◌, ◌≤◌, 
 use Rattle.std.proofs.lemmas.List.Sums.{count_by-le-length}
 use Rattle.std.specs.Option.{option_map_or}
 use Rattle.std.specs.Prelude.{◌==◌, ◌&&◌, nat_lt}
-use Rattle.q_inflation.proofs.Rests.{count_append, count_none, is_of, unread_in, waiting_of}
+use Rattle.q_inflation.proofs.JobsLeft.{count_append, count_none, is_of, unread_in, waiting_of}
 use Rattle.q_laws.proofs.Batched.{IsRising, pending_rising, rising_filter, rows_of, loaded_at}
 use Rattle.q_laws.proofs.Books.{message_in}
 use Rattle.q_laws.proofs.Distinct.{id_cases, id_same}

@@ -12,7 +12,7 @@ use Rattle.q_laws.proofs.Members.{IsIn, any_from, find_in, in_filtered, least_in
 use Rattle.q_laws.proofs.Places.{got_in, place_is}
 use Rattle.q_laws.specs.Consistency.{IsConsistent}
 use Rattle.q_model.proofs.IdLaws.{id_eq-refl, id_eq-true}
-use Rattle.q_model.specs.Accounts.{rest}
+use Rattle.q_model.specs.Accounts.{job_left}
 use Rattle.q_model.specs.Admissions.{has_room, may_admit}
 use Rattle.q_model.specs.Batches.{load_end}
 use Rattle.q_model.specs.Book.{message_of}
@@ -173,24 +173,24 @@ start_decided w l transport parent r now row =
       subst (λ i. IsIn i (line_of l r.site.transport)) (sym (id_eq-true r.id parent three.0)) (subst (λ t. IsIn parent (line_of l t)) (sym (eqb-true r.site.transport transport three.1)) line),
     )
 
-preempt_decided : (w : World) (l : Ledger) (transport : ℕ) (parent child : Id) → current w l transport ≡ Some parent → best w l transport parent ≡ Some child → Decided w l (entries.Preempt child parent transport (rest l child transport))
+preempt_decided : (w : World) (l : Ledger) (transport : ℕ) (parent child : Id) → current w l transport ≡ Some parent → best w l transport parent ≡ Some child → Decided w l (entries.Preempt child parent transport (job_left l child transport))
 preempt_decided w l transport parent child now good = (
-  and_from (option_map_or (λ c. id_eq c parent) (current w l transport) false && option_map_or (λ b. id_eq b child) (best w l transport parent) false) (rest l child transport == rest l child transport)
+  and_from (option_map_or (λ c. id_eq c parent) (current w l transport) false && option_map_or (λ b. id_eq b child) (best w l transport parent) false) (job_left l child transport == job_left l child transport)
       (and_from (option_map_or (λ c. id_eq c parent) (current w l transport) false) (option_map_or (λ b. id_eq b child) (best w l transport parent) false)
       (ap (λ (o : Option Id). option_map_or (λ c. id_eq c parent) o false) now ∙ id_eq-refl parent)
       (ap (λ (o : Option Id). option_map_or (λ c. id_eq c child) o false) good ∙ id_eq-refl child))
-      (same_number (rest l child transport)),
+      (same_number (job_left l child transport)),
   tt,
 )
 
 best_decided : (w : World) (l : Ledger) (transport : ℕ) (parent : Id) (e : Entry) (o : Option Id) → current w l transport ≡ Some parent → best w l transport parent ≡ o →
-    (q : Option Row) → next_row w l transport parent ≡ q → option_map_or (λ child. Some (entries.Preempt child parent transport (rest l child transport))) o (option_map (start_of l) q) ≡ Some e → Decided w l e
-best_decided w l transport parent e (Some child) now good q row h = subst (Decided w l) (same_Some (entries.Preempt child parent transport (rest l child transport)) e h) (preempt_decided w l transport parent child now good)
+    (q : Option Row) → next_row w l transport parent ≡ q → option_map_or (λ child. Some (entries.Preempt child parent transport (job_left l child transport))) o (option_map (start_of l) q) ≡ Some e → Decided w l e
+best_decided w l transport parent e (Some child) now good q row h = subst (Decided w l) (same_Some (entries.Preempt child parent transport (job_left l child transport)) e h) (preempt_decided w l transport parent child now good)
 best_decided w l transport parent e None now good None row h = absurd cc
 best_decided w l transport parent e None now good (Some r) row h = subst (Decided w l) (same_Some (start_of l r) e h) (start_decided w l transport parent r now row)
 
 choice_decided : (w : World) (l : Ledger) (transport : ℕ) (e : Entry) (o : Option Id) → current w l transport ≡ o →
-    option_and_then (λ parent. option_map_or (λ child. Some (entries.Preempt child parent transport (rest l child transport))) (best w l transport parent) (option_map (start_of l) (next_row w l transport parent))) o ≡ Some e → Decided w l e
+    option_and_then (λ parent. option_map_or (λ child. Some (entries.Preempt child parent transport (job_left l child transport))) (best w l transport parent) (option_map (start_of l) (next_row w l transport parent))) o ≡ Some e → Decided w l e
 choice_decided w l transport e None now h = absurd cc
 choice_decided w l transport e (Some parent) now h = best_decided w l transport parent e (best w l transport parent) now refl (next_row w l transport parent) refl h
 

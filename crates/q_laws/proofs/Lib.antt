@@ -47,4 +47,4 @@ pub mod UsedSites
 pub mod SiteEntries
 pub mod Living
 pub mod Standing
-pub mod Rests
+pub mod JobsLeft

@@ -11,7 +11,7 @@ use Rattle.q_laws.proofs.Quiet.{LeavesAccount, account_kept, begun_noted, book_n
 use Rattle.q_laws.proofs.Tidied.{IsReady, after_consistent, line_mapped}
 use Rattle.q_laws.specs.Consistency.{IsConsistent}
 use Rattle.q_model.proofs.IdLaws.{id_eq-true}
-use Rattle.q_model.specs.Accounts.{rest, starts_of}
+use Rattle.q_model.specs.Accounts.{job_left, starts_of}
 use Rattle.q_model.specs.Candidates.{ids_behind, best, candidates, is_better, is_candidate, pays}
 use Rattle.q_model.specs.Ids.{are_distinct, id_eq}
 use Rattle.q_model.specs.Ledger.{Ledger}
@@ -150,7 +150,7 @@ best_on w l transport parent child (Some b) e h =
     let d = list_any (id_eq b) (ids_behind parent (line_of l transport)) in
     let f = starts_of l b transport == 0 in
     let g = can_start w l transport b in
-    let one = and_parts (a && d && f && g) (pays w l transport parent (rest l b transport)) good in
+    let one = and_parts (a && d && f && g) (pays w l transport parent (job_left l b transport)) good in
     let two = and_parts (a && d && f) g one.0 in
     let three = and_parts (a && d) f two.0 in
     let four = and_parts a d three.0 in
@@ -158,7 +158,7 @@ best_on w l transport parent child (Some b) e h =
 
 preempting : (w : World) (l : Ledger) (child parent : Id) (transport need : ℕ) → list_all are_distinct l.lines ≡ true → may_preempt w l child parent transport need ≡ true → ArePreempting l child parent transport
 preempting w l child parent transport need single may =
-    let two = and_parts (is_current w l transport parent && is_best w l transport parent child) (need == rest l child transport) may in
+    let two = and_parts (is_current w l transport parent && is_best w l transport parent child) (need == job_left l child transport) may in
     let one = and_parts (is_current w l transport parent) (is_best w l transport parent child) two.0 in
     record {
       inside = current_on w l transport parent (current w l transport) refl one.0;

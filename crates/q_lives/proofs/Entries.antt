@@ -14,7 +14,7 @@ use Rattle.q_lives.proofs.Throughout.{HoldsAtEntries, HoldsAtFirst}
 use Rattle.q_lives.proofs.Windows.{start_window}
 use Rattle.q_lives.specs.Throughout.{FitsAccount, FitsWindow, IsPaid, KeepsLimits, LeavesDone}
 use Rattle.q_model.proofs.IdLaws.{id_eq-true}
-use Rattle.q_model.specs.Accounts.{charged, rest, starts_of}
+use Rattle.q_model.specs.Accounts.{charged, job_left, starts_of}
 use Rattle.q_model.specs.Book.{message_of}
 use Rattle.q_model.specs.Candidates.{ids_behind, best, candidates, is_better, is_candidate, pays}
 use Rattle.q_model.specs.Finishing.{has_bounce, is_at_rest, is_clean, is_done, wants_bounce}
@@ -70,12 +70,12 @@ windows_entries w l entries.End c can is = tt
 
 -- ---- accounts
 
-pays_paid : (w : World) (l : Ledger) (transport : ℕ) (child parent : Id) (need : ℕ) → need ≡ rest l child transport → pays w l transport parent need ≡ true → IsPaid w l child parent transport need
+pays_paid : (w : World) (l : Ledger) (transport : ℕ) (child parent : Id) (need : ℕ) → need ≡ job_left l child transport → pays w l transport parent need ≡ true → IsPaid w l child parent transport need
 pays_paid w l transport child parent need all h =
     let cost = w.settings.slot_cost in
     let charge = cost * charged l parent transport in
     let started = starts_of l parent transport in
-    let left = rest l parent transport in
+    let left = job_left l parent transport in
     let a = nat_le (need * (100 - w.settings.slot_discount) * cost + 100 * charge) (100 * (started + w.settings.slot_loan * cost)) in
     let b = nat_le (cost * need + charge) (started + left) in
     let d = nat_le (cost * w.settings.minimum_slots) (started + left) in
@@ -88,19 +88,19 @@ pays_paid w l transport child parent need all h =
       minimum = leb-true (cost * w.settings.minimum_slots) (started + left) two.1;
     }
 
-best_paid : (w : World) (l : Ledger) (transport : ℕ) (parent child : Id) (o : Option Id) → best w l transport parent ≡ o → option_map_or (λ b. id_eq b child) o false ≡ true → IsPaid w l child parent transport (rest l child transport)
+best_paid : (w : World) (l : Ledger) (transport : ℕ) (parent child : Id) (o : Option Id) → best w l transport parent ≡ o → option_map_or (λ b. id_eq b child) o false ≡ true → IsPaid w l child parent transport (job_left l child transport)
 best_paid w l transport parent child None e h = absurd cc
 best_paid w l transport parent child (Some b) e h =
     let good = (in_filtered (is_candidate w l transport parent) b (map (λ (a : Admitted). a.id) l.admitted) (least_in (is_better l transport) b (candidates w l transport parent) e)).1 in
     let first = not (w.settings.slot_cost == 0) && list_any (id_eq b) (ids_behind parent (line_of l transport)) && (starts_of l b transport == 0) && can_start w l transport b in
-    let paid = (and_parts first (pays w l transport parent (rest l b transport)) good).1 in
-    subst (λ (i : Id). IsPaid w l i parent transport (rest l i transport)) (id_eq-true b child h) (pays_paid w l transport b parent (rest l b transport) refl paid)
+    let paid = (and_parts first (pays w l transport parent (job_left l b transport)) good).1 in
+    subst (λ (i : Id). IsPaid w l i parent transport (job_left l i transport)) (id_eq-true b child h) (pays_paid w l transport b parent (job_left l b transport) refl paid)
 
 preempt_paid : (w : World) (l : Ledger) (child parent : Id) (transport need : ℕ) → may_preempt w l child parent transport need ≡ true → IsPaid w l child parent transport need
 preempt_paid w l child parent transport need h =
-    let two = and_parts (is_current w l transport parent && is_best w l transport parent child) (need == rest l child transport) h in
+    let two = and_parts (is_current w l transport parent && is_best w l transport parent child) (need == job_left l child transport) h in
     let one = and_parts (is_current w l transport parent) (is_best w l transport parent child) two.0 in
-    subst (IsPaid w l child parent transport) (sym (eqb-true need (rest l child transport) two.1)) (best_paid w l transport parent child (best w l transport parent) refl one.1)
+    subst (IsPaid w l child parent transport) (sym (eqb-true need (job_left l child transport) two.1)) (best_paid w l transport parent child (best w l transport parent) refl one.1)
 
 pub accounts_first : HoldsAtFirst FitsAccount
 accounts_first w mode book usable good = tt

@@ -5,7 +5,7 @@ use Rattle.std.specs.Prelude.{◌*◌, ◌+◌, ◌-◌, ◌≡◌, ◌≤◌, [
 use Rattle.q_laws.specs.Traces.{IsWithinLimits}
 use Rattle.q_model.specs.declared.entry.Entry.{Entry}
 use Rattle.q_model.specs.declared.id.Id.{Id}
-use Rattle.q_model.specs.Accounts.{charged, rest, starts_of}
+use Rattle.q_model.specs.Accounts.{charged, job_left, starts_of}
 use Rattle.q_model.specs.Book.{Book, message_of}
 use Rattle.q_model.specs.Deliveries.{busy}
 use Rattle.q_model.specs.Ledger.{Ledger, opening}
@@ -51,13 +51,13 @@ owed w l id transport = w.settings.slot_cost * charged l id transport
 
 -- what a job started so far and has left, in deliveries
 abbrev pub whole_of : Ledger → Id → ℕ → ℕ
-whole_of l id transport = starts_of l id transport + rest l id transport
+whole_of l id transport = starts_of l id transport + job_left l id transport
 
 -- A preemption is paid for by the parent's account, which is what it started less what it was
 -- charged. With a loan it bears the need less its discount; with what is left it bears the whole
 -- need; and the job isn't too short. What is subtracted stands on the left here.
 pub record IsPaid (w : World) (l : Ledger) (child parent : Id) (transport need : ℕ) : Type 0 where
-  pub whole_need : need ≡ rest l child transport
+  pub whole_need : need ≡ job_left l child transport
   pub loan :
       need * (100 - w.settings.slot_discount) * w.settings.slot_cost
       + 100 * owed w l parent transport

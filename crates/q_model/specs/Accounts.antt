@@ -36,5 +36,5 @@ abbrev pub charged : Ledger → Id → ℕ → ℕ
 charged l id transport = sum_by (charge_of id transport) (since_admit l id)
 
 -- what the job has left: its entries that wait, and its unread recipients
-abbrev pub rest : Ledger → Id → ℕ → ℕ
-rest l id transport = count_by (λ r. id_eq r.id id && (r.site.transport == transport)) l.waiting + unread_of l id
+abbrev pub job_left : Ledger → Id → ℕ → ℕ
+job_left l id transport = count_by (λ r. id_eq r.id id && (r.site.transport == transport)) l.waiting + unread_of l id

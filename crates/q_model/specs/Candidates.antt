@@ -4,7 +4,7 @@ use Rattle.std.specs.List.{list_any}
 use Rattle.std.specs.Option.{option_map_or}
 use Rattle.std.specs.Prelude.{◌&&◌, ◌*◌, ◌+◌, ◌-◌, ◌==◌, [], Bool, filter, if◌then◌else◌, List, map, nat_le, nat_lt, not, Option, ℕ, ◌∷◌}
 use Rattle.q_model.specs.declared.id.Id.{Id}
-use Rattle.q_model.specs.Accounts.{charged, rest, starts_of}
+use Rattle.q_model.specs.Accounts.{charged, job_left, starts_of}
 use Rattle.q_model.specs.Book.{message_of}
 use Rattle.q_model.specs.Ids.{id_eq}
 use Rattle.q_model.specs.Ledger.{Ledger}
@@ -25,7 +25,7 @@ pays w l transport parent need =
     let cost = w.settings.slot_cost in
     let begun = starts_of l parent transport in
     let owed = cost * charged l parent transport in
-    let left = rest l parent transport in
+    let left = job_left l parent transport in
     nat_le (need * (100 - w.settings.slot_discount) * cost + 100 * owed) (100 * (begun + w.settings.slot_loan * cost))
     && nat_le (cost * need + owed) (begun + left)
     && nat_le (cost * w.settings.minimum_slots) (begun + left)
@@ -36,7 +36,7 @@ is_candidate w l transport parent id = not (w.settings.slot_cost == 0)
     && list_any (id_eq id) (ids_behind parent (line_of l transport))
     && (starts_of l id transport == 0)
     && can_start w l transport id
-    && pays w l transport parent (rest l id transport)
+    && pays w l transport parent (job_left l id transport)
 
 -- in the order of admission
 abbrev pub candidates : World → Ledger → ℕ → Id → List Id
@@ -48,7 +48,7 @@ age l id = option_map_or (λ m. age_of l.now m) (message_of l.book id) 0
 
 -- (age + 1) / need is greater
 abbrev pub is_better : Ledger → ℕ → Id → Id → Bool
-is_better l transport a b = nat_lt ((age l b + 1) * rest l a transport) ((age l a + 1) * rest l b transport)
+is_better l transport a b = nat_lt ((age l b + 1) * job_left l a transport) ((age l a + 1) * job_left l b transport)
 
 -- the best candidate; among equals the first admitted
 abbrev pub best : World → Ledger → ℕ → Id → Option Id

@@ -5,7 +5,7 @@ use Rattle.q_model.specs.declared.rows.Served.{Served}
 use Rattle.q_model.specs.declared.entry.Entry.{Entry}
 use Rattle.q_model.specs.declared.id.Id.{Id}
 use Rattle.q_model.specs.declared.rows.Row.{Row}
-use Rattle.q_model.specs.Accounts.{rest}
+use Rattle.q_model.specs.Accounts.{job_left}
 use Rattle.q_model.specs.Candidates.{best}
 use Rattle.q_model.specs.Sites.{site_eq}
 use Rattle.q_model.specs.Ids.{id_eq}
@@ -43,7 +43,7 @@ start_next w l transport id = option_map (start_of l) (next_row w l transport id
 
 -- the child preempts, by all that it has left
 abbrev pub preempt_by : Ledger → ℕ → Id → Id → Option Entry
-preempt_by l transport parent child = Some (entries.Preempt child parent transport (rest l child transport))
+preempt_by l transport parent child = Some (entries.Preempt child parent transport (job_left l child transport))
 
 -- the best candidate preempts the current job; where there is none, the current job starts
 abbrev pub choice_by : World → Ledger → ℕ → Id → Option Entry

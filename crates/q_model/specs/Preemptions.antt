@@ -3,7 +3,7 @@ use Rattle.std.specs.List.{enumerate_from}
 use Rattle.std.specs.Option.{option_map_or}
 use Rattle.std.specs.Prelude.{◌&&◌, ◌==◌, [], Bool, false, filter, if◌then◌else◌, List, map, not, ℕ, ◌∷◌}
 use Rattle.q_model.specs.declared.id.Id.{Id}
-use Rattle.q_model.specs.Accounts.{rest}
+use Rattle.q_model.specs.Accounts.{job_left}
 use Rattle.q_model.specs.Candidates.{best}
 use Rattle.q_model.specs.Ids.{id_eq}
 use Rattle.q_model.specs.Ledger.{Ledger}
@@ -21,7 +21,7 @@ is_best w l transport parent id = option_map_or (λ b. id_eq b id) (best w l tra
 -- the best candidate preempts the current job, at its need
 abbrev pub may_preempt : World → Ledger → Id → Id → ℕ → ℕ → Bool
 may_preempt w l child parent transport need =
-    is_current w l transport parent && is_best w l transport parent child && (need == rest l child transport)
+    is_current w l transport parent && is_best w l transport parent child && (need == job_left l child transport)
 
 -- the id stands just before the other
 abbrev pub put_before : Id → Id → List Id → List Id

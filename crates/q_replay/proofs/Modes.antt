@@ -5,7 +5,7 @@ use Rattle.std.specs.Option.{option_map_or, option_or}
 use Rattle.std.specs.Prelude.{find, length, nat_le, nat_lt, not, option_and_then, option_map, replicate, slice_get}
 use Rattle.q_laws.proofs.Loaded.{records_is}
 use Rattle.q_laws.proofs.Tidied.{tidy_scan_is}
-use Rattle.q_model.specs.Accounts.{rest}
+use Rattle.q_model.specs.Accounts.{job_left}
 use Rattle.q_model.specs.Admissions.{has_room, may_admit}
 use Rattle.q_model.specs.Batches.{load_end, load_rows}
 use Rattle.q_laws.specs.Laws.{opened_ledger}
@@ -109,7 +109,7 @@ needed_spares id position (needs.Log why code) = refl
 needed_spares id position needs.Mark = refl
 
 preempt_spares : (l : Ledger) (transport : ℕ) (parent child : Id) → Spares (preempt_by l transport parent child)
-preempt_spares l transport parent child e is = let same : entries.Preempt child parent transport (rest l child transport) ≡ e = cc in ap is_life (sym same)
+preempt_spares l transport parent child e is = let same : entries.Preempt child parent transport (job_left l child transport) ≡ e = cc in ap is_life (sym same)
 
 load_spares : (w : World) (l : Ledger) (a : Admitted) (m : Message) → Spares (load_entry w l a m)
 load_spares w l a m e is = let same : entries.Load a.id a.unread (load_end m a.unread (free w l)) ≡ e = cc in ap is_life (sym same)

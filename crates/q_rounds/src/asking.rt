@@ -37,7 +37,7 @@ impl Rounds {
 
     /// How many rows of the message wait at the transport: so few that the rows of one peer more
     /// can be added.
-    pub fn rest(&self, id: Id, transport: usize) -> u64
+    pub fn rows_left(&self, id: Id, transport: usize) -> u64
         ensures value { result ≡ rows_left id transport (values_of self.now.items) }
         ensures few { result + 2 ^ 32 < 2 ^ 64 }
     {

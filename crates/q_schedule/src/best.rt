@@ -48,7 +48,7 @@ fn own(
     let ranked = message(messages, id)?;
     let at = usize::from(wanted.transport);
     let next = turns.next(at, id, sites)?;
-    let need = turns.rest(id, at) + u64::from(ranked.message.unread);
+    let need = turns.rows_left(id, at) + u64::from(ranked.message.unread);
     if !is_wanted(turns, wanted, id, need) {
         return None;
     }

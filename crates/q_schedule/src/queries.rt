@@ -84,11 +84,11 @@ impl Schedule {
     }
 
     /// How many rows of the message wait at the transport.
-    pub fn rest(&self, id: Id, transport: usize) -> u64
+    pub fn rows_left(&self, id: Id, transport: usize) -> u64
         ensures value { result ≡ rows_left id transport self.now.peers }
         ensures few { result + 2 ^ 32 < 2 ^ 64 }
     {
-        self.turns.rest(id, transport)
+        self.turns.rows_left(id, transport)
     }
 
     /// Whether the rows of a peer may be left in another order than that in which they came.

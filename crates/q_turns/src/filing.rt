@@ -48,7 +48,7 @@ impl Turns {
         if !self.is_fresh(site.transport, id) {
             return None;
         }
-        let rows = self.peers.rest(id, usize::from(site.transport));
+        let rows = self.peers.rows_left(id, usize::from(site.transport));
         Some(Candidate {
             id,
             site: *site,

@@ -23,7 +23,7 @@ returns-then-not-is_wanted c =
     let ps = c.args.turns.now.peers in
     let id = c.in_ok-id.id in
     let r = c.in_ok-ranked.ranked.now in
-    let count = ap (λ n. n + c.from.result) (c.rest.ensures.value ∙ ap (λ t. rows_left id t ps) c.from-at.ensures) ∙ ap (λ n. rows_left id w.transport ps + n) c.from.ensures in
+    let count = ap (λ n. n + c.from.result) (c.rows_left.ensures.value ∙ ap (λ t. rows_left id t ps) c.from-at.ensures) ∙ ap (λ n. rows_left id w.transport ps + n) c.from.ensures in
     not_wanted c.args.sites.now.items c.args.turns.now.lines ps (values_of c.args.messages.now.items) c.args.stale w.transport w.most w.except id c.in_ok-id.was r (sym c.message.ensures ∙ ap option_copied c.in_ok-ranked.was) _ count
     (sym c.is_wanted.ensures ∙ c.if-not-is_wanted.true)
 
@@ -34,7 +34,7 @@ returns c =
     let ps = c.args.turns.now.peers in
     let id = c.in_ok-id.id in
     let r = c.in_ok-ranked.ranked.now in
-    let count = ap (λ n. n + c.from.result) (c.rest.ensures.value ∙ ap (λ t. rows_left id t ps) c.from-at.ensures) ∙ ap (λ n. rows_left id w.transport ps + n) c.from.ensures in
+    let count = ap (λ n. n + c.from.result) (c.rows_left.ensures.value ∙ ap (λ t. rows_left id t ps) c.from-at.ensures) ∙ ap (λ n. rows_left id w.transport ps + n) c.from.ensures in
     own_is ds c.args.turns.now.lines ps (values_of c.args.messages.now.items) c.args.stale w.transport w.most w.except id c.in_ok-id.was r (sym c.message.ensures ∙ ap option_copied c.in_ok-ranked.was) _ count c.in_ok-next.next.now
     (ap (λ t. next_in ds t id ps) (sym c.from-at.ensures) ∙ sym c.next.ensures ∙ ap option_copied c.in_ok-next.was)
     (sym c.is_wanted.ensures ∙ c.if-not-is_wanted.false)

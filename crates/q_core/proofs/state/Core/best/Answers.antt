@@ -3,11 +3,11 @@ use Rattle.std.proofs.lemmas.List.{length-map}
 use Rattle.std.specs.Option.{option_map_or}
 use Rattle.std.specs.Prelude.{◌&&◌, ◌==◌, nat_le}
 use Rattle.q_core.proofs.AbleLaws.{able_known}
-use Rattle.q_core.proofs.BestLaws.{best_found, few_rest, has_process, none_best}
+use Rattle.q_core.proofs.BestLaws.{best_found, few_job_left, has_process, none_best}
 use Rattle.q_core.proofs.CountLaws.{count_within}
 use Rattle.q_core.proofs.MessageTies.{slots_found}
-use Rattle.q_core.proofs.TurnTies.{rest_counted}
-use Rattle.q_core.specs.Choosing.{best_in, current_in, jobs_at, pays_in, rest_in}
+use Rattle.q_core.proofs.TurnTies.{rows_left_counted}
+use Rattle.q_core.specs.Choosing.{best_in, current_in, job_left_in, jobs_at, pays_in}
 use Rattle.q_core.specs.Held.{slot_in}
 use Rattle.q_core.specs.RowWalks.{is_row_for}
 use Rattle.q_core.specs.State.{State}
@@ -26,8 +26,8 @@ returns-in_err-most c =
     let tied = c.self.invariant.5.known in
     let found = slots_found a.admitted.items c.stand_apart-3.ensures.apart in
     let same = length-map a.waiting.items (λ (k : HeldRow). k.row) in
-    let few = few_rest now t a.turns.messages (λ id. omega (arith, count_within (is_row_for id t) rows, same, c.stand_apart-4.ensures.within, c.stand_apart-4.ensures.few)) tied found c.stand_apart-2.ensures.few_unread in
-    let left : c.rest-left.result ≡ rest_in now t parent.id = c.rest-left.ensures.value ∙ ap (λ (s : State). rest_in s t parent.id) (sym c.self.view_is) in
+    let few = few_job_left now t a.turns.messages (λ id. omega (arith, count_within (is_row_for id t) rows, same, c.stand_apart-4.ensures.within, c.stand_apart-4.ensures.few)) tied found c.stand_apart-2.ensures.few_unread in
+    let left : c.job_left-left.result ≡ job_left_in now t parent.id = c.job_left-left.ensures.value ∙ ap (λ (s : State). job_left_in s t parent.id) (sym c.self.view_is) in
     let none = none_best now t parent (λ need low. ap (λ n. not (a.params.slot_cost == 0) && pays_in a.params parent n need) (sym left) ∙ c.most_need.ensures need low ∙ ap (λ o. option_map_or (nat_le need) o false) c.in_err-most.was) (behind_jobs parent.id (jobs_at now t)) few in
     c.from_residual.ensures ∙ sym (subst (λ (s : State). best_in s t (behind_jobs parent.id (jobs_at s t)) parent ≡ None) c.self.view_is none)
 
@@ -41,10 +41,10 @@ returns-in_err-child c =
     let tied = c.self.invariant.5.known in
     let found = slots_found a.admitted.items c.stand_apart-3.ensures.apart in
     let same = length-map a.waiting.items (λ (k : HeldRow). k.row) in
-    let few = few_rest now t a.turns.messages (λ id. omega (arith, count_within (is_row_for id t) rows, same, c.stand_apart-4.ensures.within, c.stand_apart-4.ensures.few)) tied found c.stand_apart-2.ensures.few_unread in
-    let left : c.rest-left.result ≡ rest_in now t parent.id = c.rest-left.ensures.value ∙ ap (λ (s : State). rest_in s t parent.id) (sym c.self.view_is) in
+    let few = few_job_left now t a.turns.messages (λ id. omega (arith, count_within (is_row_for id t) rows, same, c.stand_apart-4.ensures.within, c.stand_apart-4.ensures.few)) tied found c.stand_apart-2.ensures.few_unread in
+    let left : c.job_left-left.result ≡ job_left_in now t parent.id = c.job_left-left.ensures.value ∙ ap (λ (s : State). job_left_in s t parent.id) (sym c.self.view_is) in
     let current : current_in now t ≡ Some parent = ap (λ (s : State). current_in s t) c.self.view_is ∙ c.requires in
-    let best = best_found now a.sites.items a.turns.peers t c.in_ok-most.most parent (λ id. rest_counted id t a.turns.peers rows c.stand_apart-2.ensures.apart c.self.invariant.3.counts)
+    let best = best_found now a.sites.items a.turns.peers t c.in_ok-most.most parent (λ id. rows_left_counted id t a.turns.peers rows c.stand_apart-2.ensures.apart c.self.invariant.3.counts)
     (λ id. able_known a c.self.invariant.2 c.self.invariant.3.counts c.stand_apart-2.ensures.apart c.stand_apart-2.ensures.jobs t (has_process now t parent current) id)
     (subst (λ (s : State). AreOfOthers (jobs_at s t)) (sym c.self.view_is) c.stand_apart.ensures) current
     (λ need low. ap (λ n. not (a.params.slot_cost == 0) && pays_in a.params parent n need) (sym left) ∙ c.most_need.ensures need low ∙ ap (λ o. option_map_or (nat_le need) o false) c.in_ok-most.was)
@@ -62,10 +62,10 @@ returns c =
     let tied = c.self.invariant.5.known in
     let found = slots_found a.admitted.items c.stand_apart-3.ensures.apart in
     let same = length-map a.waiting.items (λ (k : HeldRow). k.row) in
-    let few = few_rest now t a.turns.messages (λ id. omega (arith, count_within (is_row_for id t) rows, same, c.stand_apart-4.ensures.within, c.stand_apart-4.ensures.few)) tied found c.stand_apart-2.ensures.few_unread in
-    let left : c.rest-left.result ≡ rest_in now t parent.id = c.rest-left.ensures.value ∙ ap (λ (s : State). rest_in s t parent.id) (sym c.self.view_is) in
+    let few = few_job_left now t a.turns.messages (λ id. omega (arith, count_within (is_row_for id t) rows, same, c.stand_apart-4.ensures.within, c.stand_apart-4.ensures.few)) tied found c.stand_apart-2.ensures.few_unread in
+    let left : c.job_left-left.result ≡ job_left_in now t parent.id = c.job_left-left.ensures.value ∙ ap (λ (s : State). job_left_in s t parent.id) (sym c.self.view_is) in
     let current : current_in now t ≡ Some parent = ap (λ (s : State). current_in s t) c.self.view_is ∙ c.requires in
-    let best = best_found now a.sites.items a.turns.peers t c.in_ok-most.most parent (λ id. rest_counted id t a.turns.peers rows c.stand_apart-2.ensures.apart c.self.invariant.3.counts)
+    let best = best_found now a.sites.items a.turns.peers t c.in_ok-most.most parent (λ id. rows_left_counted id t a.turns.peers rows c.stand_apart-2.ensures.apart c.self.invariant.3.counts)
     (λ id. able_known a c.self.invariant.2 c.self.invariant.3.counts c.stand_apart-2.ensures.apart c.stand_apart-2.ensures.jobs t (has_process now t parent current) id)
     (subst (λ (s : State). AreOfOthers (jobs_at s t)) (sym c.self.view_is) c.stand_apart.ensures) current
     (λ need low. ap (λ n. not (a.params.slot_cost == 0) && pays_in a.params parent n need) (sym left) ∙ c.most_need.ensures need low ∙ ap (λ o. option_map_or (nat_le need) o false) c.in_ok-most.was)

@@ -10,7 +10,7 @@ use Rattle.q_laws.proofs.InPlace.{on_change}
 use Rattle.q_laws.proofs.Members.{IsIn, find_in, find_none_from, in_filtered}
 use Rattle.q_laws.proofs.Tidied.{tidy_scan_is}
 use Rattle.q_model.proofs.IdLaws.{id_eq-true}
-use Rattle.q_model.specs.Accounts.{charge_of, charged, is_admit_of, is_start_of, rest, since_admit, starts_of}
+use Rattle.q_model.specs.Accounts.{charge_of, charged, is_admit_of, is_start_of, job_left, since_admit, starts_of}
 use Rattle.q_model.specs.Book.{Book, message_of}
 use Rattle.q_model.specs.BookChanges.{change_message}
 use Rattle.q_model.specs.Finishing.{without}
@@ -144,7 +144,7 @@ charged_more l e id t h = ap (sum_by (charge_of id t)) (since_more l e id h) ∙
 -- what a job has, and what happened, are as they were
 pub record IsSame (l k : Ledger) (id : Id) (t : ℕ) : Type 0 where
   pub past : k.past ≡ l.past
-  pub rest : rest k id t ≡ rest l id t
+  pub job_left : job_left k id t ≡ job_left l id t
   pub book : k.book ≡ l.book
   pub admitted : k.admitted ≡ l.admitted
 
@@ -153,7 +153,7 @@ tidied_same w before k id t =
     let scan = tidy_scan_is k in
     record {
       past = ap (λ (x : Ledger). x.past) scan.2;
-      rest = ap (λ (x : Ledger). rest x id t) scan.2;
+      job_left = ap (λ (x : Ledger). job_left x id t) scan.2;
       book = ap (λ (x : Ledger). x.book) scan.2;
       admitted = ap (λ (x : Ledger). x.admitted) scan.2;
     }

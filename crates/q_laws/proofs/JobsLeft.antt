@@ -10,7 +10,7 @@ use Rattle.q_laws.proofs.Counts.{once_times, times}
 use Rattle.q_laws.proofs.Distinct.{find_named}
 use Rattle.q_laws.proofs.Members.{IsIn, all_at, all_from, find_in, in_filtered}
 use Rattle.q_laws.specs.Consistency.{IsHeld, IsMemoryConsistent, flight_positions, held_positions, is_filled, is_present, is_within, unsettled_positions, waiting_positions}
-use Rattle.q_model.specs.Accounts.{rest}
+use Rattle.q_model.specs.Accounts.{job_left}
 use Rattle.q_model.specs.Book.{message_of}
 use Rattle.q_model.specs.Ids.{id_eq}
 use Rattle.q_model.specs.Ledger.{Ledger}
@@ -83,8 +83,8 @@ rows_few id t (r ∷ rs) h =
     omega (arith, more, here)
 
 -- what a message has left at a transport is no more than its recipients
-pub rest_within : (w : World) (l : Ledger) (a : Admitted) (m : Message) (t : ℕ) → IsMemoryConsistent w l → admitted_of l a.id ≡ Some a → message_of l.book a.id ≡ Some m → rest l a.id t ≤ length m.recipients
-rest_within w l a m t c found there =
+pub job_left_within : (w : World) (l : Ledger) (a : Admitted) (m : Message) (t : ℕ) → IsMemoryConsistent w l → admitted_of l a.id ≡ Some a → message_of l.book a.id ≡ Some m → job_left l a.id t ≤ length m.recipients
+job_left_within w l a m t c found there =
     let h : IsHeld l a m = c.held a m found there in
     let id = a.id in
     let rows = rows_few id t l.waiting c.filled in
@@ -95,14 +95,14 @@ rest_within w l a m t c found there =
     ap (λ (o : Option Message). option_map_or (λ (z : Message). nat_le a.unread (length z.recipients)) o false) (sym there) ∙ all_at (is_within l) a l.admitted c.within (find_in (λ (z : Admitted). id_eq z.id id) a l.admitted found).0 in
     let read = leb-true a.unread (length m.recipients) fits in
     let unread : unread_count l a ≡ length m.recipients - a.unread = ap (λ (o : Option Message). option_map_or (λ (z : Message). length z.recipients - a.unread) o 0) there in
-    let same : rest l a.id t ≡ count_by (is_left_at id t) l.waiting + (length m.recipients - a.unread) =
+    let same : job_left l a.id t ≡ count_by (is_left_at id t) l.waiting + (length m.recipients - a.unread) =
     ap (λ (o : Option Admitted). count_by (is_left_at id t) l.waiting + option_map_or (λ z. unread_count l z) o 0) found ∙ ap (λ n. count_by (is_left_at id t) l.waiting + n) unread in
     omega (arith, rows, some, x, y, read, same)
 
 -- the same of a message in memory, by the book
-pub rest_few : (w : World) (l : Ledger) (a : Admitted) (t : ℕ) → IsMemoryConsistent w l → IsIn a l.admitted → rest l a.id t ≤ option_map_or (λ (m : Message). length m.recipients) (message_of l.book a.id) 0
-rest_few w l a t c inside = on (message_of l.book a.id) refl (all_at (is_present l) a l.admitted c.present inside)
+pub job_left_few : (w : World) (l : Ledger) (a : Admitted) (t : ℕ) → IsMemoryConsistent w l → IsIn a l.admitted → job_left l a.id t ≤ option_map_or (λ (m : Message). length m.recipients) (message_of l.book a.id) 0
+job_left_few w l a t c inside = on (message_of l.book a.id) refl (all_at (is_present l) a l.admitted c.present inside)
   where
-    on : (o : Option Message) → message_of l.book a.id ≡ o → option_map_or (λ (m : Message). is_active m.place) o false ≡ true → rest l a.id t ≤ option_map_or (λ (m : Message). length m.recipients) o 0
+    on : (o : Option Message) → message_of l.book a.id ≡ o → option_map_or (λ (m : Message). is_active m.place) o false ≡ true → job_left l a.id t ≤ option_map_or (λ (m : Message). length m.recipients) o 0
     on None there h = absurd cc
-    on (Some m) there h = rest_within w l a m t c (find_named (λ (x : Admitted). x.id) a l.admitted c.admitted inside) there
+    on (Some m) there h = job_left_within w l a m t c (find_named (λ (x : Admitted). x.id) a l.admitted c.admitted inside) there

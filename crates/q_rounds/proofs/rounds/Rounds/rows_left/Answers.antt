@@ -1,6 +1,6 @@
 use Rattle.std.proofs.Common.{arith}
 use Rattle.q_rounds.proofs.Bounds.{few_rows}
-use Rattle.q_rounds.proofs.rounds.Rounds.rest.Goals as goal
+use Rattle.q_rounds.proofs.rounds.Rounds.rows_left.Goals as goal
 
 pub returns-clause-few : goal.returns-clause-few
 returns-clause-few c =
