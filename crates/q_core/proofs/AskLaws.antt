@@ -43,7 +43,7 @@ question_law q m = let h = m.parts in record {
     timed = h.timed;
     next_run = h.next_run;
     ignores = h.ignores;
-    deferred_turn = h.deferred_turn;
+    deferred_follows = h.deferred_follows;
     admitted = h.admitted;
     waiting = h.waiting;
     flights = h.flights;
@@ -71,7 +71,7 @@ named_law xs m = let h = m.parts in record {
     timed = h.timed;
     next_run = h.next_run;
     ignores = h.ignores;
-    deferred_turn = h.deferred_turn;
+    deferred_follows = h.deferred_follows;
     admitted = h.admitted;
     waiting = h.waiting;
     flights = h.flights;

@@ -104,9 +104,9 @@ scan_fits c Unknown (Some s) u e = deferred_fits c s e u
 scan_fits c (Known found) (Some s) u e = tt
 
 scanned_fits : (c : Core) (incoming : Found) (seen : Seen) (o : Option Scan) → c.deferred ≡ seen → c.scan ≡ o → Fits c (admission_in c incoming seen o)
-scanned_fits c incoming seen None u e = picked_fits c (picked_place c.deferred_turn incoming Nothing) (picked c.deferred_turn incoming Nothing)
+scanned_fits c incoming seen None u e = picked_fits c (picked_place c.deferred_follows incoming Nothing) (picked c.deferred_follows incoming Nothing)
 scanned_fits c incoming Unknown (Some s) u e = deferred_fits c s e u
-scanned_fits c incoming (Known found) (Some s) u e = picked_fits c (picked_place c.deferred_turn incoming found) (picked c.deferred_turn incoming found)
+scanned_fits c incoming (Known found) (Some s) u e = picked_fits c (picked_place c.deferred_follows incoming found) (picked c.deferred_follows incoming found)
 
 seen_fits : (c : Core) (seen : Seen) → c.incoming ≡ seen → Fits c (admission_seen c seen)
 seen_fits c Unknown e = λ h. ap (λ s. not (is_known s)) e

@@ -37,7 +37,7 @@ pub record IsEmptyCore (c : Core) (mode : Mode) (transports : ℕ) : Type 0 wher
 
 -- so is nothing of the plain fields
 abbrev pub blank : Core → Core
-blank c = record c { timed = false; next_run = 0; scan = None; asked = None; ignores = false; deferred_turn = false; in_memory = 0; starts = 0; active = Unknown; incoming = Unknown; deferred = Unknown; question = Nothing }
+blank c = record c { timed = false; next_run = 0; scan = None; asked = None; ignores = false; deferred_follows = false; in_memory = 0; starts = 0; active = Unknown; incoming = Unknown; deferred = Unknown; question = Nothing }
 
 abbrev pub begun : World → Mode → Book → Ledger
 begun w mode book = after w (opening mode book) (entries.Life (book.generation + 1) mode)
@@ -74,7 +74,7 @@ begin_law w mode book c t settings given count e = record {
     timed = refl;
     next_run = refl;
     ignores = refl;
-    deferred_turn = refl;
+    deferred_follows = refl;
     admitted = e.admitted;
     waiting = e.waiting;
     flights = e.flights;

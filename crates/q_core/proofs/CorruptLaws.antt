@@ -32,8 +32,8 @@ use Rattle.q_model.specs.Leaving.{after_corrupt, may_corrupt}
 use Rattle.q_model.specs.Leftovers.{is_next_leftover, next_leftover}
 use Rattle.q_model.specs.Memory.{is_admitted}
 use Rattle.q_model.specs.Message.{Message}
-use Rattle.q_model.specs.Turns.{Pick, is_pick, passed, pick, after_pick}
-use Rattle.q_model.specs.Turns.Pick.{from_deferred, from_incoming}
+use Rattle.q_model.specs.Alternation.{Pick, is_pick, passed, pick, after_pick}
+use Rattle.q_model.specs.Alternation.Pick.{from_deferred, from_incoming}
 use Rattle.q_model.specs.Places.{is_active, is_incoming}
 use Rattle.q_model.specs.Settings.{World}
 use Rattle.q_model.specs.declared.id.Id.{Id}

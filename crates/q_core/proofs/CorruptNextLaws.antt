@@ -8,7 +8,7 @@ use Rattle.q_core.proofs.NameLaws.{id_eq-true}
 use Rattle.q_core.proofs.SameLaws.{not_bool}
 use Rattle.q_core.proofs.StepLaws.{HoldsRaw}
 use Rattle.q_core.proofs.PickLaws.{found_on}
-use Rattle.q_core.proofs.TurnLaws.{pick_by, picks, turn_law}
+use Rattle.q_core.proofs.AlternationLaws.{alternation_law, pick_by, picks}
 use Rattle.q_core.specs.Agrees.{IsSeen, found_active, found_at}
 use Rattle.q_core.specs.Changes.{is_known, is_looked_at}
 use Rattle.q_core.specs.Facts.{shows_damaged}
@@ -29,8 +29,8 @@ use Rattle.q_model.specs.Ledger.{Ledger}
 use Rattle.q_model.specs.Leftovers.{is_next_leftover, next_leftover}
 use Rattle.q_model.specs.Message.{Message}
 use Rattle.q_model.specs.Settings.{World}
-use Rattle.q_model.specs.Turns.{Pick, is_pick, passed, pick, pick_id, after_pick}
-use Rattle.q_model.specs.Turns.Pick.{from_deferred, from_incoming}
+use Rattle.q_model.specs.Alternation.{Pick, is_pick, passed, pick, pick_id, after_pick}
+use Rattle.q_model.specs.Alternation.Pick.{from_deferred, from_incoming}
 use Rattle.q_model.specs.declared.id.Id.{Id}
 use Rattle.q_model.specs.declared.rows.Place.TheVariants as places
 
@@ -80,7 +80,7 @@ pass_else : {w : World} {d : Core} (l : Ledger) (id : Id) (b : Bool) → b ≡ f
 pass_else l id true e h = absurd cc
 pass_else l id false e h = h
 
--- the turn and the book change apart
+-- which queue follows and the book change apart
 pass_apart : {w : World} {d : Core} (l : Ledger) (id : Id) (p : Pick) → HoldsRaw w d (passed p (corrupted id l)) → HoldsRaw w d (record (passed p l) { book = move_damaged l.book id places.Corrupt })
 pass_apart l id (from_incoming i) h = h
 pass_apart l id (from_deferred n) h = h
@@ -97,7 +97,7 @@ corrupt_picked_law {w = w} {c = c} {l = l} id r k looked known seen hidden may =
     let from = from_deferred_in c in
     let name = found_name (picked_in c) in
     let d : Core = passed_in from name (record c { active = Unknown; incoming = Unknown; deferred = Unknown }) in
-    let gone : HoldsRaw w d (passed (pick_by from name) (corrupted id l)) = turn_law from name (corrupt_law id r k parts.0 parts.1) in
+    let gone : HoldsRaw w d (passed (pick_by from name) (corrupted id l)) = alternation_law from name (corrupt_law id r k parts.0 parts.1) in
     let turned : HoldsRaw w d (record (passed file.0 l) { book = move_damaged l.book id places.Corrupt }) =
     pass_apart l id file.0 (subst (λ p. HoldsRaw w d (passed p (corrupted id l))) (picks r looked known file.0 file.1) gone) in
     pass_else l id (is_next_leftover l id) other (pass_as l id (pick l) file.0 file.1 turned)

@@ -19,7 +19,7 @@ use Rattle.q_core.proofs.QueueLaws.{IsSameOf, files_law, incoming_same, still_sa
 use Rattle.q_core.proofs.SameLaws.{not_bool}
 use Rattle.q_core.proofs.StepLaws.{HasRowsOf, HoldsRaw}
 use Rattle.q_core.proofs.CorruptNextLaws.{picked_one}
-use Rattle.q_core.proofs.TurnLaws.{pick_by, picked_found, picks, turn_law}
+use Rattle.q_core.proofs.AlternationLaws.{alternation_law, pick_by, picked_found, picks}
 use Rattle.q_core.specs.Agrees.{IsSeen, file_of, found_active, found_at, found_incoming, slot_of}
 use Rattle.q_core.specs.Held.{is_admitted_in}
 use Rattle.q_core.specs.declared.decision.FileFacts.{FileFacts}
@@ -44,8 +44,8 @@ use Rattle.q_model.specs.Places.{is_active, is_incoming}
 use Rattle.q_model.specs.Scans.{deferred_name, deferred_names, is_ahead, name_before, scan_next}
 use Rattle.q_model.specs.Settings.{Settings, World}
 use Rattle.q_model.specs.Step.{noted}
-use Rattle.q_model.specs.Turns.{Pick, deferred_next, incoming_next, is_pick, passed, pick, pick_id, pick_of}
-use Rattle.q_model.specs.Turns.Pick.{from_deferred, from_incoming}
+use Rattle.q_model.specs.Alternation.{Pick, deferred_next, incoming_next, is_pick, passed, pick, pick_id, pick_of}
+use Rattle.q_model.specs.Alternation.Pick.{from_deferred, from_incoming}
 use Rattle.q_model.specs.declared.entry.Entry.TheVariants as entries
 use Rattle.q_model.specs.declared.id.Id.{Id}
 use Rattle.q_model.specs.declared.rows.DeferredName.{DeferredName}
@@ -55,17 +55,17 @@ use Rattle.q_model.specs.declared.rows.Scan.{Scan}
 
 -- ---- where it comes from
 
-given_incoming : (turn : Bool) (o : Option Id) (q : Option DeferredName) (i : Id) → pick_of turn o q ≡ Some (from_incoming i) → o ≡ Some i
-given_incoming turn None None i h = absurd cc
-given_incoming turn None (Some n) i h = absurd cc
-given_incoming turn (Some k) None i h = cc
+given_incoming : (follows : Bool) (o : Option Id) (q : Option DeferredName) (i : Id) → pick_of follows o q ≡ Some (from_incoming i) → o ≡ Some i
+given_incoming follows None None i h = absurd cc
+given_incoming follows None (Some n) i h = absurd cc
+given_incoming follows (Some k) None i h = cc
 given_incoming true (Some k) (Some n) i h = absurd cc
 given_incoming false (Some k) (Some n) i h = cc
 
-given_deferred : (turn : Bool) (o : Option Id) (q : Option DeferredName) (n : DeferredName) → pick_of turn o q ≡ Some (from_deferred n) → q ≡ Some n
-given_deferred turn None None n h = absurd cc
-given_deferred turn None (Some x) n h = cc
-given_deferred turn (Some k) None n h = absurd cc
+given_deferred : (follows : Bool) (o : Option Id) (q : Option DeferredName) (n : DeferredName) → pick_of follows o q ≡ Some (from_deferred n) → q ≡ Some n
+given_deferred follows None None n h = absurd cc
+given_deferred follows None (Some x) n h = cc
+given_deferred follows (Some k) None n h = absurd cc
 given_deferred true (Some k) (Some x) n h = cc
 given_deferred false (Some k) (Some x) n h = absurd cc
 
@@ -74,10 +74,10 @@ from_scan b None n h = absurd cc
 from_scan b (Some s) n h = (in_filtered (is_ahead s) n (deferred_names b) (least_in name_before n (filter (is_ahead s) (deferred_names b)) h)).0
 
 from_out : (l : Ledger) (id : Id) → pick l ≡ Some (from_incoming id) → IsIn id (ids_at is_incoming l.book)
-from_out l id h = least_in id_before id (ids_at is_incoming l.book) (given_incoming l.deferred_turn (incoming_next l) (deferred_next l) id h)
+from_out l id h = least_in id_before id (ids_at is_incoming l.book) (given_incoming l.deferred_follows (incoming_next l) (deferred_next l) id h)
 
 from_due : (l : Ledger) (n : DeferredName) → pick l ≡ Some (from_deferred n) → IsIn n.id (ids_at is_deferred l.book)
-from_due l n h = due_listed l.book n (from_scan l.book l.scan n (given_deferred l.deferred_turn (incoming_next l) (deferred_next l) n h))
+from_due l n h = due_listed l.book n (from_scan l.book l.scan n (given_deferred l.deferred_follows (incoming_next l) (deferred_next l) n h))
 
 incoming_has_none : (place : Place) (id : Id) → is_incoming place ≡ true → deferred_name place id ≡ None
 incoming_has_none places.Incoming id h = refl
@@ -115,7 +115,7 @@ enter_case : {w : World} {c : Core} {l : Ledger} (d : Core) (id : Id) (b : Bool)
 enter_case {w = w} {c = c} {l = l} d id false name r k m from same slots =
     let book = move_message l.book id places.Active in
     let rows = l.admitted ++ newcomer id ∷ [] in
-    let turned : HoldsRaw w (passed_in false name c) (record l { deferred_turn = true }) = turn_law false name r in
+    let turned : HoldsRaw w (passed_in false name c) (record l { deferred_follows = true }) = alternation_law false name r in
     let inside = subst (λ i. IsIn i (ids_at is_incoming l.book)) same (from_out l name.id from) in
     let place = message_at is_incoming l.book k.book.distinct id m.message inside m.there in
     let active : IsSeen c.active (found_active (admitting l id)) = seen_same c.active (found_active (admitting l id)) (found_active l) (coming_active l id m k.book.distinct) r.parts.active in
@@ -124,11 +124,11 @@ enter_case {w = w} {c = c} {l = l} d id false name r k m from same slots =
     let due = due_listed l.book n h in
     coming_same l id m n.id (placed_listed is_deferred l.book n.id due) (not_bool (id_eq n.id id) (λ e. one_queue is_deferred is_incoming deferred_or_incoming l.book k.book.distinct n.id due (subst (λ i. IsIn i (ids_at is_incoming l.book)) (sym (id_eq-true n.id id e)) inside))) in
     note_admit id (in_no_line k id m.absent)
-    (files_law {d = passed_in false name (record c { admitted = d.admitted })} book rows turned refl (all_left l (admitting l id) (coming_left l id m k.book.distinct)) slots active tt (still_same c.deferred (record l { deferred_turn = true }) book rows names other turned.seen))
+    (files_law {d = passed_in false name (record c { admitted = d.admitted })} book rows turned refl (all_left l (admitting l id) (coming_left l id m k.book.distinct)) slots active tt (still_same c.deferred (record l { deferred_follows = true }) book rows names other turned.seen))
 enter_case {w = w} {c = c} {l = l} d id true name r k m from same slots =
     let book = move_message l.book id places.Active in
     let rows = l.admitted ++ newcomer id ∷ [] in
-    let turned = turn_law true name r in
+    let turned = alternation_law true name r in
     let inside = subst (λ i. IsIn i (ids_at is_deferred l.book)) same (from_due l name from) in
     let place = message_at is_deferred l.book k.book.distinct id m.message inside m.there in
     let away = not_bool (is_incoming m.message.place) (deferred_or_incoming m.message.place place) in

@@ -66,7 +66,7 @@ slot_law {w = w} {c = c} {d = d} {l = l} id f m g r k adm same s =
       timed = h.timed;
       next_run = h.next_run;
       ignores = h.ignores;
-      deferred_turn = h.deferred_turn;
+      deferred_follows = h.deferred_follows;
       admitted = (s.admitted ∙ ap (map (changed_at id g)) h.admitted ∙ slots_changed l id f m g k same l.admitted);
       waiting = h.waiting;
       flights = h.flights;
@@ -98,7 +98,7 @@ apart_law {w = w} {c = c} {l = l} id f m r k gone =
       timed = h.timed;
       next_run = h.next_run;
       ignores = h.ignores;
-      deferred_turn = h.deferred_turn;
+      deferred_follows = h.deferred_follows;
       admitted = (h.admitted ∙ slots_apart l id f k.keeps l.admitted gone);
       waiting = h.waiting;
       flights = h.flights;
@@ -132,7 +132,7 @@ unsettled_law {w = w} {c = c} {d = d} {l = l} us r s memory =
       timed = h.timed;
       next_run = h.next_run;
       ignores = h.ignores;
-      deferred_turn = h.deferred_turn;
+      deferred_follows = h.deferred_follows;
       admitted = h.admitted;
       waiting = h.waiting;
       flights = h.flights;

@@ -174,9 +174,9 @@ clearing_avoids p k c Unknown = k.look_active
 clearing_avoids p k c (Known found) = cleared_avoids p k c found
 
 scanned_avoids : (p : Decision → Bool) → IsRare p → ((id : Id) (place : Place) → p (decisions.Admit id place) ≡ false) → (c : Core) (incoming : Found) (seen : Seen) (o : Option Scan) → Avoids p (admission_in c incoming seen o)
-scanned_avoids p k a c incoming seen None = picked_avoids p (picked_place c.deferred_turn incoming Nothing) (picked c.deferred_turn incoming Nothing) k.corrupt a
+scanned_avoids p k a c incoming seen None = picked_avoids p (picked_place c.deferred_follows incoming Nothing) (picked c.deferred_follows incoming Nothing) k.corrupt a
 scanned_avoids p k a c incoming Unknown (Some s) = k.look_deferred s
-scanned_avoids p k a c incoming (Known deferred) (Some s) = picked_avoids p (picked_place c.deferred_turn incoming deferred) (picked c.deferred_turn incoming deferred) k.corrupt a
+scanned_avoids p k a c incoming (Known deferred) (Some s) = picked_avoids p (picked_place c.deferred_follows incoming deferred) (picked c.deferred_follows incoming deferred) k.corrupt a
 
 seen_avoids : (p : Decision → Bool) → IsRare p → ((id : Id) (place : Place) → p (decisions.Admit id place) ≡ false) → (c : Core) (seen : Seen) → Avoids p (admission_seen c seen)
 seen_avoids p k a c Unknown = k.look_incoming

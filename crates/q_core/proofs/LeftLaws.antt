@@ -35,7 +35,7 @@ use Rattle.q_model.specs.Message.{Message, pending, unmarked_logged}
 use Rattle.q_model.specs.Next.{clear_leftover, leftover_decision, leftover_rule}
 use Rattle.q_model.specs.Places.{is_active}
 use Rattle.q_model.specs.Settings.{World}
-use Rattle.q_model.specs.Turns.{is_pick}
+use Rattle.q_model.specs.Alternation.{is_pick}
 use Rattle.q_model.specs.declared.entry.Entry.{Entry}
 use Rattle.q_model.specs.declared.id.Id.{Id}
 use Rattle.q_model.specs.declared.rows.Place.{Place}

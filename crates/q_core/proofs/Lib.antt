@@ -63,7 +63,7 @@ pub mod BounceLaws
 pub mod ArriveLaws
 pub mod BackLaws
 pub mod CorruptLaws
-pub mod TurnLaws
+pub mod AlternationLaws
 pub mod CorruptNextLaws
 pub mod AdmitLaws
 pub mod NewcomerLaws

@@ -127,7 +127,7 @@ load_raw {w = w} {c = c} {d = d} {l = l} r k id from to m ts e may read change =
       timed = h.timed;
       next_run = h.next_run;
       ignores = h.ignores;
-      deferred_turn = h.deferred_turn;
+      deferred_follows = h.deferred_follows;
       admitted = admitted;
       waiting = (change.waiting ∙ ap (λ (rs : List Row). rs ++ rows) h.waiting);
       flights = h.flights;

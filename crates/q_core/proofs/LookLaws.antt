@@ -28,7 +28,7 @@ active_law found a e = let h = a.parts in record {
     timed = h.timed;
     next_run = h.next_run;
     ignores = h.ignores;
-    deferred_turn = h.deferred_turn;
+    deferred_follows = h.deferred_follows;
     admitted = h.admitted;
     waiting = h.waiting;
     flights = h.flights;
@@ -56,7 +56,7 @@ incoming_law found a e = let h = a.parts in record {
     timed = h.timed;
     next_run = h.next_run;
     ignores = h.ignores;
-    deferred_turn = h.deferred_turn;
+    deferred_follows = h.deferred_follows;
     admitted = h.admitted;
     waiting = h.waiting;
     flights = h.flights;
@@ -90,7 +90,7 @@ known_law {c = c} {l = l} found walk (Some n) a s e at f some =
         timed = h.timed;
         next_run = h.next_run;
         ignores = h.ignores;
-        deferred_turn = h.deferred_turn;
+        deferred_follows = h.deferred_follows;
         admitted = h.admitted;
         waiting = h.waiting;
         flights = h.flights;
@@ -126,7 +126,7 @@ ended_law c None a over = let h = a.parts in record {
     timed = h.timed;
     next_run = h.next_run;
     ignores = h.ignores;
-    deferred_turn = h.deferred_turn;
+    deferred_follows = h.deferred_follows;
     admitted = h.admitted;
     waiting = h.waiting;
     flights = h.flights;
@@ -155,7 +155,7 @@ ended_law {l = l} c (Some r) a over =
         timed = h.timed;
         next_run = h.next_run;
         ignores = h.ignores;
-        deferred_turn = h.deferred_turn;
+        deferred_follows = h.deferred_follows;
         admitted = h.admitted;
         waiting = h.waiting;
         flights = h.flights;

@@ -71,7 +71,7 @@ note_admit {c = c} {l = l} id apart r = let h = r.parts in record {
     timed = h.timed;
     next_run = h.next_run;
     ignores = h.ignores;
-    deferred_turn = h.deferred_turn;
+    deferred_follows = h.deferred_follows;
     admitted = h.admitted;
     waiting = h.waiting;
     flights = h.flights;

@@ -76,7 +76,7 @@ note_law {w = w} {c = c} {l = l} e q r = let h = r.parts in record {
     timed = h.timed;
     next_run = h.next_run;
     ignores = h.ignores;
-    deferred_turn = h.deferred_turn;
+    deferred_follows = h.deferred_follows;
     admitted = h.admitted;
     waiting = h.waiting;
     flights = h.flights;
@@ -110,7 +110,7 @@ ignore_law {c = c} {l = l} r = let h = r.parts in record {
     timed = h.timed;
     next_run = h.next_run;
     ignores = refl;
-    deferred_turn = h.deferred_turn;
+    deferred_follows = h.deferred_follows;
     admitted = h.admitted;
     waiting = h.waiting;
     flights = h.flights;
@@ -157,7 +157,7 @@ revive_law {w = w} {c = c} {d = d} {l = l} r revives =
       timed = h.timed;
       next_run = h.next_run;
       ignores = h.ignores;
-      deferred_turn = h.deferred_turn;
+      deferred_follows = h.deferred_follows;
       admitted = h.admitted;
       waiting = h.waiting;
       flights = h.flights;

@@ -31,7 +31,7 @@ use Rattle.q_model.specs.Next.{admission_rule}
 use Rattle.q_model.specs.Places.{due_of, is_incoming}
 use Rattle.q_model.specs.Scans.{deferred_name, deferred_names, is_ahead, name_before, scan_next}
 use Rattle.q_model.specs.Settings.{Settings, World}
-use Rattle.q_model.specs.Turns.{Pick, deferred_next, from_deferred, from_incoming, incoming_next, is_pick, pick, pick_id, pick_of, pick_with}
+use Rattle.q_model.specs.Alternation.{Pick, deferred_next, from_deferred, from_incoming, incoming_next, is_pick, pick, pick_id, pick_of, pick_with}
 use Rattle.q_model.specs.declared.entry.Entry.{Entry}
 use Rattle.q_model.specs.declared.id.Id.{Id}
 use Rattle.q_model.specs.declared.rows.DeferredName.{DeferredName}
@@ -88,7 +88,7 @@ next_stands b (Some s) n e = scan_stands b s n e
 deferred_stands : (l : Ledger) (n : DeferredName) → deferred_next l ≡ Some n → stands l.book n.id ≡ true
 deferred_stands l n e = next_stands l.book l.scan n e
 
--- what the two looks and the turn give is the file of the pick
+-- what the two looks and the queue that follows give is the file of the pick
 abbrev pick_due : Pick → ℕ
 pick_due (from_incoming id) = 0
 pick_due (from_deferred n) = n.due
@@ -107,38 +107,38 @@ abbrev incoming_on : Ledger → Option Id → Found
 incoming_on l o = option_map_or (λ id. found_at l 0 id) o Nothing
 
 abbrev pick_both : Bool → Id → Option DeferredName → Option Pick
-pick_both turn id o = Some (pick_with turn id o)
+pick_both follows id o = Some (pick_with follows id o)
 
 abbrev pick_on : Bool → Option DeferredName → Option Id → Option Pick
-pick_on turn d o = pick_of turn o d
+pick_on follows d o = pick_of follows o d
 
-turn_found : (l : Ledger) (b : Bool) (n : DeferredName) (id : Id) → (if b then found_at l n.due n.id else found_at l 0 id) ≡ pick_found l (Some (if b then from_deferred n else from_incoming id))
-turn_found l true n id = refl
-turn_found l false n id = refl
+found_by : (l : Ledger) (b : Bool) (n : DeferredName) (id : Id) → (if b then found_at l n.due n.id else found_at l 0 id) ≡ pick_found l (Some (if b then from_deferred n else from_incoming id))
+found_by l true n id = refl
+found_by l false n id = refl
 
-picked_is : (l : Ledger) (turn : Bool) (i : Option Id) (d : Option DeferredName) → picked turn (incoming_on l i) (found_next l d) ≡ pick_found l (pick_on turn d i)
-picked_is l turn None None = refl
-picked_is l turn None (Some n) = refl
-picked_is l turn (Some id) None = ap (λ b. if b then Nothing else found_at l 0 id) (some_found l 0 id (message_of l.book id))
-picked_is l turn (Some id) (Some n) =
-    ap (λ b. if b then found_at l n.due n.id else (if is_nothing (found_at l n.due n.id) then found_at l 0 id else (if turn then found_at l n.due n.id else found_at l 0 id))) (some_found l 0 id (message_of l.book id))
-    ∙ ap (λ b. if b then found_at l 0 id else (if turn then found_at l n.due n.id else found_at l 0 id)) (some_found l n.due n.id (message_of l.book n.id))
-    ∙ turn_found l turn n id
+picked_is : (l : Ledger) (follows : Bool) (i : Option Id) (d : Option DeferredName) → picked follows (incoming_on l i) (found_next l d) ≡ pick_found l (pick_on follows d i)
+picked_is l follows None None = refl
+picked_is l follows None (Some n) = refl
+picked_is l follows (Some id) None = ap (λ b. if b then Nothing else found_at l 0 id) (some_found l 0 id (message_of l.book id))
+picked_is l follows (Some id) (Some n) =
+    ap (λ b. if b then found_at l n.due n.id else (if is_nothing (found_at l n.due n.id) then found_at l 0 id else (if follows then found_at l n.due n.id else found_at l 0 id))) (some_found l 0 id (message_of l.book id))
+    ∙ ap (λ b. if b then found_at l 0 id else (if follows then found_at l n.due n.id else found_at l 0 id)) (some_found l n.due n.id (message_of l.book n.id))
+    ∙ found_by l follows n id
 
 -- the pick stands
-both_stand : (l : Ledger) (turn : Bool) (id : Id) (d : Option DeferredName) (p : Pick) → stands l.book id ≡ true → ((n : DeferredName) → d ≡ Some n → stands l.book n.id ≡ true) → pick_both turn id d ≡ Some p → stands l.book (pick_id p) ≡ true
-both_stand l turn id None p hi hd e = let same : from_incoming id ≡ p = cc in subst (λ x. stands l.book (pick_id x) ≡ true) same hi
+both_stand : (l : Ledger) (follows : Bool) (id : Id) (d : Option DeferredName) (p : Pick) → stands l.book id ≡ true → ((n : DeferredName) → d ≡ Some n → stands l.book n.id ≡ true) → pick_both follows id d ≡ Some p → stands l.book (pick_id p) ≡ true
+both_stand l follows id None p hi hd e = let same : from_incoming id ≡ p = cc in subst (λ x. stands l.book (pick_id x) ≡ true) same hi
 both_stand l true id (Some n) p hi hd e = let same : from_deferred n ≡ p = cc in subst (λ x. stands l.book (pick_id x) ≡ true) same (hd n refl)
 both_stand l false id (Some n) p hi hd e = let same : from_incoming id ≡ p = cc in subst (λ x. stands l.book (pick_id x) ≡ true) same hi
 
-on_stand : (l : Ledger) (turn : Bool) (d : Option DeferredName) (i : Option Id) (p : Pick) → ((id : Id) → i ≡ Some id → stands l.book id ≡ true) → ((n : DeferredName) → d ≡ Some n → stands l.book n.id ≡ true) →
-    pick_on turn d i ≡ Some p → stands l.book (pick_id p) ≡ true
-on_stand l turn None None p hi hd e = cc
-on_stand l turn (Some n) None p hi hd e = let same : from_deferred n ≡ p = cc in subst (λ x. stands l.book (pick_id x) ≡ true) same (hd n refl)
-on_stand l turn d (Some id) p hi hd e = both_stand l turn id d p (hi id refl) hd e
+on_stand : (l : Ledger) (follows : Bool) (d : Option DeferredName) (i : Option Id) (p : Pick) → ((id : Id) → i ≡ Some id → stands l.book id ≡ true) → ((n : DeferredName) → d ≡ Some n → stands l.book n.id ≡ true) →
+    pick_on follows d i ≡ Some p → stands l.book (pick_id p) ≡ true
+on_stand l follows None None p hi hd e = cc
+on_stand l follows (Some n) None p hi hd e = let same : from_deferred n ≡ p = cc in subst (λ x. stands l.book (pick_id x) ≡ true) same (hd n refl)
+on_stand l follows d (Some id) p hi hd e = both_stand l follows id d p (hi id refl) hd e
 
 pick_stands : (l : Ledger) (p : Pick) → pick l ≡ Some p → stands l.book (pick_id p) ≡ true
-pick_stands l p e = on_stand l l.deferred_turn (deferred_next l) (incoming_next l) p (incoming_stands l) (deferred_stands l) e
+pick_stands l p e = on_stand l l.deferred_follows (deferred_next l) (incoming_next l) p (incoming_stands l) (deferred_stands l) e
 
 -- the two tests of a pick, where there is room
 abbrev pick_is : Id → Option Pick → Bool
@@ -194,10 +194,10 @@ pick_decided w c l place room (Some p) e =
     (pick_at c l place (pick_due p) id (pick_stands l p e) (message_of l.book id) refl)
 
 -- with both looks answered, the core takes what the ledger picks
-pick_decides : {w : World} {c : Core} {l : Ledger} (place : Place) → AgreesButScan w c l → has_room w l ≡ true → IsRule c (picked_decision place (picked c.deferred_turn (found_incoming l) (found_deferred l))) (pick_entry w l (pick l))
+pick_decides : {w : World} {c : Core} {l : Ledger} (place : Place) → AgreesButScan w c l → has_room w l ≡ true → IsRule c (picked_decision place (picked c.deferred_follows (found_incoming l) (found_deferred l))) (pick_entry w l (pick l))
 pick_decides {w = w} {c = c} {l = l} place h room =
     subst (λ f. IsRule c (picked_decision place f) (pick_entry w l (pick l)))
-    (sym (ap (λ b. picked b (found_incoming l) (found_deferred l)) h.deferred_turn ∙ picked_is l l.deferred_turn (incoming_next l) (deferred_next l)))
+    (sym (ap (λ b. picked b (found_incoming l) (found_deferred l)) h.deferred_follows ∙ picked_is l l.deferred_follows (incoming_next l) (deferred_next l)))
     (pick_decided w c l place room (pick l) refl)
 
 same_room : {w : World} {c : Core} {l : Ledger} → AgreesButScan w c l → has_message_room_in c ≡ has_room w l
@@ -215,12 +215,12 @@ pub no_deferred : (c : Core) (l : Ledger) → scan_after l.book l.now None c.ask
 no_deferred c l h = ap (λ (p : Option Scan × Option Request). found_next l (next_of l.book p.0)) h
 
 admission_known : {w : World} {c : Core} {l : Ledger} → AgreesButScan w c l → has_room w l ≡ true → (incoming deferred : Found) → incoming ≡ found_incoming l → deferred ≡ found_deferred l →
-    IsRule c (picked_next c.deferred_turn incoming deferred) (admission_rule w l)
+    IsRule c (picked_next c.deferred_follows incoming deferred) (admission_rule w l)
 admission_known {w = w} {c = c} {l = l} h room incoming deferred i d =
-    let place = picked_place c.deferred_turn incoming deferred in
-    subst (λ f. IsRule c (picked_decision place (picked c.deferred_turn f deferred)) (admission_rule w l)) (sym i)
-    (subst (λ f. IsRule c (picked_decision place (picked c.deferred_turn (found_incoming l) f)) (admission_rule w l)) (sym d)
-    (subst (λ o. IsRule c (picked_decision place (picked c.deferred_turn (found_incoming l) (found_deferred l))) o) (sym (ap (room_on w l) room))
+    let place = picked_place c.deferred_follows incoming deferred in
+    subst (λ f. IsRule c (picked_decision place (picked c.deferred_follows f deferred)) (admission_rule w l)) (sym i)
+    (subst (λ f. IsRule c (picked_decision place (picked c.deferred_follows (found_incoming l) f)) (admission_rule w l)) (sym d)
+    (subst (λ o. IsRule c (picked_decision place (picked c.deferred_follows (found_incoming l) (found_deferred l))) o) (sym (ap (room_on w l) room))
     (pick_decides place h room)))
 
 admission_scanning : {w : World} {c : Core} {l : Ledger} → AgreesButScan w c l → has_room w l ≡ true → (found : Found) → found ≡ found_incoming l → (scan : Scan) → c.scan ≡ Some scan →

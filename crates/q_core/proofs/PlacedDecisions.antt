@@ -40,7 +40,7 @@ use Rattle.q_model.specs.Ledger.{Ledger}
 use Rattle.q_model.specs.Leftovers.{next_leftover}
 use Rattle.q_model.specs.Message.{Message}
 use Rattle.q_model.specs.Settings.{World}
-use Rattle.q_model.specs.Turns.{deferred_next, incoming_next}
+use Rattle.q_model.specs.Alternation.{deferred_next, incoming_next}
 use Rattle.q_model.specs.declared.rows.DeferredName.{DeferredName}
 
 or_placed : (l : Ledger) (o q : Option Decision) → IsPlaced l o → IsPlaced l q → IsPlaced l (option_or o q)
@@ -101,38 +101,38 @@ from_deferred_at l distinct n here =
     subst (λ p. IsPlaced l (picked_decision p (found_at l n.due n.id))) (sym (deferred_at l n.due n.id (message_of l.book n.id)))
     (decided_at l distinct n.due n.id (places.Deferred n.due) here (message_of l.book n.id) refl)
 
-pick_turn : (l : Ledger) (turn : Bool) (i d : Found) → is_nothing i ≡ false → is_nothing d ≡ false → IsPlaced l (picked_decision places.Incoming i) → IsPlaced l (picked_decision (deferred_place d) d) → IsPlaced l (picked_next turn i d)
-pick_turn l true i d p q a b =
+pick_either : (l : Ledger) (follows : Bool) (i d : Found) → is_nothing i ≡ false → is_nothing d ≡ false → IsPlaced l (picked_decision places.Incoming i) → IsPlaced l (picked_decision (deferred_place d) d) → IsPlaced l (picked_next follows i d)
+pick_either l true i d p q a b =
     subst (λ x. IsPlaced l (picked_decision (if x then deferred_place d else (if is_nothing d then places.Incoming else deferred_place d)) (if x then d else (if is_nothing d then i else d)))) (sym p)
     (subst (λ x. IsPlaced l (picked_decision (if x then places.Incoming else deferred_place d) (if x then i else d))) (sym q) b)
-pick_turn l false i d p q a b =
+pick_either l false i d p q a b =
     subst (λ x. IsPlaced l (picked_decision (if x then deferred_place d else (if is_nothing d then places.Incoming else places.Incoming)) (if x then d else (if is_nothing d then i else i)))) (sym p)
     (subst (λ x. IsPlaced l (picked_decision (if x then places.Incoming else places.Incoming) (if x then i else i))) (sym q) a)
 
-pick_placed : (l : Ledger) → are_distinct (all_ids l.book) ≡ true → (turn : Bool) (i : Option Id) (d : Option DeferredName) → ((id : Id) → i ≡ Some id → IsHere l.book id places.Incoming) → ((n : DeferredName) → d ≡ Some n → IsHere l.book n.id (places.Deferred n.due)) →
-    IsPlaced l (picked_next turn (incoming_found l i) (found_next l d))
-pick_placed l distinct turn None None hi hd = tt
-pick_placed l distinct turn None (Some n) hi hd = from_deferred_at l distinct n (hd n refl)
-pick_placed l distinct turn (Some id) None hi hd =
+pick_placed : (l : Ledger) → are_distinct (all_ids l.book) ≡ true → (follows : Bool) (i : Option Id) (d : Option DeferredName) → ((id : Id) → i ≡ Some id → IsHere l.book id places.Incoming) → ((n : DeferredName) → d ≡ Some n → IsHere l.book n.id (places.Deferred n.due)) →
+    IsPlaced l (picked_next follows (incoming_found l i) (found_next l d))
+pick_placed l distinct follows None None hi hd = tt
+pick_placed l distinct follows None (Some n) hi hd = from_deferred_at l distinct n (hd n refl)
+pick_placed l distinct follows (Some id) None hi hd =
     subst (λ x. IsPlaced l (picked_decision (if x then places.Deferred 0 else places.Incoming) (if x then Nothing else found_at l 0 id))) (sym (some_found l 0 id (message_of l.book id)))
     (from_incoming_at l distinct id (hi id refl))
-pick_placed l distinct turn (Some id) (Some n) hi hd =
-    pick_turn l turn (found_at l 0 id) (found_at l n.due n.id) (some_found l 0 id (message_of l.book id)) (some_found l n.due n.id (message_of l.book n.id))
+pick_placed l distinct follows (Some id) (Some n) hi hd =
+    pick_either l follows (found_at l 0 id) (found_at l n.due n.id) (some_found l 0 id (message_of l.book id)) (some_found l n.due n.id (message_of l.book n.id))
     (from_incoming_at l distinct id (hi id refl)) (from_deferred_at l distinct n (hd n refl))
 
-next_placed : (l : Ledger) → are_distinct (all_ids l.book) ≡ true → (turn : Bool) (i d : Found) → i ≡ found_incoming l → d ≡ found_deferred l → IsPlaced l (picked_next turn i d)
-next_placed l distinct turn i d e f =
-    subst (λ x. IsPlaced l (picked_next turn x d)) (sym e)
-    (subst (λ x. IsPlaced l (picked_next turn (found_incoming l) x)) (sym f)
-    (pick_placed l distinct turn (incoming_next l) (deferred_next l) (incoming_here l) (deferred_here l)))
+next_placed : (l : Ledger) → are_distinct (all_ids l.book) ≡ true → (follows : Bool) (i d : Found) → i ≡ found_incoming l → d ≡ found_deferred l → IsPlaced l (picked_next follows i d)
+next_placed l distinct follows i d e f =
+    subst (λ x. IsPlaced l (picked_next follows x d)) (sym e)
+    (subst (λ x. IsPlaced l (picked_next follows (found_incoming l) x)) (sym f)
+    (pick_placed l distinct follows (incoming_next l) (deferred_next l) (incoming_here l) (deferred_here l)))
 
 scanned_placed : {w : World} {c : Core} {l : Ledger} → Matches w c l → are_distinct (all_ids l.book) ≡ true → (i : Found) → i ≡ found_incoming l → (seen : Seen) (o : Option Scan) → c.deferred ≡ seen → c.scan ≡ o → IsPlaced l (admission_in c i seen o)
 scanned_placed {c = c} {l = l} a distinct i e seen None u s =
-    next_placed l distinct c.deferred_turn i Nothing e (no_deferred c l (ap (λ (o : Option Scan). scan_after l.book l.now o c.asked) (sym s) ∙ a.scan.goes_on))
+    next_placed l distinct c.deferred_follows i Nothing e (no_deferred c l (ap (λ (o : Option Scan). scan_after l.book l.now o c.asked) (sym s) ∙ a.scan.goes_on))
 scanned_placed {l = l} a distinct i e Unknown (Some s) u same = tt
 scanned_placed {c = c} {l = l} a distinct i e (Known d) (Some s) u same =
     let k = subst (λ x. IsSeenScan x c.scan c.asked l) u a.scan.seen in
-    next_placed l distinct c.deferred_turn i d e k.2
+    next_placed l distinct c.deferred_follows i d e k.2
 
 seen_placed : {w : World} {c : Core} {l : Ledger} → Matches w c l → are_distinct (all_ids l.book) ≡ true → (seen : Seen) → c.incoming ≡ seen → IsPlaced l (admission_seen c seen)
 seen_placed a distinct Unknown e = tt

@@ -209,7 +209,7 @@ preempt_raw {w = w} {c = c} {d = d} {l = l} r k child parent transport need left
       timed = h.timed;
       next_run = h.next_run;
       ignores = h.ignores;
-      deferred_turn = h.deferred_turn;
+      deferred_follows = h.deferred_follows;
       admitted = h.admitted;
       waiting = h.waiting;
       flights = h.flights;

@@ -135,7 +135,7 @@ files_law {w = w} {c = c} {d = d} {l = l} b rows r rest fewer slots active incom
       timed = h.timed;
       next_run = h.next_run;
       ignores = h.ignores;
-      deferred_turn = h.deferred_turn;
+      deferred_follows = h.deferred_follows;
       admitted = slots;
       waiting = h.waiting;
       flights = h.flights;

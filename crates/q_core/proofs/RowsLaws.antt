@@ -58,7 +58,7 @@ rows_law {w = w} {c = c} {d = d} {l = l} ws fs us r rest rows =
       timed = h.timed;
       next_run = h.next_run;
       ignores = h.ignores;
-      deferred_turn = h.deferred_turn;
+      deferred_follows = h.deferred_follows;
       admitted = h.admitted;
       waiting = rows.waiting;
       flights = rows.flights;

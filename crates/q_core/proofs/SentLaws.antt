@@ -111,7 +111,7 @@ start_raw {w = w} {c = c} {u = u} {d = d} {l = l} r number id site ps entry chos
       timed = h.timed;
       next_run = h.next_run;
       ignores = h.ignores;
-      deferred_turn = h.deferred_turn;
+      deferred_follows = h.deferred_follows;
       admitted = h.admitted;
       waiting = (sent.waiting ∙ dropped_same h number id site ps entry chosen there);
       flights = (sent.flights (row_at id site ps) row ∙ ap (λ fs. fs ++ delivery_at number id site ps ∷ []) h.flights);

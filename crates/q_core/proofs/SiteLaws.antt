@@ -42,7 +42,7 @@ sites_law {w = w} {c = c} {d = d} {l = l} sites r rest e =
       timed = h.timed;
       next_run = h.next_run;
       ignores = h.ignores;
-      deferred_turn = h.deferred_turn;
+      deferred_follows = h.deferred_follows;
       admitted = h.admitted;
       waiting = h.waiting;
       flights = h.flights;

@@ -85,7 +85,7 @@ wake_law {w = w} {c = c} {d = d} {l = l} {t = t} a t' wakes =
       timed = refl;
       next_run = h.next_run;
       ignores = h.ignores;
-      deferred_turn = h.deferred_turn;
+      deferred_follows = h.deferred_follows;
       admitted = h.admitted;
       waiting = h.waiting;
       flights = h.flights;
@@ -131,7 +131,7 @@ ask_case {w = w} l c None r = let h = r.parts in record {
     timed = h.timed;
     next_run = h.next_run;
     ignores = refl;
-    deferred_turn = h.deferred_turn;
+    deferred_follows = h.deferred_follows;
     admitted = h.admitted;
     waiting = h.waiting;
     flights = h.flights;
@@ -159,7 +159,7 @@ ask_case {w = w} l c (Some x) r = let h = r.parts in record {
     timed = h.timed;
     next_run = h.next_run;
     ignores = refl;
-    deferred_turn = h.deferred_turn;
+    deferred_follows = h.deferred_follows;
     admitted = h.admitted;
     waiting = h.waiting;
     flights = h.flights;
@@ -202,7 +202,7 @@ due_case {w = w} {c = c} {l = l} r true =
         timed = h.timed;
         next_run = (ap (λ n. n + c.params.run_delay) h.clock ∙ ap (λ (x : Settings). l.now + x.run_delay) h.settings);
         ignores = h.ignores;
-        deferred_turn = h.deferred_turn;
+        deferred_follows = h.deferred_follows;
         admitted = h.admitted;
         waiting = h.waiting;
         flights = h.flights;

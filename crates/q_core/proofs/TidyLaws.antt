@@ -179,7 +179,7 @@ tidy_law {w = w} {c = c} {d = d} {l = l} before rows flights r s =
       timed = h.timed;
       next_run = h.next_run;
       ignores = h.ignores;
-      deferred_turn = h.deferred_turn;
+      deferred_follows = h.deferred_follows;
       admitted = h.admitted;
       waiting = h.waiting;
       flights = h.flights;

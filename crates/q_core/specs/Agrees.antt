@@ -26,7 +26,7 @@ use Rattle.q_model.specs.Marks.{is_marked}
 use Rattle.q_model.specs.Memory.{in_memory}
 use Rattle.q_model.specs.Message.{Message, pending, unmarked_logged, written_marks}
 use Rattle.q_model.specs.Past.{is_living, starts}
-use Rattle.q_model.specs.Turns.{deferred_next, incoming_next}
+use Rattle.q_model.specs.Alternation.{deferred_next, incoming_next}
 use Rattle.q_laws.specs.Laws.{opened_ledger}
 use Rattle.q_laws.specs.Consistency.{IsConsistent}
 use Rattle.q_laws.specs.SitesConsistency.{IsSitesConsistent}
@@ -142,7 +142,7 @@ pub record AgreesButScan (w : World) (c : Core) (l : Ledger) : Type 0 where
   pub timed : c.timed ≡ l.timed
   pub next_run : c.next_run ≡ l.next_run
   pub ignores : c.ignores ≡ l.ignores
-  pub deferred_turn : c.deferred_turn ≡ l.deferred_turn
+  pub deferred_follows : c.deferred_follows ≡ l.deferred_follows
   pub admitted : c.admitted ≡ map (slot_of l) l.admitted
   pub waiting : c.waiting ≡ l.waiting
   pub flights : c.flights ≡ l.flights

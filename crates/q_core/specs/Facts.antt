@@ -44,21 +44,21 @@ picked_decision place Nothing = None
 picked_decision place (Damaged id due alone) = if alone then Some (Corrupt id place) else None
 picked_decision place (Whole id due f) = if f.alone then Some (Admit id place) else None
 
--- of the files that incoming and deferred give, the one whose turn it is
+-- of the files that incoming and deferred give, that of the queue that follows
 abbrev pub picked : Bool → Found → Found → Found
-picked deferred_turn i d = if is_nothing i then d
-    else (if is_nothing d then i else (if deferred_turn then d else i))
+picked deferred_follows i d = if is_nothing i then d
+    else (if is_nothing d then i else (if deferred_follows then d else i))
 
 -- where it stands
 abbrev pub picked_place : Bool → Found → Found → Place
-picked_place deferred_turn i d = if is_nothing i then deferred_place d
+picked_place deferred_follows i d = if is_nothing i then deferred_place d
     else (if is_nothing d then places.Incoming
-    else (if deferred_turn then deferred_place d else places.Incoming))
+    else (if deferred_follows then deferred_place d else places.Incoming))
 
 -- what is done with it
 abbrev pub picked_next : Bool → Found → Found → Option Decision
-picked_next deferred_turn i d = picked_decision (picked_place deferred_turn i d)
-    (picked deferred_turn i d)
+picked_next deferred_follows i d = picked_decision (picked_place deferred_follows i d)
+    (picked deferred_follows i d)
 
 -- a look has shown the damaged file of this id
 abbrev pub shows_damaged : Seen → Id → Bool

@@ -1,4 +1,4 @@
--- The file that is taken next, and how the turn passes.
+-- The file that is taken next, and which queue follows.
 use Rattle.q_core.specs.Changes.{is_known}
 use Rattle.q_core.specs.Facts.{shows_damaged, file_pending, is_nothing, picked}
 use Rattle.q_model.specs.declared.id.Id.{Id}
@@ -24,14 +24,14 @@ scanned_in (Some scan) seen = shown seen
 
 -- the file that is taken next
 abbrev pub picked_in : Core → Found
-picked_in c = picked c.deferred_turn (shown c.incoming) (scanned_in c.scan c.deferred)
+picked_in c = picked c.deferred_follows (shown c.incoming) (scanned_in c.scan c.deferred)
 
 -- it is deferred that gives it
 abbrev pub is_from_deferred : Bool → Found → Found → Bool
-is_from_deferred deferred_turn i d = is_nothing i || (not (is_nothing d) && deferred_turn)
+is_from_deferred deferred_follows i d = is_nothing i || (not (is_nothing d) && deferred_follows)
 
 abbrev pub from_deferred_in : Core → Bool
-from_deferred_in c = is_from_deferred c.deferred_turn (shown c.incoming)
+from_deferred_in c = is_from_deferred c.deferred_follows (shown c.incoming)
     (scanned_in c.scan c.deferred)
 
 -- the name of a file
@@ -86,11 +86,11 @@ found_slot (Whole id due f) = record {
 abbrev pub scan_moved_on : DeferredName → Option Scan → Option Scan
 scan_moved_on name o = option_map (λ (s : Scan). record s { place = Some name }) o
 
--- the turn is with the queue that didn't give, and the other is to be looked at anew
+-- the queue that didn't give follows, and the other is to be looked at anew
 abbrev pub passed_in : Bool → DeferredName → Core → Core
 passed_in from_deferred name c = if from_deferred
-    then record c { deferred_turn = false; scan = scan_moved_on name c.scan; deferred = Unknown }
-    else record c { deferred_turn = true; incoming = Unknown }
+    then record c { deferred_follows = false; scan = scan_moved_on name c.scan; deferred = Unknown }
+    else record c { deferred_follows = true; incoming = Unknown }
 
 -- the message comes last
 pub record IsEntered (old new : Core) (found : Found) : Type 0 where

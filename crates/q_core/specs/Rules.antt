@@ -101,11 +101,11 @@ has_message_room_in c = delivers c.mode && nat_lt (length c.admitted) c.params.a
 -- what is taken while a scan goes on, or its look is wanted
 abbrev pub admission_of : Core → Found → Scan → Seen → Option Decision
 admission_of c incoming scan Unknown = Some (decisions.LookDeferred scan.place scan.until)
-admission_of c incoming scan (Known deferred) = picked_next c.deferred_turn incoming deferred
+admission_of c incoming scan (Known deferred) = picked_next c.deferred_follows incoming deferred
 
 -- what is taken with this answer from incoming
 abbrev pub admission_in : Core → Found → Seen → Option Scan → Option Decision
-admission_in c incoming deferred None = picked_next c.deferred_turn incoming Nothing
+admission_in c incoming deferred None = picked_next c.deferred_follows incoming Nothing
 admission_in c incoming deferred (Some scan) = admission_of c incoming scan deferred
 
 -- the look at incoming is wanted first

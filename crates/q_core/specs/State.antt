@@ -29,7 +29,7 @@ pub record State : Type 0 where
   pub scan : Option Scan
   pub asked : Option Request
   pub ignores : Bool
-  pub deferred_turn : Bool
+  pub deferred_follows : Bool
   pub admitted : List Slot
   pub waiting : List Row
   pub flights : List Delivery

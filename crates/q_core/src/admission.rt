@@ -21,15 +21,15 @@ impl Core {
             && self.params.qmgr_message_recipient_minimum <= self.free()
     }
 
-    /// The file of the queue whose turn it is, or of the one that has a file.
+    /// The file of the queue that follows, or of the one that has a file.
     fn pick(&self, incoming: &Found, deferred: &Found) -> Option<Decision>
-        ensures { result ≡ picked_next self.now.deferred_turn incoming.now deferred.now }
+        ensures { result ≡ picked_next self.now.deferred_follows incoming.now deferred.now }
     {
         if incoming.is_nothing() {
             deferred.picked(deferred.deferred_place())
         } else if deferred.is_nothing() {
             incoming.picked(Place::Incoming)
-        } else if self.deferred_turn {
+        } else if self.deferred_follows {
             deferred.picked(deferred.deferred_place())
         } else {
             incoming.picked(Place::Incoming)

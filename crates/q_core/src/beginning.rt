@@ -116,7 +116,7 @@ fn over(
         scan: None,
         asked: None,
         ignores: false,
-        deferred_turn: false,
+        deferred_follows: false,
         admitted,
         waiting,
         flights,

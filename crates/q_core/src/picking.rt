@@ -1,4 +1,4 @@
-//! The next file is picked from incoming or deferred, by turns.
+//! The next file is picked from incoming or deferred, which alternate.
 ghost use Rattle.std.specs.Prelude.{◌≡◌, ◌<◌, ◌++◌, [], ◌∷◌, IsTrue, false, length, true};
 ghost use Rattle.q_core.specs.Agrees.{Follows};
 ghost use Rattle.q_core.specs.Changes.{is_known, is_looked_at};
@@ -114,7 +114,7 @@ impl Core {
             deferred
         } else if deferred.is_nothing() {
             incoming
-        } else if self.deferred_turn {
+        } else if self.deferred_follows {
             deferred
         } else {
             incoming
@@ -125,19 +125,19 @@ impl Core {
     fn picks_deferred(&self) -> bool
         ensures { result ≡ from_deferred_in self.now }
     {
-        self.incoming.shown().is_nothing() || !self.scanned().is_nothing() && self.deferred_turn
+        self.incoming.shown().is_nothing() || !self.scanned().is_nothing() && self.deferred_follows
     }
 
-    /// The turn is with the queue that doesn't give, and the other is to be looked at anew.
-    fn pass_turn(&mut self, from_deferred: bool, name: DeferredName)
+    /// The queue that doesn't give follows, and the other is to be looked at anew.
+    fn alternate(&mut self, from_deferred: bool, name: DeferredName)
         ensures { self.new ≡ passed_in from_deferred name self.old }
     {
         if from_deferred {
-            self.deferred_turn = false;
+            self.deferred_follows = false;
             self.scan = moved_on(self.scan, name);
             self.deferred = Seen::Unknown;
         } else {
-            self.deferred_turn = true;
+            self.deferred_follows = true;
             self.incoming = Seen::Unknown;
         }
     }
@@ -150,7 +150,7 @@ impl Core {
         let found = self.picked();
         let from_deferred = self.picks_deferred();
         self.forget_looks();
-        self.pass_turn(from_deferred, found.name());
+        self.alternate(from_deferred, found.name());
         self.tidy();
     }
 
@@ -186,7 +186,7 @@ impl Core {
         let found = self.picked();
         let from_deferred = self.picks_deferred();
         self.enter(found);
-        self.pass_turn(from_deferred, found.name());
+        self.alternate(from_deferred, found.name());
         self.tidy();
     }
 }

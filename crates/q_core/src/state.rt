@@ -48,7 +48,7 @@ pub struct Core {
     pub(crate) scan: Option<Scan>,
     pub(crate) asked: Option<Request>,
     pub(crate) ignores: bool,
-    pub(crate) deferred_turn: bool,
+    pub(crate) deferred_follows: bool,
     pub(crate) admitted: Pool,
     pub(crate) waiting: Rows,
     pub(crate) flights: Flights,

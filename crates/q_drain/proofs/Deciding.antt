@@ -24,7 +24,7 @@ use Rattle.q_model.specs.SiteRecords.{is_dead_site}
 use Rattle.q_model.specs.Startable.{current}
 use Rattle.q_model.specs.Step.{after}
 use Rattle.q_model.specs.Times.{due}
-use Rattle.q_model.specs.Turns.{Pick, pick, pick_id}
+use Rattle.q_model.specs.Alternation.{Pick, pick, pick_id}
 use Rattle.q_model.specs.declared.entry.Entry.{Entry}
 use Rattle.q_model.specs.declared.entry.Entry.TheVariants as entries
 use Rattle.q_model.specs.declared.id.Id.{Id}

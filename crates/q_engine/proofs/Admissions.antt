@@ -34,7 +34,7 @@ use Rattle.q_model.specs.Settling.{needs_of, with_outcomes}
 use Rattle.q_model.specs.Skips.{unqueued}
 use Rattle.q_model.specs.Step.{after, after_all, change}
 use Rattle.q_model.specs.Triggers.{after_trigger}
-use Rattle.q_model.specs.Turns.{after_pick, from_deferred, from_incoming, passed, Pick, pick}
+use Rattle.q_model.specs.Alternation.{after_pick, from_deferred, from_incoming, passed, Pick, pick}
 use Rattle.q_model.proofs.IdLaws.{id_eq-refl}
 use Rattle.q_laws.proofs.Books.{message_in}
 use Rattle.q_laws.proofs.Loaded.{any_read}

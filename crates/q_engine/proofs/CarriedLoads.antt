@@ -44,7 +44,7 @@ named_agrees w c l xs a = let m = a.matches in let h = m.parts in record {
       timed = h.timed;
       next_run = h.next_run;
       ignores = h.ignores;
-      deferred_turn = h.deferred_turn;
+      deferred_follows = h.deferred_follows;
       admitted = h.admitted;
       waiting = h.waiting;
       flights = h.flights;

@@ -21,8 +21,8 @@ use Rattle.q_model.specs.Settings.{World}
 use Rattle.q_model.specs.Settling.{needs_of, with_outcomes}
 use Rattle.q_model.specs.Skips.{unqueued}
 use Rattle.q_model.specs.Step.{after, change}
-use Rattle.q_model.specs.Turns.{Pick, after_pick, passed, pick}
-use Rattle.q_model.specs.Turns.Pick.{from_deferred, from_incoming}
+use Rattle.q_model.specs.Alternation.{Pick, after_pick, passed, pick}
+use Rattle.q_model.specs.Alternation.Pick.{from_deferred, from_incoming}
 use Rattle.q_model.specs.declared.entry.Entry.{Entry}
 use Rattle.q_model.specs.declared.entry.Entry.TheVariants as entries
 use Rattle.q_model.specs.declared.event.Trigger.{Trigger}

@@ -26,7 +26,7 @@ use Rattle.q_model.specs.Message.{Message}
 use Rattle.q_model.specs.Places.{is_active}
 use Rattle.q_model.specs.Settings.{World}
 use Rattle.q_model.specs.Step.{after, change}
-use Rattle.q_model.specs.Turns.{Pick, from_deferred, from_incoming, is_pick, passed, pick, after_pick}
+use Rattle.q_model.specs.Alternation.{Pick, from_deferred, from_incoming, is_pick, passed, pick, after_pick}
 use Rattle.q_model.specs.declared.entry.Entry.{Entry}
 use Rattle.q_model.specs.declared.id.Id.{Id}
 use Rattle.q_model.specs.declared.rows.Admitted.{Admitted}

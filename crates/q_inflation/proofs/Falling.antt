@@ -48,7 +48,7 @@ use Rattle.q_model.specs.Starts.{is_row}
 use Rattle.q_model.specs.Step.{after, allowed, change, may}
 use Rattle.q_model.specs.Syncs.{sync_all}
 use Rattle.q_model.specs.Triggers.{after_trigger}
-use Rattle.q_model.specs.Turns.{Pick, from_deferred, from_incoming, passed, pick, after_pick}
+use Rattle.q_model.specs.Alternation.{Pick, from_deferred, from_incoming, passed, pick, after_pick}
 use Rattle.q_model.specs.Values.{Site}
 use Rattle.q_model.specs.declared.entry.Entry.{Entry}
 use Rattle.q_model.specs.declared.event.Trigger.{Trigger}
@@ -166,7 +166,7 @@ passed_less : (l : Ledger) (id : Id) (t : ℕ) (p : Pick) → IsLess 0 l (passed
 passed_less l id t (from_incoming i) = record { past = refl; job_left = omega arith }
 passed_less l id t (from_deferred name) = record { past = refl; job_left = omega arith }
 
--- of a ledger from which a file is after_pick only the turn and the scan change
+-- of a ledger from which a file is after_pick only which queue follows and the scan change
 record IsPickedFrom (l k : Ledger) : Type 0 where
   past : k.past ≡ l.past
   waiting : k.waiting ≡ l.waiting

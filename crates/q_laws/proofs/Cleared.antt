@@ -31,7 +31,7 @@ use Rattle.q_model.specs.Orderly.{has_firm_failures}
 use Rattle.q_model.specs.Places.{is_active}
 use Rattle.q_model.specs.Settings.{World}
 use Rattle.q_model.specs.Step.{after, noted}
-use Rattle.q_model.specs.Turns.{Pick, from_deferred, from_incoming, is_pick, passed, pick, after_pick}
+use Rattle.q_model.specs.Alternation.{Pick, from_deferred, from_incoming, is_pick, passed, pick, after_pick}
 use Rattle.q_model.specs.declared.entry.Entry.{Entry}
 use Rattle.q_model.specs.declared.id.Id.{Id}
 use Rattle.q_model.specs.declared.rows.Admitted.{Admitted}
@@ -95,7 +95,7 @@ turned : (w : World) (l : Ledger) (b : Book) (e : Entry) (p : Pick) → IsReady 
 turned w l b e (from_incoming id) h = otherwise_ready w (with_book l b e) l.now l.timed l.next_run l.scan l.asked l.ignores true l.served l.sites h
 turned w l b e (from_deferred name) h = otherwise_ready w (with_book l b e) l.now l.timed l.next_run (passed (from_deferred name) l).scan l.asked l.ignores false l.served l.sites h
 
--- the turn and the scan go on
+-- the other queue follows, and the scan goes on
 picked_ready : (w : World) (l : Ledger) (b : Book) (e : Entry) (o : Option Pick) → IsReady w (with_book l b e) → IsReady w (noted e (record (option_map_or (λ p. passed p l) o l) { book = b }))
 picked_ready w l b e None h = h
 picked_ready w l b e (Some p) h = turned w l b e p h

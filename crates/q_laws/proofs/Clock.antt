@@ -23,17 +23,17 @@ use Rattle.q_model.specs.declared.rows.Request.TheVariants as requests
 -- asking for a scan keeps what another ledger has that differs in such things alone
 asked_ready : (w : World) (l : Ledger) (e : Entry) (request : Request) (o : Option Scan) → IsReady w (noted e l) →
     IsReady w (noted e (option_map_or (λ s. record l { asked = Some (joined_request l.asked request); ignores = false }) o (record l { scan = Some (new_scan l.now request); ignores = false })))
-asked_ready w l e request None h = otherwise_ready w (noted e l) l.now l.timed l.next_run (Some (new_scan l.now request)) l.asked false l.deferred_turn l.served l.sites h
-asked_ready w l e request (Some s) h = otherwise_ready w (noted e l) l.now l.timed l.next_run l.scan (Some (joined_request l.asked request)) false l.deferred_turn l.served l.sites h
+asked_ready w l e request None h = otherwise_ready w (noted e l) l.now l.timed l.next_run (Some (new_scan l.now request)) l.asked false l.deferred_follows l.served l.sites h
+asked_ready w l e request (Some s) h = otherwise_ready w (noted e l) l.now l.timed l.next_run l.scan (Some (joined_request l.asked request)) false l.deferred_follows l.served l.sites h
 
 ask_ready : (w : World) (l : Ledger) (e : Entry) → IsReady w (noted e l) → IsReady w (noted e (ask_scan l))
 ask_ready w l e h = asked_ready w l e (if l.ignores then requests.All else requests.Due) l.scan h
 
 woken_ready : (w : World) (l : Ledger) (e : Entry) (t : ℕ) → IsReady w (noted e l) → IsReady w (noted e (woken w l t))
-woken_ready w l e t h = otherwise_ready w (noted e l) t true l.next_run l.scan l.asked l.ignores l.deferred_turn l.served (revive_due w (record l { now = t })) h
+woken_ready w l e t h = otherwise_ready w (noted e l) t true l.next_run l.scan l.asked l.ignores l.deferred_follows l.served (revive_due w (record l { now = t })) h
 
 scheduled_ready : (w : World) (l : Ledger) (e : Entry) (t : ℕ) → IsReady w (noted e l) → IsReady w (noted e (scheduled w l t))
-scheduled_ready w l e t h = otherwise_ready w (noted e l) t true (scheduled w l t).next_run l.scan l.asked l.ignores l.deferred_turn l.served (revive_due w (record l { now = t })) h
+scheduled_ready w l e t h = otherwise_ready w (noted e l) t true (scheduled w l t).next_run l.scan l.asked l.ignores l.deferred_follows l.served (revive_due w (record l { now = t })) h
 
 at_ready : (w : World) (l : Ledger) (e : Entry) (t : ℕ) (b : Bool) → IsReady w (noted e l) → IsReady w (noted e (if b then ask_scan (scheduled w l t) else woken w l t))
 at_ready w l e t true h = ask_ready w (scheduled w l t) e (scheduled_ready w l e t h)
@@ -46,8 +46,8 @@ at_consistent w l t c =
 
 triggered_ready : (w : World) (l : Ledger) (e : Entry) (kind : Trigger) → IsReady w (noted e l) → IsReady w (noted e (after_trigger w l kind))
 triggered_ready w l e triggers.D h = ask_ready w l e h
-triggered_ready w l e triggers.A h = otherwise_ready w (noted e l) l.now l.timed l.next_run l.scan l.asked true l.deferred_turn l.served l.sites h
-triggered_ready w l e triggers.F h = otherwise_ready w (noted e l) l.now l.timed l.next_run l.scan l.asked l.ignores l.deferred_turn l.served (revive_all w l) h
+triggered_ready w l e triggers.A h = otherwise_ready w (noted e l) l.now l.timed l.next_run l.scan l.asked true l.deferred_follows l.served l.sites h
+triggered_ready w l e triggers.F h = otherwise_ready w (noted e l) l.now l.timed l.next_run l.scan l.asked l.ignores l.deferred_follows l.served (revive_all w l) h
 
 pub trigger_consistent : (w : World) (l : Ledger) (kind : Trigger) → IsConsistent w l → IsConsistent w (after w l (entries.Trigger kind))
 trigger_consistent w l kind c =

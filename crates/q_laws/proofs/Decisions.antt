@@ -36,7 +36,7 @@ use Rattle.q_model.specs.Settings.{World}
 use Rattle.q_model.specs.Startable.{can_start, current, is_startable, line_of}
 use Rattle.q_model.specs.Starts.{is_row}
 use Rattle.q_model.specs.Step.{allowed}
-use Rattle.q_model.specs.Turns.{pick, pick_id, Pick}
+use Rattle.q_model.specs.Alternation.{pick, pick_id, Pick}
 use Rattle.q_model.specs.declared.entry.Entry.{Entry}
 use Rattle.q_model.specs.declared.id.Id.{Id}
 use Rattle.q_model.specs.declared.rows.Admitted.{Admitted}

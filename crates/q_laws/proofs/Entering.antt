@@ -34,7 +34,7 @@ use Rattle.q_model.specs.Orderly.{has_firm_failures, is_paired, is_sealed, is_so
 use Rattle.q_model.specs.Places.{is_active, is_incoming}
 use Rattle.q_model.specs.Settings.{World}
 use Rattle.q_model.specs.Step.{after, noted}
-use Rattle.q_model.specs.Turns.{Pick, from_deferred, from_incoming, is_pick, passed, pick}
+use Rattle.q_model.specs.Alternation.{Pick, from_deferred, from_incoming, is_pick, passed, pick}
 use Rattle.q_model.specs.declared.id.Id.{Id}
 use Rattle.q_model.specs.declared.rows.Admitted.{Admitted}
 use Rattle.q_model.specs.declared.entry.Entry.TheVariants as entries

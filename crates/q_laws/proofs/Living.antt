@@ -26,8 +26,8 @@ use Rattle.q_model.specs.declared.rows.Request.{Request}
 use Rattle.q_model.specs.declared.rows.Request.TheVariants as requests
 use Rattle.q_model.specs.Settings.{World}
 use Rattle.q_model.specs.Step.{after, change, noted, tidied}
-use Rattle.q_model.specs.Turns.{Pick, after_pick, passed, pick}
-use Rattle.q_model.specs.Turns.Pick.{from_deferred, from_incoming}
+use Rattle.q_model.specs.Alternation.{Pick, after_pick, passed, pick}
+use Rattle.q_model.specs.Alternation.Pick.{from_deferred, from_incoming}
 use Rattle.q_model.specs.declared.entry.Entry.{Entry}
 use Rattle.q_model.specs.declared.entry.Entry.TheVariants as entries
 use Rattle.q_model.specs.declared.event.Trigger.{Trigger}

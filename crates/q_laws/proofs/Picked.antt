@@ -12,7 +12,7 @@ use Rattle.q_model.specs.Ledger.{Ledger}
 use Rattle.q_model.specs.Message.{Message}
 use Rattle.q_model.specs.Places.{is_active, is_incoming}
 use Rattle.q_model.specs.Scans.{deferred_name, deferred_names, is_ahead, name_before, scan_next}
-use Rattle.q_model.specs.Turns.{Pick, deferred_next, from_deferred, from_incoming, incoming_next, is_pick, pick, pick_id, pick_of}
+use Rattle.q_model.specs.Alternation.{Pick, deferred_next, from_deferred, from_incoming, incoming_next, is_pick, pick, pick_id, pick_of}
 use Rattle.q_model.specs.declared.id.Id.{Id}
 use Rattle.q_model.specs.declared.rows.DeferredName.{DeferredName}
 use Rattle.q_model.specs.declared.rows.Place.{Place}
@@ -66,11 +66,11 @@ incoming_out l distinct id m h there = which (is_active m.place) refl
 -- ---- the pick
 
 -- it is the next of incoming, or the next of the scan
-pick_is : (turn : Bool) (o : Option Id) (q : Option DeferredName) (p : Pick) → pick_of turn o q ≡ Some p →
+pick_is : (follows : Bool) (o : Option Id) (q : Option DeferredName) (p : Pick) → pick_of follows o q ≡ Some p →
     (o ≡ Some (pick_id p)) ⊎ ((n : DeferredName) × (q ≡ Some n) × (n.id ≡ pick_id p))
-pick_is turn None None p h = absurd cc
-pick_is turn None (Some n) p h = inr (n, refl, ap pick_id (same_Some (from_deferred n) p h))
-pick_is turn (Some id) None p h = inl (ap (λ x. Some (pick_id x)) (same_Some (from_incoming id) p h))
+pick_is follows None None p h = absurd cc
+pick_is follows None (Some n) p h = inr (n, refl, ap pick_id (same_Some (from_deferred n) p h))
+pick_is follows (Some id) None p h = inl (ap (λ x. Some (pick_id x)) (same_Some (from_incoming id) p h))
 pick_is true (Some id) (Some n) p h = inr (n, refl, ap pick_id (same_Some (from_deferred n) p h))
 pick_is false (Some id) (Some n) p h = inl (ap (λ x. Some (pick_id x)) (same_Some (from_incoming id) p h))
 
@@ -79,7 +79,7 @@ picked_on l id m None distinct e h there = absurd cc
 picked_on l id m (Some p) distinct e h there =
     let same : pick_id p ≡ id = id_eq-true (pick_id p) id h in
     let mine : message_of l.book (pick_id p) ≡ Some m = ap (message_of l.book) same ∙ there in
-    elim (pick_is l.deferred_turn (incoming_next l) (deferred_next l) p e) [
+    elim (pick_is l.deferred_follows (incoming_next l) (deferred_next l) p e) [
       | inl first ↦ incoming_out l distinct (pick_id p) m first mine
       | inr name ↦ scanned_out l distinct l.scan name.0 m name.1 (ap (message_of l.book) name.2 ∙ mine)
     ]

@@ -107,11 +107,11 @@ quiet_ready w l e q c =
 
 -- the ledger with other values of what nothing depends on here
 abbrev pub otherwise : Ledger → ℕ → Bool → ℕ → Option Scan → Option Request → Bool → Bool → List Served → List SiteRecord → Ledger
-otherwise l now timed next_run scan asked ignores turn served sites = record l { now = now; timed = timed; next_run = next_run; scan = scan; asked = asked; ignores = ignores; deferred_turn = turn; served = served; sites = sites }
+otherwise l now timed next_run scan asked ignores follows served sites = record l { now = now; timed = timed; next_run = next_run; scan = scan; asked = asked; ignores = ignores; deferred_follows = follows; served = served; sites = sites }
 
-pub otherwise_ready : (w : World) (l : Ledger) (now : ℕ) (timed : Bool) (next_run : ℕ) (scan : Option Scan) (asked : Option Request) (ignores turn : Bool) (served : List Served) (sites : List SiteRecord) →
-    IsReady w l → IsReady w (otherwise l now timed next_run scan asked ignores turn served sites)
-otherwise_ready w l now timed next_run scan asked ignores turn served sites h =
+pub otherwise_ready : (w : World) (l : Ledger) (now : ℕ) (timed : Bool) (next_run : ℕ) (scan : Option Scan) (asked : Option Request) (ignores follows : Bool) (served : List Served) (sites : List SiteRecord) →
+    IsReady w l → IsReady w (otherwise l now timed next_run scan asked ignores follows served sites)
+otherwise_ready w l now timed next_run scan asked ignores follows served sites h =
     let m = h.memory in
     record {
       usable = h.usable;

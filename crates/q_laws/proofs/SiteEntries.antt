@@ -39,7 +39,7 @@ use Rattle.q_model.specs.Settling.{needs_of}
 use Rattle.q_model.specs.Skips.{after_skip, unqueued}
 use Rattle.q_model.specs.Triggers.{after_trigger}
 use Rattle.q_model.specs.UnusedSites.{is_kept_dead}
-use Rattle.q_model.specs.Turns.{Pick, from_deferred, from_incoming, passed, pick, after_pick}
+use Rattle.q_model.specs.Alternation.{Pick, from_deferred, from_incoming, passed, pick, after_pick}
 use Rattle.q_model.specs.declared.entry.Entry.{Entry}
 use Rattle.q_model.specs.declared.event.Mode.{Mode}
 use Rattle.q_model.specs.declared.event.Trigger.{Trigger}
@@ -64,9 +64,9 @@ unchanged w l k sites waiting flights h = record {
       (subst (λ fs. tally (kept_dead_in l.waiting fs) l.sites ≤ w.settings.recipient_limit + 1) (sym flights) h.few));
 }
 
--- ---- scans, turns and outcomes
+-- ---- scans, alternation and outcomes
 
--- the ledger with other requests, scans, turns or outcomes
+-- the ledger with other requests, scans, alternation or outcomes
 record IsAside (l k : Ledger) : Type 0 where
   sites : k.sites ≡ l.sites
   waiting : k.waiting ≡ l.waiting

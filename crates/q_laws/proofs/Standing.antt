@@ -15,7 +15,7 @@ use Rattle.q_model.specs.Memory.{is_admitted}
 use Rattle.q_model.specs.Message.{Message}
 use Rattle.q_model.specs.Places.{is_active, is_incoming}
 use Rattle.q_model.specs.Scans.{deferred_name, deferred_names, is_ahead, name_before, scan_next}
-use Rattle.q_model.specs.Turns.{deferred_next, incoming_next}
+use Rattle.q_model.specs.Alternation.{deferred_next, incoming_next}
 use Rattle.q_model.specs.declared.id.Id.{Id}
 use Rattle.q_model.specs.declared.rows.DeferredName.{DeferredName}
 use Rattle.q_model.specs.declared.rows.Place.{Place}

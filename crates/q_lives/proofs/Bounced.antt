@@ -40,7 +40,7 @@ use Rattle.q_model.specs.Settings.{World}
 use Rattle.q_model.specs.Settling.{needs_of}
 use Rattle.q_model.specs.Skips.{unqueued}
 use Rattle.q_model.specs.Syncs.{sync_all}
-use Rattle.q_model.specs.Turns.{pick}
+use Rattle.q_model.specs.Alternation.{pick}
 use Rattle.q_model.specs.declared.event.Mode.{Mode}
 use Rattle.q_model.specs.declared.outcome.Outcome.{Outcome}
 use Rattle.q_model.specs.declared.outcome.SiteState.{SiteState}

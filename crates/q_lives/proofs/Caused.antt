@@ -23,7 +23,7 @@ use Rattle.q_model.specs.Replies.{landed, replied}
 use Rattle.q_model.specs.Scans.{ask_scan, joined_request, new_scan}
 use Rattle.q_model.specs.Skips.{unqueued}
 use Rattle.q_model.specs.Triggers.{after_trigger}
-use Rattle.q_model.specs.Turns.{Pick, from_deferred, from_incoming, passed, pick, after_pick}
+use Rattle.q_model.specs.Alternation.{Pick, from_deferred, from_incoming, passed, pick, after_pick}
 use Rattle.q_model.specs.declared.event.Mode.{Mode}
 use Rattle.q_model.specs.declared.event.Trigger.{Trigger}
 use Rattle.q_model.specs.declared.rows.Request.{Request}

@@ -38,7 +38,7 @@ use Rattle.q_model.specs.Settling.{needs_of}
 use Rattle.q_model.specs.Skips.{unqueued}
 use Rattle.q_model.specs.Step.{change, may}
 use Rattle.q_model.specs.Syncs.{sync_all}
-use Rattle.q_model.specs.Turns.{pick}
+use Rattle.q_model.specs.Alternation.{pick}
 use Rattle.q_model.specs.declared.entry.Entry.{Entry}
 use Rattle.q_model.specs.declared.id.Id.{Id}
 use Rattle.q_model.specs.declared.outcome.Outcome.{Outcome}

@@ -1,4 +1,4 @@
--- Worked runs of turns, batches, scans and what a crash left, and worked texts and times.
+-- Worked runs of queues that alternate, batches, scans and what a crash left, and worked texts and times.
 use Rattle.q_model.proofs.RowWords.{at, id, lines, mail, many, one_to, same_domain, told_from, up}
 use Rattle.q_model.specs.Feedbacks.{amount}
 use Rattle.q_model.specs.IdTexts.{hex}
@@ -27,8 +27,8 @@ use Rattle.q_model.specs.declared.event.Trigger.TheVariants as triggers
 abbrev refused_one : Message
 refused_one = record (one_to 1 marks.Synced places.Active) { failures = record { failure = record { position = 0; why = Refused; code = 550 }; firm = true } ∷ [] }
 
--- incoming and deferred give by turns
-turns : told_from 2 (record defaults { active_limit = 1 }) (at 1000 ∷ mail (codes "a@x.example") (codes "a@y.example" ∷ []) ∷ up 1 (outcomes.Later 0 ∷ []) ∷ mail (codes "a@x.example") (codes "b@y.example" ∷ []) ∷ mail (codes "a@x.example") (codes "c@y.example" ∷ []) ∷ mail (codes "a@x.example") (codes "d@y.example" ∷ []) ∷ at 1300 ∷ up 2 (outcomes.Ok ∷ []) ∷ up 3 (outcomes.Ok ∷ []) ∷ up 4 (outcomes.Ok ∷ []) ∷ Finish ∷ []) ≡ lines (
+-- incoming and deferred alternate
+alternation : told_from 2 (record defaults { active_limit = 1 }) (at 1000 ∷ mail (codes "a@x.example") (codes "a@y.example" ∷ []) ∷ up 1 (outcomes.Later 0 ∷ []) ∷ mail (codes "a@x.example") (codes "b@y.example" ∷ []) ∷ mail (codes "a@x.example") (codes "c@y.example" ∷ []) ∷ mail (codes "a@x.example") (codes "d@y.example" ∷ []) ∷ at 1300 ∷ up 2 (outcomes.Ok ∷ []) ∷ up 3 (outcomes.Ok ∷ []) ∷ up 4 (outcomes.Ok ∷ []) ∷ Finish ∷ []) ≡ lines (
     codes "arrive 00000001-00000001 a@x.example 0 a@y.example"
     ∷ codes "admit 00000001-00000001"
     ∷ codes "load 00000001-00000001 0 1"
@@ -66,7 +66,7 @@ turns : told_from 2 (record defaults { active_limit = 1 }) (at 1000 ∷ mail (co
     ∷ codes "end"
     ∷ [])
 unfolding run_of text run turn decisions decide after after_all next line digits hex
-turns = refl
+alternation = refl
 
 -- a long list is read as far as there is room
 loads_in_batches : told_from 32 (record defaults { recipient_limit = 10 }) (at 1000 ∷ mail (codes "a@x.example") (many 25 0 same_domain) ∷ up 1 (replicate 10 outcomes.Ok) ∷ up 2 (replicate 10 outcomes.Ok) ∷ Finish ∷ []) ≡ lines (

@@ -10,7 +10,7 @@ use Rattle.q_model.specs.Ids.{cause_of}
 use Rattle.q_model.specs.Ledger.{Ledger}
 use Rattle.q_model.specs.Memory.{free}
 use Rattle.q_model.specs.Settings.{World}
-use Rattle.q_model.specs.Turns.{is_pick, after_pick}
+use Rattle.q_model.specs.Alternation.{is_pick, after_pick}
 use Rattle.q_model.specs.declared.rows.Place.TheVariants as places
 
 -- the life delivers

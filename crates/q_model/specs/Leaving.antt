@@ -14,7 +14,7 @@ use Rattle.q_model.specs.Message.{pending, unmarked_logged}
 use Rattle.q_model.specs.Places.{is_active}
 use Rattle.q_model.specs.Settings.{World}
 use Rattle.q_model.specs.Times.{due}
-use Rattle.q_model.specs.Turns.{is_pick, after_pick}
+use Rattle.q_model.specs.Alternation.{is_pick, after_pick}
 use Rattle.q_model.specs.declared.rows.Place.TheVariants as places
 
 -- the message is idle, and some recipient is pending

@@ -22,7 +22,7 @@ pub record Ledger : Type 0 where
   pub scan : Option Scan
   pub asked : Option Request
   pub ignores : Bool
-  pub deferred_turn : Bool
+  pub deferred_follows : Bool
   pub admitted : List Admitted
   pub waiting : List Row
   pub flights : List Delivery
@@ -45,7 +45,7 @@ opening mode book = record {
   scan = None;
   asked = None;
   ignores = false;
-  deferred_turn = false;
+  deferred_follows = false;
   admitted = [];
   waiting = [];
   flights = [];

@@ -30,7 +30,7 @@ pub mod Candidates
 pub mod Choice
 pub mod TextParts
 pub mod Notices
-pub mod Turns
+pub mod Alternation
 pub mod Admissions
 pub mod Batches
 pub mod Loads

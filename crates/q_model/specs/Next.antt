@@ -24,7 +24,7 @@ use Rattle.q_model.specs.Past.{starts}
 use Rattle.q_model.specs.Settings.{World}
 use Rattle.q_model.specs.SiteRecords.{is_dead_site}
 use Rattle.q_model.specs.Times.{due}
-use Rattle.q_model.specs.Turns.{pick, pick_id, Pick}
+use Rattle.q_model.specs.Alternation.{pick, pick_id, Pick}
 use Rattle.q_model.specs.declared.entry.Entry.TheVariants as entries
 use Rattle.q_model.specs.declared.rows.Need.TheVariants as needs
 

@@ -36,8 +36,8 @@ use Rattle.q_model.specs.Skips.{unqueued}
 use Rattle.q_model.specs.Startable.{current}
 use Rattle.q_model.specs.Step.{after, after_all, change, noted, tidied}
 use Rattle.q_model.specs.Times.{due}
-use Rattle.q_model.specs.Turns.{after_pick, passed, pick, Pick, pick_id}
-use Rattle.q_model.specs.Turns.Pick.{from_deferred, from_incoming}
+use Rattle.q_model.specs.Alternation.{after_pick, passed, pick, Pick, pick_id}
+use Rattle.q_model.specs.Alternation.Pick.{from_deferred, from_incoming}
 use Rattle.q_model.proofs.RunLaws.{after_all-append}
 use Rattle.q_model.specs.declared.entry.Entry.{Entry}
 use Rattle.q_model.specs.declared.entry.Entry.TheVariants as entries

@@ -16,8 +16,8 @@ returns c = λ id known w l a may.
     let entered = λ (is : c.picked-found.result ≡ picked_in c.args.self.now) (fits : (is_admitted_in c.args.self.now (found_slot (picked_in c.args.self.now)).id ≡ false) × (length c.args.self.now.admitted < c.args.self.now.params.active_limit)).
     subst (λ f. (is_admitted_in c.args.self.now (found_slot f).id ≡ false → length c.args.self.now.admitted < c.args.self.now.params.active_limit → IsEntered c.args.self.now c.enter.new.self f)) is c.enter.ensures fits.0 fits.1 in
     let me = c.args.self.now in
-    let passed : c.pass_turn.new.self ≡ passed_in (from_deferred_in me) (found_name (picked_in me)) c.enter.new.self =
-    c.pass_turn.ensures
+    let passed : c.alternate.new.self ≡ passed_in (from_deferred_in me) (found_name (picked_in me)) c.enter.new.self =
+    c.alternate.ensures
     ∙ ap (λ n. passed_in c.picks_deferred-from_deferred.result n c.enter.new.self) (c.name.ensures ∙ ap found_name c.picked-found.ensures)
     ∙ ap (λ b. passed_in b (found_name (picked_in me)) c.enter.new.self) c.picks_deferred-from_deferred.ensures in
     tidy_law l rows.waiting rows.flights

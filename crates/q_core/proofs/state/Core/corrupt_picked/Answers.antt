@@ -18,8 +18,8 @@ returns c = λ id k w l a may.
     let rows = corrupt_rows l id in
     let me = c.args.self.now in
     let blind : Core = record me { active = Unknown; incoming = Unknown; deferred = Unknown } in
-    let passed : c.pass_turn.new.self ≡ passed_in (from_deferred_in me) (found_name (picked_in me)) blind =
-    c.pass_turn.ensures
+    let passed : c.alternate.new.self ≡ passed_in (from_deferred_in me) (found_name (picked_in me)) blind =
+    c.alternate.ensures
     ∙ ap (passed_in c.picks_deferred-from_deferred.result c.name.result) c.forget_looks.ensures
     ∙ ap (λ n. passed_in c.picks_deferred-from_deferred.result n blind) (c.name.ensures ∙ ap found_name c.picked-found.ensures)
     ∙ ap (λ b. passed_in b (found_name (picked_in me)) blind) c.picks_deferred-from_deferred.ensures in

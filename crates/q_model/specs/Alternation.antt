@@ -1,4 +1,4 @@
--- Which file is picked next: incoming and deferred give by turns (qmgr(8), "fairness").
+-- Which file is picked next: incoming and deferred alternate (qmgr(8), "fairness").
 use Rattle.std.specs.Option.{option_map_or}
 use Rattle.std.specs.Prelude.{Bool, false, if◌then◌else◌, Option, option_and_then, option_map, Some, true, None}
 use Rattle.q_model.specs.declared.id.Id.{Id}
@@ -29,30 +29,30 @@ incoming_next l = least id_before (ids_at is_incoming l.book)
 abbrev pub deferred_next : Ledger → Option DeferredName
 deferred_next l = option_and_then (λ s. scan_next l.book s) l.scan
 
--- an id in incoming is picked where the scan has no next name, or deferred hasn't the turn
+-- an id in incoming is picked where the scan has no next name, or incoming follows
 abbrev pub pick_with : Bool → Id → Option DeferredName → Pick
-pick_with deferred_turn id None = from_incoming id
-pick_with deferred_turn id (Some name) = if deferred_turn then from_deferred name else from_incoming id
+pick_with deferred_follows id None = from_incoming id
+pick_with deferred_follows id (Some name) = if deferred_follows then from_deferred name else from_incoming id
 
--- the queue whose turn it is gives; else the one that has a message
+-- the queue that follows gives; else the one that has a message
 abbrev pub pick_of : Bool → Option Id → Option DeferredName → Option Pick
-pick_of deferred_turn None scanned = option_map (λ name. from_deferred name) scanned
-pick_of deferred_turn (Some id) scanned = Some (pick_with deferred_turn id scanned)
+pick_of deferred_follows None scanned = option_map (λ name. from_deferred name) scanned
+pick_of deferred_follows (Some id) scanned = Some (pick_with deferred_follows id scanned)
 
 -- what is picked next
 abbrev pub pick : Ledger → Option Pick
-pick l = pick_of l.deferred_turn (incoming_next l) (deferred_next l)
+pick l = pick_of l.deferred_follows (incoming_next l) (deferred_next l)
 
 -- the id is the one picked next
 abbrev pub is_pick : Ledger → Id → Bool
 is_pick l id = option_map_or (λ p. id_eq (pick_id p) id) (pick l) false
 
--- the turn passes, and the walk of deferred goes on behind the name
+-- the other queue follows, and the walk of deferred goes on behind the name
 abbrev pub passed : Pick → Ledger → Ledger
-passed (from_incoming id) l = record l { deferred_turn = true }
+passed (from_incoming id) l = record l { deferred_follows = true }
 passed (from_deferred name) l =
-    record l { deferred_turn = false; scan = option_map (λ (s : Scan). record s { place = Some name }) l.scan }
+    record l { deferred_follows = false; scan = option_map (λ (s : Scan). record s { place = Some name }) l.scan }
 
--- the turn and the scan, after a file was picked
+-- which queue follows, and the scan, after a file was picked
 abbrev pub after_pick : Ledger → Ledger
 after_pick l = option_map_or (λ p. passed p l) (pick l) l
