@@ -35,7 +35,7 @@ row_same true true true s h process room = room
 row_same true true false s h process room = let some = process refl in cc
 
 -- Of the parts of a core.
-module _ (a : Inside) (sites : AreSitesTied a.sites.items (rows_of a.waiting.items) a.flights.items) (peers : ArePeersTied a.turns.peers (rows_of a.waiting.items)) (apart : AreApart a.turns.peers) (jobs : HaveJobs a.turns.lines a.turns.peers)
+module _ (a : Inside) (sites : AreSitesTied a.sites.items (rows_of a.waiting.items) a.flights.items) (peers : ArePeersTied a.schedule.peers (rows_of a.waiting.items)) (apart : AreApart a.schedule.peers) (jobs : HaveJobs a.schedule.lines a.schedule.peers)
     (t : ℕ) (process : nat_lt (flights_at (state_of a) t) (state_of a).params.process_limit ≡ true) where
   has_process : (r : Row) → (r.site.transport == t) ≡ true → nat_lt (flights_at (state_of a) r.site.transport) (state_of a).params.process_limit ≡ true
   has_process r at = let same : r.site.transport ≡ t = grind (arith, common_steps, at) in ap (λ u. nat_lt (flights_at (state_of a) u) (state_of a).params.process_limit) same ∙ process
@@ -45,10 +45,10 @@ module _ (a : Inside) (sites : AreSitesTied a.sites.items (rows_of a.waiting.ite
       row_same (id_eq r.id id) (r.site.transport == t) (nat_lt (flights_at (state_of a) r.site.transport) (state_of a).params.process_limit) (has_space_at a.sites.items r.site) (has_room_in (state_of a) r.site) (has_process r)
       (room_known a.flights.items r.site a.sites.items sites.busy)
 
-  pub able_known : (id : Id) → is_able a.sites.items a.turns.peers t id ≡ can_start_in (state_of a) t id
+  pub able_known : (id : Id) → is_able a.sites.items a.schedule.peers t id ≡ can_start_in (state_of a) t id
   able_known id =
-      any_peer a.turns.lines a.turns.peers (rows_of a.waiting.items) apart jobs peers (λ (k : PeerKey). (id_eq k.id id && (k.site.transport == t)) && has_space_at a.sites.items k.site)
+      any_peer a.schedule.lines a.schedule.peers (rows_of a.waiting.items) apart jobs peers (λ (k : PeerKey). (id_eq k.id id && (k.site.transport == t)) && has_space_at a.sites.items k.site)
       ∙ any_same (λ (r : Row). (id_eq r.id id && (r.site.transport == t)) && has_space_at a.sites.items r.site) (rows_for (state_of a) id t) (row_known id) (rows_of a.waiting.items)
 
-  pub current_known : find (λ (j : Job). is_able a.sites.items a.turns.peers t j.id) (line_at t a.turns.lines) ≡ current_in (state_of a) t
-  current_known = find_same (λ (j : Job). is_able a.sites.items a.turns.peers t j.id) (λ (j : Job). can_start_in (state_of a) t j.id) (λ j. able_known j.id) (line_at t a.turns.lines)
+  pub current_known : find (λ (j : Job). is_able a.sites.items a.schedule.peers t j.id) (line_at t a.schedule.lines) ≡ current_in (state_of a) t
+  current_known = find_same (λ (j : Job). is_able a.sites.items a.schedule.peers t j.id) (λ (j : Job). can_start_in (state_of a) t j.id) (λ j. able_known j.id) (line_at t a.schedule.lines)

@@ -75,10 +75,10 @@ module _ (c : Core) (id : Id) (rows : List Row) where
 
 -- ---- the same by the room of the parts
 
-pub record FitsBeside (waiting : Held) (sites : Dests) (turns : Scheduling) (id : Id) (rows : List Row) : Type 0 where
+pub record FitsBeside (waiting : Held) (sites : Dests) (schedule : Scheduling) (id : Id) (rows : List Row) : Type 0 where
   pub beside : length waiting.items + length rows ≤ waiting.room
   pub known : length sites.items + length rows ≤ sites.room
-  pub lines : list_all (can_join id rows turns.line_room) (enumerate_from 0 turns.lines) ≡ true
+  pub lines : list_all (can_join id rows schedule.line_room) (enumerate_from 0 schedule.lines) ≡ true
 
 module _ (w : Held) (s : Dests) (t : Scheduling) (id : Id) (rows : List Row) where
   abbrev waits : Bool

@@ -28,27 +28,27 @@ least_same f g same [] = refl
 least_same f g same (x ∷ xs) = ap (λ o. Some (option_map_or (λ y. cond (f y x) y x) o x)) (least_same f g same xs) ∙ least_step f g same x (least g xs)
 
 -- Of the parts of a core.
-module _ (a : Inside) (sites : AreSitesTied a.sites.items (rows_of a.waiting.items) a.flights.items) (tie : AreTurnsTied a.turns.peers (rows_of a.waiting.items) a.starts) (apart : AreApart a.turns.peers) (jobs : HaveJobs a.turns.lines a.turns.peers)
+module _ (a : Inside) (sites : AreSitesTied a.sites.items (rows_of a.waiting.items) a.flights.items) (tie : AreTurnsTied a.schedule.peers (rows_of a.waiting.items) a.starts) (apart : AreApart a.schedule.peers) (jobs : HaveJobs a.schedule.lines a.schedule.peers)
     (t : ℕ) (process : nat_lt (flights_at (state_of a) t) (state_of a).params.process_limit ≡ true) (id : Id) where
   abbrev rows : List Row
   rows = rows_of a.waiting.items
 
   abbrev by_peers : Option Row
-  by_peers = next_of_rows a.sites.items a.turns.lines a.turns.peers rows a.starts apart jobs tie t id
+  by_peers = next_of_rows a.sites.items a.schedule.lines a.schedule.peers rows a.starts apart jobs tie t id
 
-  last_known : (r : Row) → last_key a.sites.items a.turns.lines a.turns.peers rows a.starts apart jobs tie t id (name_of r) ≡ last_start_in (state_of a) r
-  last_known r = sym (last_served r.id r.site a.turns.peers apart)
+  last_known : (r : Row) → last_key a.sites.items a.schedule.lines a.schedule.peers rows a.starts apart jobs tie t id (name_of r) ≡ last_start_in (state_of a) r
+  last_known r = sym (last_served r.id r.site a.schedule.peers apart)
 
   next_known : by_peers ≡ next_row_in (state_of a) t id
   next_known =
-      ap (least (sooner a.sites.items a.turns.lines a.turns.peers rows a.starts apart jobs tie t id))
-      (filter_same (λ r. may_start a.sites.items a.turns.lines a.turns.peers rows a.starts apart jobs tie t id (name_of r)) (rows_for (state_of a) id t) (row_known a sites tie.counts apart jobs t process id) rows)
-      ∙ least_same (sooner a.sites.items a.turns.lines a.turns.peers rows a.starts apart jobs tie t id) (sent_before (state_of a))
-      (λ x y. ap (λ n. nat_lt n (last_key a.sites.items a.turns.lines a.turns.peers rows a.starts apart jobs tie t id (name_of y))) (last_known x) ∙ ap (nat_lt (last_start_in (state_of a) x)) (last_known y))
+      ap (least (sooner a.sites.items a.schedule.lines a.schedule.peers rows a.starts apart jobs tie t id))
+      (filter_same (λ r. may_start a.sites.items a.schedule.lines a.schedule.peers rows a.starts apart jobs tie t id (name_of r)) (rows_for (state_of a) id t) (row_known a sites tie.counts apart jobs t process id) rows)
+      ∙ least_same (sooner a.sites.items a.schedule.lines a.schedule.peers rows a.starts apart jobs tie t id) (sent_before (state_of a))
+      (λ x y. ap (λ n. nat_lt n (last_key a.sites.items a.schedule.lines a.schedule.peers rows a.starts apart jobs tie t id (name_of y))) (last_known x) ∙ ap (nat_lt (last_start_in (state_of a) x)) (last_known y))
       (filter (rows_for (state_of a) id t) rows)
 
-  pub row_chosen : AreStartsApart a.turns.peers → list_any is_passed a.turns.peers ≡ false → (p : Peer) → next_in a.sites.items t id a.turns.peers ≡ Some p → find (is_row_of p) rows ≡ next_row_in (state_of a) t id
-  row_chosen starts unpassed p next = sym (next_is a.sites.items a.turns.lines a.turns.peers rows a.starts apart jobs tie t id starts unpassed p next) ∙ next_known
+  pub row_chosen : AreStartsApart a.schedule.peers → list_any is_passed a.schedule.peers ≡ false → (p : Peer) → next_in a.sites.items t id a.schedule.peers ≡ Some p → find (is_row_of p) rows ≡ next_row_in (state_of a) t id
+  row_chosen starts unpassed p next = sym (next_is a.sites.items a.schedule.lines a.schedule.peers rows a.starts apart jobs tie t id starts unpassed p next) ∙ next_known
 
-  pub none_chosen : next_in a.sites.items t id a.turns.peers ≡ None → next_row_in (state_of a) t id ≡ None
-  none_chosen none = sym next_known ∙ next_none a.sites.items a.turns.lines a.turns.peers rows a.starts apart jobs tie t id none
+  pub none_chosen : next_in a.sites.items t id a.schedule.peers ≡ None → next_row_in (state_of a) t id ≡ None
+  none_chosen none = sym next_known ∙ next_none a.sites.items a.schedule.lines a.schedule.peers rows a.starts apart jobs tie t id none

@@ -107,9 +107,9 @@ fit_in c id rows = nat_le (length c.waiting + length rows) c.params.recipient_li
 
 -- the same by the room of the parts
 abbrev pub fit_beside : Held → Dests → Scheduling → Id → List Row → Bool
-fit_beside waiting sites turns id rows = nat_le (length waiting.items + length rows) waiting.room
+fit_beside waiting sites schedule id rows = nat_le (length waiting.items + length rows) waiting.room
     && (nat_le (length sites.items + length rows) sites.room
-    && list_all (can_join id rows turns.line_room) (enumerate_from 0 turns.lines))
+    && list_all (can_join id rows schedule.line_room) (enumerate_from 0 schedule.lines))
 
 -- The message was read up to this position: its recipients wait at their sites.
 pub record IsLoaded (old new : Core) (id : Id) (to : ℕ) (taken : List Taken)

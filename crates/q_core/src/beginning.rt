@@ -46,8 +46,8 @@ fn registers(alloc: Global, params: &Params, transports: u8) -> Result<Registers
         params.mark_sync_limit,
         params.qmgr_message_recipient_minimum,
     )?;
-    let turns = Schedule::new(alloc, transports, messages, room)?;
-    Ok((sites, admitted, turns))
+    let schedule = Schedule::new(alloc, transports, messages, room)?;
+    Ok((sites, admitted, schedule))
 }
 
 /// How many deliveries can be in flight: as many as there are processes of all transports.
@@ -103,7 +103,7 @@ fn over(
     requires loads { AreUnread params loads }
     ensures { result ≡ first_state params transports mode }
 {
-    let (sites, admitted, turns) = registers;
+    let (sites, admitted, schedule) = registers;
     let (waiting, flights, unsettled, skipped) = rooms;
     let (rows, open_rows, named) = loads;
     Core {
@@ -122,7 +122,7 @@ fn over(
         flights,
         in_memory: 0,
         unsettled,
-        turns,
+        schedule,
         sites,
         synced: None,
         starts: 0,

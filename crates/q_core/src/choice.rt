@@ -21,7 +21,7 @@ impl Core {
         ensures few { result ≤ 2 ^ 63 + 2 ^ 32 }
     {
         let at = usize::from(transport);
-        waiting_for(&self.turns, &self.waiting, id, at) + u64::from(self.unread(id))
+        waiting_for(&self.schedule, &self.waiting, id, at) + u64::from(self.unread(id))
     }
 
     /// The need of a message that preempts: what it has left at the transport. That is no more
@@ -37,14 +37,14 @@ impl Core {
     pub fn first_job(&self, transport: u8) -> Option<&Job>
         ensures { option_copied result ≡ first_job (jobs_at self.now transport) }
     {
-        self.turns.first(usize::from(transport))
+        self.schedule.first(usize::from(transport))
     }
 
     /// The job right behind that of a message at the transport.
     pub fn job_behind(&self, transport: u8, id: Id) -> Option<&Job>
         ensures { option_copied result ≡ first_job (behind_jobs id (jobs_at self.now transport)) }
     {
-        self.turns.behind(usize::from(transport), id)
+        self.schedule.behind(usize::from(transport), id)
     }
 
     /// The first job in the line that may start something.
@@ -54,8 +54,8 @@ impl Core {
         if !self.has_process(transport) {
             return None;
         }
-        self.turns.stand_apart();
-        self.turns.current(usize::from(transport), &self.sites)
+        self.schedule.stand_apart();
+        self.schedule.current(usize::from(transport), &self.sites)
     }
 
     /// No message has two jobs in the line of a transport: this does nothing, and is there for
@@ -63,7 +63,7 @@ impl Core {
     pub(crate) fn stand_apart(&self, transport: u8)
         ensures { AreOfOthers (jobs_at self.now transport) }
     {
-        self.turns.stand_apart();
+        self.schedule.stand_apart();
     }
 
     /// The message that preempts the current job; among equals the first admitted. Each that can
@@ -74,14 +74,14 @@ impl Core {
             (behind_jobs parent.now.id (jobs_at self.now transport)) parent.now }
     {
         self.stand_apart(transport);
-        self.turns.stand_apart();
+        self.schedule.stand_apart();
         self.admitted.stand_apart();
         self.waiting.stand_apart();
         let left = self.job_left(parent.id, transport);
         let most = most_need(&self.params, parent, left)?;
         let now = self.clock.seconds;
         let child = self
-            .turns
+            .schedule
             .best(transport, most, now, parent.id, &self.sites)?;
         self.slot(child).copied()
     }

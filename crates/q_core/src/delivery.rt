@@ -32,17 +32,17 @@ fn with_start(job: Job) -> Job
 }
 
 /// Counts a delivery that the message starts at the transport.
-fn count_start(turns: &mut Schedule, id: Id, transport: u8)
-    ensures { turns.new ≡ record turns.old {
+fn count_start(schedule: &mut Schedule, id: Id, transport: u8)
+    ensures { schedule.new ≡ record schedule.old {
       lines = map (started_line id transport)
-          (enumerate_from 0 turns.old.lines);
+          (enumerate_from 0 schedule.old.lines);
     } }
 {
     let at = usize::from(transport);
-    turns.stand_apart();
-    if let Some(job) = turns.job(at, id) {
+    schedule.stand_apart();
+    if let Some(job) = schedule.job(at, id) {
         let counted = with_start(*job);
-        turns.put(at, counted);
+        schedule.put(at, counted);
     }
 }
 
@@ -75,10 +75,10 @@ impl Core {
         take_row(&mut self.waiting, id, &site);
         touch_message(&mut self.touched_message, owner);
         self.sites.begin(&target);
-        self.turns.stand_apart();
-        self.turns.start(owner, &target, number);
-        self.turns.stand_apart();
-        self.turns.lose(owner, &target);
+        self.schedule.stand_apart();
+        self.schedule.start(owner, &target, number);
+        self.schedule.stand_apart();
+        self.schedule.lose(owner, &target);
         begin_flight(&mut self.admitted, owner);
         self.starts = number;
     }
@@ -87,7 +87,7 @@ impl Core {
     fn count_start(&mut self, id: Id, site: &Site)
         ensures { IsStarted self.old self.new id site.now.transport }
     {
-        count_start(&mut self.turns, id, site.transport);
+        count_start(&mut self.schedule, id, site.transport);
     }
 
     /// Starts the delivery of this number: of the row of the message that is next for the site.

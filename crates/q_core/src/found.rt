@@ -23,7 +23,7 @@ impl Core {
         touch_message(&mut self.touched_message, id);
         self.admitted.damage(id);
         self.admitted.stand_apart();
-        self.turns.read(id, unread(&self.admitted, id));
+        self.schedule.read(id, unread(&self.admitted, id));
     }
 
     fn note_found(&mut self, found: Found)

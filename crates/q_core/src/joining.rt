@@ -58,27 +58,28 @@ fn has_row_at(rows: &RowList, at: usize) -> bool
 }
 
 /// Whether the message has one of these rows at the transport, and no job in its line.
-fn joins(turns: &Schedule, id: Id, rows: &RowList, at: usize) -> bool
-    ensures { result ≡ joins_in id rows.now.rows at (line_at at turns.now.lines) }
+fn joins(schedule: &Schedule, id: Id, rows: &RowList, at: usize) -> bool
+    ensures { result ≡ joins_in id rows.now.rows at (line_at at schedule.now.lines) }
 {
-    has_row_at(rows, at) && turns.job(at, id).is_none()
+    has_row_at(rows, at) && schedule.job(at, id).is_none()
 }
 
 /// Whether the line has room, where the message joins it.
-fn can_join(turns: &Schedule, id: Id, rows: &RowList, at: usize) -> bool
-    requires { at < length turns.now.lines }
-    ensures { result ≡ can_join id rows.now.rows turns.now.line_room (at, line_at at turns.now.lines) }
+fn can_join(schedule: &Schedule, id: Id, rows: &RowList, at: usize) -> bool
+    requires { at < length schedule.now.lines }
+    ensures { result ≡ can_join id rows.now.rows schedule.now.line_room
+        (at, line_at at schedule.now.lines) }
 {
-    !joins(turns, id, rows, at) || turns.spare_jobs(at) != 0
+    !joins(schedule, id, rows, at) || schedule.spare_jobs(at) != 0
 }
 
 /// Whether each line has room that the message joins.
-pub(crate) fn can_join_all(turns: &Schedule, id: Id, rows: &RowList) -> bool
-    ensures { result ≡ list_all (can_join id rows.now.rows turns.now.line_room)
-        (enumerate_from 0 turns.now.lines) }
+pub(crate) fn can_join_all(schedule: &Schedule, id: Id, rows: &RowList) -> bool
+    ensures { result ≡ list_all (can_join id rows.now.rows schedule.now.line_room)
+        (enumerate_from 0 schedule.now.lines) }
 {
-    for at in 0..turns.transports() {
-        if !can_join(turns, id, rows, at) {
+    for at in 0..schedule.transports() {
+        if !can_join(schedule, id, rows, at) {
             return false;
         }
     }
@@ -86,45 +87,48 @@ pub(crate) fn can_join_all(turns: &Schedule, id: Id, rows: &RowList) -> bool
 }
 
 /// The message joins the line, where it has come to wait there, and has room.
-fn join(turns: &mut Schedule, id: Id, rows: &RowList, at: usize)
-    requires { at < length turns.old.lines }
-    ensures { turns.new ≡ record turns.old {
+fn join(schedule: &mut Schedule, id: Id, rows: &RowList, at: usize)
+    requires { at < length schedule.old.lines }
+    ensures { schedule.new ≡ record schedule.old {
       lines = with_line at
-          (λ jobs. joined_within id rows.now.rows turns.old.line_room (at, jobs)) turns.old.lines;
+          (λ jobs. joined_within id rows.now.rows schedule.old.line_room (at, jobs))
+          schedule.old.lines;
     } }
 {
-    if joins(turns, id, rows, at) && turns.spare_jobs(at) != 0 {
-        turns.join(at, id);
+    if joins(schedule, id, rows, at) && schedule.spare_jobs(at) != 0 {
+        schedule.join(at, id);
     }
 }
 
 /// The message joins the lines in which it has come to wait, where they have room.
-pub(crate) fn join_lines(turns: &mut Schedule, id: Id, rows: &RowList)
-    ensures { turns.new ≡ record turns.old {
+pub(crate) fn join_lines(schedule: &mut Schedule, id: Id, rows: &RowList)
+    ensures { schedule.new ≡ record schedule.old {
       lines = map
-          (joined_within id rows.now.rows turns.old.line_room) (enumerate_from 0 turns.old.lines);
+          (joined_within id rows.now.rows schedule.old.line_room)
+          (enumerate_from 0 schedule.old.lines);
     } }
 {
-    for at in 0..turns.transports() {
-        join(turns, id, rows, at);
+    for at in 0..schedule.transports() {
+        join(schedule, id, rows, at);
     }
 }
 
 /// Counts these rows of the message, of which none waits yet, at their peers. It has a job at the
 /// transport of each that has a line.
-pub(crate) fn count_peers(turns: &mut Schedule, id: Id, rows: &RowList, waiting: &Rows)
+pub(crate) fn count_peers(schedule: &mut Schedule, id: Id, rows: &RowList, waiting: &Rows)
     requires own { AreRowsOf id rows.now.rows }
-    requires jobs { list_all (λ r. may_wait turns.old.lines r.site.transport id) rows.now.rows ≡ true }
-    requires tied { ArePeersTied turns.old.peers (rows_of waiting.now.items) }
-    requires room { length turns.old.peers + length rows.now.rows ≤ turns.old.room }
+    requires jobs { list_all (λ r. may_wait schedule.old.lines r.site.transport id)
+        rows.now.rows ≡ true }
+    requires tied { ArePeersTied schedule.old.peers (rows_of waiting.now.items) }
+    requires room { length schedule.old.peers + length rows.now.rows ≤ schedule.old.room }
     requires few { length (rows_of waiting.now.items) + length rows.now.rows < 2 ^ 32 }
-    ensures rest { turns.new ≡ record turns.old { peers = turns.new.peers } }
-    ensures served { served_rows turns.new.peers ≡ served_rows turns.old.peers }
-    ensures tied { (starts : ℕ) → AreTurnsTied turns.old.peers (rows_of waiting.now.items) starts
-        → AreTurnsTied turns.new.peers (rows_of waiting.now.items ++ rows.now.rows) starts }
+    ensures rest { schedule.new ≡ record schedule.old { peers = schedule.new.peers } }
+    ensures served { served_rows schedule.new.peers ≡ served_rows schedule.old.peers }
+    ensures tied { (starts : ℕ) → AreTurnsTied schedule.old.peers (rows_of waiting.now.items) starts
+        → AreTurnsTied schedule.new.peers (rows_of waiting.now.items ++ rows.now.rows) starts }
 {
     for i in 0..rows.len() {
-        turns.stand_apart();
-        turns.gain(id, site_at(rows, i));
+        schedule.stand_apart();
+        schedule.gain(id, site_at(rows, i));
     }
 }

@@ -16,7 +16,7 @@ impl Core {
     {
         touch_unread(&mut self.touched_message, &self.admitted, id);
         self.admitted.remove(id);
-        self.turns.remove(id);
+        self.schedule.remove(id);
     }
 
     /// The message isn't in memory, and deferred is to be looked at anew.

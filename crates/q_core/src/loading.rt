@@ -21,8 +21,8 @@ use q_positions::RowList;
 use q_schedule::Schedule;
 
 /// Whether these rows of the message fit in, which they do where a ledger may load them.
-fn fit(waiting: &Rows, sites: &Sites, turns: &Schedule, id: Id, rows: &RowList) -> bool
-    ensures { result ≡ fit_beside waiting.now sites.now turns.now id rows.now.rows }
+fn fit(waiting: &Rows, sites: &Sites, schedule: &Schedule, id: Id, rows: &RowList) -> bool
+    ensures { result ≡ fit_beside waiting.now sites.now schedule.now id rows.now.rows }
 {
     waiting.stand_apart();
     if (waiting.spare() as usize) < rows.len() {
@@ -32,7 +32,7 @@ fn fit(waiting: &Rows, sites: &Sites, turns: &Schedule, id: Id, rows: &RowList) 
     if (sites.spare() as usize) < rows.len() {
         return false;
     }
-    can_join_all(turns, id, rows)
+    can_join_all(schedule, id, rows)
 }
 
 impl Core {
@@ -52,7 +52,7 @@ impl Core {
         touch_message(&mut self.touched_message, id);
         self.admitted.read(id, to);
         self.admitted.stand_apart();
-        self.turns.read(id, unread(&self.admitted, id));
+        self.schedule.read(id, unread(&self.admitted, id));
     }
 
     /// Takes the recipients that were read, whose sites were named, in as rows of the message, which
@@ -66,14 +66,14 @@ impl Core {
     {
         group(&mut self.rows, &mut self.open_rows, id, taken, &self.named);
         let rows = &self.rows;
-        if !fit(&self.waiting, &self.sites, &self.turns, id, rows) {
+        if !fit(&self.waiting, &self.sites, &self.schedule, id, rows) {
             return false;
         }
         self.waiting.stand_apart();
         self.sites.stand_apart();
-        self.turns.stand_apart();
-        join_lines(&mut self.turns, id, rows);
-        count_peers(&mut self.turns, id, rows, &self.waiting);
+        self.schedule.stand_apart();
+        join_lines(&mut self.schedule, id, rows);
+        count_peers(&mut self.schedule, id, rows, &self.waiting);
         count_rows(&mut self.sites, rows, &self.waiting, &self.params);
         add_all(&mut self.waiting, rows, &self.sites);
         gain_waiting(&mut self.admitted, id, rows.len() as u64);

@@ -160,7 +160,7 @@ impl Core {
         requires room { length self.old.admitted < self.old.params.active_limit }
         ensures { self.new ≡ record self.old { admitted = self.old.admitted ++ slot ∷ [] } }
     {
-        self.turns.admit(admitted(&slot));
+        self.schedule.admit(admitted(&slot));
         self.admitted.push(slot);
     }
 

@@ -27,31 +27,31 @@ fn with_charge(job: Job, need: u64, left: u64) -> Job
 }
 
 /// Charges the need to the message's job.
-fn charge(turns: &mut Schedule, transport: usize, id: Id, need: u64, left: u64)
-    ensures { turns.new ≡ record turns.old {
+fn charge(schedule: &mut Schedule, transport: usize, id: Id, need: u64, left: u64)
+    ensures { schedule.new ≡ record schedule.old {
       lines = with_line transport
-          (map (changed_job id (with_charge need left))) turns.old.lines;
+          (map (changed_job id (with_charge need left))) schedule.old.lines;
     } }
 {
-    turns.stand_apart();
-    if let Some(job) = turns.job(transport, id) {
+    schedule.stand_apart();
+    if let Some(job) = schedule.job(transport, id) {
         let charged = with_charge(*job, need, left);
-        turns.put(transport, charged);
+        schedule.put(transport, charged);
     }
 }
 
 /// The child goes before the parent at the transport, and its need is charged to the parent.
-fn preempt(turns: &mut Schedule, child: Id, parent: Id, transport: u8, need: u64, left: u64)
+fn preempt(schedule: &mut Schedule, child: Id, parent: Id, transport: u8, need: u64, left: u64)
     requires other { id_eq child parent ≡ false }
-    requires parent { has_job turns.old.lines transport parent ≡ true }
-    ensures { turns.new ≡ record turns.old {
+    requires parent { has_job schedule.old.lines transport parent ≡ true }
+    ensures { schedule.new ≡ record schedule.old {
       lines = map
-          (preempted_line child parent transport need left) (enumerate_from 0 turns.old.lines);
+          (preempted_line child parent transport need left) (enumerate_from 0 schedule.old.lines);
     } }
 {
     let at = usize::from(transport);
-    charge(turns, at, parent, need, left);
-    turns.put_before(at, child, parent);
+    charge(schedule, at, parent, need, left);
+    schedule.put_before(at, child, parent);
 }
 
 impl Core {
@@ -60,7 +60,7 @@ impl Core {
         requires parent { has_job self.old.lines transport parent ≡ true }
         ensures { IsPreempted self.old self.new child parent transport need left }
     {
-        preempt(&mut self.turns, child, parent, transport, need, left);
+        preempt(&mut self.schedule, child, parent, transport, need, left);
     }
 
     /// The child goes before the parent, the current job of the transport, at this need.

@@ -16,22 +16,22 @@ use q_positions::{RowList, RowRef};
 use q_schedule::Schedule;
 
 /// How many rows of the message wait for the transport.
-pub(crate) fn waiting_for(turns: &Schedule, waiting: &Rows, id: Id, transport: usize) -> u64
-    requires { ArePeersTied turns.now.peers (rows_of waiting.now.items) }
+pub(crate) fn waiting_for(schedule: &Schedule, waiting: &Rows, id: Id, transport: usize) -> u64
+    requires { ArePeersTied schedule.now.peers (rows_of waiting.now.items) }
     ensures count { result ≡ count_by (is_row_for id transport) (rows_of waiting.now.items) }
     ensures few { result ≤ 2 ^ 30 }
 {
-    turns.stand_apart();
+    schedule.stand_apart();
     waiting.stand_apart();
-    turns.rows_left(id, transport)
+    schedule.rows_left(id, transport)
 }
 
 /// Whether a row of the message waits for the transport.
-pub(crate) fn waits_for(turns: &Schedule, waiting: &Rows, id: Id, transport: usize) -> bool
-    requires { ArePeersTied turns.now.peers (rows_of waiting.now.items) }
+pub(crate) fn waits_for(schedule: &Schedule, waiting: &Rows, id: Id, transport: usize) -> bool
+    requires { ArePeersTied schedule.now.peers (rows_of waiting.now.items) }
     ensures { result ≡ waits_for_in (rows_of waiting.now.items) id transport }
 {
-    waiting_for(turns, waiting, id, transport) != 0
+    waiting_for(schedule, waiting, id, transport) != 0
 }
 
 /// The message's first row for the site.

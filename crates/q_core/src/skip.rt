@@ -72,8 +72,8 @@ impl Core {
         touch_message(&mut self.touched_message, owner);
         self.sites.stand_apart();
         self.sites.leave(&target);
-        self.turns.stand_apart();
-        self.turns.lose(owner, &target);
+        self.schedule.stand_apart();
+        self.schedule.lose(owner, &target);
         put_off_row(&mut self.admitted, owner, needs as u64);
         let done = count.saturating_sub(needs);
         self.in_memory = self.in_memory.saturating_sub(done as u64);

@@ -51,8 +51,8 @@ impl Core {
     fn last_start(&self, row: RowRef<'_>) -> u64
         ensures { result ≡ last_start_in self.now (row_shown row.entry) }
     {
-        self.turns.stand_apart();
-        self.turns.last(row.id, row.site)
+        self.schedule.stand_apart();
+        self.schedule.last(row.id, row.site)
     }
 
     /// The row that was found before, or this one, where it may be sent now and starts sooner.
@@ -84,11 +84,11 @@ impl Core {
         if !self.has_process(transport) {
             return None;
         }
-        self.turns.stand_apart();
-        if self.turns.has_passed() {
+        self.schedule.stand_apart();
+        if self.schedule.has_passed() {
             return next_row_among(self, &self.waiting, id, transport);
         }
-        let Some(peer) = self.turns.next(usize::from(transport), id, &self.sites) else {
+        let Some(peer) = self.schedule.next(usize::from(transport), id, &self.sites) else {
             return None;
         };
         first_row(&self.waiting, peer.id, &peer.site)
@@ -101,8 +101,8 @@ impl Core {
         if !self.has_process(transport) {
             return false;
         }
-        self.turns.stand_apart();
-        match self.turns.next(usize::from(transport), id, &self.sites) {
+        self.schedule.stand_apart();
+        match self.schedule.next(usize::from(transport), id, &self.sites) {
             Some(_) => true,
             None => false,
         }

@@ -55,7 +55,7 @@ pub struct Core {
     /// Recipients that are waiting, in flight or unsettled.
     pub(crate) in_memory: u64,
     pub(crate) unsettled: Queue<Unsettled>,
-    pub(crate) turns: Schedule,
+    pub(crate) schedule: Schedule,
     pub(crate) sites: Sites,
     /// The message of an earlier life that was synced last.
     pub(crate) synced: Option<Id>,
@@ -94,14 +94,14 @@ impl Model for Core {
     ghost invariant = { λ a. AreTied a.params a.admitted (rows_of a.waiting.items)
         a.flights.items a.unsettled.items a.starts
         × IsTidyBut a.touched_message (heads a.admitted.items) (rows_of a.waiting.items)
-        a.turns.lines
+        a.schedule.lines
         × AreSitesTied a.sites.items (rows_of a.waiting.items) a.flights.items
-        × AreTurnsTied a.turns.peers (rows_of a.waiting.items) a.starts
+        × AreTurnsTied a.schedule.peers (rows_of a.waiting.items) a.starts
         × AreHeldBy (goes_to_dead a.sites.items) a.waiting.items
-        × AreMessagesTied a.params a.turns (heads a.admitted.items)
+        × AreMessagesTied a.params a.schedule (heads a.admitted.items)
         × HaveRoom a.params a.transports a.flights a.question a.named a.unsettled
-        × HasRoomForLoads a.params a.transports a.waiting.room a.sites.room a.turns.room
-        a.turns.line_room
+        × HasRoomForLoads a.params a.transports a.waiting.room a.sites.room a.schedule.room
+        a.schedule.line_room
         × HasRoomForPositions a.params a.waiting.most a.flights.most a.skipped a.rows.room
         a.rows.most a.open_rows.room };
 }

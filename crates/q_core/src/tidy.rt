@@ -42,73 +42,78 @@ pub(crate) fn unread(admitted: &Pool, id: Id) -> u32
 
 /// Whether the message has something left at the transport.
 pub(crate) fn stays(
-    turns: &Schedule,
+    schedule: &Schedule,
     admitted: &Pool,
     waiting: &Rows,
     id: Id,
     transport: usize,
 ) -> bool
-    requires { ArePeersTied turns.now.peers (rows_of waiting.now.items) }
+    requires { ArePeersTied schedule.now.peers (rows_of waiting.now.items) }
     ensures { result ≡ stays_among (heads admitted.now.items) (rows_of waiting.now.items) transport id }
 {
-    waits_for(turns, waiting, id, transport) || unread(admitted, id) != 0
+    waits_for(schedule, waiting, id, transport) || unread(admitted, id) != 0
 }
 
 /// The message of the first job that has nothing left.
-fn first_to_leave(turns: &Schedule, admitted: &Pool, waiting: &Rows, transport: usize) -> Option<Id>
-    requires { ArePeersTied turns.now.peers (rows_of waiting.now.items) }
+fn first_to_leave(
+    schedule: &Schedule,
+    admitted: &Pool,
+    waiting: &Rows,
+    transport: usize,
+) -> Option<Id>
+    requires { ArePeersTied schedule.now.peers (rows_of waiting.now.items) }
     ensures { result ≡ option_map (λ j. j.id) (find (leaves_among (heads admitted.now.items)
-        (rows_of waiting.now.items) transport) (line_at transport turns.now.lines)) }
+        (rows_of waiting.now.items) transport) (line_at transport schedule.now.lines)) }
 {
-    turns.stand_apart();
-    let mut at = turns.first(transport);
+    schedule.stand_apart();
+    let mut at = schedule.first(transport);
     while let Some(job) = at {
-        if !stays(turns, admitted, waiting, job.id, transport) {
+        if !stays(schedule, admitted, waiting, job.id, transport) {
             return Some(job.id);
         }
-        at = turns.behind(transport, job.id);
+        at = schedule.behind(transport, job.id);
     }
     None
 }
 
 /// The message, of which no row waits at the transport, leaves its line.
-pub(crate) fn leave_line(turns: &mut Schedule, id: Id, waiting: &Rows, transport: usize)
-    requires there { transport < length turns.old.lines }
-    requires tied { ArePeersTied turns.old.peers (rows_of waiting.now.items) }
+pub(crate) fn leave_line(schedule: &mut Schedule, id: Id, waiting: &Rows, transport: usize)
+    requires there { transport < length schedule.old.lines }
+    requires tied { ArePeersTied schedule.old.peers (rows_of waiting.now.items) }
     requires done { waits_for_in (rows_of waiting.now.items) id transport ≡ false }
-    ensures { turns.new ≡ record turns.old {
+    ensures { schedule.new ≡ record schedule.old {
       lines = with_line transport
-          (filter (is_job_of_another id)) turns.old.lines;
+          (filter (is_job_of_another id)) schedule.old.lines;
     } }
 {
-    turns.stand_apart();
-    turns.leave(transport, id);
+    schedule.stand_apart();
+    schedule.leave(transport, id);
 }
 
 /// Takes the jobs that have nothing left out of the line: one leaves at a time, for the most part.
-fn tidy_line(turns: &mut Schedule, admitted: &Pool, waiting: &Rows, transport: usize)
-    requires there { transport < length turns.old.lines }
-    requires tied { ArePeersTied turns.old.peers (rows_of waiting.now.items) }
-    ensures { turns.new ≡ record turns.old {
+fn tidy_line(schedule: &mut Schedule, admitted: &Pool, waiting: &Rows, transport: usize)
+    requires there { transport < length schedule.old.lines }
+    requires tied { ArePeersTied schedule.old.peers (rows_of waiting.now.items) }
+    ensures { schedule.new ≡ record schedule.old {
       lines = with_line transport (tidied_jobs
-          (heads admitted.now.items) (rows_of waiting.now.items) transport) turns.old.lines;
+          (heads admitted.now.items) (rows_of waiting.now.items) transport) schedule.old.lines;
     } }
 {
-    while let Some(id) = first_to_leave(turns, admitted, waiting, transport) {
-        leave_line(turns, id, waiting, transport);
+    while let Some(id) = first_to_leave(schedule, admitted, waiting, transport) {
+        leave_line(schedule, id, waiting, transport);
     }
 }
 
 /// Takes the jobs that have nothing left out of the lines.
-pub(crate) fn tidy_lines(turns: &mut Schedule, admitted: &Pool, waiting: &Rows)
-    requires { ArePeersTied turns.old.peers (rows_of waiting.now.items) }
-    ensures { turns.new ≡ record turns.old {
+pub(crate) fn tidy_lines(schedule: &mut Schedule, admitted: &Pool, waiting: &Rows)
+    requires { ArePeersTied schedule.old.peers (rows_of waiting.now.items) }
+    ensures { schedule.new ≡ record schedule.old {
       lines = map (tidied_line (heads admitted.now.items)
-          (rows_of waiting.now.items)) (enumerate_from 0 turns.old.lines);
+          (rows_of waiting.now.items)) (enumerate_from 0 schedule.old.lines);
     } }
 {
-    for transport in 0..turns.transports() {
-        tidy_line(turns, admitted, waiting, transport);
+    for transport in 0..schedule.transports() {
+        tidy_line(schedule, admitted, waiting, transport);
     }
 }
 
@@ -129,8 +134,8 @@ impl Core {
         let limit = record_limit(&self.params);
         let message = &self.touched_message;
         self.sites.stand_apart();
-        self.turns.stand_apart();
-        tidy_touched_lines(&mut self.turns, message, &self.admitted, &self.waiting);
+        self.schedule.stand_apart();
+        tidy_touched_lines(&mut self.schedule, message, &self.admitted, &self.waiting);
         forget_oldest(&mut self.sites, limit);
         self.touched_message = Touched::Nothing;
     }

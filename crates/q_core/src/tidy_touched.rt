@@ -17,54 +17,54 @@ use q_pool::Pool;
 use q_schedule::Schedule;
 
 /// Takes the message's job out of the line, where it has nothing left.
-fn tidy_job(turns: &mut Schedule, id: Id, admitted: &Pool, waiting: &Rows, transport: usize)
-    requires there { transport < length turns.old.lines }
-    requires tied { ArePeersTied turns.old.peers (rows_of waiting.now.items) }
+fn tidy_job(schedule: &mut Schedule, id: Id, admitted: &Pool, waiting: &Rows, transport: usize)
+    requires there { transport < length schedule.old.lines }
+    requires tied { ArePeersTied schedule.old.peers (rows_of waiting.now.items) }
     requires others { jobs_stay (One id) (heads admitted.now.items) (rows_of waiting.now.items)
-        transport (line_at transport turns.old.lines) ≡ true }
-    ensures { turns.new ≡ record turns.old {
+        transport (line_at transport schedule.old.lines) ≡ true }
+    ensures { schedule.new ≡ record schedule.old {
       lines = with_line transport (tidied_jobs
-          (heads admitted.now.items) (rows_of waiting.now.items) transport) turns.old.lines;
+          (heads admitted.now.items) (rows_of waiting.now.items) transport) schedule.old.lines;
     } }
 {
-    if !stays(turns, admitted, waiting, id, transport) {
-        leave_line(turns, id, waiting, transport);
+    if !stays(schedule, admitted, waiting, id, transport) {
+        leave_line(schedule, id, waiting, transport);
     }
 }
 
 /// Takes the message's jobs out of the lines, where they have nothing left.
-fn tidy_message(turns: &mut Schedule, id: Id, admitted: &Pool, waiting: &Rows)
-    requires tied { ArePeersTied turns.old.peers (rows_of waiting.now.items) }
+fn tidy_message(schedule: &mut Schedule, id: Id, admitted: &Pool, waiting: &Rows)
+    requires tied { ArePeersTied schedule.old.peers (rows_of waiting.now.items) }
     requires others { DoJobsStay (One id) (heads admitted.now.items) (rows_of waiting.now.items)
-        turns.old.lines }
-    ensures { turns.new ≡ record turns.old {
+        schedule.old.lines }
+    ensures { schedule.new ≡ record schedule.old {
       lines = map (tidied_line (heads admitted.now.items)
-          (rows_of waiting.now.items)) (enumerate_from 0 turns.old.lines);
+          (rows_of waiting.now.items)) (enumerate_from 0 schedule.old.lines);
     } }
 {
-    for transport in 0..turns.transports() {
-        tidy_job(turns, id, admitted, waiting, transport);
+    for transport in 0..schedule.transports() {
+        tidy_job(schedule, id, admitted, waiting, transport);
     }
 }
 
 /// Takes the jobs that have nothing left out of the lines.
 pub(crate) fn tidy_touched_lines(
-    turns: &mut Schedule,
+    schedule: &mut Schedule,
     touched: &Touched<Id>,
     admitted: &Pool,
     waiting: &Rows,
 )
-    requires tied { ArePeersTied turns.old.peers (rows_of waiting.now.items) }
+    requires tied { ArePeersTied schedule.old.peers (rows_of waiting.now.items) }
     requires others { DoJobsStay touched.now (heads admitted.now.items)
-        (rows_of waiting.now.items) turns.old.lines }
-    ensures { turns.new ≡ record turns.old {
+        (rows_of waiting.now.items) schedule.old.lines }
+    ensures { schedule.new ≡ record schedule.old {
       lines = map (tidied_line (heads admitted.now.items)
-          (rows_of waiting.now.items)) (enumerate_from 0 turns.old.lines);
+          (rows_of waiting.now.items)) (enumerate_from 0 schedule.old.lines);
     } }
 {
     match touched {
         Touched::Nothing => {}
-        Touched::One(id) => tidy_message(turns, *id, admitted, waiting),
-        Touched::Everything => tidy_lines(turns, admitted, waiting),
+        Touched::One(id) => tidy_message(schedule, *id, admitted, waiting),
+        Touched::Everything => tidy_lines(schedule, admitted, waiting),
     }
 }

@@ -22,7 +22,7 @@ pub invariant_of-result : goal.invariant_of-result
 invariant_of-result c =
     let r = c.requires.registers in
     let e = c.requires.rooms in
-    let turns = c.args.registers.2 in
+    let schedule = c.args.registers.2 in
     let sites = c.args.registers.0 in
     let waiting : c.args.rooms.0.items ≡ [] = ap (λ (v : Held). v.items) e.waiting in
     let rows : rows_of c.args.rooms.0.items ≡ [] = ap rows_of waiting in
@@ -33,9 +33,9 @@ invariant_of-result c =
       tied_new c.args.params c.args.registers.1 (rows_of c.args.rooms.0.items) c.args.rooms.1.items c.args.rooms.2.items r.admitted rows flights outcomes,
       rw (slots, rows, r.lines) (new_tidy c.args.transports),
       sites_new sites.items (rows_of c.args.rooms.0.items) c.args.rooms.1.items r.sites rows flights,
-      turns_new turns.peers (rows_of c.args.rooms.0.items) r.peers rows,
+      turns_new schedule.peers (rows_of c.args.rooms.0.items) r.peers rows,
       subst (AreHeldBy (goes_to_dead sites.items)) (sym waiting) tt,
-      messages_new c.args.params turns (heads c.args.registers.1.items) r.messages slots r.message_room,
+      messages_new c.args.params schedule (heads c.args.registers.1.items) r.messages slots r.message_room,
       record {
         deliveries = processes_new c.args.params c.args.transports c.args.rooms.1 flights (ap (λ (v : Flying). v.room) e.flights);
         asked = tt;

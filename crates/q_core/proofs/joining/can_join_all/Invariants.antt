@@ -5,4 +5,4 @@ use Rattle.q_core.proofs.joining.can_join_all.Given as goal
 
 -- each line before this one has room
 abbrev pub invariant-loop-at : goal.invariant-loop-at
-invariant-loop-at l = list_all (can_join l.id l.rows.rows l.turns.line_room) (enumerate_from 0 (take l.at l.turns.lines)) ≡ true
+invariant-loop-at l = list_all (can_join l.id l.rows.rows l.schedule.line_room) (enumerate_from 0 (take l.at l.schedule.lines)) ≡ true

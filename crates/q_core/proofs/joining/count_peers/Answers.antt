@@ -31,7 +31,7 @@ loop-i-preserved c =
     let ws = rows_of c.args.waiting.now.items in
     let at = there_at rows i (omega (arith, c.len-i-end.ensures, c.loop-i-test.true)) in
     let r : Row = at.0 in
-    let ps = c.loop-i.turns.peers in
+    let ps = c.loop-i.schedule.peers in
     let site = c.site_at.ensures r at.1 in
     let own : r.id ≡ c.args.id = named_at (λ (x : Row). x.id) c.args.id rows i r c.requires.own at.1 in
     let is : c.gain.new.self.peers ≡ gained_at r.id r.site ps =
@@ -39,12 +39,12 @@ loop-i-preserved c =
     let taken = one_more rows i r at.1 in
     let all : ((ws ++ take i rows) ++ r ∷ []) ≡ ws ++ take (i + 1) rows = append_assoc ws (take i rows) (r ∷ []) ∙ ap (λ xs. ws ++ xs) (sym taken) in (
       c.gain.ensures ∙ ap (λ (x : Scheduling). record x { peers = gained_at c.args.id c.site_at.result.now ps }) c.loop-i.invariant.0
-          ∙ ap (λ xs. record c.args.turns.now { peers = xs }) (sym (ap (λ (x : Scheduling). x.peers) c.gain.ensures)),
+          ∙ ap (λ xs. record c.args.schedule.now { peers = xs }) (sym (ap (λ (x : Scheduling). x.peers) c.gain.ensures)),
       subst (λ xs. ArePeersTied c.gain.new.self.peers xs) all (subst (λ xs. ArePeersTied xs ((ws ++ take i rows) ++ r ∷ [])) (sym is) (peers_gained r ps (ws ++ take i rows) c.loop-i.invariant.1 (list_any (is_peer r.id r.site) ps) refl)),
       rw is (omega (arith, one_peer_more r.id r.site ps (list_any (is_peer r.id r.site) ps), c.loop-i.invariant.2)),
       ap served_rows is ∙ served_gained r.id r.site ps (list_any (is_peer r.id r.site) ps) ∙ c.loop-i.invariant.3,
       (λ starts tie. subst (λ xs. AreTurnsTied c.gain.new.self.peers xs starts) all (subst (λ xs. AreTurnsTied xs ((ws ++ take i rows) ++ r ∷ []) starts) (sym is)
-          (turns_gained c.loop-i.turns.lines ps (ws ++ take i rows) starts c.stand_apart.ensures.apart c.stand_apart.ensures.jobs (c.loop-i.invariant.4 starts tie) r))),
+          (turns_gained c.loop-i.schedule.lines ps (ws ++ take i rows) starts c.stand_apart.ensures.apart c.stand_apart.ensures.jobs (c.loop-i.invariant.4 starts tie) r))),
     )
 
 pub gain-requires-clause-job : goal.gain-requires-clause-job
@@ -54,8 +54,8 @@ gain-requires-clause-job c =
     let at = there_at rows i (omega (arith, c.len-i-end.ensures, c.loop-i-test.true)) in
     let site = c.site_at.ensures at.0 at.1 in
     ap (λ (x : Scheduling). may_wait x.lines c.site_at.result.now.transport c.args.id) c.loop-i.invariant.0
-    ∙ ap (λ s. may_wait c.args.turns.now.lines s.transport c.args.id) site
-    ∙ passes_at (λ (r : Row). may_wait c.args.turns.now.lines r.site.transport c.args.id) rows i at.0 c.requires.jobs at.1
+    ∙ ap (λ s. may_wait c.args.schedule.now.lines s.transport c.args.id) site
+    ∙ passes_at (λ (r : Row). may_wait c.args.schedule.now.lines r.site.transport c.args.id) rows i at.0 c.requires.jobs at.1
 
 pub gain-requires-clause-few : goal.gain-requires-clause-few
 gain-requires-clause-few c =
@@ -77,4 +77,4 @@ gain-requires-clause-room c =
 pub returns-clause-tied : goal.returns-clause-tied
 returns-clause-tied c = λ starts tie.
     let rows = c.args.rows.now.rows in
-    subst (λ xs. AreTurnsTied c.loop-i.turns.peers (rows_of c.args.waiting.now.items ++ xs) starts) (take_all c.loop-i.i rows (omega (arith, c.len-i-end.ensures, c.loop-i-test.false))) (c.loop-i.invariant.4 starts tie)
+    subst (λ xs. AreTurnsTied c.loop-i.schedule.peers (rows_of c.args.waiting.now.items ++ xs) starts) (take_all c.loop-i.i rows (omega (arith, c.len-i-end.ensures, c.loop-i-test.false))) (c.loop-i.invariant.4 starts tie)

@@ -7,8 +7,8 @@ use Rattle.q_core.proofs.joining.count_peers.Given as goal
 -- the rows before this one are counted
 abbrev pub invariant-loop-i : goal.invariant-loop-i
 invariant-loop-i l =
-    (l.turns ≡ record l.initial.turns { peers = l.turns.peers })
-    × ArePeersTied l.turns.peers (rows_of l.waiting.items ++ take l.i l.rows.rows)
-    × (length l.turns.peers ≤ length l.initial.turns.peers + l.i)
-    × (served_rows l.turns.peers ≡ served_rows l.initial.turns.peers)
-    × ((starts : ℕ) → AreTurnsTied l.initial.turns.peers (rows_of l.waiting.items) starts → AreTurnsTied l.turns.peers (rows_of l.waiting.items ++ take l.i l.rows.rows) starts)
+    (l.schedule ≡ record l.initial.schedule { peers = l.schedule.peers })
+    × ArePeersTied l.schedule.peers (rows_of l.waiting.items ++ take l.i l.rows.rows)
+    × (length l.schedule.peers ≤ length l.initial.schedule.peers + l.i)
+    × (served_rows l.schedule.peers ≡ served_rows l.initial.schedule.peers)
+    × ((starts : ℕ) → AreTurnsTied l.initial.schedule.peers (rows_of l.waiting.items) starts → AreTurnsTied l.schedule.peers (rows_of l.waiting.items ++ take l.i l.rows.rows) starts)

@@ -12,5 +12,5 @@ copied (Some j) = refl
 
 pub returns-then-has_row_at : goal.returns-then-has_row_at
 returns-then-has_row_at c =
-    joins_none c.args.id c.args.rows.now.rows c.args.at (line_at c.args.at c.args.turns.now.lines) c.is_none.result (sym c.has_row_at.ensures ∙ c.if-has_row_at.true)
+    joins_none c.args.id c.args.rows.now.rows c.args.at (line_at c.args.at c.args.schedule.now.lines) c.is_none.result (sym c.has_row_at.ensures ∙ c.if-has_row_at.true)
     (ap is_some (sym c.job.ensures) ∙ copied c.job.result ∙ c.is_none.ensures)

@@ -9,12 +9,12 @@ use Rattle.q_core.proofs.rows.waiting_for.Goals as goal
 pub returns-clause-count : goal.returns-clause-count
 returns-clause-count c =
     c.rows_left.ensures.value
-    ∙ rows_left_counted c.args.id c.args.transport c.args.turns.now.peers (rows_of c.args.waiting.now.items) c.stand_apart.ensures.apart c.requires
+    ∙ rows_left_counted c.args.id c.args.transport c.args.schedule.now.peers (rows_of c.args.waiting.now.items) c.stand_apart.ensures.apart c.requires
 
 pub returns-clause-few : goal.returns-clause-few
 returns-clause-few c =
     let rows = rows_of c.args.waiting.now.items in
-    let count = c.rows_left.ensures.value ∙ rows_left_counted c.args.id c.args.transport c.args.turns.now.peers rows c.stand_apart.ensures.apart c.requires in
+    let count = c.rows_left.ensures.value ∙ rows_left_counted c.args.id c.args.transport c.args.schedule.now.peers rows c.stand_apart.ensures.apart c.requires in
     let within = count_within (is_row_for c.args.id c.args.transport) rows in
     let same = length-map c.args.waiting.now.items (λ (k : HeldRow). k.row) in
     omega (arith, count, within, same, c.stand_apart-2.ensures.within, c.stand_apart-2.ensures.few)

@@ -11,14 +11,14 @@ use Rattle.q_core.proofs.tidy.first_to_leave.Goals as goal
 
 pub loop-at-init : goal.loop-at-init
 loop-at-init c =
-    let js = line_at c.args.transport c.args.turns.now.lines in
+    let js = line_at c.args.transport c.args.schedule.now.lines in
     ap (λ o. find (leaves_among (heads c.args.admitted.now.items) (rows_of c.args.waiting.now.items) c.args.transport) (jobs_from o js)) c.first-at.ensures ∙ ap (find (leaves_among (heads c.args.admitted.now.items) (rows_of c.args.waiting.now.items) c.args.transport)) (from_first js)
 
 pub loop-at-smaller : goal.loop-at-smaller
-loop-at-smaller c = shorter (line_at c.args.transport c.args.turns.now.lines) (apart_at c.args.transport c.args.turns.now.lines c.stand_apart.ensures.lines) (option_copied c.loop-at.at) (option_copied c.behind-at.result) c.in-Some.job.now (ap option_copied c.in-Some.is) c.behind-at.ensures
+loop-at-smaller c = shorter (line_at c.args.transport c.args.schedule.now.lines) (apart_at c.args.transport c.args.schedule.now.lines c.stand_apart.ensures.lines) (option_copied c.loop-at.at) (option_copied c.behind-at.result) c.in-Some.job.now (ap option_copied c.in-Some.is) c.behind-at.ensures
 
 pub loop-at-preserved : goal.loop-at-preserved
 loop-at-preserved c =
-    found_behind (line_at c.args.transport c.args.turns.now.lines) (apart_at c.args.transport c.args.turns.now.lines c.stand_apart.ensures.lines) (option_copied c.loop-at.at) (option_copied c.behind-at.result) c.in-Some.job.now (ap option_copied c.in-Some.is) c.behind-at.ensures
+    found_behind (line_at c.args.transport c.args.schedule.now.lines) (apart_at c.args.transport c.args.schedule.now.lines c.stand_apart.ensures.lines) (option_copied c.loop-at.at) (option_copied c.behind-at.result) c.in-Some.job.now (ap option_copied c.in-Some.is) c.behind-at.ensures
     (leaves_among (heads c.args.admitted.now.items) (rows_of c.args.waiting.now.items) c.args.transport) (ap not (sym c.stays.ensures ∙ c.if-not-stays.false))
     ∙ c.loop-at.invariant

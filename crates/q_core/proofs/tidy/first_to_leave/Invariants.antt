@@ -8,9 +8,9 @@ use Rattle.q_turns.specs.Turns.{line_at}
 use Rattle.q_core.proofs.tidy.first_to_leave.Given as goal
 
 abbrev pub decreases-loop-at : goal.decreases-loop-at
-decreases-loop-at l = length (jobs_from (option_copied l.at) (line_at l.transport l.turns.lines))
+decreases-loop-at l = length (jobs_from (option_copied l.at) (line_at l.transport l.schedule.lines))
 
 -- what is found from here on is what is found
 abbrev pub invariant-loop-at : goal.invariant-loop-at
-invariant-loop-at l = find (leaves_among (heads l.admitted.items) (rows_of l.waiting.items) l.transport) (jobs_from (option_copied l.at) (line_at l.transport l.turns.lines))
-    ≡ find (leaves_among (heads l.admitted.items) (rows_of l.waiting.items) l.transport) (line_at l.transport l.turns.lines)
+invariant-loop-at l = find (leaves_among (heads l.admitted.items) (rows_of l.waiting.items) l.transport) (jobs_from (option_copied l.at) (line_at l.transport l.schedule.lines))
+    ≡ find (leaves_among (heads l.admitted.items) (rows_of l.waiting.items) l.transport) (line_at l.transport l.schedule.lines)

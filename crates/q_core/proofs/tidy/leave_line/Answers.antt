@@ -8,6 +8,6 @@ use Rattle.q_core.proofs.tidy.leave_line.Goals as goal
 
 pub leave-requires-clause-done : goal.leave-requires-clause-done
 leave-requires-clause-done c =
-    let turns = c.args.turns.now in
-    any_peer turns.lines turns.peers (rows_of c.args.waiting.now.items) c.stand_apart.ensures.apart c.stand_apart.ensures.jobs c.requires.tied (λ (k : PeerKey). id_eq k.id c.args.id && (k.site.transport == c.args.transport))
+    let schedule = c.args.schedule.now in
+    any_peer schedule.lines schedule.peers (rows_of c.args.waiting.now.items) c.stand_apart.ensures.apart c.stand_apart.ensures.jobs c.requires.tied (λ (k : PeerKey). id_eq k.id c.args.id && (k.site.transport == c.args.transport))
     ∙ c.requires.done

@@ -16,7 +16,7 @@ leave_line-requires-clause-there c =
     let t = c.args.transport in
     let g = tidied_jobs (heads c.args.admitted.now.items) (rows_of c.args.waiting.now.items) t in
     let same = ap (λ (x : Scheduling). length x.lines) c.loop-id.invariant in
-    omega (arith, same, length_with t g c.loop-id.turns.lines, length_with t g c.args.turns.now.lines, c.requires.there)
+    omega (arith, same, length_with t g c.loop-id.schedule.lines, length_with t g c.args.schedule.now.lines, c.requires.there)
 
 pub first_to_leave-requires : goal.first_to_leave-requires
 first_to_leave-requires c =
@@ -28,16 +28,16 @@ leave_line-requires-clause-tied c =
 
 pub leave_line-requires-clause-done : goal.leave_line-requires-clause-done
 leave_line-requires-clause-done c =
-    stays_not (heads c.args.admitted.now.items) (rows_of c.args.waiting.now.items) c.args.transport c.in-Some.id (line_at c.args.transport c.loop-id.turns.lines) (sym c.first_to_leave.ensures ∙ c.in-Some.is)
+    stays_not (heads c.args.admitted.now.items) (rows_of c.args.waiting.now.items) c.args.transport c.in-Some.id (line_at c.args.transport c.loop-id.schedule.lines) (sym c.first_to_leave.ensures ∙ c.in-Some.is)
 
 pub loop-id-smaller : goal.loop-id-smaller
 loop-id-smaller c =
     let t = c.args.transport in
     let p = leaves_among (heads c.args.admitted.now.items) (rows_of c.args.waiting.now.items) t in
     let g = tidied_jobs (heads c.args.admitted.now.items) (rows_of c.args.waiting.now.items) t in
-    let ls = c.loop-id.turns.lines in
+    let ls = c.loop-id.schedule.lines in
     let same = ap (λ (x : Scheduling). length x.lines) c.loop-id.invariant in
-    let there : t < length ls = omega (arith, same, length_with t g ls, length_with t g c.args.turns.now.lines, c.requires.there) in
+    let there : t < length ls = omega (arith, same, length_with t g ls, length_with t g c.args.schedule.now.lines, c.requires.there) in
     subst (λ (js : List Job). length js < length (line_at t ls)) (sym (ap (λ (x : Scheduling). line_at t x.lines) c.leave_line.ensures ∙ line_with t (filter (is_job_of_another c.in-Some.id)) ls there))
     (gone_fewer p c.in-Some.id (line_at t ls) (sym c.first_to_leave.ensures ∙ c.in-Some.is))
 
@@ -48,9 +48,9 @@ loop-id-preserved c =
     let t = c.args.transport in
     let g = tidied_jobs a w t in
     let out = filter (is_job_of_another c.in-Some.id) in
-    let ls = c.loop-id.turns.lines in
+    let ls = c.loop-id.schedule.lines in
     ap (λ (x : Scheduling). record x { lines = with_line t g x.lines }) c.leave_line.ensures
-    ∙ ap (λ xs. record c.loop-id.turns { lines = xs }) (with_twice t g out ls ∙ with_both t (λ js. g (out js)) g ls (tidied_out a w t c.in-Some.id (line_at t ls) (sym c.first_to_leave.ensures ∙ c.in-Some.is)))
+    ∙ ap (λ xs. record c.loop-id.schedule { lines = xs }) (with_twice t g out ls ∙ with_both t (λ js. g (out js)) g ls (tidied_out a w t c.in-Some.id (line_at t ls) (sym c.first_to_leave.ensures ∙ c.in-Some.is)))
     ∙ c.loop-id.invariant
 
 pub returns : goal.returns
@@ -58,6 +58,6 @@ returns c =
     let a = heads c.args.admitted.now.items in
     let w = rows_of c.args.waiting.now.items in
     let t = c.args.transport in
-    let ls = c.loop-id.turns.lines in
-    ap (λ xs. record c.loop-id.turns { lines = xs }) (sym (with_same t (tidied_jobs a w t) ls (none_leave a w t (line_at t ls) (sym c.first_to_leave.ensures ∙ c.in_default.is))))
+    let ls = c.loop-id.schedule.lines in
+    ap (λ xs. record c.loop-id.schedule { lines = xs }) (sym (with_same t (tidied_jobs a w t) ls (none_leave a w t (line_at t ls) (sym c.first_to_leave.ensures ∙ c.in_default.is))))
     ∙ c.loop-id.invariant

@@ -6,9 +6,9 @@ use Rattle.q_turns.specs.Turns.{line_at, with_line}
 use Rattle.q_core.proofs.tidy.tidy_line.Given as goal
 
 abbrev pub decreases-loop-id : goal.decreases-loop-id
-decreases-loop-id l = length (line_at l.transport l.turns.lines)
+decreases-loop-id l = length (line_at l.transport l.schedule.lines)
 
 abbrev pub invariant-loop-id : goal.invariant-loop-id
 invariant-loop-id l =
-    record l.turns { lines = with_line l.transport (tidied_jobs (heads l.admitted.items) (rows_of l.waiting.items) l.transport) l.turns.lines }
-    ≡ record l.initial.turns { lines = with_line l.transport (tidied_jobs (heads l.admitted.items) (rows_of l.waiting.items) l.transport) l.initial.turns.lines }
+    record l.schedule { lines = with_line l.transport (tidied_jobs (heads l.admitted.items) (rows_of l.waiting.items) l.transport) l.schedule.lines }
+    ≡ record l.initial.schedule { lines = with_line l.transport (tidied_jobs (heads l.admitted.items) (rows_of l.waiting.items) l.transport) l.initial.schedule.lines }

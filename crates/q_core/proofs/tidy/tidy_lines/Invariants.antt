@@ -7,4 +7,4 @@ use Rattle.q_core.proofs.tidy.tidy_lines.Given as goal
 
 abbrev pub invariant-loop-transport : goal.invariant-loop-transport
 invariant-loop-transport l =
-    l.turns ≡ record l.initial.turns { lines = changed_below (tidied_line (heads l.admitted.items) (rows_of l.waiting.items)) 0 l.transport l.initial.turns.lines }
+    l.schedule ≡ record l.initial.schedule { lines = changed_below (tidied_line (heads l.admitted.items) (rows_of l.waiting.items)) 0 l.transport l.initial.schedule.lines }

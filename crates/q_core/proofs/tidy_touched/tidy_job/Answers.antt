@@ -20,9 +20,9 @@ returns-then-not-stays c =
     let a = heads c.args.admitted.now.items in
     let w = rows_of c.args.waiting.now.items in
     let t = c.args.transport in
-    let ls = c.args.turns.now.lines in
+    let ls = c.args.schedule.now.lines in
     c.leave_line.ensures
-    ∙ ap (λ xs. record c.args.turns.now { lines = xs })
+    ∙ ap (λ xs. record c.args.schedule.now { lines = xs })
     (with_both t (filter (is_job_of_another c.args.id)) (tidied_jobs a w t) ls (job_leaves a w t c.args.id (line_at t ls) c.requires.others (sym c.stays.ensures ∙ leaves)))
 
 pub returns-else-not-stays : goal.returns-else-not-stays
@@ -31,6 +31,6 @@ returns-else-not-stays c =
     let a = heads c.args.admitted.now.items in
     let w = rows_of c.args.waiting.now.items in
     let t = c.args.transport in
-    let ls = c.args.turns.now.lines in
-    ap (λ xs. record c.args.turns.now { lines = xs })
+    let ls = c.args.schedule.now.lines in
+    ap (λ xs. record c.args.schedule.now { lines = xs })
     (sym (with_same t (tidied_jobs a w t) ls (job_stays a w t c.args.id (line_at t ls) c.requires.others (sym c.stays.ensures ∙ stays))))

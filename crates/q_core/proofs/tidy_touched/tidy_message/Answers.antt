@@ -14,23 +14,23 @@ pub loop-transport-preserved : goal.loop-transport-preserved
 loop-transport-preserved c =
     let i = c.loop-transport.transport in
     let f = tidied_line (heads c.args.admitted.now.items) (rows_of c.args.waiting.now.items) in
-    let ls = c.args.turns.now.lines in
+    let ls = c.args.schedule.now.lines in
     let count : i ≡ 0 + i = omega arith in
     c.tidy_job.ensures
     ∙ ap (λ (x : Scheduling). record x { lines = with_line i (λ js. f (i, js)) x.lines }) c.loop-transport.invariant
-    ∙ ap (λ xs. record c.args.turns.now { lines = xs }) (one_below f 0 i i ls count ∙ ap (λ k. changed_below f 0 k ls) (sym (add-one i)))
+    ∙ ap (λ xs. record c.args.schedule.now { lines = xs }) (one_below f 0 i i ls count ∙ ap (λ k. changed_below f 0 k ls) (sym (add-one i)))
 
 pub returns : goal.returns
 returns c =
     let f = tidied_line (heads c.args.admitted.now.items) (rows_of c.args.waiting.now.items) in
     let many = c.transports-transport-end.ensures in
-    c.loop-transport.invariant ∙ ap (λ xs. record c.args.turns.now { lines = xs }) (all_below f 0 c.loop-transport.transport c.args.turns.now.lines (omega (arith, many, c.loop-transport-test.false)))
+    c.loop-transport.invariant ∙ ap (λ xs. record c.args.schedule.now { lines = xs }) (all_below f 0 c.loop-transport.transport c.args.schedule.now.lines (omega (arith, many, c.loop-transport-test.false)))
 
 pub tidy_job-requires-clause-there : goal.tidy_job-requires-clause-there
 tidy_job-requires-clause-there c =
     let f = tidied_line (heads c.args.admitted.now.items) (rows_of c.args.waiting.now.items) in
     let same = ap (λ (x : Scheduling). length x.lines) c.loop-transport.invariant in
-    omega (arith, same, length_below f 0 c.loop-transport.transport c.args.turns.now.lines, c.transports-transport-end.ensures, c.loop-transport-test.true)
+    omega (arith, same, length_below f 0 c.loop-transport.transport c.args.schedule.now.lines, c.transports-transport-end.ensures, c.loop-transport-test.true)
 
 pub tidy_job-requires-clause-tied : goal.tidy_job-requires-clause-tied
 tidy_job-requires-clause-tied c =
@@ -41,7 +41,7 @@ tidy_job-requires-clause-others c =
     let i = c.loop-transport.transport in
     let a = heads c.args.admitted.now.items in
     let w = rows_of c.args.waiting.now.items in
-    let ls = c.args.turns.now.lines in
+    let ls = c.args.schedule.now.lines in
     let here = ap (λ (x : Scheduling). line_at i x.lines) c.loop-transport.invariant ∙ line_below (tidied_line a w) 0 i ls in
     subst (λ js. jobs_stay (One c.args.id) a w i js ≡ true) (sym here)
     (c.requires.others i (line_at i ls) (line_there i ls (omega (arith, c.transports-transport-end.ensures, c.loop-transport-test.true))))

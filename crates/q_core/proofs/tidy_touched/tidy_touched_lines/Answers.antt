@@ -9,5 +9,5 @@ pub returns-in-Nothing : goal.returns-in-Nothing
 returns-in-Nothing c =
     let a = heads c.args.admitted.now.items in
     let w = rows_of c.args.waiting.now.items in
-    let lines = c.args.turns.now.lines in
-    sym (ap (λ xs. record c.args.turns.now { lines = xs }) (lines_whole a w lines (subst (λ m. DoJobsStay m a w lines) c.in-Nothing.is c.requires.others)))
+    let lines = c.args.schedule.now.lines in
+    sym (ap (λ xs. record c.args.schedule.now { lines = xs }) (lines_whole a w lines (subst (λ m. DoJobsStay m a w lines) c.in-Nothing.is c.requires.others)))

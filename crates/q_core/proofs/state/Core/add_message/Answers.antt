@@ -20,13 +20,13 @@ use Rattle.q_core.proofs.state.Core.add_message.Goals as goal
 pub admit-requires-clause-absent : goal.admit-requires-clause-absent
 admit-requires-clause-absent c =
     let a = c.self.inside in
-    ap (λ (m : Admitted). find (is_message m.id) a.turns.messages) c.admitted.ensures
-    ∙ absent_message a.params a.turns (heads a.admitted.items) c.self.invariant.5 c.args.slot.id (slot_absent (heads a.admitted.items) c.args.slot.id (ap (λ (s : State). is_admitted_in s c.args.slot.id) c.self.view_is ∙ c.requires.absent))
+    ap (λ (m : Admitted). find (is_message m.id) a.schedule.messages) c.admitted.ensures
+    ∙ absent_message a.params a.schedule (heads a.admitted.items) c.self.invariant.5 c.args.slot.id (slot_absent (heads a.admitted.items) c.args.slot.id (ap (λ (s : State). is_admitted_in s c.args.slot.id) c.self.view_is ∙ c.requires.absent))
 
 pub admit-requires-clause-room : goal.admit-requires-clause-room
 admit-requires-clause-room c =
     let a = c.self.inside in
-    room_message a.params a.turns (heads a.admitted.items) c.self.invariant.5
+    room_message a.params a.schedule (heads a.admitted.items) c.self.invariant.5
     (subst (λ (s : State). length s.admitted < s.params.active_limit) (sym c.self.view_is) c.requires.room)
 
 pub push-requires-clause-absent : goal.push-requires-clause-absent
@@ -50,7 +50,7 @@ invariant_of-self c =
       c.self.invariant.2,
       rw (ap (λ (x : Scheduling). x.peers) c.admit.ensures) c.self.invariant.3,
       c.self.invariant.4,
-      messages_more a.params a.turns (heads a.admitted.items) c.self.invariant.5 c.args.slot c.admit.new.self _ (c.admit.ensures ∙ ap (λ m. record a.turns { messages = a.turns.messages ++ m ∷ [] }) c.admitted.ensures) slots,
+      messages_more a.params a.schedule (heads a.admitted.items) c.self.invariant.5 c.args.slot c.admit.new.self _ (c.admit.ensures ∙ ap (λ m. record a.schedule { messages = a.schedule.messages ++ m ∷ [] }) c.admitted.ensures) slots,
       c.self.invariant.6,
       rw (ap (λ (x : Scheduling). x.room) c.admit.ensures, ap (λ (x : Scheduling). x.line_room) c.admit.ensures) c.self.invariant.7,
       c.self.invariant.8,

@@ -49,9 +49,9 @@ pub count_peers-requires-clause-jobs : goal.count_peers-requires-clause-jobs
 count_peers-requires-clause-jobs c =
     let core = c.self.inside in
     let rows = c.group.new.rows.rows in
-    let fits = beside_parts core.waiting core.sites core.turns c.args.id rows (sym c.fit.ensures ∙ c.if-not-fit.false) in
-    ap (λ (x : Scheduling). list_all (λ (r : Row). may_wait x.lines r.site.transport c.args.id) rows) (c.join_lines.ensures ∙ ap (λ xs. record core.turns { lines = xs }) (joined_over c.args.id rows core.turns.line_room 0 core.turns.lines fits.lines))
-    ∙ all_may_wait c.args.id rows core.turns.lines
+    let fits = beside_parts core.waiting core.sites core.schedule c.args.id rows (sym c.fit.ensures ∙ c.if-not-fit.false) in
+    ap (λ (x : Scheduling). list_all (λ (r : Row). may_wait x.lines r.site.transport c.args.id) rows) (c.join_lines.ensures ∙ ap (λ xs. record core.schedule { lines = xs }) (joined_over c.args.id rows core.schedule.line_room 0 core.schedule.lines fits.lines))
+    ∙ all_may_wait c.args.id rows core.schedule.lines
 
 pub count_peers-requires-clause-tied : goal.count_peers-requires-clause-tied
 count_peers-requires-clause-tied c =
@@ -61,8 +61,8 @@ pub count_peers-requires-clause-room : goal.count_peers-requires-clause-room
 count_peers-requires-clause-room c =
     let core = c.self.inside in
     let rows = c.group.new.rows.rows in
-    let fits = beside_parts core.waiting core.sites core.turns c.args.id rows (sym c.fit.ensures ∙ c.if-not-fit.false) in
-    let few = peers_few core.turns.lines core.turns.peers (rows_of core.waiting.items) c.stand_apart-3.ensures.apart c.stand_apart-3.ensures.jobs c.self.invariant.3.counts in
+    let fits = beside_parts core.waiting core.sites core.schedule c.args.id rows (sym c.fit.ensures ∙ c.if-not-fit.false) in
+    let few = peers_few core.schedule.lines core.schedule.peers (rows_of core.waiting.items) c.stand_apart-3.ensures.apart c.stand_apart-3.ensures.jobs c.self.invariant.3.counts in
     let same = length-map core.waiting.items (λ (k : HeldRow). k.row) in
     let peers = ap (λ (x : Scheduling). length x.peers) c.join_lines.ensures in
     let room = ap (λ (x : Scheduling). x.room) c.join_lines.ensures in
@@ -72,7 +72,7 @@ pub count_peers-requires-clause-few : goal.count_peers-requires-clause-few
 count_peers-requires-clause-few c =
     let core = c.self.inside in
     let rows = c.group.new.rows.rows in
-    let fits = beside_parts core.waiting core.sites core.turns c.args.id rows (sym c.fit.ensures ∙ c.if-not-fit.false) in
+    let fits = beside_parts core.waiting core.sites core.schedule c.args.id rows (sym c.fit.ensures ∙ c.if-not-fit.false) in
     let same = length-map core.waiting.items (λ (k : HeldRow). k.row) in
     omega (arith, same, fits.beside, c.stand_apart.ensures.few)
 
@@ -80,7 +80,7 @@ pub count_rows-requires-clause-few : goal.count_rows-requires-clause-few
 count_rows-requires-clause-few c =
     let core = c.self.inside in
     let rows = c.group.new.rows.rows in
-    let fits = beside_parts core.waiting core.sites core.turns c.args.id rows (sym c.fit.ensures ∙ c.if-not-fit.false) in
+    let fits = beside_parts core.waiting core.sites core.schedule c.args.id rows (sym c.fit.ensures ∙ c.if-not-fit.false) in
     let same = length-map core.waiting.items (λ (k : HeldRow). k.row) in
     omega (arith, same, fits.beside, c.stand_apart.ensures.few)
 
@@ -88,14 +88,14 @@ pub count_rows-requires-clause-room : goal.count_rows-requires-clause-room
 count_rows-requires-clause-room c =
     let core = c.self.inside in
     let rows = c.group.new.rows.rows in
-    let fits = beside_parts core.waiting core.sites core.turns c.args.id rows (sym c.fit.ensures ∙ c.if-not-fit.false) in
+    let fits = beside_parts core.waiting core.sites core.schedule c.args.id rows (sym c.fit.ensures ∙ c.if-not-fit.false) in
     omega (arith, fits.known)
 
 pub add_all-requires-clause-room : goal.add_all-requires-clause-room
 add_all-requires-clause-room c =
     let core = c.self.inside in
     let rows = c.group.new.rows.rows in
-    let fits = beside_parts core.waiting core.sites core.turns c.args.id rows (sym c.fit.ensures ∙ c.if-not-fit.false) in
+    let fits = beside_parts core.waiting core.sites core.schedule c.args.id rows (sym c.fit.ensures ∙ c.if-not-fit.false) in
     let same = length-map core.waiting.items (λ (k : HeldRow). k.row) in
     omega (arith, same, fits.beside)
 
@@ -122,13 +122,13 @@ pub invariant_of-self-2 : goal.invariant_of-self-2
 invariant_of-self-2 c =
     let core = c.self.inside in
     let rows = c.group.new.rows.rows in
-    let fits = beside_parts core.waiting core.sites core.turns c.args.id rows (sym c.fit.ensures ∙ c.if-not-fit.false) in
+    let fits = beside_parts core.waiting core.sites core.schedule c.args.id rows (sym c.fit.ensures ∙ c.if-not-fit.false) in
     let ds = core.sites.items in
     let fs = core.flights.items in
     let waiting : rows_of c.add_all.new.waiting.items ≡ rows_of core.waiting.items ++ rows = c.add_all.ensures.rows in
-    let turns : c.join_lines.new.turns ≡ record core.turns { lines = map (joined_line c.args.id rows) (enumerate_from 0 core.turns.lines) } = c.join_lines.ensures ∙ ap (λ xs. record core.turns { lines = xs }) (joined_over c.args.id rows core.turns.line_room 0 core.turns.lines fits.lines) in
-    let lines : c.count_peers.new.turns.lines ≡ map (joined_line c.args.id rows) (enumerate_from 0 core.turns.lines) =
-    ap (λ (x : Scheduling). x.lines) c.count_peers.ensures.rest ∙ ap (λ (x : Scheduling). x.lines) turns in
+    let schedule : c.join_lines.new.schedule ≡ record core.schedule { lines = map (joined_line c.args.id rows) (enumerate_from 0 core.schedule.lines) } = c.join_lines.ensures ∙ ap (λ xs. record core.schedule { lines = xs }) (joined_over c.args.id rows core.schedule.line_room 0 core.schedule.lines fits.lines) in
+    let lines : c.count_peers.new.schedule.lines ≡ map (joined_line c.args.id rows) (enumerate_from 0 core.schedule.lines) =
+    ap (λ (x : Scheduling). x.lines) c.count_peers.ensures.rest ∙ ap (λ (x : Scheduling). x.lines) schedule in
     let own = present_held (state_of core) core.admitted.items refl c.args.id (ap (λ (s : State). is_admitted_in s c.args.id) c.self.view_is ∙ c.requires.there) in
     let named = subst (AreRowsOf c.args.id) (sym (ap (λ (x : RowValues). x.rows) c.group.ensures.rows)) (rows_named core.rows.most c.args.id [] c.args.taken.now.items c.deref.result.now tt) in
     let total = length-append (rows_of core.waiting.items) rows in
@@ -145,11 +145,11 @@ invariant_of-self-2 c =
       rw waiting (
           (c.count_peers.ensures.tied core.starts (subst (λ ps. AreTurnsTied ps (rows_of core.waiting.items) core.starts) (sym (ap (λ (x : Scheduling). x.peers) c.join_lines.ensures)) c.self.invariant.3))),
       c.add_all.ensures.held (tested_alike (goes_to_dead ds) (goes_to_dead c.count_rows.new.sites.items) core.waiting.items (λ r. sym (c.count_rows.ensures.dead r)) c.self.invariant.4),
-      messages_same core.params c.count_peers.new.turns (heads core.admitted.items)
-          (messages_stay core.params core.turns (heads core.admitted.items) c.self.invariant.5 c.count_peers.new.turns
-          (ap (λ (x : Scheduling). x.messages) c.count_peers.ensures.rest ∙ ap (λ (x : Scheduling). x.messages) turns) (ap (λ (x : Scheduling). x.message_room) c.count_peers.ensures.rest ∙ ap (λ (x : Scheduling). x.message_room) turns)) _ slots,
+      messages_same core.params c.count_peers.new.schedule (heads core.admitted.items)
+          (messages_stay core.params core.schedule (heads core.admitted.items) c.self.invariant.5 c.count_peers.new.schedule
+          (ap (λ (x : Scheduling). x.messages) c.count_peers.ensures.rest ∙ ap (λ (x : Scheduling). x.messages) schedule) (ap (λ (x : Scheduling). x.message_room) c.count_peers.ensures.rest ∙ ap (λ (x : Scheduling). x.message_room) schedule)) _ slots,
       c.self.invariant.6,
-      rw (c.add_all.ensures.room, c.count_rows.ensures.room, ap (λ (x : Scheduling). x.room) c.count_peers.ensures.rest, ap (λ (x : Scheduling). x.line_room) c.count_peers.ensures.rest, ap (λ (x : Scheduling). x.room) turns, ap (λ (x : Scheduling). x.line_room) turns) c.self.invariant.7,
+      rw (c.add_all.ensures.room, c.count_rows.ensures.room, ap (λ (x : Scheduling). x.room) c.count_peers.ensures.rest, ap (λ (x : Scheduling). x.line_room) c.count_peers.ensures.rest, ap (λ (x : Scheduling). x.room) schedule, ap (λ (x : Scheduling). x.line_room) schedule) c.self.invariant.7,
       rw (c.add_all.ensures.most, ap (λ (x : RowValues). x.room) c.group.ensures.rows, ap (λ (x : RowValues). x.most) c.group.ensures.rows, c.group.ensures.room) c.self.invariant.8,
     )
 
@@ -163,20 +163,20 @@ returns-clause-added c = λ done.
     ∙ ap (λ (ns : List Site). rows_in core.rows.most c.args.id [] ts ns) c.deref.ensures.value
     ∙ ap (λ n. rows_in n c.args.id [] ts core.named.items) c.self.invariant.8.positions
     ∙ ap (λ (s : State). rows_read s c.args.id ts) c.self.view_is in
-    let fits = beside_parts core.waiting core.sites core.turns c.args.id rows (sym c.fit.ensures ∙ c.if-not-fit.false) in
+    let fits = beside_parts core.waiting core.sites core.schedule c.args.id rows (sym c.fit.ensures ∙ c.if-not-fit.false) in
     let waiting : rows_of c.add_all.new.waiting.items ≡ rows_of core.waiting.items ++ rows = c.add_all.ensures.rows in
-    let turns : c.join_lines.new.turns ≡ record core.turns { lines = map (joined_line c.args.id rows) (enumerate_from 0 core.turns.lines) } = c.join_lines.ensures ∙ ap (λ xs. record core.turns { lines = xs }) (joined_over c.args.id rows core.turns.line_room 0 core.turns.lines fits.lines) in
-    let lines : c.count_peers.new.turns.lines ≡ map (joined_line c.args.id rows) (enumerate_from 0 core.turns.lines) =
-    ap (λ (x : Scheduling). x.lines) c.count_peers.ensures.rest ∙ ap (λ (x : Scheduling). x.lines) turns in
+    let schedule : c.join_lines.new.schedule ≡ record core.schedule { lines = map (joined_line c.args.id rows) (enumerate_from 0 core.schedule.lines) } = c.join_lines.ensures ∙ ap (λ xs. record core.schedule { lines = xs }) (joined_over c.args.id rows core.schedule.line_room 0 core.schedule.lines fits.lines) in
+    let lines : c.count_peers.new.schedule.lines ≡ map (joined_line c.args.id rows) (enumerate_from 0 core.schedule.lines) =
+    ap (λ (x : Scheduling). x.lines) c.count_peers.ensures.rest ∙ ap (λ (x : Scheduling). x.lines) schedule in
     let known : known_records c.count_rows.new.sites.items ≡ known_records core.sites.items ++ new_sites core.params (known_records core.sites.items) [] rows =
     c.count_rows.ensures.known in
-    let served : served_rows c.count_peers.new.turns.peers ≡ served_rows core.turns.peers = c.count_peers.ensures.served ∙ ap (λ (x : Scheduling). served_rows x.peers) c.join_lines.ensures in
+    let served : served_rows c.count_peers.new.schedule.peers ≡ served_rows core.schedule.peers = c.count_peers.ensures.served ∙ ap (λ (x : Scheduling). served_rows x.peers) c.join_lines.ensures in
     let slots : heads c.gain_waiting.new.pool.items ≡ heads core.admitted.items = ap (λ (m : Pooled). heads m.items) c.gain_waiting.ensures ∙ heads_recounted (with_waiting c.len.result) c.args.id core.admitted.items in
     record {
       rest =
           rw (lines, served) (
-          ap (λ ss. record (state_of core) { admitted = ss; waiting = rows_of c.add_all.new.waiting.items; lines = map (joined_line c.args.id rows) (enumerate_from 0 core.turns.lines); sites = known_records c.count_rows.new.sites.items }) slots
-          ∙ ap (λ (s : State). record s { waiting = rows_of c.add_all.new.waiting.items; lines = map (joined_line c.args.id rows) (enumerate_from 0 core.turns.lines); sites = known_records c.count_rows.new.sites.items }) c.self.view_is
+          ap (λ ss. record (state_of core) { admitted = ss; waiting = rows_of c.add_all.new.waiting.items; lines = map (joined_line c.args.id rows) (enumerate_from 0 core.schedule.lines); sites = known_records c.count_rows.new.sites.items }) slots
+          ∙ ap (λ (s : State). record s { waiting = rows_of c.add_all.new.waiting.items; lines = map (joined_line c.args.id rows) (enumerate_from 0 core.schedule.lines); sites = known_records c.count_rows.new.sites.items }) c.self.view_is
           );
       waiting = waiting ∙ ap (λ (s : State). s.waiting ++ rows) c.self.view_is ∙ ap (λ rs. c.args.self.now.waiting ++ rs) read;
       lines = lines ∙ ap (λ (s : State). map (joined_line c.args.id rows) (enumerate_from 0 s.lines)) c.self.view_is ∙ ap (λ rs. map (joined_line c.args.id rs) (enumerate_from 0 c.args.self.now.lines)) read;
@@ -194,7 +194,7 @@ returns-then-not-fit-clause-fits c =
     ∙ ap (λ n. rows_in n c.args.id [] ts core.named.items) c.self.invariant.8.positions
     ∙ ap (λ (s : State). rows_read s c.args.id ts) c.self.view_is in
     sym c.if-not-fit.true ∙ c.fit.ensures
-    ∙ beside_is core.waiting core.sites core.turns c.args.id rows core.params core.transports c.self.invariant.7 (state_of core) refl refl refl refl refl
+    ∙ beside_is core.waiting core.sites core.schedule c.args.id rows core.params core.transports c.self.invariant.7 (state_of core) refl refl refl refl refl
     ∙ ap (λ (s : State). fit_in s c.args.id rows) c.self.view_is ∙ ap (fit_in c.args.self.now c.args.id) read
 
 pub returns-clause-fits : goal.returns-clause-fits
@@ -208,5 +208,5 @@ returns-clause-fits c =
     ∙ ap (λ n. rows_in n c.args.id [] ts core.named.items) c.self.invariant.8.positions
     ∙ ap (λ (s : State). rows_read s c.args.id ts) c.self.view_is in
     sym c.if-not-fit.false ∙ c.fit.ensures
-    ∙ beside_is core.waiting core.sites core.turns c.args.id rows core.params core.transports c.self.invariant.7 (state_of core) refl refl refl refl refl
+    ∙ beside_is core.waiting core.sites core.schedule c.args.id rows core.params core.transports c.self.invariant.7 (state_of core) refl refl refl refl refl
     ∙ ap (λ (s : State). fit_in s c.args.id rows) c.self.view_is ∙ ap (fit_in c.args.self.now c.args.id) read

@@ -21,8 +21,8 @@ returns-in-Some c =
     let t = c.args.transport in
     let id = c.args.id in
     let process = ap (λ (s : State). nat_lt (flights_at s t) s.params.process_limit) c.self.view_is ∙ sym c.has_process.ensures ∙ some in
-    ap is_some (ap option_copied (sym c.in-Some.is) ∙ c.next.ensures ∙ ap (λ n. next_in a.sites.items n id a.turns.peers) c.from.ensures)
-    ∙ any_least sent_before (may_send a.sites.items t id) a.turns.peers
+    ap is_some (ap option_copied (sym c.in-Some.is) ∙ c.next.ensures ∙ ap (λ n. next_in a.sites.items n id a.schedule.peers) c.from.ensures)
+    ∙ any_least sent_before (may_send a.sites.items t id) a.schedule.peers
     ∙ able_known a c.self.invariant.2 c.self.invariant.3.counts c.stand_apart.ensures.apart c.stand_apart.ensures.jobs t process id
     ∙ ap (λ (s : State). can_start_in s t id) c.self.view_is
 
@@ -33,7 +33,7 @@ returns-in-None c =
     let t = c.args.transport in
     let id = c.args.id in
     let process = ap (λ (s : State). nat_lt (flights_at s t) s.params.process_limit) c.self.view_is ∙ sym c.has_process.ensures ∙ some in
-    ap is_some (ap option_copied (sym c.in-None.is) ∙ c.next.ensures ∙ ap (λ n. next_in a.sites.items n id a.turns.peers) c.from.ensures)
-    ∙ any_least sent_before (may_send a.sites.items t id) a.turns.peers
+    ap is_some (ap option_copied (sym c.in-None.is) ∙ c.next.ensures ∙ ap (λ n. next_in a.sites.items n id a.schedule.peers) c.from.ensures)
+    ∙ any_least sent_before (may_send a.sites.items t id) a.schedule.peers
     ∙ able_known a c.self.invariant.2 c.self.invariant.3.counts c.stand_apart.ensures.apart c.stand_apart.ensures.jobs t process id
     ∙ ap (λ (s : State). can_start_in s t id) c.self.view_is

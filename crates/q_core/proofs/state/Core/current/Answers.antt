@@ -20,6 +20,6 @@ returns c =
     let a = c.self.inside in
     let process = ap (λ (s : State). nat_lt (flights_at s c.args.transport) s.params.process_limit) c.self.view_is ∙ sym c.has_process.ensures ∙ some in
     c.current.ensures
-    ∙ ap (λ n. find (λ (j : Job). is_able a.sites.items a.turns.peers n j.id) (line_at n a.turns.lines)) c.from.ensures
+    ∙ ap (λ n. find (λ (j : Job). is_able a.sites.items a.schedule.peers n j.id) (line_at n a.schedule.lines)) c.from.ensures
     ∙ current_known a c.self.invariant.2 c.self.invariant.3.counts c.stand_apart.ensures.apart c.stand_apart.ensures.jobs c.args.transport process
     ∙ ap (λ (s : State). current_in s c.args.transport) c.self.view_is

@@ -25,7 +25,7 @@ invariant_of-self c =
       c.self.invariant.2,
       rw (ap (λ (x : Scheduling). x.peers) c.remove-2.ensures) c.self.invariant.3,
       c.self.invariant.4,
-      messages_left a.params a.turns (heads a.admitted.items) c.self.invariant.5 c.args.id c.remove-2.new.self _ c.remove-2.ensures slots,
+      messages_left a.params a.schedule (heads a.admitted.items) c.self.invariant.5 c.args.id c.remove-2.new.self _ c.remove-2.ensures slots,
       c.self.invariant.6,
       rw (ap (λ (x : Scheduling). x.room) c.remove-2.ensures, ap (λ (x : Scheduling). x.line_room) c.remove-2.ensures) c.self.invariant.7,
       c.self.invariant.8,

@@ -59,7 +59,7 @@ invariant_of-self c =
       c.self.invariant.3,
       rw sites (tested_alike (goes_to_dead a.sites.items) (goes_to_dead (filter is_kept (settled f.row.site landed a.sites.items))) a.waiting.items
           (λ r. sym (alike_settled f.row.site landed (λ d. refl) a.sites.items c.stand_apart-2.ensures.apart r)) c.self.invariant.4),
-      messages_same a.params a.turns (heads a.admitted.items) c.self.invariant.5 _ slots,
+      messages_same a.params a.schedule (heads a.admitted.items) c.self.invariant.5 _ slots,
       rw c.remove.ensures.items (record {
         deliveries = processes_left a.params a.transports a.flights (λ (x : Delivery). not (x.number == c.args.number)) c.self.invariant.6.deliveries;
         asked = c.self.invariant.6.asked;

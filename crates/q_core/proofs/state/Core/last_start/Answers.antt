@@ -8,5 +8,5 @@ use Rattle.q_core.proofs.state.Core.last_start.Goals as goal
 pub returns : goal.returns
 returns c =
     c.last.ensures
-    ∙ sym (last_served c.args.row.id c.args.row.site.now c.self.inside.turns.peers c.stand_apart.ensures.apart)
+    ∙ sym (last_served c.args.row.id c.args.row.site.now c.self.inside.schedule.peers c.stand_apart.ensures.apart)
     ∙ ap (λ (s : State). last_start_in s (row_shown c.args.row)) c.self.view_is

@@ -24,7 +24,7 @@ returns-in_default c =
     let t = c.args.transport in
     let id = c.args.id in
     let process = ap (λ (s : State). nat_lt (flights_at s t) s.params.process_limit) c.self.view_is ∙ sym c.has_process.ensures ∙ some in
-    let none = ap (λ n. next_in a.sites.items n id a.turns.peers) (sym c.from.ensures) ∙ sym c.next.ensures ∙ ap option_copied c.in_default.is in
+    let none = ap (λ n. next_in a.sites.items n id a.schedule.peers) (sym c.from.ensures) ∙ sym c.next.ensures ∙ ap option_copied c.in_default.is in
     sym (none_chosen a c.self.invariant.2 c.self.invariant.3 c.stand_apart.ensures.apart c.stand_apart.ensures.jobs t process id none)
     ∙ ap (λ (s : State). next_row_in s t id) c.self.view_is
 
@@ -35,7 +35,7 @@ returns c =
     let t = c.args.transport in
     let id = c.args.id in
     let process = ap (λ (s : State). nat_lt (flights_at s t) s.params.process_limit) c.self.view_is ∙ sym c.has_process.ensures ∙ some in
-    let next = ap (λ n. next_in a.sites.items n id a.turns.peers) (sym c.from.ensures) ∙ sym c.next.ensures ∙ ap option_copied c.in-Some.is in
+    let next = ap (λ n. next_in a.sites.items n id a.schedule.peers) (sym c.from.ensures) ∙ sym c.next.ensures ∙ ap option_copied c.in-Some.is in
     c.first_row.ensures
     ∙ row_chosen a c.self.invariant.2 c.self.invariant.3 c.stand_apart.ensures.apart c.stand_apart.ensures.jobs t process id c.stand_apart.ensures.starts (sym c.has_passed.ensures ∙ c.if-has_passed.false) c.in-Some.peer.now next
     ∙ ap (λ (s : State). next_row_in s t id) c.self.view_is

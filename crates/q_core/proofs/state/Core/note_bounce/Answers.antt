@@ -22,7 +22,7 @@ invariant_of-self c =
       c.self.invariant.2,
       c.self.invariant.3,
       c.self.invariant.4,
-      messages_kept a.params a.turns (heads a.admitted.items) c.self.invariant.5 c.args.id with_bounce (λ s. refl) _ slots,
+      messages_kept a.params a.schedule (heads a.admitted.items) c.self.invariant.5 c.args.id with_bounce (λ s. refl) _ slots,
       c.self.invariant.6,
       c.self.invariant.7,
       c.self.invariant.8,

@@ -24,7 +24,7 @@ invariant_of-self c =
       c.self.invariant.2,
       rw (ap (λ (x : Scheduling). x.peers) c.read.ensures) c.self.invariant.3,
       c.self.invariant.4,
-      messages_read a.params a.turns (heads a.admitted.items) c.self.invariant.5 c.args.id with_damage (λ s. refl) (λ s. refl) _ c.unread.result c.unread.ensures c.read.new.self c.read.ensures slots (slots_found _ c.stand_apart.ensures.apart),
+      messages_read a.params a.schedule (heads a.admitted.items) c.self.invariant.5 c.args.id with_damage (λ s. refl) (λ s. refl) _ c.unread.result c.unread.ensures c.read.new.self c.read.ensures slots (slots_found _ c.stand_apart.ensures.apart),
       c.self.invariant.6,
       rw (ap (λ (x : Scheduling). x.room) c.read.ensures, ap (λ (x : Scheduling). x.line_room) c.read.ensures) c.self.invariant.7,
       c.self.invariant.8,

@@ -24,7 +24,7 @@ invariant_of-self c =
       c.self.invariant.2,
       rw (ap (λ (x : Scheduling). x.peers) c.read-2.ensures) c.self.invariant.3,
       c.self.invariant.4,
-      messages_read a.params a.turns (heads a.admitted.items) c.self.invariant.5 c.args.id (read_up c.args.to) (λ s. refl) (λ s. refl) _ c.unread.result c.unread.ensures c.read-2.new.self c.read-2.ensures slots (slots_found _ c.stand_apart.ensures.apart),
+      messages_read a.params a.schedule (heads a.admitted.items) c.self.invariant.5 c.args.id (read_up c.args.to) (λ s. refl) (λ s. refl) _ c.unread.result c.unread.ensures c.read-2.new.self c.read-2.ensures slots (slots_found _ c.stand_apart.ensures.apart),
       c.self.invariant.6,
       rw (ap (λ (x : Scheduling). x.room) c.read-2.ensures, ap (λ (x : Scheduling). x.line_room) c.read-2.ensures) c.self.invariant.7,
       c.self.invariant.8,

@@ -63,10 +63,10 @@ invariant_of-self c =
     let few : length (a.flights.items ++ record { number = c.args.number; row = row } ∷ []) < 2 ^ 64 = (let more = length-append a.flights.items (record { number = c.args.number; row = row } ∷ []) in omega (arith, more, c.stand_apart.ensures.within, c.stand_apart.ensures.few)) in
     let sites : c.begin.new.self.items ≡ map (changed_at row.site begun) a.sites.items = ap (λ (x : Dests). x.items) c.begin.ensures in
     let process = process_at (state_of a) rows c.args.id c.args.site row found (subst (λ (s : State). HasProcess s c.args.site.transport) (sym c.self.view_is) c.requires.process) in
-    let again : c.start.new.self.peers ≡ started_at row.id row.site c.args.number a.turns.peers = ap (λ (x : Scheduling). x.peers) c.start.ensures in
+    let again : c.start.new.self.peers ≡ started_at row.id row.site c.args.number a.schedule.peers = ap (λ (x : Scheduling). x.peers) c.start.ensures in
     let lost : c.lose.new.self.peers ≡ lost_at row.id row.site c.start.new.self.peers = ap (λ (x : Scheduling). x.peers) c.lose.ensures in
-    let lines : c.lose.new.self.lines ≡ a.turns.lines = ap (λ (x : Scheduling). x.lines) c.lose.ensures ∙ ap (λ (x : Scheduling). x.lines) c.start.ensures in
-    let started = subst (λ ps. AreTurnsTied ps rows c.args.number) (sym again) (turns_started a.turns.peers rows a.starts c.args.number row.id row.site less c.self.invariant.3) in (
+    let lines : c.lose.new.self.lines ≡ a.schedule.lines = ap (λ (x : Scheduling). x.lines) c.lose.ensures ∙ ap (λ (x : Scheduling). x.lines) c.start.ensures in
+    let started = subst (λ ps. AreTurnsTied ps rows c.args.number) (sym again) (turns_started a.schedule.peers rows a.starts c.args.number row.id row.site less c.self.invariant.3) in (
       rw (left, added) (tied_sent a.params a.admitted c.begin_flight.new.pool rows f.0 row a.flights.items a.unsettled.items a.starts c.args.number there less few c.begin_flight.ensures c.self.invariant.0),
       rw (slots, c.touch_message.ensures, left, lines) (row_gone f.0 row there c.self.invariant.1),
       rw (sites, left, added) (sites_begun rows f.0 row c.args.number a.flights.items a.sites.items there c.self.invariant.2),
@@ -74,7 +74,7 @@ invariant_of-self c =
       rw sites (tested_alike (goes_to_dead a.sites.items) (goes_to_dead (map (changed_at row.site begun) a.sites.items)) c.take_row.new.waiting.items (λ r. sym (alike_changed row.site begun (λ d. refl) a.sites.items r))
           (c.take_row.ensures.held (goes_to_dead a.sites.items) c.self.invariant.4)),
       messages_same a.params c.lose.new.self (heads a.admitted.items)
-          (messages_stay a.params a.turns (heads a.admitted.items) c.self.invariant.5 c.lose.new.self (ap (λ (x : Scheduling). x.messages) c.lose.ensures ∙ ap (λ (x : Scheduling). x.messages) c.start.ensures) (ap (λ (x : Scheduling). x.message_room) c.lose.ensures ∙ ap (λ (x : Scheduling). x.message_room) c.start.ensures)) _ slots,
+          (messages_stay a.params a.schedule (heads a.admitted.items) c.self.invariant.5 c.lose.new.self (ap (λ (x : Scheduling). x.messages) c.lose.ensures ∙ ap (λ (x : Scheduling). x.messages) c.start.ensures) (ap (λ (x : Scheduling). x.message_room) c.lose.ensures ∙ ap (λ (x : Scheduling). x.message_room) c.start.ensures)) _ slots,
       rw c.push.ensures (record {
         deliveries = processes_begun a.params a.transports a.flights (record { number = c.args.number; row = row }) c.self.invariant.6.deliveries process.0 process.1;
         asked = c.self.invariant.6.asked;
@@ -95,7 +95,7 @@ push-requires-clause-room c =
 pub start-requires-clause-own : goal.start-requires-clause-own
 start-requires-clause-own c =
     let a = c.self.inside in
-    none_has a.turns.peers a.starts c.args.number (subst (λ (s : State). s.starts < c.args.number) (sym c.self.view_is) c.requires.next) c.self.invariant.3.known
+    none_has a.schedule.peers a.starts c.args.number (subst (λ (s : State). s.starts < c.args.number) (sym c.self.view_is) c.requires.next) c.self.invariant.3.known
 
 pub begin-requires : goal.begin-requires
 begin-requires c =
@@ -128,7 +128,7 @@ returns-clause-sent c = λ entry at.
     ap (λ (v : Flying). v.items) c.push.ensures in
     let known : known_records c.begin.new.self.items ≡ known_records a.sites.items = ap (λ (x : Dests). known_records x.items) c.begin.ensures ∙ known_stays row.site begun (λ d. refl) a.sites.items in
     let now = served_now c.args.id c.args.site c.args.number c.args.self.now.served in
-    let lines : c.lose.new.self.lines ≡ a.turns.lines = ap (λ (x : Scheduling). x.lines) c.lose.ensures ∙ ap (λ (x : Scheduling). x.lines) c.start.ensures in
+    let lines : c.lose.new.self.lines ≡ a.schedule.lines = ap (λ (x : Scheduling). x.lines) c.lose.ensures ∙ ap (λ (x : Scheduling). x.lines) c.start.ensures in
     record {
       rest =
           ap (λ ls. record (state_of a) { admitted = heads c.begin_flight.new.pool.items; waiting = rows_of c.take_row.new.waiting.items; flights = c.push.new.self.items; served = now; lines = ls; sites = known_records c.begin.new.self.items; starts = c.args.number }) lines
@@ -157,7 +157,7 @@ returns-clause-served c =
     let f = stands_first p rows row found (ap (list_any p) same ∙ c.requires.there) in
     let there = f.1.there in
     let left : rows_of c.take_row.new.waiting.items ≡ remove rows f.0 = c.take_row.ensures.rows ∙ sym (drop_first-Some p rows f.0 f.1.first) in
-    let ps = a.turns.peers in
+    let ps = a.schedule.peers in
     let n = c.args.number in
     let less = subst (λ (s : State). s.starts < n) (sym c.self.view_is) c.requires.next in
     let begun : c.start.new.self.peers ≡ started_at row.id row.site n ps = ap (λ (x : Scheduling). x.peers) c.start.ensures in
@@ -168,7 +168,7 @@ returns-clause-served c =
     ∙ served_lost c.start.new.self.peers rows f.0 row c.stand_apart-4.ensures.apart started.counts there
     ∙ ap (tidied_served (remove rows f.0))
     (ap served_rows begun
-    ∙ rows_started row.id row.site n (omega (arith, less)) ps s.apart (all_before ps a.starts n less c.self.invariant.3.known) (peer_of a.turns.lines ps rows s.apart s.jobs c.self.invariant.3.counts p row found)
+    ∙ rows_started row.id row.site n (omega (arith, less)) ps s.apart (all_before ps a.starts n less c.self.invariant.3.known) (peer_of a.schedule.lines ps rows s.apart s.jobs c.self.invariant.3.counts p row found)
     ∙ ap (λ (k : PeerKey). served_now k.id k.site n (served_rows ps)) (name_found rows c.args.id c.args.site row found)
     ∙ ap (λ (v : State). served_now c.args.id c.args.site n v.served) c.self.view_is)
     ∙ ap (λ ws. tidied_served ws (served_now c.args.id c.args.site n c.args.self.now.served)) (sym left)

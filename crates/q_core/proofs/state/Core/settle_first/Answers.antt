@@ -36,7 +36,7 @@ invariant_of-self c =
       c.self.invariant.2,
       c.self.invariant.3,
       c.self.invariant.4,
-      messages_same a.params a.turns (heads a.admitted.items) c.self.invariant.5 _ slots,
+      messages_same a.params a.schedule (heads a.admitted.items) c.self.invariant.5 _ slots,
       record {
         deliveries = c.self.invariant.6.deliveries;
         asked = c.self.invariant.6.asked;

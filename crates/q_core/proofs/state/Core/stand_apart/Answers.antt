@@ -6,4 +6,4 @@ use Rattle.q_turns.proofs.WithLine.{apart_at}
 use Rattle.q_core.proofs.state.Core.stand_apart.Goals as goal
 
 pub returns : goal.returns
-returns c = subst (λ (s : State). AreOfOthers (jobs_at s c.args.transport)) c.self.view_is (apart_at c.args.transport c.self.inside.turns.lines c.stand_apart.ensures.lines)
+returns c = subst (λ (s : State). AreOfOthers (jobs_at s c.args.transport)) c.self.view_is (apart_at c.args.transport c.self.inside.schedule.lines c.stand_apart.ensures.lines)

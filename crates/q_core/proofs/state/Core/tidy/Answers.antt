@@ -26,11 +26,11 @@ invariant_of-self c =
     let sites : c.forget_oldest.new.sites.items ≡ forgotten c.record_limit-limit.result core.sites.items = ap (λ (x : Dests). x.items) c.forget_oldest.ensures in
     rw (lines, ap (λ (x : Scheduling). x.peers) c.tidy_touched_lines.ensures, sites) (
       c.self.invariant.0,
-      now_tidy (heads core.admitted.items) (rows_of core.waiting.items) core.turns.lines,
+      now_tidy (heads core.admitted.items) (rows_of core.waiting.items) core.schedule.lines,
       sites_forgotten (rows_of core.waiting.items) core.flights.items c.record_limit-limit.result core.sites.items c.stand_apart.ensures.apart c.self.invariant.2,
       c.self.invariant.3,
       held_forgotten c.record_limit-limit.result core.sites.items core.waiting.items c.stand_apart.ensures.apart c.self.invariant.2.waiting c.self.invariant.4,
-      messages_stay core.params core.turns (heads core.admitted.items) c.self.invariant.5 _ (ap (λ (x : Scheduling). x.messages) c.tidy_touched_lines.ensures) (ap (λ (x : Scheduling). x.message_room) c.tidy_touched_lines.ensures),
+      messages_stay core.params core.schedule (heads core.admitted.items) c.self.invariant.5 _ (ap (λ (x : Scheduling). x.messages) c.tidy_touched_lines.ensures) (ap (λ (x : Scheduling). x.message_room) c.tidy_touched_lines.ensures),
       c.self.invariant.6,
       rw (ap (λ (x : Scheduling). x.room) c.tidy_touched_lines.ensures, ap (λ (x : Scheduling). x.line_room) c.tidy_touched_lines.ensures, ap (λ (x : Dests). x.room) c.forget_oldest.ensures) c.self.invariant.7,
       c.self.invariant.8,
@@ -53,10 +53,10 @@ returns c =
     ∙ sym (forgotten_is rows fs ds counts core.params.recipient_limit)
     ∙ ap (forget_in rows fs core.params.recipient_limit) (sym whole) in
     record {
-      rest = rw (lines, peers) (ap (λ (s : State). record s { lines = map f (enumerate_from 0 core.turns.lines); served = served_rows core.turns.peers; sites = known_records c.forget_oldest.new.sites.items }) c.self.view_is);
+      rest = rw (lines, peers) (ap (λ (s : State). record s { lines = map f (enumerate_from 0 core.schedule.lines); served = served_rows core.schedule.peers; sites = known_records c.forget_oldest.new.sites.items }) c.self.view_is);
       lines = lines ∙ ap (λ (s : State). map (tidied_line s.admitted s.waiting) (enumerate_from 0 s.lines)) c.self.view_is;
       served = ap served_rows peers
-          ∙ sym (served_wait core.turns.lines core.turns.peers rows c.stand_apart-2.ensures.apart c.stand_apart-2.ensures.jobs c.self.invariant.3.counts)
+          ∙ sym (served_wait core.schedule.lines core.schedule.peers rows c.stand_apart-2.ensures.apart c.stand_apart-2.ensures.jobs c.self.invariant.3.counts)
           ∙ ap (λ (s : State). tidied_served s.waiting s.served) c.self.view_is;
       sites = sites ∙ ap (λ (s : State). forget_in s.waiting s.flights s.params.recipient_limit (used_in s.waiting s.flights s.sites)) c.self.view_is;
     }

@@ -119,11 +119,11 @@ invariant_of-self c =
       rw (left, items) (tied_put_off a.params a.admitted c.put_off_row.new.pool rows f.0 row a.flights.items a.unsettled.items new a.starts c.saturating_sub-needs.result there count few named c.put_off_row.ensures c.self.invariant.0),
       rw (slots, c.touch_message.ensures, left, ap (λ (x : Scheduling). x.lines) c.lose.ensures) (row_gone f.0 row there c.self.invariant.1),
       rw (sites, left) (sites_settled (remove rows f.0) a.flights.items row.site left_dest (λ d. refl) a.sites.items c.stand_apart-2.ensures.apart (sites_left rows f.0 row a.flights.items a.sites.items there c.self.invariant.2)),
-      rw (ap (λ (x : Scheduling). x.peers) c.lose.ensures, left) (turns_lost a.turns.peers rows a.starts f.0 row c.stand_apart-3.ensures.apart c.self.invariant.3 there (first_of rows c.args.id c.args.site.now f.0 row f.1.first found)),
+      rw (ap (λ (x : Scheduling). x.peers) c.lose.ensures, left) (turns_lost a.schedule.peers rows a.starts f.0 row c.stand_apart-3.ensures.apart c.self.invariant.3 there (first_of rows c.args.id c.args.site.now f.0 row f.1.first found)),
       rw sites (tested_alike (goes_to_dead a.sites.items) (goes_to_dead (filter is_kept (settled row.site left_dest a.sites.items))) c.take_row.new.waiting.items
           (λ r. sym (alike_settled row.site left_dest (λ d. refl) a.sites.items c.stand_apart-2.ensures.apart r)) (c.take_row.ensures.held (goes_to_dead a.sites.items) c.self.invariant.4)),
       messages_same a.params c.lose.new.self (heads a.admitted.items)
-          (messages_stay a.params a.turns (heads a.admitted.items) c.self.invariant.5 c.lose.new.self (ap (λ (x : Scheduling). x.messages) c.lose.ensures) (ap (λ (x : Scheduling). x.message_room) c.lose.ensures)) _ slots,
+          (messages_stay a.params a.schedule (heads a.admitted.items) c.self.invariant.5 c.lose.new.self (ap (λ (x : Scheduling). x.messages) c.lose.ensures) (ap (λ (x : Scheduling). x.message_room) c.lose.ensures)) _ slots,
       record {
         deliveries = c.self.invariant.6.deliveries;
         asked = c.self.invariant.6.asked;
@@ -168,8 +168,8 @@ returns-clause-served c =
     let there = f.1.there in
     let left : rows_of c.take_row.new.waiting.items ≡ remove rows f.0 = c.take_row.ensures.rows ∙ sym (drop_first-Some p rows f.0 f.1.first) in
     ap (λ (x : Scheduling). served_rows x.peers) c.lose.ensures
-    ∙ served_lost a.turns.peers rows f.0 row c.stand_apart-3.ensures.apart c.self.invariant.3.counts there
-    ∙ ap (λ ws. tidied_served ws (served_rows a.turns.peers)) (sym left)
+    ∙ served_lost a.schedule.peers rows f.0 row c.stand_apart-3.ensures.apart c.self.invariant.3.counts there
+    ∙ ap (λ ws. tidied_served ws (served_rows a.schedule.peers)) (sym left)
     ∙ ap (λ (v : State). tidied_served (rows_of c.take_row.new.waiting.items) v.served) c.self.view_is
 
 -- there is space for its outcomes
