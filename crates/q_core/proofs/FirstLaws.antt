@@ -6,7 +6,7 @@ use Rattle.q_model.proofs.EachLaws.{find-any}
 use Rattle.q_core.proofs.HeldLaws.{is_there}
 use Rattle.q_core.proofs.ListLaws.{find-passes}
 use Rattle.q_core.proofs.NameLaws.{and_true_parts, id_eq-same, id_eq-true}
-use Rattle.q_laws.specs.Consistency.{IsConsistent, IsHeld, flight_positions, held_positions, logged_of, unsettled_positions, waiting_positions}
+use Rattle.q_laws.specs.Consistency.{IsConsistent, IsRemembered, flight_positions, logged_of, memory_positions, unsettled_positions, waiting_positions}
 use Rattle.q_model.specs.Book.{message_of}
 use Rattle.q_model.specs.Ids.{id_eq}
 use Rattle.q_model.specs.Ledger.{Ledger}
@@ -87,9 +87,9 @@ append_last : (q : ℕ → Bool) (xs ys : List ℕ) → list_all q (xs ++ ys) �
 append_last q [] ys h = h
 append_last q (x ∷ xs) ys h = append_last q xs ys (and_true_parts (q x) (list_all q (xs ++ ys)) h).1
 
-held_first : (l : Ledger) (id : Id) (q : ℕ → Bool) (position : ℕ) (need : Need) (us : List Unsettled) → l.unsettled ≡ record { id = id; position = position; need = need } ∷ us →
-    list_all q (held_positions l id) ≡ true → q position ≡ true
-held_first l id q position need us e h =
+remembered_first : (l : Ledger) (id : Id) (q : ℕ → Bool) (position : ℕ) (need : Need) (us : List Unsettled) → l.unsettled ≡ record { id = id; position = position; need = need } ∷ us →
+    list_all q (memory_positions l id) ≡ true → q position ≡ true
+remembered_first l id q position need us e h =
     let last = append_last q (waiting_positions id l.waiting ++ flight_positions id l.flights) (unsettled_positions id l.unsettled) h in
     let shown : list_all q ((if id_eq id id then position ∷ [] else []) ++ unsettled_positions id us) ≡ true = ap (λ vs. list_all q (unsettled_positions id vs)) (sym e) ∙ last in
     (and_true_parts (q position) (list_all q (unsettled_positions id us)) (ap (λ b. list_all q ((if b then position ∷ [] else []) ++ unsettled_positions id us)) (sym (id_eq-same id)) ∙ shown)).0
@@ -103,14 +103,14 @@ first_of_message {l = l} k id position need f =
     let t = is_there k id adm in
     let found = found_some (find (λ (a : Admitted). id_eq a.id id) l.admitted) (find-any (λ (a : Admitted). id_eq a.id id) l.admitted ∙ adm) in
     let same : found.0.id ≡ id = id_eq-true found.0.id id (find-passes (λ (a : Admitted). id_eq a.id id) l.admitted found.0 found.1) in
-    let held : IsHeld l found.0 t.message = k.memory.held found.0 t.message (ap (admitted_of l) same ∙ found.1) (ap (message_of l.book) same ∙ t.there) in (
+    let remembered : IsRemembered l found.0 t.message = k.memory.remembered found.0 t.message (ap (admitted_of l) same ∙ found.1) (ap (message_of l.book) same ∙ t.there) in (
       t.message,
       record {
         admitted = adm;
         there = t.there;
         name = id_eq-true t.message.id id (find-passes (λ (x : Message). id_eq x.id id) l.book.messages t.message t.there);
         active = t.active;
-        unmarked = held_first l id (is_unmarked_at t.message) position need f.rest f.first (ap (λ i. list_all (is_unmarked_at t.message) (held_positions l i)) (sym same) ∙ held.unmarked);
-        logged = held.logged ∙ ap (λ (us : List Unsettled). logged_of t.message (slice_get us 0)) f.first;
+        unmarked = remembered_first l id (is_unmarked_at t.message) position need f.rest f.first (ap (λ i. list_all (is_unmarked_at t.message) (memory_positions l i)) (sym same) ∙ remembered.unmarked);
+        logged = remembered.logged ∙ ap (λ (us : List Unsettled). logged_of t.message (slice_get us 0)) f.first;
       },
     )

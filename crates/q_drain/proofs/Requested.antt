@@ -31,7 +31,7 @@ use Rattle.q_host.specs.Calls.{Stays}
 use Rattle.q_host.specs.View.{View as HostView}
 use Rattle.q_laws.proofs.Members.{IsIn, all_at, in_left, in_right}
 use Rattle.q_laws.proofs.Synced.{found_admitted}
-use Rattle.q_laws.specs.Consistency.{IsConsistent, flight_positions, held_positions, unsettled_positions, waiting_positions}
+use Rattle.q_laws.specs.Consistency.{IsConsistent, flight_positions, memory_positions, unsettled_positions, waiting_positions}
 use Rattle.q_link.specs.Records.{AddsHops, Connects, HopsView, ToldHops, with_connect, with_hop}
 use Rattle.q_model.proofs.IdLaws.{id_eq-refl}
 use Rattle.q_model.specs.declared.id.Id.{Id}
@@ -73,8 +73,8 @@ pub flight_readable : (w : World) (k : Ledger) (f : Delivery) (m : Message) → 
 flight_readable w k f m c flies there =
     let found = found_admitted w k f.row.id c (all_at (λ (g : Delivery). is_admitted k g.row.id) f k.flights c.memory.flights flies) in
     let same : (found.0).id ≡ f.row.id = found.2 in
-    let held = c.memory.held found.0 m found.1 (ap (λ (i : Id). message_of k.book i) same ∙ there) in
-    all_below m (held_positions k f.row.id) f.row.positions (subst (λ (i : Id). list_all (is_unmarked_at m) (held_positions k i) ≡ true) same held.unmarked)
+    let remembered = c.memory.remembered found.0 m found.1 (ap (λ (i : Id). message_of k.book i) same ∙ there) in
+    all_below m (memory_positions k f.row.id) f.row.positions (subst (λ (i : Id). list_all (is_unmarked_at m) (memory_positions k i) ≡ true) same remembered.unmarked)
     (λ p h. in_left p (waiting_positions f.row.id k.waiting ++ flight_positions f.row.id k.flights) (unsettled_positions f.row.id k.unsettled)
     (in_right p (waiting_positions f.row.id k.waiting) (flight_positions f.row.id k.flights) (in_flights p f k.flights flies h)))
 

@@ -25,7 +25,7 @@ use Rattle.q_model.specs.Values.{Spot}
 use Rattle.q_model.proofs.MarkChanges.{mark-in_file}
 use Rattle.q_model.proofs.StandChanges.{Stands-message}
 use Rattle.q_host.specs.View.{View}
-use Rattle.q_laws.specs.Consistency.{held_positions, IsConsistent}
+use Rattle.q_laws.specs.Consistency.{IsConsistent, memory_positions}
 use Rattle.q_laws.proofs.Books.{left_active, message_in}
 use Rattle.q_laws.proofs.Decisions.{next_decided}
 use Rattle.q_laws.proofs.First.{first_on, first_positions, not_logged_yet}
@@ -58,13 +58,13 @@ first_outcome w l id p test c h =
     let mine = admitted_active w l id c admitted in
     let found = found_admitted w l id c admitted in
     let a = found.0 in
-    let held = c.memory.held a mine.0 found.1 (subst (λ (i : Id). message_of l.book i ≡ Some mine.0) (sym found.2) mine.1.there) in
-    let there : IsIn u.position (held_positions l a.id) = first_positions u one.1 l a.id one.2 (one.3 ∙ sym found.2) in
+    let remembered = c.memory.remembered a mine.0 found.1 (subst (λ (i : Id). message_of l.book i ≡ Some mine.0) (sym found.2) mine.1.there) in
+    let there : IsIn u.position (memory_positions l a.id) = first_positions u one.1 l a.id one.2 (one.3 ∙ sym found.2) in
     record {
-      has = record { message = mine.0; active = mine.1; bare = subst (λ (n : ℕ). is_unmarked_at mine.0 n ≡ true) one.4 (all_at (is_unmarked_at mine.0) u.position (held_positions l a.id) held.unmarked there) };
+      has = record { message = mine.0; active = mine.1; bare = subst (λ (n : ℕ). is_unmarked_at mine.0 n ≡ true) one.4 (all_at (is_unmarked_at mine.0) u.position (memory_positions l a.id) remembered.unmarked there) };
       need = u.need;
       passes = one.5;
-      none = λ k. held.logged ∙ not_logged_yet mine.0 u (slice_get l.unsettled 0) k (ap (λ (us : List Unsettled). slice_get us 0) one.2);
+      none = λ k. remembered.logged ∙ not_logged_yet mine.0 u (slice_get l.unsettled 0) k (ap (λ (us : List Unsettled). slice_get us 0) one.2);
     }
 
 left_bare : (l : Ledger) (id : Id) (p : ℕ) (o : Option Message) → message_of l.book id ≡ o → option_map_or (λ (m : Message). is_logged m p && is_unmarked_at m p) o false ≡ true

@@ -82,8 +82,8 @@ load_speaks w l id from to c h =
     let admitted : is_admitted l id ≡ true = load_admitted w l id from to (next_decided w l (entries.Load id from to) c h).0 in
     let active = admitted_active w l id c admitted in
     let found = found_admitted w l id c admitted in
-    let held = c.memory.held found.0 active.0 found.1 (subst (λ (i : Id). message_of l.book i ≡ Some active.0) (sym found.2) active.1.there) in
-    (active.0, record { message = active.1; settled = held.logged ∙ ap (λ (us : List Unsettled). logged_of active.0 (slice_get us 0)) (unsettled_none w l id from to h) })
+    let remembered = c.memory.remembered found.0 active.0 found.1 (subst (λ (i : Id). message_of l.book i ≡ Some active.0) (sym found.2) active.1.there) in
+    (active.0, record { message = active.1; settled = remembered.logged ∙ ap (λ (us : List Unsettled). logged_of active.0 (slice_get us 0)) (unsettled_none w l id from to h) })
 
 -- ---- what is pending has no mark in the file
 

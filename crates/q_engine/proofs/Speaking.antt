@@ -26,7 +26,7 @@ use Rattle.q_model.specs.Values.{Spot}
 use Rattle.q_model.proofs.IdLaws.{id_eq-true}
 use Rattle.q_model.proofs.StandChanges.{Stands-message}
 use Rattle.q_host.specs.View.{View}
-use Rattle.q_laws.specs.Consistency.{held_positions, IsConsistent}
+use Rattle.q_laws.specs.Consistency.{IsConsistent, memory_positions}
 use Rattle.q_laws.proofs.Books.{left_active}
 use Rattle.q_laws.proofs.Decisions.{next_decided}
 use Rattle.q_laws.proofs.First.{first_positions}
@@ -95,9 +95,9 @@ first_speaks w l id p (u ∷ rest) c e h =
     let active = admitted_active w l id c admitted in
     let found = found_admitted w l id c admitted in
     let a = found.0 in
-    let held = c.memory.held a active.0 found.1 (subst (λ (i : Id). message_of l.book i ≡ Some active.0) (sym found.2) active.1.there) in
-    let within : IsIn u.position (held_positions l a.id) = subst (λ (i : Id). IsIn u.position (held_positions l i)) (sym found.2) (first_positions u rest l id e here) in
-    (active.0, active.1, subst (λ (n : ℕ). n < length active.0.recipients) place (unmarked_short active.0 u.position (all_at (is_unmarked_at active.0) u.position (held_positions l a.id) held.unmarked within)))
+    let remembered = c.memory.remembered a active.0 found.1 (subst (λ (i : Id). message_of l.book i ≡ Some active.0) (sym found.2) active.1.there) in
+    let within : IsIn u.position (memory_positions l a.id) = subst (λ (i : Id). IsIn u.position (memory_positions l i)) (sym found.2) (first_positions u rest l id e here) in
+    (active.0, active.1, subst (λ (n : ℕ). n < length active.0.recipients) place (unmarked_short active.0 u.position (all_at (is_unmarked_at active.0) u.position (memory_positions l a.id) remembered.unmarked within)))
 
 pub mark_speaks : (w : World) (l : Ledger) (id : Id) (p : ℕ) → IsConsistent w l → next w l ≡ Some (entries.Mark id p) → (m : Message) × IsActiveMessage l id m × (p < length m.recipients)
 mark_speaks w l id p c h = ⊎_elim (λ first. first_speaks w l id p l.unsettled c refl first) (λ left.

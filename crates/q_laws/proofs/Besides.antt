@@ -67,8 +67,8 @@ book_ready w l b e c quiet book same still active =
         filled = m.filled;
         flights = m.flights;
         unsettled = m.unsettled;
-        held = λ a x here there.
-            let h = m.held a x here (sym (same a (find_in (λ (y : Admitted). id_eq y.id a.id) a l.admitted here).0) ∙ there) in
+        remembered = λ a x here there.
+            let h = m.remembered a x here (sym (same a (find_in (λ (y : Admitted). id_eq y.id a.id) a l.admitted here).0) ∙ there) in
             record { read = h.read; once = h.once; unmarked = h.unmarked; logged = h.logged };
         numbers = m.numbers;
         begun = begun_noted l e m.begun;

@@ -18,7 +18,7 @@ use Rattle.q_laws.proofs.Places.{none_of, got_in}
 use Rattle.q_laws.proofs.Quiet.{account_kept, begun_noted, otherwise_ready}
 use Rattle.q_laws.proofs.Tidied.{IsReady, after_consistent}
 use Rattle.q_laws.proofs.Synced.{admitted_active, mine_or_not}
-use Rattle.q_laws.specs.Consistency.{IsHeld, are_once, flight_positions, held_positions, logged_of, unsettled_positions, IsBookConsistent, IsConsistent, is_present, is_synced_well, is_within}
+use Rattle.q_laws.specs.Consistency.{IsRemembered, are_once, flight_positions, memory_positions, logged_of, unsettled_positions, IsBookConsistent, IsConsistent, is_present, is_synced_well, is_within}
 use Rattle.q_model.proofs.IdLaws.{id_eq-refl, id_eq-true}
 use Rattle.q_model.specs.Admissions.{delivers, may_admit, cause_gone, has_room}
 use Rattle.q_model.specs.Book.{Book, all_ids, message_of, stands}
@@ -72,7 +72,7 @@ find_last id (a ∷ xs) h = on (id_eq a.id id) (find_last id xs) h
     on true rest k = absurd cc
     on false rest k = rest k
 
--- ---- nothing of it is held
+-- ---- nothing of it is in memory
 
 flat_none : {A : Type 0} (test : A → Bool) (f : A → List ℕ) (xs : List A) → list_any test xs ≡ false → flat_map (λ x. if test x then f x else []) xs ≡ []
 flat_none test f [] h = refl
@@ -80,8 +80,8 @@ flat_none test f (x ∷ xs) h =
     let two = or_parts (test x) (list_any test xs) h in
     ap (λ b. (if b then f x else []) ++ flat_map (λ y. if test y then f y else []) xs) two.0 ∙ flat_none test f xs two.1
 
-nothing_held : (l : Ledger) (id : Id) → HasNoRows l id → held_positions l id ≡ []
-nothing_held l id h =
+nothing_remembered : (l : Ledger) (id : Id) → HasNoRows l id → memory_positions l id ≡ []
+nothing_remembered l id h =
     ap (λ (ps : List ℕ). ps ++ flight_positions id l.flights ++ unsettled_positions id l.unsettled) (flat_none (λ (r : Row). id_eq r.id id) (λ r. r.positions) l.waiting h.waiting)
     ∙ ap (λ (ps : List ℕ). ps ++ unsettled_positions id l.unsettled) (flat_none (λ (f : Delivery). id_eq f.row.id id) (λ f. f.row.positions) l.flights h.flights)
     ∙ flat_none (λ (u : Unsettled). id_eq u.id id) (λ u. u.position ∷ []) l.unsettled h.unsettled
@@ -93,9 +93,9 @@ other_first l m h = on (slice_get l.unsettled 0) refl
     on None e = refl
     on (Some u) e = other_logged m u (none_at (λ (x : Unsettled). id_eq x.id m.id) u l.unsettled h.unsettled (got_in u l.unsettled 0 e))
 
-new_held : (l : Ledger) (id : Id) (m : Message) → m.id ≡ id → HasNoRows l id → unmarked_logged m ≡ [] → IsHeld (entered l id) (new_admitted id) m
-new_held l id m name none clean =
-    let empty = nothing_held l id none in
+new_remembered : (l : Ledger) (id : Id) (m : Message) → m.id ≡ id → HasNoRows l id → unmarked_logged m ≡ [] → IsRemembered (entered l id) (new_admitted id) m
+new_remembered l id m name none clean =
+    let empty = nothing_remembered l id none in
     record {
       read = ap (list_all (λ p. nat_lt p 0)) empty;
       once = ap are_once empty;
@@ -155,17 +155,17 @@ tidied_before l m h inside out =
     let sound : is_sound m ≡ true = sym (ap (λ b. b || is_sound m) out) ∙ all_at rest m l.book.messages all inside in
     none_of (unmarked_logged m) (and_parts (has_none (unmarked_logged m)) (has_none (written_marks m)) (and_parts (has_none (unmarked_logged m) && has_none (written_marks m)) (has_firm_failures m) sound).0).0
 
-enter_held : (w : World) (l : Ledger) (id : Id) (m : Message) → IsConsistent w l → MayEnter w l id m → (a : Admitted) (x : Message) → admitted_of (entered l id) a.id ≡ Some a → message_of (move_message l.book id places.Active) a.id ≡ Some x → IsHeld (entered l id) a x
-enter_held w l id m c p a x here there = elim (id_cases a.id id) [
+enter_remembered : (w : World) (l : Ledger) (id : Id) (m : Message) → IsConsistent w l → MayEnter w l id m → (a : Admitted) (x : Message) → admitted_of (entered l id) a.id ≡ Some a → message_of (move_message l.book id places.Active) a.id ≡ Some x → IsRemembered (entered l id) a x
+enter_remembered w l id m c p a x here there = elim (id_cases a.id id) [
   | inl same ↦
       let none : find (λ (b : Admitted). id_eq b.id id) l.admitted ≡ None = find_none_from (λ (b : Admitted). id_eq b.id id) l.admitted (λ b inside. none_at (λ (y : Admitted). id_eq y.id id) b l.admitted p.absent inside) in
       let it : new_admitted id ≡ a = same_Some (new_admitted id) a (sym (find_last id l.admitted none) ∙ ap (admitted_of (entered l id)) (sym same.0) ∙ here) in
       let mine : move_to places.Active m ≡ x = same_Some (move_to places.Active m) x (sym (entered_message l id m p.there) ∙ ap (message_of (move_message l.book id places.Active)) (sym same.0) ∙ there) in
       let found = message_in l.book id m p.there in
-      subst (λ (b : Admitted). IsHeld (entered l id) b x) it (subst (λ (y : Message). IsHeld (entered l id) (new_admitted id) y) mine
-      (new_held l id (move_to places.Active m) found.1 (absent_rows w l id c p.absent) (tidied_before l m c.book found.0 p.out)))
+      subst (λ (b : Admitted). IsRemembered (entered l id) b x) it (subst (λ (y : Message). IsRemembered (entered l id) (new_admitted id) y) mine
+      (new_remembered l id (move_to places.Active m) found.1 (absent_rows w l id c p.absent) (tidied_before l m c.book found.0 p.out)))
   | inr other ↦
-      let h = c.memory.held a x (sym (find_passed (λ (b : Admitted). id_eq b.id a.id) l.admitted (new_admitted id) (id_eq-sym a.id id other)) ∙ here) (sym (other_moved l.book id a.id (move_to places.Active) (λ y. refl) other) ∙ there) in
+      let h = c.memory.remembered a x (sym (find_passed (λ (b : Admitted). id_eq b.id a.id) l.admitted (new_admitted id) (id_eq-sym a.id id other)) ∙ here) (sym (other_moved l.book id a.id (move_to places.Active) (λ y. refl) other) ∙ there) in
       record { read = h.read; once = h.once; unmarked = h.unmarked; logged = h.logged }
 ]
 
@@ -209,7 +209,7 @@ enter_ready w l id m c p =
         filled = h.filled;
         flights = all_weaker (λ (f : Delivery). is_admitted l f.row.id) (λ (f : Delivery). is_admitted k f.row.id) l.flights (λ f inside g. still_admitted l id f.row.id g) h.flights;
         unsettled = all_weaker (λ (u : Unsettled). is_admitted l u.id) (λ (u : Unsettled). is_admitted k u.id) l.unsettled (λ u inside g. still_admitted l id u.id g) h.unsettled;
-        held = enter_held w l id m c p;
+        remembered = enter_remembered w l id m c p;
         numbers = h.numbers;
         begun = begun_noted l e h.begun;
         single = h.single;

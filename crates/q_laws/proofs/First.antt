@@ -5,7 +5,7 @@ use Rattle.std.specs.Option.{option_map_or}
 use Rattle.std.specs.Prelude.{◌&&◌, ◌==◌, slice_get}
 use Rattle.q_laws.proofs.Distinct.{id_same}
 use Rattle.q_laws.proofs.Members.{IsIn, in_right}
-use Rattle.q_laws.specs.Consistency.{flight_positions, held_positions, logged_of, unsettled_positions, waiting_positions}
+use Rattle.q_laws.specs.Consistency.{flight_positions, logged_of, memory_positions, unsettled_positions, waiting_positions}
 use Rattle.q_model.proofs.IdLaws.{id_eq-true}
 use Rattle.q_model.specs.Ids.{id_eq}
 use Rattle.q_model.specs.Ledger.{Ledger}
@@ -40,7 +40,7 @@ same_logged m u same need logged =
     ap (λ b. if b && needs_mark u.need && is_logged m u.position then u.position ∷ [] else []) (id_same u.id m.id same)
     ∙ ap (λ b. if b && is_logged m u.position then u.position ∷ [] else []) need ∙ ap (λ b. if b then u.position ∷ [] else []) logged
 
-pub first_positions : (u : Unsettled) (rest : List Unsettled) (l : Ledger) (id : Id) → l.unsettled ≡ u ∷ rest → u.id ≡ id → IsIn u.position (held_positions l id)
+pub first_positions : (u : Unsettled) (rest : List Unsettled) (l : Ledger) (id : Id) → l.unsettled ≡ u ∷ rest → u.id ≡ id → IsIn u.position (memory_positions l id)
 first_positions u rest l id e same =
     in_right u.position (waiting_positions id l.waiting ++ flight_positions id l.flights) (unsettled_positions id l.unsettled)
     (subst (λ us. IsIn u.position (unsettled_positions id us)) (sym e) (subst (λ b. IsIn u.position ((if b then u.position ∷ [] else []) ++ unsettled_positions id rest)) (sym (id_same u.id id same)) (inl refl)))

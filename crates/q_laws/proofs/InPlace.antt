@@ -11,7 +11,7 @@ use Rattle.q_laws.proofs.Mapped.{KeepsOrder, all_ids_mapped, find_mapped, orderl
 use Rattle.q_laws.proofs.Members.{IsIn, all_at, all_from, all_weaker, in_unmap}
 use Rattle.q_laws.proofs.Quiet.{IsQuiet, account_kept, begun_noted, still_come}
 use Rattle.q_laws.proofs.Tidied.{IsReady}
-use Rattle.q_laws.specs.Consistency.{IsBookConsistent, IsConsistent, IsHeld, has_come, is_present, is_synced_well, is_within}
+use Rattle.q_laws.specs.Consistency.{IsBookConsistent, IsConsistent, IsRemembered, has_come, is_present, is_synced_well, is_within}
 use Rattle.q_model.specs.Book.{Book, Damaged, all_ids, ids_at, message_of}
 use Rattle.q_model.specs.BookChanges.{change_message}
 use Rattle.q_model.specs.Finishing.{is_clean}
@@ -177,17 +177,17 @@ change_book l id f us ss e h o firm =
       come = ap (list_all (has_come k)) same ∙ all_weaker (has_come l) (has_come k) (all_ids b) (λ i there c. still_come l e i c) h.come;
     }
 
-pub held_on : (c : Message → Message) (o : Option Message) (n : Message) → option_map c o ≡ Some n → (m : Message) × (o ≡ Some m) × (c m ≡ n)
-held_on c None n h = absurd cc
-held_on c (Some m) n h = (m, refl, same_Some (c m) n h)
+pub remembered_on : (c : Message → Message) (o : Option Message) (n : Message) → option_map c o ≡ Some n → (m : Message) × (o ≡ Some m) × (c m ≡ n)
+remembered_on c None n h = absurd cc
+remembered_on c (Some m) n h = (m, refl, same_Some (c m) n h)
 
 -- the ledger is ready after such a change
 pub change_ready : (w : World) (l : Ledger) (id : Id) (f : Message → Message) (us : List Unsettled) (ss : List Id) (e : Entry) → IsConsistent w l → KeepsShape f → KeepsOrder l.book (changed id f) →
     ((m : Message) → IsIn m l.book.messages → has_firm_failures m ≡ true → has_firm_failures (changed id f m) ≡ true) → IsQuiet e →
     list_all (λ (u : Unsettled). is_admitted l u.id) us ≡ true → length us ≤ length l.unsettled →
-    ((a : Admitted) (m : Message) → admitted_of l a.id ≡ Some a → message_of l.book a.id ≡ Some m → IsHeld (changed_ledger l id f us ss e) a (changed id f m)) →
+    ((a : Admitted) (m : Message) → admitted_of l a.id ≡ Some a → message_of l.book a.id ≡ Some m → IsRemembered (changed_ledger l id f us ss e) a (changed id f m)) →
     list_all (is_synced_well (changed_ledger l id f us ss e)) ss ≡ true → ((i : Id) → is_leftover l i ≡ true → list_any (id_eq i) ss ≡ true → next_leftover l ≡ Some i) → IsReady w (changed_ledger l id f us ss e)
-change_ready w l id f us ss e c s o firm q theirs fewer held synced next =
+change_ready w l id f us ss e c s o firm q theirs fewer remembered synced next =
     let m = c.memory in
     let k = changed_ledger l id f us ss e in
     record {
@@ -201,9 +201,9 @@ change_ready w l id f us ss e c s o firm q theirs fewer held synced next =
         filled = m.filled;
         flights = m.flights;
         unsettled = theirs;
-        held = λ a n mine there.
-            let one = held_on (changed id f) (message_of l.book a.id) n (sym (find_mapped (changed id f) (changed_name id f s.name) a.id l.book.messages) ∙ there) in
-            subst (λ x. IsHeld k a x) one.2 (held a one.0 mine one.1);
+        remembered = λ a n mine there.
+            let one = remembered_on (changed id f) (message_of l.book a.id) n (sym (find_mapped (changed id f) (changed_name id f s.name) a.id l.book.messages) ∙ there) in
+            subst (λ x. IsRemembered k a x) one.2 (remembered a one.0 mine one.1);
         numbers = m.numbers;
         begun = begun_noted l e m.begun;
         single = m.single;

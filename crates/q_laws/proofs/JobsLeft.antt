@@ -1,5 +1,5 @@
 -- What a message has left at a transport is no more than its recipients: each row that waits has a position, no position
--- is held twice, and each was read.
+-- is in memory twice, and each was read.
 use Rattle.std.proofs.Common.{◌≡◌, ℕ, zero, suc, ◌+◌, ◌-◌, ◌≤◌, ◌<◌, Bool, true, false, cond, not, List, [], ◌∷◌, ◌++◌, length, filter, Option, Some, None, refl, sym, ap, ◌∙◌, arith, if◌then◌else◌, leb-true, ltb-true, lt-ltb, length-append}
 use Rattle.std.proofs.lemmas.Bool.{and_parts, not-true}
 use Rattle.std.proofs.lemmas.List.Sums.{sum_by-cons}
@@ -9,7 +9,7 @@ use Rattle.std.specs.Prelude.{◌==◌, ◌&&◌, count_by, nat_le, nat_lt}
 use Rattle.q_laws.proofs.Counts.{once_times, times}
 use Rattle.q_laws.proofs.Distinct.{find_named}
 use Rattle.q_laws.proofs.Members.{IsIn, all_at, all_from, find_in, in_filtered}
-use Rattle.q_laws.specs.Consistency.{IsHeld, IsMemoryConsistent, flight_positions, held_positions, is_filled, is_present, is_within, unsettled_positions, waiting_positions}
+use Rattle.q_laws.specs.Consistency.{IsMemoryConsistent, IsRemembered, flight_positions, is_filled, is_present, is_within, memory_positions, unsettled_positions, waiting_positions}
 use Rattle.q_model.specs.Accounts.{job_left}
 use Rattle.q_model.specs.Book.{message_of}
 use Rattle.q_model.specs.Ids.{id_eq}
@@ -85,10 +85,10 @@ rows_few id t (r ∷ rs) h =
 -- what a message has left at a transport is no more than its recipients
 pub job_left_within : (w : World) (l : Ledger) (a : Admitted) (m : Message) (t : ℕ) → IsMemoryConsistent w l → admitted_of l a.id ≡ Some a → message_of l.book a.id ≡ Some m → job_left l a.id t ≤ length m.recipients
 job_left_within w l a m t c found there =
-    let h : IsHeld l a m = c.held a m found there in
+    let h : IsRemembered l a m = c.remembered a m found there in
     let id = a.id in
     let rows = rows_few id t l.waiting c.filled in
-    let some = once_below a.unread (held_positions l id) (once_times (held_positions l id) h.once) h.read in
+    let some = once_below a.unread (memory_positions l id) (once_times (memory_positions l id) h.once) h.read in
     let x = length-append (waiting_positions id l.waiting ++ flight_positions id l.flights) (unsettled_positions id l.unsettled) in
     let y = length-append (waiting_positions id l.waiting) (flight_positions id l.flights) in
     let fits : nat_le a.unread (length m.recipients) ≡ true =

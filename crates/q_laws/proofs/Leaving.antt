@@ -139,10 +139,10 @@ leave_ready w l id b e c quiet book none same active =
         filled = m.filled;
         flights = all_weaker (λ (f : Delivery). is_admitted l f.row.id) (λ (f : Delivery). is_admitted k f.row.id) l.flights (λ f inside h. any_without id f.row.id l.admitted (none_at (λ (x : Delivery). id_eq x.row.id id) f l.flights none.flights inside) h) m.flights;
         unsettled = all_weaker (λ (u : Unsettled). is_admitted l u.id) (λ (u : Unsettled). is_admitted k u.id) l.unsettled (λ u inside h. any_without id u.id l.admitted (none_at (λ (x : Unsettled). id_eq x.id id) u l.unsettled none.unsettled inside) h) m.unsettled;
-        held = λ a x here there.
+        remembered = λ a x here there.
             let inside = (find_in (λ (y : Admitted). id_eq y.id a.id) a (without id l.admitted) here).0 in
             let other : id_eq a.id id ≡ false = not-true (id_eq a.id id) (in_filtered (λ (y : Admitted). not (id_eq y.id id)) a l.admitted inside).1 in
-            let h = m.held a x (sym (find_without id a.id l.admitted other) ∙ here) (sym (same a.id other) ∙ there) in
+            let h = m.remembered a x (sym (find_without id a.id l.admitted other) ∙ here) (sym (same a.id other) ∙ there) in
             record { read = h.read; once = h.once; unmarked = h.unmarked; logged = h.logged };
         numbers = m.numbers;
         begun = begun_noted l e m.begun;
@@ -181,7 +181,7 @@ absent_rows w l id c out = record {
 pub tidied_rows : (w : World) (l : Ledger) (id : Id) (m : Message) → IsConsistent w l → is_admitted l id ≡ true → message_of l.book id ≡ Some m → list_any (λ (u : Unsettled). id_eq u.id id) l.unsettled ≡ false → unmarked_logged m ≡ []
 tidied_rows w l id m c adm there none =
     let a = found_admitted w l id c adm in
-    let h = c.memory.held a.0 m a.1 (ap (message_of l.book) a.2 ∙ there) in
+    let h = c.memory.remembered a.0 m a.1 (ap (message_of l.book) a.2 ∙ there) in
     h.logged ∙ on (slice_get l.unsettled 0) refl
   where
     on : (o : Option Unsettled) → slice_get l.unsettled 0 ≡ o → logged_of m o ≡ []

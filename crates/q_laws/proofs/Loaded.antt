@@ -11,7 +11,7 @@ use Rattle.q_laws.proofs.Counts.{all_fewer, in_times, once_fewer, once_times, ti
 use Rattle.q_laws.proofs.Distinct.{id_same}
 use Rattle.q_laws.proofs.Mapped.{found_step}
 use Rattle.q_laws.proofs.Members.{IsIn, all_at, all_from, find_in}
-use Rattle.q_laws.specs.Consistency.{IsConsistent, IsHeld, flight_positions, held_positions, is_within, unsettled_positions, waiting_positions}
+use Rattle.q_laws.specs.Consistency.{IsConsistent, IsRemembered, flight_positions, is_within, memory_positions, unsettled_positions, waiting_positions}
 use Rattle.q_model.proofs.IdLaws.{id_eq-true}
 use Rattle.q_model.specs.Batches.{load_end, load_positions, load_rows}
 use Rattle.q_model.specs.Book.{message_of}
@@ -110,11 +110,11 @@ load_on w l id from to (Some a) (Some m) c found there may =
           (end_is m from (free w l) (some_room w.settings.recipient_minimum (unread_count l a) (free w l) c.usable.recipient_minimum some.0 reads.1) (subst (λ n. n ≤ length m.recipients) (sym start) (leb-true a.unread (length m.recipients) within)));
     }
 
--- ---- what is held
+-- ---- what is in memory
 
-held_count : (w : World) (l : Ledger) (id : Id) (from to : ℕ) (m : Message) (sites : List SiteRecord) (e : Entry) (i : Id) (q : ℕ) →
-    times q (held_positions (loaded_ledger l id to (load_rows w m from to) sites e) i) ≡ times q (held_positions l i) + times q (if id_eq m.id i then load_positions m from to else [])
-held_count w l id from to m sites e i q =
+remembered_count : (w : World) (l : Ledger) (id : Id) (from to : ℕ) (m : Message) (sites : List SiteRecord) (e : Entry) (i : Id) (q : ℕ) →
+    times q (memory_positions (loaded_ledger l id to (load_rows w m from to) sites e) i) ≡ times q (memory_positions l i) + times q (if id_eq m.id i then load_positions m from to else [])
+remembered_count w l id from to m sites e i q =
     let rows = load_rows w m from to in
     let fs = flight_positions i l.flights in
     let us = unsettled_positions i l.unsettled in
@@ -127,54 +127,54 @@ held_count w l id from to m sites e i q =
     let j = times_append q (waiting_positions i l.waiting) fs in
     omega (arith, a, b, d, f, g, j)
 
--- a position that is held was held, or is taken up now
-held_cases : (q n : ℕ) (old new all : List ℕ) → times q all ≡ times q old + times q new → IsIn q all → IsIn q old ⊎ IsIn q new
-held_cases q n old new all e h = which (times q old) refl
+-- a position that is in memory was in memory, or is taken up now
+remembered_cases : (q n : ℕ) (old new all : List ℕ) → times q all ≡ times q old + times q new → IsIn q all → IsIn q old ⊎ IsIn q new
+remembered_cases q n old new all e h = which (times q old) refl
   where
     which : (k : ℕ) → times q old ≡ k → IsIn q old ⊎ IsIn q new
     which (suc k) s = inl (times_in q old (omega (arith, s)))
     which zero s = let some : 1 ≤ times q all = in_times q all h in inr (times_in q new (omega (arith, s, some, e)))
 
-pub mine_held : (w : World) (l : Ledger) (id : Id) (from to : ℕ) (sites : List SiteRecord) (e : Entry) (m : Message) (a : Admitted) → a.unread ≡ from → m.id ≡ a.id → from ≤ to → IsHeld l a m →
-    IsHeld (loaded_ledger l id to (load_rows w m from to) sites e) (record a { unread = to }) m
-mine_held w l id from to sites e m a start name up h =
+pub mine_remembered : (w : World) (l : Ledger) (id : Id) (from to : ℕ) (sites : List SiteRecord) (e : Entry) (m : Message) (a : Admitted) → a.unread ≡ from → m.id ≡ a.id → from ≤ to → IsRemembered l a m →
+    IsRemembered (loaded_ledger l id to (load_rows w m from to) sites e) (record a { unread = to }) m
+mine_remembered w l id from to sites e m a start name up h =
     let k = loaded_ledger l id to (load_rows w m from to) sites e in
     let new = load_positions m from to in
-    let old = held_positions l a.id in
-    let all = held_positions k a.id in
-    let count : (q : ℕ) → times q all ≡ times q old + times q new = λ q. held_count w l id from to m sites e a.id q ∙ ap (λ b. times q old + times q (if b then new else [])) (id_same m.id a.id name) in
+    let old = memory_positions l a.id in
+    let all = memory_positions k a.id in
+    let count : (q : ℕ) → times q all ≡ times q old + times q new = λ q. remembered_count w l id from to m sites e a.id q ∙ ap (λ b. times q old + times q (if b then new else [])) (id_same m.id a.id name) in
     let before : (q : ℕ) → IsIn q old → q < from = λ q there. let less : q < a.unread = ltb-true q a.unread (all_at (λ p. nat_lt p a.unread) q old h.read there) in omega (arith, less, start) in
     record {
-      read = all_from (λ q. nat_lt q to) all (λ q there. elim (held_cases q 0 old new all (count q) there) [
+      read = all_from (λ q. nat_lt q to) all (λ q there. elim (remembered_cases q 0 old new all (count q) there) [
         | inl was ↦ let less = before q was in lt-ltb q to (omega (arith, less, up))
         | inr is ↦ lt-ltb q to (loaded_at m from to q is).early
       ]);
       once = times_once all (λ q. one q (times q new) refl before (count q));
-      unmarked = all_from (is_unmarked_at m) all (λ q there. elim (held_cases q 0 old new all (count q) there) [
+      unmarked = all_from (is_unmarked_at m) all (λ q there. elim (remembered_cases q 0 old new all (count q) there) [
         | inl was ↦ all_at (is_unmarked_at m) q old h.unmarked was
         | inr is ↦ (loaded_at m from to q is).bare
       ]);
       logged = h.logged;
     }
   where
-    one : (q n : ℕ) → times q (load_positions m from to) ≡ n → ((p : ℕ) → IsIn p (held_positions l a.id) → p < from) → times q (held_positions (loaded_ledger l id to (load_rows w m from to) sites e) a.id) ≡ times q (held_positions l a.id) + times q (load_positions m from to) →
-        times q (held_positions (loaded_ledger l id to (load_rows w m from to) sites e) a.id) ≤ 1
-    one q zero none before s = let o = once_times (held_positions l a.id) h.once q in omega (arith, o, s, none)
+    one : (q n : ℕ) → times q (load_positions m from to) ≡ n → ((p : ℕ) → IsIn p (memory_positions l a.id) → p < from) → times q (memory_positions (loaded_ledger l id to (load_rows w m from to) sites e) a.id) ≡ times q (memory_positions l a.id) + times q (load_positions m from to) →
+        times q (memory_positions (loaded_ledger l id to (load_rows w m from to) sites e) a.id) ≤ 1
+    one q zero none before s = let o = once_times (memory_positions l a.id) h.once q in omega (arith, o, s, none)
     one q (suc n) some before s =
         let late : from ≤ q = (loaded_at m from to q (times_in q (load_positions m from to) (omega (arith, some)))).late in
-        let none : times q (held_positions l a.id) ≡ 0 = times_none q (held_positions l a.id) (λ k. let less : q < from = before q k in omega (arith, less, late)) in
+        let none : times q (memory_positions l a.id) ≡ 0 = times_none q (memory_positions l a.id) (λ k. let less : q < from = before q k in omega (arith, less, late)) in
         let o = loaded_once m from to q in
         omega (arith, o, s, none)
 
-pub other_held : (w : World) (l : Ledger) (id : Id) (from to : ℕ) (sites : List SiteRecord) (e : Entry) (m : Message) (a : Admitted) (x : Message) → id_eq m.id a.id ≡ false → IsHeld l a x → IsHeld (loaded_ledger l id to (load_rows w m from to) sites e) a x
-other_held w l id from to sites e m a x other h =
+pub other_remembered : (w : World) (l : Ledger) (id : Id) (from to : ℕ) (sites : List SiteRecord) (e : Entry) (m : Message) (a : Admitted) (x : Message) → id_eq m.id a.id ≡ false → IsRemembered l a x → IsRemembered (loaded_ledger l id to (load_rows w m from to) sites e) a x
+other_remembered w l id from to sites e m a x other h =
     let k = loaded_ledger l id to (load_rows w m from to) sites e in
-    let fewer : (q : ℕ) → times q (held_positions k a.id) ≤ times q (held_positions l a.id) = λ q.
-    let s : times q (held_positions k a.id) ≡ times q (held_positions l a.id) + 0 = held_count w l id from to m sites e a.id q ∙ ap (λ b. times q (held_positions l a.id) + times q (if b then load_positions m from to else [])) other in
+    let fewer : (q : ℕ) → times q (memory_positions k a.id) ≤ times q (memory_positions l a.id) = λ q.
+    let s : times q (memory_positions k a.id) ≡ times q (memory_positions l a.id) + 0 = remembered_count w l id from to m sites e a.id q ∙ ap (λ b. times q (memory_positions l a.id) + times q (if b then load_positions m from to else [])) other in
     omega (arith, s) in
     record {
-      read = all_fewer (λ q. nat_lt q a.unread) (held_positions l a.id) (held_positions k a.id) fewer h.read;
-      once = once_fewer (held_positions l a.id) (held_positions k a.id) fewer h.once;
-      unmarked = all_fewer (is_unmarked_at x) (held_positions l a.id) (held_positions k a.id) fewer h.unmarked;
+      read = all_fewer (λ q. nat_lt q a.unread) (memory_positions l a.id) (memory_positions k a.id) fewer h.read;
+      once = once_fewer (memory_positions l a.id) (memory_positions k a.id) fewer h.once;
+      unmarked = all_fewer (is_unmarked_at x) (memory_positions l a.id) (memory_positions k a.id) fewer h.unmarked;
       logged = h.logged;
     }

@@ -190,7 +190,7 @@ preempt_ready w l child parent transport need c p =
         filled = m.filled;
         flights = m.flights;
         unsettled = m.unsettled;
-        held = λ a x f g. let k = m.held a x f g in record { read = k.read; once = k.once; unmarked = k.unmarked; logged = k.logged };
+        remembered = λ a x f g. let k = m.remembered a x f g in record { read = k.read; once = k.once; unmarked = k.unmarked; logged = k.logged };
         numbers = m.numbers;
         begun = begun_noted l e m.begun;
         single = lines_single child parent transport 0 l.lines m.single;

@@ -93,7 +93,7 @@ quiet_ready w l e q c =
         filled = m.filled;
         flights = m.flights;
         unsettled = m.unsettled;
-        held = λ a x f g. let k = m.held a x f g in record { read = k.read; once = k.once; unmarked = k.unmarked; logged = k.logged };
+        remembered = λ a x f g. let k = m.remembered a x f g in record { read = k.read; once = k.once; unmarked = k.unmarked; logged = k.logged };
         numbers = m.numbers;
         begun = begun_noted l e m.begun;
         single = m.single;
@@ -124,7 +124,7 @@ otherwise_ready w l now timed next_run scan asked ignores follows served sites h
         filled = m.filled;
         flights = m.flights;
         unsettled = m.unsettled;
-        held = λ a x f g. let k = m.held a x f g in record { read = k.read; once = k.once; unmarked = k.unmarked; logged = k.logged };
+        remembered = λ a x f g. let k = m.remembered a x f g in record { read = k.read; once = k.once; unmarked = k.unmarked; logged = k.logged };
         numbers = m.numbers;
         begun = m.begun;
         single = m.single;

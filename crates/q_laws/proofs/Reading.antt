@@ -16,7 +16,7 @@ use Rattle.q_laws.proofs.Quiet.{account_kept, begun_noted, book_noted}
 use Rattle.q_laws.proofs.RowCounts.{row_lengths}
 use Rattle.q_laws.proofs.Tidied.{IsReady, after_consistent}
 use Rattle.q_laws.proofs.NextLeft.{still_next}
-use Rattle.q_laws.specs.Consistency.{IsConsistent, IsHeld, is_filled, is_present, is_synced_well, is_within}
+use Rattle.q_laws.specs.Consistency.{IsConsistent, IsRemembered, is_filled, is_present, is_synced_well, is_within}
 use Rattle.q_model.proofs.IdLaws.{id_eq-true}
 use Rattle.q_model.specs.Batches.{load_positions, load_rows}
 use Rattle.q_model.specs.Book.{ids_at, message_of}
@@ -39,7 +39,7 @@ use Rattle.q_model.specs.declared.rows.Delivery.{Delivery}
 use Rattle.q_model.specs.declared.rows.Row.{Row}
 use Rattle.q_model.specs.declared.rows.Unsettled.{Unsettled}
 use Rattle.q_model.specs.declared.entry.Entry.TheVariants as entries
-use Rattle.q_laws.proofs.Loaded.{IsLoad, any_read, find_read, load_on, loaded_ledger, mine_held, names_read, other_held, read_name, read_on, read_to, records_is}
+use Rattle.q_laws.proofs.Loaded.{IsLoad, any_read, find_read, load_on, loaded_ledger, mine_remembered, names_read, other_remembered, read_name, read_on, read_to, records_is}
 
 -- ---- lines
 
@@ -114,27 +114,27 @@ less_unread w l id from to rows sites e load i =
 
 -- ---- the ledger
 
-load_held : (w : World) (l : Ledger) (id : Id) (from to : ℕ) (sites : List SiteRecord) (e : Entry) → IsConsistent w l → (load : IsLoad w l id from to) → (a : Admitted) (x : Message) →
-    admitted_of (loaded_ledger l id to (load_rows w load.message from to) sites e) a.id ≡ Some a → message_of l.book a.id ≡ Some x → IsHeld (loaded_ledger l id to (load_rows w load.message from to) sites e) a x
-load_held w l id from to sites e c load a x here there =
+load_remembered : (w : World) (l : Ledger) (id : Id) (from to : ℕ) (sites : List SiteRecord) (e : Entry) → IsConsistent w l → (load : IsLoad w l id from to) → (a : Admitted) (x : Message) →
+    admitted_of (loaded_ledger l id to (load_rows w load.message from to) sites e) a.id ≡ Some a → message_of l.book a.id ≡ Some x → IsRemembered (loaded_ledger l id to (load_rows w load.message from to) sites e) a x
+load_remembered w l id from to sites e c load a x here there =
     let k = loaded_ledger l id to (load_rows w load.message from to) sites e in
     let one = read_on id to (admitted_of l a.id) a (sym (find_read id a.id to l.admitted) ∙ here) in
     let b = one.0 in
     let name : b.id ≡ a.id = sym (read_name id to b) ∙ ap (λ (y : Admitted). y.id) one.2 in
     let found : admitted_of l b.id ≡ Some b = ap (admitted_of l) name ∙ one.1 in
     let theirs : message_of l.book b.id ≡ Some x = ap (message_of l.book) name ∙ there in
-    let h = c.memory.held b x found theirs in
-    subst (λ y. IsHeld k y x) one.2 (which b found theirs h (id_eq b.id id) refl)
+    let h = c.memory.remembered b x found theirs in
+    subst (λ y. IsRemembered k y x) one.2 (which b found theirs h (id_eq b.id id) refl)
   where
-    which : (b : Admitted) → admitted_of l b.id ≡ Some b → message_of l.book b.id ≡ Some x → IsHeld l b x → (t : Bool) → id_eq b.id id ≡ t → IsHeld (loaded_ledger l id to (load_rows w load.message from to) sites e) (if t then record b { unread = to } else b) x
+    which : (b : Admitted) → admitted_of l b.id ≡ Some b → message_of l.book b.id ≡ Some x → IsRemembered l b x → (t : Bool) → id_eq b.id id ≡ t → IsRemembered (loaded_ledger l id to (load_rows w load.message from to) sites e) (if t then record b { unread = to } else b) x
     which b found theirs h false s =
-        other_held w l id from to sites e load.message b x (ap (λ (i : Id). id_eq i b.id) (message_in l.book id load.message load.there).1 ∙ id_eq-sym b.id id s) h
+        other_remembered w l id from to sites e load.message b x (ap (λ (i : Id). id_eq i b.id) (message_in l.book id load.message load.there).1 ∙ id_eq-sym b.id id s) h
     which b found theirs h true s =
         let at : b.id ≡ id = id_eq-true b.id id s in
         let same : load.row ≡ b = same_Some load.row b (sym load.found ∙ ap (admitted_of l) (sym at) ∙ found) in
         let mine : x ≡ load.message = same_Some x load.message (sym theirs ∙ ap (message_of l.book) at ∙ load.there) in
-        subst (λ y. IsHeld (loaded_ledger l id to (load_rows w load.message from to) sites e) (record b { unread = to }) y) (sym mine)
-        (mine_held w l id from to sites e load.message b (ap (λ (y : Admitted). y.unread) (sym same) ∙ load.start) ((message_in l.book id load.message load.there).1 ∙ sym at) load.end.late (subst (IsHeld l b) mine h))
+        subst (λ y. IsRemembered (loaded_ledger l id to (load_rows w load.message from to) sites e) (record b { unread = to }) y) (sym mine)
+        (mine_remembered w l id from to sites e load.message b (ap (λ (y : Admitted). y.unread) (sym same) ∙ load.start) ((message_in l.book id load.message load.there).1 ∙ sym at) load.end.late (subst (IsRemembered l b) mine h))
 
 load_ready : (w : World) (l : Ledger) (id : Id) (from to : ℕ) (sites : List SiteRecord) → IsConsistent w l → (load : IsLoad w l id from to) →
     IsReady w (loaded_ledger l id to (load_rows w load.message from to) sites (entries.Load id from to))
@@ -165,7 +165,7 @@ load_ready w l id from to sites c load =
         filled = all_append is_filled l.waiting rows m.filled (rows_filled w load.message [] (load_positions load.message from to) refl);
         flights = all_weaker (λ (f : Delivery). is_admitted l f.row.id) (λ (f : Delivery). is_admitted k f.row.id) l.flights (λ f inside h. adm f.row.id ∙ h) m.flights;
         unsettled = all_weaker (λ (u : Unsettled). is_admitted l u.id) (λ (u : Unsettled). is_admitted k u.id) l.unsettled (λ u inside h. adm u.id ∙ h) m.unsettled;
-        held = λ a x here there. load_held w l id from to sites e c load a x here there;
+        remembered = λ a x here there. load_remembered w l id from to sites e c load a x here there;
         numbers = m.numbers;
         begun = begun_noted l e m.begun;
         single = lines_joined id rows 0 l.lines m.single;

@@ -100,7 +100,7 @@ left_flight id q n g few fs true h =
     omega (arith, s, t, h)
 left_flight id q n g few fs false h = let t = times_append q (row_positions id g.row) (flight_positions id fs) in omega (arith, t, h)
 
--- what one that leaves held, the others don't
+-- what one that leaves had, the others don't
 pub left_flights : (p : Delivery → Bool) (id : Id) (q : ℕ) (f : Delivery) (fs : List Delivery) → IsIn f fs → p f ≡ false → times q (row_positions id f.row) + times q (flight_positions id (filter p fs)) ≤ times q (flight_positions id fs)
 left_flights p id q f [] h e = absurd h
 left_flights p id q f (g ∷ fs) (inl same) e =
@@ -178,10 +178,10 @@ needs_owner w now m [] os u h = absurd h
 needs_owner w now m (p ∷ ps) [] u h = absurd h
 needs_owner w now m (p ∷ ps) (o ∷ os) u h = need_owner p m (need_of w now m o) (needs_of w now m ps os) u (needs_owner w now m ps os u) h
 
--- the position of an unsettled outcome is held
-pub unsettled_held : (id : Id) (u : Unsettled) (us : List Unsettled) → IsIn u us → u.id ≡ id → IsIn u.position (unsettled_positions id us)
-unsettled_held id u [] k s = absurd k
-unsettled_held id u (x ∷ us) (inl k) s =
+-- the position of an unsettled outcome is in memory
+pub unsettled_remembered : (id : Id) (u : Unsettled) (us : List Unsettled) → IsIn u us → u.id ≡ id → IsIn u.position (unsettled_positions id us)
+unsettled_remembered id u [] k s = absurd k
+unsettled_remembered id u (x ∷ us) (inl k) s =
     in_left u.position (if id_eq x.id id then x.position ∷ [] else []) (unsettled_positions id us)
     (subst (λ b. IsIn u.position (if b then x.position ∷ [] else [])) (sym (id_same x.id id (ap (λ (y : Unsettled). y.id) k ∙ s))) (inl (ap (λ (y : Unsettled). y.position) k)))
-unsettled_held id u (x ∷ us) (inr k) s = in_right u.position (if id_eq x.id id then x.position ∷ [] else []) (unsettled_positions id us) (unsettled_held id u us k s)
+unsettled_remembered id u (x ∷ us) (inr k) s = in_right u.position (if id_eq x.id id then x.position ∷ [] else []) (unsettled_positions id us) (unsettled_remembered id u us k s)

@@ -8,10 +8,10 @@ use Rattle.q_laws.proofs.Counts.{all_fewer, once_fewer, times, times_append}
 use Rattle.q_laws.proofs.Members.{IsIn, all_append, all_at, all_from, in_right}
 use Rattle.q_laws.proofs.Places.{got_in}
 use Rattle.q_laws.proofs.Quiet.{IsQuiet, LeavesAccount, account_kept, book_noted}
-use Rattle.q_laws.proofs.RowCounts.{flight_lengths, needs_count, needs_length, needs_owner, row_lengths, unsettled_held}
+use Rattle.q_laws.proofs.RowCounts.{flight_lengths, needs_count, needs_length, needs_owner, row_lengths, unsettled_remembered}
 use Rattle.q_laws.proofs.Tidied.{IsReady}
 use Rattle.q_laws.proofs.Unmarked.{none_logged}
-use Rattle.q_laws.specs.Consistency.{IsConsistent, IsHeld, are_once, flight_positions, held_positions, is_filled, logged_of, unsettled_positions, waiting_positions}
+use Rattle.q_laws.specs.Consistency.{IsConsistent, IsRemembered, are_once, flight_positions, is_filled, logged_of, memory_positions, unsettled_positions, waiting_positions}
 use Rattle.q_model.specs.Book.{message_of}
 use Rattle.q_model.specs.Ids.{id_eq}
 use Rattle.q_model.specs.Ledger.{Ledger}
@@ -39,11 +39,11 @@ with_rows l ws fs us sv ss e = record l { waiting = ws; flights = fs; unsettled 
 -- the ledger is ready with these rows
 pub rows_ready : (w : World) (l : Ledger) (ws : List Row) (fs : List Delivery) (us : List Unsettled) (sv : List Served) (ss : List SiteRecord) (e : Entry) → IsConsistent w l →
     list_all (λ (r : Row). is_admitted l r.id) ws ≡ true → list_all is_filled ws ≡ true → list_all (λ (f : Delivery). is_admitted l f.row.id) fs ≡ true → list_all (λ (u : Unsettled). is_admitted l u.id) us ≡ true →
-    ((a : Admitted) (m : Message) → admitted_of l a.id ≡ Some a → message_of l.book a.id ≡ Some m → IsHeld (with_rows l ws fs us sv ss e) a m) →
+    ((a : Admitted) (m : Message) → admitted_of l a.id ≡ Some a → message_of l.book a.id ≡ Some m → IsRemembered (with_rows l ws fs us sv ss e) a m) →
     are_once (map (λ (f : Delivery). f.number) fs) ≡ true → list_all (λ (f : Delivery). nat_le f.number (starts (noted e l))) fs ≡ true →
     ((id : Id) (t : ℕ) → (unread_of l id == 0) ≡ false → list_any (id_eq id) (line_of l t) ≡ false → LeavesAccount id t e) →
     in_memory (with_rows l ws fs us sv ss e) ≤ in_memory l → IsReady w (with_rows l ws fs us sv ss e)
-rows_ready w l ws fs us sv ss e c waiting filled flights unsettled held numbers begun accounts fewer =
+rows_ready w l ws fs us sv ss e c waiting filled flights unsettled remembered numbers begun accounts fewer =
     let m = c.memory in
     let b = book_noted l e c.book in
     record {
@@ -57,7 +57,7 @@ rows_ready w l ws fs us sv ss e c waiting filled flights unsettled held numbers 
         filled = filled;
         flights = flights;
         unsettled = unsettled;
-        held = held;
+        remembered = remembered;
         numbers = numbers;
         begun = begun;
         single = m.single;
@@ -71,11 +71,11 @@ rows_ready w l ws fs us sv ss e c waiting filled flights unsettled held numbers 
 
 -- ---- outcomes that become unsettled rows
 
--- what is held after rows became outcomes is held before
-held_less : (w : World) (l : Ledger) (ws : List Row) (fs : List Delivery) (sv : List Served) (ss : List SiteRecord) (e : Entry) (x : Message) (ps : List ℕ) (os : List Outcome) (id : Id) (q : ℕ) →
+-- what is in memory after rows became outcomes is in memory before
+remembered_less : (w : World) (l : Ledger) (ws : List Row) (fs : List Delivery) (sv : List Served) (ss : List SiteRecord) (e : Entry) (x : Message) (ps : List ℕ) (os : List Outcome) (id : Id) (q : ℕ) →
     times q (if id_eq x.id id then ps else []) + (times q (waiting_positions id ws) + times q (flight_positions id fs)) ≤ times q (waiting_positions id l.waiting) + times q (flight_positions id l.flights) →
-    times q (held_positions (with_rows l ws fs (l.unsettled ++ needs_of w l.now x ps os) sv ss e) id) ≤ times q (held_positions l id)
-held_less w l ws fs sv ss e x ps os id q h =
+    times q (memory_positions (with_rows l ws fs (l.unsettled ++ needs_of w l.now x ps os) sv ss e) id) ≤ times q (memory_positions l id)
+remembered_less w l ws fs sv ss e x ps os id q h =
     let needs = needs_of w l.now x ps os in
     let a = times_append q (waiting_positions id ws ++ flight_positions id fs) (unsettled_positions id (l.unsettled ++ needs)) in
     let b = times_append q (waiting_positions id ws) (flight_positions id fs) in
@@ -91,19 +91,19 @@ first_joined : (m : Message) (us ns : List Unsettled) → unmarked_logged m ≡ 
 first_joined m [] ns h bare = h ∙ sym (none_logged m (slice_get ns 0) h (λ u f s. bare u (got_in u ns 0 f) s))
 first_joined m (u ∷ us) ns h bare = h
 
-outcomes_held : (w : World) (l : Ledger) (ws : List Row) (fs : List Delivery) (sv : List Served) (ss : List SiteRecord) (e : Entry) (x : Message) (ps : List ℕ) (os : List Outcome) →
+outcomes_remembered : (w : World) (l : Ledger) (ws : List Row) (fs : List Delivery) (sv : List Served) (ss : List SiteRecord) (e : Entry) (x : Message) (ps : List ℕ) (os : List Outcome) →
     ((id : Id) (q : ℕ) → times q (if id_eq x.id id then ps else []) + (times q (waiting_positions id ws) + times q (flight_positions id fs)) ≤ times q (waiting_positions id l.waiting) + times q (flight_positions id l.flights)) →
-    (a : Admitted) (m : Message) → m.id ≡ a.id → IsHeld l a m → IsHeld (with_rows l ws fs (l.unsettled ++ needs_of w l.now x ps os) sv ss e) a m
-outcomes_held w l ws fs sv ss e x ps os less a m name h =
+    (a : Admitted) (m : Message) → m.id ≡ a.id → IsRemembered l a m → IsRemembered (with_rows l ws fs (l.unsettled ++ needs_of w l.now x ps os) sv ss e) a m
+outcomes_remembered w l ws fs sv ss e x ps os less a m name h =
     let k = with_rows l ws fs (l.unsettled ++ needs_of w l.now x ps os) sv ss e in
-    let fewer : (q : ℕ) → times q (held_positions k a.id) ≤ times q (held_positions l a.id) = λ q. held_less w l ws fs sv ss e x ps os a.id q (less a.id q) in
-    let bare = all_fewer (is_unmarked_at m) (held_positions l a.id) (held_positions k a.id) fewer h.unmarked in
+    let fewer : (q : ℕ) → times q (memory_positions k a.id) ≤ times q (memory_positions l a.id) = λ q. remembered_less w l ws fs sv ss e x ps os a.id q (less a.id q) in
+    let bare = all_fewer (is_unmarked_at m) (memory_positions l a.id) (memory_positions k a.id) fewer h.unmarked in
     record {
-      read = all_fewer (λ q. nat_lt q a.unread) (held_positions l a.id) (held_positions k a.id) fewer h.read;
-      once = once_fewer (held_positions l a.id) (held_positions k a.id) fewer h.once;
+      read = all_fewer (λ q. nat_lt q a.unread) (memory_positions l a.id) (memory_positions k a.id) fewer h.read;
+      once = once_fewer (memory_positions l a.id) (memory_positions k a.id) fewer h.once;
       unmarked = bare;
-      logged = first_joined m l.unsettled (needs_of w l.now x ps os) h.logged (λ u inside s. all_at (is_unmarked_at m) u.position (held_positions k a.id) bare
-          (in_right u.position (waiting_positions a.id ws ++ flight_positions a.id fs) (unsettled_positions a.id (l.unsettled ++ needs_of w l.now x ps os)) (unsettled_held a.id u (l.unsettled ++ needs_of w l.now x ps os) inside (s ∙ name))));
+      logged = first_joined m l.unsettled (needs_of w l.now x ps os) h.logged (λ u inside s. all_at (is_unmarked_at m) u.position (memory_positions k a.id) bare
+          (in_right u.position (waiting_positions a.id ws ++ flight_positions a.id fs) (unsettled_positions a.id (l.unsettled ++ needs_of w l.now x ps os)) (unsettled_remembered a.id u (l.unsettled ++ needs_of w l.now x ps os) inside (s ∙ name))));
     }
 
 -- rows that leave become outcomes of their message
@@ -116,6 +116,6 @@ outcomes_ready w l ws fs sv ss e x ps os c quiet adm waiting filled flights numb
     rows_ready w l ws fs (l.unsettled ++ needs_of w l.now x ps os) sv ss e c waiting filled flights
     (all_append (λ (u : Unsettled). is_admitted l u.id) l.unsettled (needs_of w l.now x ps os) c.memory.unsettled
     (all_from (λ (u : Unsettled). is_admitted l u.id) (needs_of w l.now x ps os) (λ u inside. ap (is_admitted l) (needs_owner w l.now x ps os u inside) ∙ adm)))
-    (λ a m here there. outcomes_held w l ws fs sv ss e x ps os less a m (message_in l.book a.id m there).1 (c.memory.held a m here there))
+    (λ a m here there. outcomes_remembered w l ws fs sv ss e x ps os less a m (message_in l.book a.id m there).1 (c.memory.remembered a m here there))
     numbers begun (λ id t some gone. quiet id t)
     (let n = needs_length w l.now x ps os in let j = length-append l.unsettled (needs_of w l.now x ps os) in omega (arith, n, j, lengths))

@@ -14,7 +14,7 @@ use Rattle.q_laws.proofs.Quiet.{LeavesAccount, begun_noted}
 use Rattle.q_laws.proofs.RowCounts.{IsRemoved, flight_lengths, removed, row_positions}
 use Rattle.q_laws.proofs.Rows.{rows_ready, with_rows}
 use Rattle.q_laws.proofs.Tidied.{IsReady, after_consistent}
-use Rattle.q_laws.specs.Consistency.{IsConsistent, IsHeld, are_once, flight_positions, held_positions, unsettled_positions, waiting_positions, is_filled}
+use Rattle.q_laws.specs.Consistency.{IsConsistent, IsRemembered, are_once, flight_positions, memory_positions, unsettled_positions, waiting_positions, is_filled}
 use Rattle.q_model.proofs.IdLaws.{id_eq-true}
 use Rattle.q_model.specs.Sites.{site_eq}
 use Rattle.q_model.specs.Ids.{id_eq}
@@ -83,12 +83,12 @@ other_account l number id site ps inside i t gone = record { admit = refl; start
         let two = and_parts (id_eq id i) (site.transport == t) e in
         absurd (gone_listed i (line_of l t) gone (subst (λ j. IsIn j (line_of l t)) (id_eq-true id i two.0) (subst (λ k. IsIn id (line_of l k)) (eqb-true site.transport t two.1) inside)))
 
-started_held : (l : Ledger) (number : ℕ) (id : Id) (site : Site) (ps : List ℕ) (sv : List Served) (t : IsRemoved (is_row id site ps) l.waiting) (a : Admitted) (m : Message) → IsHeld l a m →
-    IsHeld (with_rows l (drop_first (is_row id site ps) l.waiting) (l.flights ++ new_flight number id site ps ∷ []) l.unsettled sv l.sites (entries.Start number id site ps)) a m
-started_held l number id site ps sv t a m h =
+started_remembered : (l : Ledger) (number : ℕ) (id : Id) (site : Site) (ps : List ℕ) (sv : List Served) (t : IsRemoved (is_row id site ps) l.waiting) (a : Admitted) (m : Message) → IsRemembered l a m →
+    IsRemembered (with_rows l (drop_first (is_row id site ps) l.waiting) (l.flights ++ new_flight number id site ps ∷ []) l.unsettled sv l.sites (entries.Start number id site ps)) a m
+started_remembered l number id site ps sv t a m h =
     let k = with_rows l (drop_first (is_row id site ps) l.waiting) (l.flights ++ new_flight number id site ps ∷ []) l.unsettled sv l.sites (entries.Start number id site ps) in
     let this = this_row id site ps t.row t.passes in
-    let fewer : (q : ℕ) → times q (held_positions k a.id) ≤ times q (held_positions l a.id) = λ q.
+    let fewer : (q : ℕ) → times q (memory_positions k a.id) ≤ times q (memory_positions l a.id) = λ q.
     let ws = drop_first (is_row id site ps) l.waiting in
     let fs = l.flights ++ new_flight number id site ps ∷ [] in
     let mine : List ℕ = if id_eq id a.id then ps else [] in
@@ -105,9 +105,9 @@ started_held l number id site ps sv t a m h =
     ap (λ (j : Id). times q (if id_eq j a.id then t.row.positions else [])) this.name ∙ ap (λ (qs : List ℕ). times q (if id_eq id a.id then qs else [])) this.positions in
     omega (arith, x, y, z, v, x2, y2, n, same) in
     record {
-      read = all_fewer (λ q. nat_lt q a.unread) (held_positions l a.id) (held_positions k a.id) fewer h.read;
-      once = once_fewer (held_positions l a.id) (held_positions k a.id) fewer h.once;
-      unmarked = all_fewer (is_unmarked_at m) (held_positions l a.id) (held_positions k a.id) fewer h.unmarked;
+      read = all_fewer (λ q. nat_lt q a.unread) (memory_positions l a.id) (memory_positions k a.id) fewer h.read;
+      once = once_fewer (memory_positions l a.id) (memory_positions k a.id) fewer h.once;
+      unmarked = all_fewer (is_unmarked_at m) (memory_positions l a.id) (memory_positions k a.id) fewer h.unmarked;
       logged = h.logged;
     }
 
@@ -132,7 +132,7 @@ start_ready w l number id site ps sv c may inside =
     (all_from is_filled (drop_first (is_row id site ps) l.waiting) (λ r there. all_at is_filled r l.waiting c.memory.filled (in_dropped (is_row id site ps) r l.waiting there)))
     (all_append (λ (g : Delivery). is_admitted l g.row.id) l.flights (f ∷ []) c.memory.flights (and_from (is_admitted l id) true adm refl))
     c.memory.unsettled
-    (λ a m here there. started_held l number id site ps sv t a m (c.memory.held a m here there))
+    (λ a m here there. started_remembered l number id site ps sv t a m (c.memory.remembered a m here there))
     (numbers_once l f next c.memory.numbers c.memory.begun)
     (all_append (λ (g : Delivery). nat_le g.number (starts (noted e l))) l.flights (f ∷ []) (begun_noted l e c.memory.begun)
     (and_from (nat_le number (starts (noted e l))) true (le-leb number (starts (noted e l)) (omega (arith, next, s))) refl))

@@ -8,7 +8,7 @@ use Rattle.q_laws.proofs.InPlace.{KeepsShape, change_ready, changed, changed_led
 use Rattle.q_laws.proofs.Members.{IsIn, all_at}
 use Rattle.q_laws.proofs.Tidied.{after_consistent}
 use Rattle.q_laws.proofs.Unmarked.{firm_more, logged_alone, logged_itself, sealed_more}
-use Rattle.q_laws.specs.Consistency.{are_once, IsConsistent, IsHeld, flight_positions, held_positions, logged_of, unsettled_positions, waiting_positions}
+use Rattle.q_laws.specs.Consistency.{are_once, IsConsistent, IsRemembered, flight_positions, memory_positions, logged_of, unsettled_positions, waiting_positions}
 use Rattle.q_model.specs.Ids.{id_eq}
 use Rattle.q_model.specs.Ledger.{Ledger}
 use Rattle.q_model.specs.Logs.{first_logged, may_log, needs_log, with_failure}
@@ -47,20 +47,20 @@ same_owners : (l : Ledger) (us : List Unsettled) → list_all (λ (u : Unsettled
 same_owners l [] h = h
 same_owners l (u ∷ us) h = h
 
-log_held : (l : Ledger) (id : Id) (f : Failure) (u : Unsettled) (rest : List Unsettled) (a : Admitted) (m : Message) → l.unsettled ≡ u ∷ rest → u.id ≡ id → u.position ≡ f.position → needs_log f u.need ≡ true → m.id ≡ a.id → IsHeld l a m →
-    IsHeld (changed_ledger l id (with_failure f) (first_logged l.unsettled) l.synced (entries.Log id f)) a (changed id (with_failure f) m)
-log_held l id f u rest a m e mine at need name h =
+log_remembered : (l : Ledger) (id : Id) (f : Failure) (u : Unsettled) (rest : List Unsettled) (a : Admitted) (m : Message) → l.unsettled ≡ u ∷ rest → u.id ≡ id → u.position ≡ f.position → needs_log f u.need ≡ true → m.id ≡ a.id → IsRemembered l a m →
+    IsRemembered (changed_ledger l id (with_failure f) (first_logged l.unsettled) l.synced (entries.Log id f)) a (changed id (with_failure f) m)
+log_remembered l id f u rest a m e mine at need name h =
     let k = changed_ledger l id (with_failure f) (first_logged l.unsettled) l.synced (entries.Log id f) in
-    let same : held_positions k a.id ≡ held_positions l a.id = ap (λ (ps : List ℕ). waiting_positions a.id l.waiting ++ flight_positions a.id l.flights ++ ps) (same_positions a.id l.unsettled) in
+    let same : memory_positions k a.id ≡ memory_positions l a.id = ap (λ (ps : List ℕ). waiting_positions a.id l.waiting ++ flight_positions a.id l.flights ++ ps) (same_positions a.id l.unsettled) in
     let none : unmarked_logged m ≡ [] = h.logged ∙ not_logged_yet m u (slice_get l.unsettled 0) (log_no_mark f u.need need) (ap (λ (us : List Unsettled). slice_get us 0) e) in
     let first : slice_get (first_logged l.unsettled) 0 ≡ Some (record u { need = needs.Mark }) = ap (λ (us : List Unsettled). slice_get (first_logged us) 0) e in
     let reads = ap (list_all (λ p. nat_lt p a.unread)) same ∙ h.read in
     let once = ap are_once same ∙ h.once in
     let bare = ap (list_all (is_unmarked_at m)) same ∙ h.unmarked in
-    mine_or_not id (with_failure f) m (λ x. IsHeld k a x)
+    mine_or_not id (with_failure f) m (λ x. IsRemembered k a x)
     (λ it.
-    let there : IsIn u.position (held_positions l a.id) = first_positions u rest l a.id e (mine ∙ sym it ∙ name) in
-    let here : is_unmarked_at m f.position ≡ true = subst (λ p. is_unmarked_at m p ≡ true) at (all_at (is_unmarked_at m) u.position (held_positions l a.id) h.unmarked there) in
+    let there : IsIn u.position (memory_positions l a.id) = first_positions u rest l a.id e (mine ∙ sym it ∙ name) in
+    let here : is_unmarked_at m f.position ≡ true = subst (λ p. is_unmarked_at m p ≡ true) at (all_at (is_unmarked_at m) u.position (memory_positions l a.id) h.unmarked there) in
     record {
       read = reads;
       once = once;
@@ -88,6 +88,6 @@ log_consistent w l id f c may =
     (λ x inside firm. mine_or_not id (with_failure f) x (λ y. has_firm_failures y ≡ true) (λ same. firm_more f x firm) (λ other. firm))
     (λ i t. record { admit = refl; start = refl; charge = refl })
     (same_owners l l.unsettled c.memory.unsettled) (let n : length (first_logged l.unsettled) ≡ length l.unsettled = same_length l.unsettled in omega (arith, n))
-    (λ a x here there. log_held l id f u one.1 a x one.2 one.3 one.4 one.5 (message_in l.book a.id x there).1 (c.memory.held a x here there))
+    (λ a x here there. log_remembered l id f u one.1 a x one.2 one.3 one.4 one.5 (message_in l.book a.id x there).1 (c.memory.remembered a x here there))
     (well_kept l id (with_failure f) (first_logged l.unsettled) l.synced (entries.Log id f) (log_shape f) adm c.memory.synced)
     c.memory.synced_next)

@@ -14,7 +14,7 @@ use Rattle.q_laws.proofs.Members.{all_at, all_weaker, any_in}
 use Rattle.q_laws.proofs.Messages.{sealed_sync, unmarked_sync, written_sync}
 use Rattle.q_laws.proofs.Tidied.{IsReady, after_consistent}
 use Rattle.q_laws.proofs.Unmarked.{bare_sync}
-use Rattle.q_laws.specs.Consistency.{IsConsistent, IsHeld, IsSyncedNext, held_positions, is_present, is_synced_well}
+use Rattle.q_laws.specs.Consistency.{IsConsistent, IsRemembered, IsSyncedNext, is_present, is_synced_well, memory_positions}
 use Rattle.q_model.proofs.IdLaws.{id_eq-true}
 use Rattle.q_model.specs.Book.{message_of}
 use Rattle.q_model.specs.BookChanges.{change_message}
@@ -104,12 +104,12 @@ sync_next l id i h (inr one) true e left was = elim (or_cases (id_eq i id) (list
   | inr old ↦ h i left old
 ]
 
-sync_held : (l : Ledger) (id : Id) (ss : List Id) (e : Entry) (a : Admitted) (m : Message) → IsHeld l a m → IsHeld (changed_ledger l id sync_all l.unsettled ss e) a (changed id sync_all m)
-sync_held l id ss e a m h = mine_or_not id sync_all m (λ x. IsHeld (changed_ledger l id sync_all l.unsettled ss e) a x)
+sync_remembered : (l : Ledger) (id : Id) (ss : List Id) (e : Entry) (a : Admitted) (m : Message) → IsRemembered l a m → IsRemembered (changed_ledger l id sync_all l.unsettled ss e) a (changed id sync_all m)
+sync_remembered l id ss e a m h = mine_or_not id sync_all m (λ x. IsRemembered (changed_ledger l id sync_all l.unsettled ss e) a x)
     (λ same. record {
       read = h.read;
       once = h.once;
-      unmarked = all_weaker (is_unmarked_at m) (is_unmarked_at (sync_all m)) (held_positions l a.id) (λ p there k. bare_sync m p ∙ k) h.unmarked;
+      unmarked = all_weaker (is_unmarked_at m) (is_unmarked_at (sync_all m)) (memory_positions l a.id) (λ p there k. bare_sync m p ∙ k) h.unmarked;
       logged = unmarked_sync m ∙ h.logged;
     })
     (λ other. record { read = h.read; once = h.once; unmarked = h.unmarked; logged = h.logged })
@@ -121,7 +121,7 @@ sync_on w l id (Some m) there c says may =
     (keeps_active l.book id sync_all m c.book.distinct there sync_shape (and_parts (is_active m.place) (is_leftover l id || not (has_none (written_marks m))) may).0 (sealed_sync m))
     (λ x inside firm. mine_or_not id sync_all x (λ y. has_firm_failures y ≡ true) (λ same. firm) (λ other. firm))
     (λ i t. record { admit = refl; start = refl; charge = refl })
-    c.memory.unsettled (le_refl (length l.unsettled)) (λ a x mine here. sync_held l id (synced_ids l id) (entries.Sync id) a x (c.memory.held a x mine here))
+    c.memory.unsettled (le_refl (length l.unsettled)) (λ a x mine here. sync_remembered l id (synced_ids l id) (entries.Sync id) a x (c.memory.remembered a x mine here))
     (sync_well w l id l.unsettled (synced_ids l id) c says (is_leftover l id) refl)
     (λ i left was. sync_next l id i c.memory.synced_next says (is_leftover l id) refl left was)
 

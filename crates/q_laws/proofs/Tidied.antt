@@ -6,7 +6,7 @@ use Rattle.std.specs.Option.{option_map_or}
 use Rattle.std.specs.Prelude.{◌==◌, ◌&&◌, nat_le, slice_get}
 use Rattle.q_laws.proofs.Distinct.{distinct_filter, gone_listed}
 use Rattle.q_laws.proofs.Members.{IsIn, all_from, in_filter, in_filtered, none_from}
-use Rattle.q_laws.specs.Consistency.{IsBookConsistent, IsConsistent, IsFresh, IsHeld, IsSyncedNext, IsUsable, are_once, is_filled, is_present, is_synced_well, is_within}
+use Rattle.q_laws.specs.Consistency.{IsBookConsistent, IsConsistent, IsFresh, IsRemembered, IsSyncedNext, IsUsable, are_once, is_filled, is_present, is_synced_well, is_within}
 use Rattle.q_model.proofs.IdLaws.{id_eq-true}
 use Rattle.q_model.specs.Book.{message_of}
 use Rattle.q_model.specs.Ids.{are_distinct, id_eq}
@@ -37,7 +37,7 @@ pub record IsMemoryReady (w : World) (l : Ledger) : Type 0 where
   pub filled : list_all is_filled l.waiting ≡ true
   pub flights : list_all (λ f. is_admitted l f.row.id) l.flights ≡ true
   pub unsettled : list_all (λ u. is_admitted l u.id) l.unsettled ≡ true
-  pub held : (a : Admitted) (m : Message) → admitted_of l a.id ≡ Some a → message_of l.book a.id ≡ Some m → IsHeld l a m
+  pub remembered : (a : Admitted) (m : Message) → admitted_of l a.id ≡ Some a → message_of l.book a.id ≡ Some m → IsRemembered l a m
   pub numbers : are_once (map (λ f. f.number) l.flights) ≡ true
   pub begun : list_all (λ f. nat_le f.number (starts l)) l.flights ≡ true
   pub single : list_all are_distinct l.lines ≡ true
@@ -127,7 +127,7 @@ ready_tidied w l s q served sites h =
         filled = m.filled;
         flights = m.flights;
         unsettled = m.unsettled;
-        held = λ a x f g. let k = m.held a x f g in record { read = k.read; once = k.once; unmarked = k.unmarked; logged = k.logged };
+        remembered = λ a x f g. let k = m.remembered a x f g in record { read = k.read; once = k.once; unmarked = k.unmarked; logged = k.logged };
         numbers = m.numbers;
         begun = m.begun;
         single = numbered_single l 0 l.lines m.single;

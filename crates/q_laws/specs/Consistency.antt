@@ -60,8 +60,8 @@ abbrev pub unsettled_positions : Id → List Unsettled → List ℕ
 unsettled_positions id us = flat_map (λ u. if id_eq u.id id then u.position ∷ [] else []) us
 
 -- those in memory
-abbrev pub held_positions : Ledger → Id → List ℕ
-held_positions l id = waiting_positions id l.waiting ++ flight_positions id l.flights
+abbrev pub memory_positions : Ledger → Id → List ℕ
+memory_positions l id = waiting_positions id l.waiting ++ flight_positions id l.flights
     ++ unsettled_positions id l.unsettled
 
 -- the position of an outcome that is logged and lacks its mark, where it is of this message
@@ -71,10 +71,10 @@ logged_of m o = option_map_or (λ u. if id_eq u.id m.id && needs_mark u.need && 
 
 -- The recipients of a message in memory were read, are in memory once, and have no mark. Only that of
 -- the first unsettled outcome may be logged.
-pub record IsHeld (l : Ledger) (a : Admitted) (m : Message) : Type 0 where
-  pub read : list_all (λ p. nat_lt p a.unread) (held_positions l a.id) ≡ true
-  pub once : are_once (held_positions l a.id) ≡ true
-  pub unmarked : list_all (is_unmarked_at m) (held_positions l a.id) ≡ true
+pub record IsRemembered (l : Ledger) (a : Admitted) (m : Message) : Type 0 where
+  pub read : list_all (λ p. nat_lt p a.unread) (memory_positions l a.id) ≡ true
+  pub once : are_once (memory_positions l a.id) ≡ true
+  pub unmarked : list_all (is_unmarked_at m) (memory_positions l a.id) ≡ true
   pub logged : unmarked_logged m ≡ logged_of m (slice_get l.unsettled 0)
 
 -- the message stands in active
@@ -115,8 +115,8 @@ pub record IsMemoryConsistent (w : World) (l : Ledger) : Type 0 where
   pub filled : list_all is_filled l.waiting ≡ true
   pub flights : list_all (λ f. is_admitted l f.row.id) l.flights ≡ true
   pub unsettled : list_all (λ u. is_admitted l u.id) l.unsettled ≡ true
-  pub held : (a : Admitted) (m : Message) → admitted_of l a.id ≡ Some a
-      → message_of l.book a.id ≡ Some m → IsHeld l a m
+  pub remembered : (a : Admitted) (m : Message) → admitted_of l a.id ≡ Some a
+      → message_of l.book a.id ≡ Some m → IsRemembered l a m
   pub numbers : are_once (map (λ f. f.number) l.flights) ≡ true
   pub begun : list_all (λ f. nat_le f.number (starts l)) l.flights ≡ true
   pub single : list_all are_distinct l.lines ≡ true

@@ -11,7 +11,7 @@ use Rattle.q_laws.proofs.Members.{IsIn, all_at}
 use Rattle.q_laws.proofs.Tidied.{tidy_scan_is}
 use Rattle.q_laws.proofs.Synced.{admitted_active}
 use Rattle.q_laws.proofs.Unmarked.{bare_not_sealed}
-use Rattle.q_laws.specs.Consistency.{IsConsistent, held_positions}
+use Rattle.q_laws.specs.Consistency.{IsConsistent, memory_positions}
 use Rattle.q_laws.specs.Traces.{IsEntryOf}
 use Rattle.q_lives.specs.Lives.{IsLeftBy, IsOrderly, cut_book, cut_off, loosened}
 use Rattle.q_model.proofs.CrashLaws.{is_orderly-crash}
@@ -88,12 +88,12 @@ log_cut w l id f c may d =
     let still : is_admitted k id ≡ true = is.admitted id ∙ adm in
     let mine = admitted_active w k id d still in
     let a = found_admitted w k id d still in
-    let h = d.memory.held a.0 mine.0 a.1 (ap (message_of k.book) a.2 ∙ mine.1.there) in
+    let h = d.memory.remembered a.0 mine.0 a.1 (ap (message_of k.book) a.2 ∙ mine.1.there) in
     let now : Unsettled = record u { need = needs.Mark } in
     let first : k.unsettled ≡ now ∷ one.1 = is.unsettled ∙ ap first_logged one.2 in
-    let there : IsIn u.position (held_positions k a.0.id) = first_positions now one.1 k a.0.id first (one.3 ∙ sym a.2) in
+    let there : IsIn u.position (memory_positions k a.0.id) = first_positions now one.1 k a.0.id first (one.3 ∙ sym a.2) in
     loose_orderly k.book id mine.0 u.position (record { distinct = d.book.distinct; orderly = d.book.orderly }) mine.1.there mine.1.active
-    (all_at (is_unmarked_at mine.0) u.position (held_positions k a.0.id) h.unmarked there)
+    (all_at (is_unmarked_at mine.0) u.position (memory_positions k a.0.id) h.unmarked there)
 
 cut_entry : (w : World) (l : Ledger) (e : Entry) → IsConsistent w l → may w l e ≡ true → IsConsistent w (after w l e) → IsOrderly (cut_off e (after w l e).book)
 cut_entry w l (entries.Log id f) c h d = log_cut w l id f c h d

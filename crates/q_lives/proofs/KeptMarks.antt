@@ -10,7 +10,7 @@ use Rattle.q_laws.proofs.First.{first_on, first_positions}
 use Rattle.q_laws.proofs.Members.{IsIn, all_at, in_either, in_filtered, in_left, in_map, in_right}
 use Rattle.q_laws.proofs.Moved.{move_to, other_left, removed_none}
 use Rattle.q_laws.proofs.Synced.{admitted_active, found_admitted}
-use Rattle.q_laws.specs.Consistency.{IsConsistent, held_positions, unsettled_positions}
+use Rattle.q_laws.specs.Consistency.{IsConsistent, memory_positions, unsettled_positions}
 use Rattle.q_lives.proofs.Bounced.{HasCome, not_yet}
 use Rattle.q_lives.proofs.Caused.{IsAlike, at_alike, corrupt_alike, load_alike, picked_alike, trigger_alike}
 use Rattle.q_lives.proofs.MarkChanges.{IsFromBefore, KeepsMarks, changed_before, mark_keeps, same_before, same_marks, sync_keeps}
@@ -180,13 +180,13 @@ first_bare w l i q c h =
     let adm : is_admitted l i ≡ true = subst (λ j. is_admitted l j ≡ true) u.3 (all_at (λ (x : Unsettled). is_admitted l x.id) u.0 l.unsettled c.memory.unsettled (subst (λ us. IsIn u.0 us) (sym u.2) (inl refl))) in
     let mine = admitted_active w l i c adm in
     let a = found_admitted w l i c adm in
-    let held = c.memory.held a.0 mine.0 a.1 (ap (message_of l.book) a.2 ∙ mine.1.there) in
-    let there : IsIn u.0.position (held_positions l a.0.id) = first_positions u.0 u.1 l a.0.id u.2 (u.3 ∙ sym a.2) in
+    let remembered = c.memory.remembered a.0 mine.0 a.1 (ap (message_of l.book) a.2 ∙ mine.1.there) in
+    let there : IsIn u.0.position (memory_positions l a.0.id) = first_positions u.0 u.1 l a.0.id u.2 (u.3 ∙ sym a.2) in
     record {
       message = mine.0;
       there = mine.1.there;
       active = mine.1.active;
-      bare = subst (λ n. is_unmarked_at mine.0 n ≡ true) u.4 (all_at (is_unmarked_at mine.0) u.0.position (held_positions l a.0.id) held.unmarked there);
+      bare = subst (λ n. is_unmarked_at mine.0 n ≡ true) u.4 (all_at (is_unmarked_at mine.0) u.0.position (memory_positions l a.0.id) remembered.unmarked there);
     }
 
 left_bare : (w : World) (l : Ledger) (i : Id) (q : ℕ) → IsConsistent w l → marks_leftover l i q ≡ true → IsBareAt l i q

@@ -13,7 +13,7 @@ use Rattle.q_laws.proofs.Kept.{entry_consistent}
 use Rattle.q_laws.proofs.Mapped.{find_mapped}
 use Rattle.q_laws.proofs.Members.{IsIn, all_at, any_in, in_left, in_right}
 use Rattle.q_laws.proofs.Synced.{admitted_active, found_admitted}
-use Rattle.q_laws.specs.Consistency.{IsConsistent, IsUsable, are_once, flight_positions, held_positions, unsettled_positions, waiting_positions}
+use Rattle.q_laws.specs.Consistency.{IsConsistent, IsUsable, are_once, flight_positions, memory_positions, unsettled_positions, waiting_positions}
 use Rattle.q_laws.specs.Traces.{AreEntriesOf}
 use Rattle.q_lives.proofs.Books.{after_is}
 use Rattle.q_lives.proofs.BouncedLives.{left_generation}
@@ -82,7 +82,7 @@ start_waits w l number id site ps p c can named =
     let adm : is_admitted l id ≡ true = subst (λ j. is_admitted l j ≡ true) row.name (all_at (λ (r : Row). is_admitted l r.id) one.0 l.waiting c.memory.waiting one.1) in
     let mine = admitted_active w l id c adm in
     let a = found_admitted w l id c adm in
-    let held = c.memory.held a.0 mine.0 a.1 (ap (message_of l.book) a.2 ∙ mine.1.there) in
+    let remembered = c.memory.remembered a.0 mine.0 a.1 (ap (message_of l.book) a.2 ∙ mine.1.there) in
     let q = any_in (λ n. n == p) ps named in
     let inside : IsIn p one.0.positions = subst (IsIn p) (sym row.positions) (subst (λ n. IsIn n ps) (eqb-true q.0 p q.2) q.1) in
     let waits : IsIn p (waiting_positions a.0.id l.waiting) = row_in a.0.id p one.0 l.waiting one.1 (row.name ∙ sym a.2) inside in
@@ -91,8 +91,8 @@ start_waits w l number id site ps p c can named =
     record {
       message = mine.0;
       there = mine.1.there;
-      bare = all_at (is_unmarked_at mine.0) p (held_positions l a.0.id) held.unmarked (in_left p front (unsettled_positions a.0.id l.unsettled) there);
-      unsettled = λ k. twice p front (unsettled_positions a.0.id l.unsettled) held.once there (subst (λ i. IsIn p (unsettled_positions i l.unsettled)) (sym a.2) k);
+      bare = all_at (is_unmarked_at mine.0) p (memory_positions l a.0.id) remembered.unmarked (in_left p front (unsettled_positions a.0.id l.unsettled) there);
+      unsettled = λ k. twice p front (unsettled_positions a.0.id l.unsettled) remembered.once there (subst (λ i. IsIn p (unsettled_positions i l.unsettled)) (sym a.2) k);
     }
 
 -- a trace with a report in it, cut somewhere behind the report
