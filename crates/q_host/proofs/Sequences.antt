@@ -13,28 +13,28 @@ abbrev pub Within : Step → Step → Type 0
 Within R S = (x y : Remains) → R x y → S x y
 
 -- how a change that was made stays made
-pub record Turns (Old New : Step) : Type 0 where
+pub record StaysMade (Old New : Step) : Type 0 where
   pub old_old : Chain Old Old Old
   pub old_new : Chain Old New New
   pub new_old : Chain New Old New
   pub new_new : Chain New New New
 
 -- old or new, and then old or new
-pub old_or_new-chain : {Old New : Step} → Turns Old New → Chain (OldOrNew Old New) (OldOrNew Old New) (OldOrNew Old New)
-old_or_new-chain turns x y z first second = ⊎_elim
-    (λ old. ⊎_elim (λ still. inl (turns.old_old x y z old still)) (λ new. inr (turns.old_new x y z old new)) second)
-    (λ new. ⊎_elim (λ still. inr (turns.new_old x y z new still)) (λ more. inr (turns.new_new x y z new more)) second)
+pub old_or_new-chain : {Old New : Step} → StaysMade Old New → Chain (OldOrNew Old New) (OldOrNew Old New) (OldOrNew Old New)
+old_or_new-chain made x y z first second = ⊎_elim
+    (λ old. ⊎_elim (λ still. inl (made.old_old x y z old still)) (λ new. inr (made.old_new x y z old new)) second)
+    (λ new. ⊎_elim (λ still. inr (made.new_old x y z new still)) (λ more. inr (made.new_new x y z new more)) second)
     first
 
--- a call that leaves the old, and one that turns it
-pub goes_to_new : {Old New : Step} {a b c : View} → Turns Old New → Goes Old Old a b → Goes New (OldOrNew Old New) b c → Goes New (OldOrNew Old New) a c
-goes_to_new {Old = Old} {New = New} turns p q = goes_on New (OldOrNew Old New) p q turns.old_new (λ x y old. inl old)
-    (λ x y z old second. old_or_new-chain turns x y z (inl old) second)
+-- a call that leaves the old, and one that makes the new
+pub goes_to_new : {Old New : Step} {a b c : View} → StaysMade Old New → Goes Old Old a b → Goes New (OldOrNew Old New) b c → Goes New (OldOrNew Old New) a c
+goes_to_new {Old = Old} {New = New} made p q = goes_on New (OldOrNew Old New) p q made.old_new (λ x y old. inl old)
+    (λ x y z old second. old_or_new-chain made x y z (inl old) second)
 
--- a call that turns it, and one that leaves it so
-pub goes_on_new : {Old New : Step} {a b c : View} → Turns Old New → Goes New (OldOrNew Old New) a b → Goes Old Old b c → Goes New (OldOrNew Old New) a c
-goes_on_new {Old = Old} {New = New} turns p q = goes_on New (OldOrNew Old New) p q turns.new_old (λ x y first. first)
-    (λ x y z new old. inr (turns.new_old x y z new old))
+-- a call that makes the new, and one that leaves it so
+pub goes_on_new : {Old New : Step} {a b c : View} → StaysMade Old New → Goes New (OldOrNew Old New) a b → Goes Old Old b c → Goes New (OldOrNew Old New) a c
+goes_on_new {Old = Old} {New = New} made p q = goes_on New (OldOrNew Old New) p q made.new_old (λ x y first. first)
+    (λ x y z new old. inr (made.new_old x y z new old))
 
 -- any number of calls by one step that may be taken again and again
 pub goes_each : (R : Step) (view_at : ℕ → View) → ((x : Remains) → R x x) → Chain R R R → (n : ℕ) → ((i : ℕ) → i < n → Goes R R (view_at i) (view_at (suc i))) → Goes R R (view_at zero) (view_at n)
@@ -42,9 +42,9 @@ goes_each R view_at here chain zero each = goes_nowhere R R (view_at zero) here
 goes_each R view_at here chain (suc n) each = goes_again R (goes_each R view_at here chain n (λ i h. each i (omega (arith, h)))) (each n (omega arith)) chain (λ x y r. r) (λ x y r. r)
 
 -- any number of calls, each of which leaves the old or the new
-pub goes_old_or_new : {Old New : Step} (view_at : ℕ → View) → ((x : Remains) → Old x x) → Turns Old New → (n : ℕ)
+pub goes_old_or_new : {Old New : Step} (view_at : ℕ → View) → ((x : Remains) → Old x x) → StaysMade Old New → (n : ℕ)
     → ((i : ℕ) → i < n → Goes (OldOrNew Old New) (OldOrNew Old New) (view_at i) (view_at (suc i))) → Goes (OldOrNew Old New) (OldOrNew Old New) (view_at zero) (view_at n)
-goes_old_or_new {Old = Old} {New = New} view_at here turns n each = goes_each (OldOrNew Old New) view_at (λ x. inl (here x)) (old_or_new-chain turns) n each
+goes_old_or_new {Old = Old} {New = New} view_at here made n each = goes_each (OldOrNew Old New) view_at (λ x. inl (here x)) (old_or_new-chain made) n each
 
 -- any number of runs, each of which leaves only what has a property
 pub leaves_each : (P : Remains → Type 0) (view_at : ℕ → View)

@@ -24,5 +24,5 @@ abbrev pub with_plan : Plan → Memo → Memo
 with_plan p m = record { history = m.history; faults = m.faults; plan = p }
 
 -- what is told before and after has this relation
-abbrev pub Turns : (View → View → Type 0) → Memo → Memo → Type 0
-Turns R before after = R (view_of before.history) (view_of after.history)
+abbrev pub ByViews : (View → View → Type 0) → Memo → Memo → Type 0
+ByViews R before after = R (view_of before.history) (view_of after.history)

@@ -5,7 +5,7 @@ ghost use Rattle.q_host.specs.Faults.{DiskCause, TellCause};
 ghost use Rattle.q_host.specs.Files.{same_place};
 ghost use Rattle.q_host.specs.Reads.{IsListing, IsPart, IsRead, IsSize, Rise};
 ghost use Rattle.q_mem_host.specs.Left.{view_of};
-ghost use Rattle.q_mem_host.specs.Memo.{Turns};
+ghost use Rattle.q_mem_host.specs.Memo.{ByViews};
 ghost use Rattle.q_mem_host.specs.Planned.{IsPlanned};
 
 use crate::MemHost;
@@ -120,8 +120,8 @@ impl Host for MemHost {
     }
 
     fn create(&mut self, area: Area, name: Name) -> Result<(), HostError>
-        ensures ok { OnOk result (Turns (Creates area name) self.old self.new) }
-        ensures err { OnErr result (Turns Stays self.old self.new) }
+        ensures ok { OnOk result (ByViews (Creates area name) self.old self.new) }
+        ensures err { OnErr result (ByViews Stays self.old self.new) }
         ensures planned { IsPlanned HostError.Disk self.old self.new result }
         ensures cause { DiskCause self.old.faults self.new.faults result }
     {
@@ -130,8 +130,8 @@ impl Host for MemHost {
 
     fn write_at(&mut self, area: Area, name: Name, at: u64, bytes: &[u8]) -> Result<(), HostError>
         requires { IsSomeAnd ((view_of self.old.history).files area name) (λ file. at ≤ length file) }
-        ensures ok { OnOk result (Turns (WritesAll area name at bytes.now) self.old self.new) }
-        ensures err { OnErr result (Turns (WritesSome area name at bytes.now) self.old self.new) }
+        ensures ok { OnOk result (ByViews (WritesAll area name at bytes.now) self.old self.new) }
+        ensures err { OnErr result (ByViews (WritesSome area name at bytes.now) self.old self.new) }
         ensures planned { IsPlanned HostError.Disk self.old self.new result }
         ensures cause { DiskCause self.old.faults self.new.faults result }
     {
@@ -140,8 +140,8 @@ impl Host for MemHost {
 
     fn sync(&mut self, area: Area, name: Name) -> Result<(), HostError>
         requires { IsSome ((view_of self.old.history).files area name) }
-        ensures ok { OnOk result (Turns (Syncs area name) self.old self.new) }
-        ensures err { OnErr result (Turns Stays self.old self.new) }
+        ensures ok { OnOk result (ByViews (Syncs area name) self.old self.new) }
+        ensures err { OnErr result (ByViews Stays self.old self.new) }
         ensures planned { IsPlanned HostError.Disk self.old self.new result }
         ensures cause { DiskCause self.old.faults self.new.faults result }
     {
@@ -151,8 +151,8 @@ impl Host for MemHost {
     fn rename(&mut self, area: Area, name: Name, to: Area, new: Name) -> Result<(), HostError>
         requires there { IsSome ((view_of self.old.history).files area name) }
         requires differ { same_place area name to new ≡ false }
-        ensures ok { OnOk result (Turns (Renames area name to new) self.old self.new) }
-        ensures err { OnErr result (Turns Stays self.old self.new) }
+        ensures ok { OnOk result (ByViews (Renames area name to new) self.old self.new) }
+        ensures err { OnErr result (ByViews Stays self.old self.new) }
         ensures planned { IsPlanned HostError.Disk self.old self.new result }
         ensures cause { DiskCause self.old.faults self.new.faults result }
     {
@@ -161,8 +161,8 @@ impl Host for MemHost {
 
     fn remove(&mut self, area: Area, name: Name) -> Result<(), HostError>
         requires { IsSome ((view_of self.old.history).files area name) }
-        ensures ok { OnOk result (Turns (Removes area name) self.old self.new) }
-        ensures err { OnErr result (Turns Stays self.old self.new) }
+        ensures ok { OnOk result (ByViews (Removes area name) self.old self.new) }
+        ensures err { OnErr result (ByViews Stays self.old self.new) }
         ensures planned { IsPlanned HostError.Disk self.old self.new result }
         ensures cause { DiskCause self.old.faults self.new.faults result }
     {
@@ -170,8 +170,8 @@ impl Host for MemHost {
     }
 
     fn tell(&mut self, bytes: &[u8]) -> Result<(), HostError>
-        ensures ok { OnOk result (Turns (TellsAll bytes.now) self.old self.new) }
-        ensures err { OnErr result (Turns (TellsSome bytes.now) self.old self.new) }
+        ensures ok { OnOk result (ByViews (TellsAll bytes.now) self.old self.new) }
+        ensures err { OnErr result (ByViews (TellsSome bytes.now) self.old self.new) }
         ensures planned { IsPlanned HostError.Tell self.old self.new result }
         ensures cause { TellCause self.old.faults self.new.faults result }
     {

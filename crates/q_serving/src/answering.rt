@@ -1,6 +1,6 @@
 //! What a server answers.
 ghost use Rattle.std.specs.Prelude.{◌≡◌};
-ghost use Rattle.q_serving.specs.Turns.{asks_for_content, is_answered};
+ghost use Rattle.q_serving.specs.Answered.{asks_for_content, is_answered};
 
 use std::alloc::Global;
 use std::io::{BufRead, ErrorKind, Write};
@@ -43,7 +43,7 @@ fn is_answered(line: &[u8], in_content: bool) -> bool
 }
 
 // Reads lines through one that is answered.
-fn await_turn<R: BufRead>(alloc: Global, lines: &mut R, in_content: bool) -> io::Result<()> {
+fn await_line<R: BufRead>(alloc: Global, lines: &mut R, in_content: bool) -> io::Result<()> {
     let mut line = Vec::new(alloc);
     for _ in 0..u64::MAX {
         line.clear();
@@ -85,7 +85,7 @@ pub fn answer<C: Clock, R: BufRead, W: Write>(
     let mut in_content = false;
     for (place, reply) in answers.replies.iter().enumerate() {
         if place > 0 {
-            await_turn(alloc, lines, in_content)?;
+            await_line(alloc, lines, in_content)?;
             thread::sleep(clock, answers.delay);
         }
         send(alloc, stream, reply.as_str())?;

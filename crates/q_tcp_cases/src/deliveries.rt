@@ -77,7 +77,7 @@ impl Server {
     }
 
     // Hears what came, and answers it where it is whole.
-    fn turn(&mut self) -> io::Result<()> {
+    fn answer(&mut self) -> io::Result<()> {
         self.hear()?;
         if !self.is_due() {
             return Ok(());
@@ -145,7 +145,7 @@ fn poll_all(
         if let Polled::Over { site } = session.poll(host, link, 1000)? {
             return Ok(site);
         }
-        server.turn()?;
+        server.answer()?;
         hops.rest(link);
     }
     Err(Fail::from("never over"))

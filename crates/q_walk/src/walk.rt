@@ -116,7 +116,7 @@ impl Walk {
     }
 
     /// Goes on to the queue behind this one, of which no name is left.
-    fn turn(&mut self) -> Result<Step, NoMemory>
+    fn next_queue(&mut self) -> Result<Step, NoMemory>
         ensures { IfOk result (λ step. (f : Files) → (b : Book)
             → Leads f b self.new (held_behind self.old.queues self.old.queue b) step) }
     {
@@ -137,7 +137,7 @@ impl Walk {
         ensures cause { DiskCause (H.faults host.old) (H.faults host.new) result }
     {
         let Some(name) = self.next_name(host)? else {
-            return Ok(self.turn()?);
+            return Ok(self.next_queue()?);
         };
         let Some((place, id)) = named_in(self.queue, name) else {
             return Ok(Step::Passed);

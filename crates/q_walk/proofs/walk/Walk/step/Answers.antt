@@ -11,9 +11,9 @@ returns-in_default-clause-step g c t b ms stands ahead =
     let old = c.args.self.now in
     let new = c.next_name.new.self in
     let next : IsNextName f old None = subst (IsNextName f old) c.in_default.is (c.in_ok-name.ensures.exact t ahead.up_to_date) in
-    subst (λ (zs : List Message). Leads f b c.turn.new.self zs c.in_ok-turn.field-0)
+    subst (λ (zs : List Message). Leads f b c.next_queue.new.self zs c.in_ok-next_queue.field-0)
     (behind_same b old new c.next_name.ensures.queues c.next_name.ensures.queue ∙ sym (ended f b old ms stands ahead next))
-    (c.in_ok-turn.ensures f b)
+    (c.in_ok-next_queue.ensures f b)
 
 pub returns-in_default-named_in-clause-step : goal.returns-in_default-named_in-clause-step
 returns-in_default-named_in-clause-step g c t b ms stands ahead =
