@@ -1,4 +1,4 @@
-//! Files by area and name. Files stand in the order of their places, each place once, and a
+//! Files by area and name. They stand in the order of their places, each place once, and a
 //! place is found by search.
 ghost use Rattle.std.specs.Prelude.{◌≡◌, ◌≤◌, ◌<◌, IfErr, IfOk, IfSome, insert, IsNone, IsSome, IsSomeAnd, length, None, OnErr, OnOk, option_copied, Some, vec_capacity, vec_len};
 ghost use Rattle.std.specs.Option.{option_map};
