@@ -65,7 +65,8 @@ impl Chains {
     /// The first number of the list, or None where it is empty.
     pub fn first(&self, list: u32) -> Option<u32>
         requires { list < length self.now.lists }
-        ensures { result ≡ first_of (get_or self.now.lists list []) }
+        ensures is { result ≡ first_of (get_or self.now.lists list []) }
+        ensures once { StandOnce self.now }
     {
         number_at(self.numbers, link_of(&self.next, self.numbers + list))
     }
@@ -73,7 +74,8 @@ impl Chains {
     /// The last number of the list, or None where it is empty.
     pub fn last(&self, list: u32) -> Option<u32>
         requires { list < length self.now.lists }
-        ensures { result ≡ last_of (get_or self.now.lists list []) }
+        ensures is { result ≡ last_of (get_or self.now.lists list []) }
+        ensures once { StandOnce self.now }
     {
         number_at(self.numbers, link_of(&self.before, self.numbers + list + 1))
     }
@@ -81,7 +83,8 @@ impl Chains {
     /// The number right behind this one in its list, or None where it is the last.
     pub fn next(&self, number: u32) -> Option<u32>
         requires { stands number self.now.lists ≡ true }
-        ensures { result ≡ behind number (list_with number self.now.lists) }
+        ensures is { result ≡ behind number (list_with number self.now.lists) }
+        ensures once { StandOnce self.now }
     {
         number_at(self.numbers, link_of(&self.next, number))
     }
@@ -89,7 +92,8 @@ impl Chains {
     /// The number right before this one in its list, or None where it is the first.
     pub fn before(&self, number: u32) -> Option<u32>
         requires { stands number self.now.lists ≡ true }
-        ensures { result ≡ ahead_of number (list_with number self.now.lists) }
+        ensures is { result ≡ ahead_of number (list_with number self.now.lists) }
+        ensures once { StandOnce self.now }
     {
         number_at(self.numbers, link_of(&self.before, number))
     }

@@ -40,7 +40,6 @@ fn find_from<T: HasKey>(
     ensures { result ≡ find (passes (λ t. T.eq (T.key_of t) key.now) items.now.items)
         (from_on from lists.now.lists) }
 {
-    lists.stand_once();
     let mut at = from;
     while let Some(number) = at {
         if is_under(items, number, key) {
@@ -56,7 +55,6 @@ impl<T: HasKey> Keyed<T> {
     pub fn find(&self, key: &T::Key) -> Option<u32>
         ensures { result ≡ first_such (λ t. T.eq (T.key_of t) key.now) self.now.items }
     {
-        self.by_key.stand_once();
         let from = self.by_key.first(bucket(T::hash_of(key), self.room));
         find_from(&self.items, &self.by_key, from, key)
     }
@@ -73,7 +71,6 @@ impl<T: HasKey> Keyed<T> {
         ensures { result ≡ next_number number self.now.items }
     {
         let _item = item_at(&self.items, number)?;
-        self.order.stand_once();
         self.order.next(number)
     }
 }

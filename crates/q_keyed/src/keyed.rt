@@ -109,7 +109,6 @@ impl<T: HasKey + Drop> Keyed<T> {
         ensures fresh { find (has_number result) self.old.items ≡ None }
         ensures below { result < self.old.room }
     {
-        self.order.stand_once();
         let Some(number) = self.order.last(FREE) else {
             unreachable!()
         };
@@ -133,7 +132,6 @@ impl<T: HasKey + Drop> Keyed<T> {
         ensures fresh { find (has_number result) self.old.items ≡ None }
         ensures below { result < self.old.room }
     {
-        self.order.stand_once();
         let Some(number) = self.order.last(FREE) else {
             unreachable!()
         };

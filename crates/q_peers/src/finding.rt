@@ -21,7 +21,6 @@ impl Waiting {
         ensures { result ≡ next_such (λ r. any_row) number self.now.items }
     {
         let _row = self.rows.get(number)?;
-        self.order.stand_once();
         self.order.next(number)
     }
 
@@ -29,7 +28,6 @@ impl Waiting {
     pub fn first_at(&self, site: &Site) -> Option<u32>
         ensures { result ≡ first_such (is_at site.now) self.now.items }
     {
-        self.by_site.stand_once();
         let from = self.by_site.first(site_bucket(site, self.room));
         first_at_from(&self.rows, &self.by_site, from, site)
     }
@@ -49,7 +47,6 @@ impl Waiting {
     pub fn first_for(&self, id: Id, site: &Site) -> Option<u32>
         ensures { result ≡ first_such (is_for id site.now) self.now.items }
     {
-        self.by_peer.stand_once();
         let from = self.by_peer.first(peer_bucket(id, site, self.room));
         first_for_from(&self.rows, &self.by_peer, from, id, site)
     }

@@ -126,7 +126,6 @@ impl Waiting {
         ensures fresh { find (has_number result) self.old.items ≡ None }
         ensures below { result < self.old.room }
     {
-        self.order.stand_once();
         let Some(number) = self.order.first(FREE) else {
             unreachable!()
         };

@@ -54,7 +54,6 @@ pub(crate) fn first_at_from(
     ensures { result
         ≡ find (passes (is_at site.now) rows.now.rows) (from_on from lists.now.lists) }
 {
-    lists.stand_once();
     let mut at = from;
     while let Some(number) = at {
         if is_row_at(rows, number, site) {
@@ -77,7 +76,6 @@ pub(crate) fn first_for_from(
     ensures { result
         ≡ find (passes (is_for id site.now) rows.now.rows) (from_on from lists.now.lists) }
 {
-    lists.stand_once();
     let mut at = from;
     while let Some(number) = at {
         if is_row_for(rows, number, id, site) {

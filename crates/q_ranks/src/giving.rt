@@ -64,7 +64,6 @@ fn rank_anew(order: &Chains, ranks: &mut Vec<u64>)
     ensures rises { Rises ranks.new.items (get_or order.now.lists 0 []) }
     ensures each { length ranks.new.items ≡ length ranks.old.items }
 {
-    order.stand_once();
     let mut count: u64 = 0;
     let mut at = order.first(ORDER);
     while let Some(number) = at {

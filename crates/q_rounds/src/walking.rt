@@ -30,7 +30,6 @@ pub(crate) fn first_fresh(
     ensures { result ≡ find (space_in sites.now.items peers.now.items)
         (get_or fresh.now.lists list []) }
 {
-    fresh.stand_once();
     let mut at = fresh.first(list);
     while let Some(number) = at {
         if has_space(peers, number, sites) {

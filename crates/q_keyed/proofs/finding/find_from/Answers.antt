@@ -4,7 +4,7 @@ use Rattle.q_chains.specs.Slots.{passes}
 use Rattle.q_keyed.proofs.finding.find_from.Goals as goal
 
 pub loop-at-smaller : goal.loop-at-smaller
-loop-at-smaller g c = shorter c.args.lists.now c.stand_once.ensures c.in-Some.number c.loop-at.at c.next-at.result c.in-Some.is c.next-at.ensures
+loop-at-smaller g c = shorter c.args.lists.now c.next-at.ensures.once c.in-Some.number c.loop-at.at c.next-at.result c.in-Some.is c.next-at.ensures.is
 
 pub loop-at-preserved : goal.loop-at-preserved
 loop-at-preserved g c =
@@ -12,6 +12,6 @@ loop-at-preserved g c =
     let n = c.in-Some.number in
     let fails = sym c.is_under.ensures ∙ c.if-is_under.false in
     record {
-      there = still_there s c.stand_once.ensures n c.loop-at.at c.next-at.result c.in-Some.is c.next-at.ensures;
-      rest = found_behind s c.stand_once.ensures n c.loop-at.at c.next-at.result c.in-Some.is c.next-at.ensures (passes (λ t. g.T.HasKey.eq (g.T.HasKey.key_of t) c.args.key.now) c.args.items.now.items) fails ∙ c.loop-at.invariant.rest;
+      there = still_there s c.next-at.ensures.once n c.loop-at.at c.next-at.result c.in-Some.is c.next-at.ensures.is;
+      rest = found_behind s c.next-at.ensures.once n c.loop-at.at c.next-at.result c.in-Some.is c.next-at.ensures.is (passes (λ t. g.T.HasKey.eq (g.T.HasKey.key_of t) c.args.key.now) c.args.items.now.items) fails ∙ c.loop-at.invariant.rest;
     }

@@ -5,7 +5,7 @@ use Rattle.q_chains.proofs.Steps.{found_behind, shorter, still_there}
 use Rattle.q_peers.proofs.walk.first_at_from.Goals as goal
 
 pub loop-at-smaller : goal.loop-at-smaller
-loop-at-smaller c = shorter c.args.lists.now c.stand_once.ensures c.in-Some.number c.loop-at.at c.next-at.result c.in-Some.is c.next-at.ensures
+loop-at-smaller c = shorter c.args.lists.now c.next-at.ensures.once c.in-Some.number c.loop-at.at c.next-at.result c.in-Some.is c.next-at.ensures.is
 
 pub loop-at-preserved : goal.loop-at-preserved
 loop-at-preserved c =
@@ -13,6 +13,6 @@ loop-at-preserved c =
     let n = c.in-Some.number in
     let fails = sym c.is_row_at.ensures ∙ c.if-is_row_at.false in
     record {
-      there = still_there s c.stand_once.ensures n c.loop-at.at c.next-at.result c.in-Some.is c.next-at.ensures;
-      rest = found_behind s c.stand_once.ensures n c.loop-at.at c.next-at.result c.in-Some.is c.next-at.ensures (passes (is_at c.args.site.now) c.args.rows.now.rows) fails ∙ c.loop-at.invariant.rest;
+      there = still_there s c.next-at.ensures.once n c.loop-at.at c.next-at.result c.in-Some.is c.next-at.ensures.is;
+      rest = found_behind s c.next-at.ensures.once n c.loop-at.at c.next-at.result c.in-Some.is c.next-at.ensures.is (passes (is_at c.args.site.now) c.args.rows.now.rows) fails ∙ c.loop-at.invariant.rest;
     }

@@ -16,6 +16,6 @@ pub returns : goal.returns
 returns g c =
     let a = c.self.inside in
     let n = c.args.number in
-    c.next.ensures
-    ∙ sym (next g.T.HasKey.eq g.T.HasKey.key_of g.T.HasKey.hash g.met.T.HasKey.is_same g.met.T.HasKey.is_own a.items.items a.order a.by_key a.live a.room c.self.invariant.0 c.stand_once.ensures n c.in_ok-_item._item.now (sym c.item_at.ensures ∙ ap option_copied c.in_ok-_item.was))
+    c.next.ensures.is
+    ∙ sym (next g.T.HasKey.eq g.T.HasKey.key_of g.T.HasKey.hash g.met.T.HasKey.is_same g.met.T.HasKey.is_own a.items.items a.order a.by_key a.live a.room c.self.invariant.0 c.next.ensures.once n c.in_ok-_item._item.now (sym c.item_at.ensures ∙ ap option_copied c.in_ok-_item.was))
     ∙ ap (λ (v : Items g.row.T.Denot). next_number n v.items) c.self.view_is

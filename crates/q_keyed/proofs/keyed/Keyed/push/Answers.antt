@@ -14,19 +14,19 @@ use Rattle.q_keyed.proofs.keyed.Keyed.push.Goals as goal
 pub unreachable-requires : goal.unreachable-requires
 unreachable-requires g c =
     let a = c.self.inside in
-    has_free g.T.HasKey.eq g.T.HasKey.key_of g.T.HasKey.hash g.met.T.HasKey.is_same g.met.T.HasKey.is_own a.items.items a.order a.by_key a.live a.room c.self.invariant.0 c.stand_once.ensures
-    (subst (λ (v : Items g.row.T.Denot). length v.items < v.room) (sym c.self.view_is) c.requires.room) (sym c.last.ensures ∙ c.in_default.is)
+    has_free g.T.HasKey.eq g.T.HasKey.key_of g.T.HasKey.hash g.met.T.HasKey.is_same g.met.T.HasKey.is_own a.items.items a.order a.by_key a.live a.room c.self.invariant.0 c.last.ensures.once
+    (subst (λ (v : Items g.row.T.Denot). length v.items < v.room) (sym c.self.view_is) c.requires.room) (sym c.last.ensures.is ∙ c.in_default.is)
 
 pub remove-requires : goal.remove-requires
 remove-requires g c =
     let a = c.self.inside in
-    let below = known g.T.HasKey.eq g.T.HasKey.key_of g.T.HasKey.hash g.met.T.HasKey.is_same g.met.T.HasKey.is_own a.items.items a.order a.by_key a.live a.room c.self.invariant.0 c.stand_once.ensures c.in-Some.number (sym c.last.ensures ∙ c.in-Some.is) in
+    let below = known g.T.HasKey.eq g.T.HasKey.key_of g.T.HasKey.hash g.met.T.HasKey.is_same g.met.T.HasKey.is_own a.items.items a.order a.by_key a.live a.room c.self.invariant.0 c.last.ensures.once c.in-Some.number (sym c.last.ensures.is ∙ c.in-Some.is) in
     omega (arith, below, c.self.invariant.0.known)
 
 pub push-requires-clause-known : goal.push-requires-clause-known
 push-requires-clause-known g c =
     let a = c.self.inside in
-    let below = known g.T.HasKey.eq g.T.HasKey.key_of g.T.HasKey.hash g.met.T.HasKey.is_same g.met.T.HasKey.is_own a.items.items a.order a.by_key a.live a.room c.self.invariant.0 c.stand_once.ensures c.in-Some.number (sym c.last.ensures ∙ c.in-Some.is) in
+    let below = known g.T.HasKey.eq g.T.HasKey.key_of g.T.HasKey.hash g.met.T.HasKey.is_same g.met.T.HasKey.is_own a.items.items a.order a.by_key a.live a.room c.self.invariant.0 c.last.ensures.once c.in-Some.number (sym c.last.ensures.is ∙ c.in-Some.is) in
     let same = ap (λ (s : Lists). s.numbers) c.remove.ensures in
     omega (arith, below, same, c.self.invariant.0.known)
 
@@ -37,40 +37,40 @@ push-requires-clause-free g c =
 pub push-requires-2-clause-known : goal.push-requires-2-clause-known
 push-requires-2-clause-known g c =
     let a = c.self.inside in
-    let below = known g.T.HasKey.eq g.T.HasKey.key_of g.T.HasKey.hash g.met.T.HasKey.is_same g.met.T.HasKey.is_own a.items.items a.order a.by_key a.live a.room c.self.invariant.0 c.stand_once.ensures c.in-Some.number (sym c.last.ensures ∙ c.in-Some.is) in
+    let below = known g.T.HasKey.eq g.T.HasKey.key_of g.T.HasKey.hash g.met.T.HasKey.is_same g.met.T.HasKey.is_own a.items.items a.order a.by_key a.live a.room c.self.invariant.0 c.last.ensures.once c.in-Some.number (sym c.last.ensures.is ∙ c.in-Some.is) in
     omega (arith, below, c.self.invariant.0.filed.numbers)
 
 pub push-requires-2-clause-free : goal.push-requires-2-clause-free
 push-requires-2-clause-free g c =
     let a = c.self.inside in
-    lacks_filed (λ t. g.T.HasKey.hash (g.T.HasKey.key_of t)) a.items.items a.room a.by_key c.self.invariant.0.filed c.in-Some.number (empty g.T.HasKey.eq g.T.HasKey.key_of g.T.HasKey.hash g.met.T.HasKey.is_same g.met.T.HasKey.is_own a.items.items a.order a.by_key a.live a.room c.self.invariant.0 c.stand_once.ensures c.in-Some.number (sym c.last.ensures ∙ c.in-Some.is))
+    lacks_filed (λ t. g.T.HasKey.hash (g.T.HasKey.key_of t)) a.items.items a.room a.by_key c.self.invariant.0.filed c.in-Some.number (empty g.T.HasKey.eq g.T.HasKey.key_of g.T.HasKey.hash g.met.T.HasKey.is_same g.met.T.HasKey.is_own a.items.items a.order a.by_key a.live a.room c.self.invariant.0 c.last.ensures.once c.in-Some.number (sym c.last.ensures.is ∙ c.in-Some.is))
 
 pub put_item-requires : goal.put_item-requires
 put_item-requires g c =
     let a = c.self.inside in
     let n = c.in-Some.number in
-    let here = sym c.last.ensures ∙ c.in-Some.is in
-    let below = known g.T.HasKey.eq g.T.HasKey.key_of g.T.HasKey.hash g.met.T.HasKey.is_same g.met.T.HasKey.is_own a.items.items a.order a.by_key a.live a.room c.self.invariant.0 c.stand_once.ensures n here in
+    let here = sym c.last.ensures.is ∙ c.in-Some.is in
+    let below = known g.T.HasKey.eq g.T.HasKey.key_of g.T.HasKey.hash g.met.T.HasKey.is_same g.met.T.HasKey.is_own a.items.items a.order a.by_key a.live a.room c.self.invariant.0 c.last.ensures.once n here in
     let inside = inside_more g.T.HasKey.eq g.T.HasKey.key_of g.T.HasKey.hash a.items.items a.order a.by_key a.live a.room c.self.invariant.0 n below in
     subst (λ (xs : List (Option g.row.T.Denot)). n < length xs) (sym c.make_place.ensures.items) inside
 
 pub make_place-requires-clause-below : goal.make_place-requires-clause-below
 make_place-requires-clause-below g c =
     let a = c.self.inside in
-    known g.T.HasKey.eq g.T.HasKey.key_of g.T.HasKey.hash g.met.T.HasKey.is_same g.met.T.HasKey.is_own a.items.items a.order a.by_key a.live a.room c.self.invariant.0 c.stand_once.ensures c.in-Some.number (sym c.last.ensures ∙ c.in-Some.is)
+    known g.T.HasKey.eq g.T.HasKey.key_of g.T.HasKey.hash g.met.T.HasKey.is_same g.met.T.HasKey.is_own a.items.items a.order a.by_key a.live a.room c.self.invariant.0 c.last.ensures.once c.in-Some.number (sym c.last.ensures.is ∙ c.in-Some.is)
 
 pub invariant_of-self : goal.invariant_of-self
 invariant_of-self g c =
     let a = c.self.inside in
     let n = c.in-Some.number in
-    let here = sym c.last.ensures ∙ c.in-Some.is in
-    let below = known g.T.HasKey.eq g.T.HasKey.key_of g.T.HasKey.hash g.met.T.HasKey.is_same g.met.T.HasKey.is_own a.items.items a.order a.by_key a.live a.room c.self.invariant.0 c.stand_once.ensures n here in
+    let here = sym c.last.ensures.is ∙ c.in-Some.is in
+    let below = known g.T.HasKey.eq g.T.HasKey.key_of g.T.HasKey.hash g.met.T.HasKey.is_same g.met.T.HasKey.is_own a.items.items a.order a.by_key a.live a.room c.self.invariant.0 c.last.ensures.once n here in
     let more : List (Option g.row.T.Denot) = with_places n a.items.items in
     let sound = sound_more g.T.HasKey.eq g.T.HasKey.key_of g.T.HasKey.hash a.items.items a.order a.by_key a.live a.room c.self.invariant.0 n below in
     let inside = inside_more g.T.HasKey.eq g.T.HasKey.key_of g.T.HasKey.hash a.items.items a.order a.by_key a.live a.room c.self.invariant.0 n below in
     let same = items_more_places g.T.HasKey.eq g.T.HasKey.key_of g.T.HasKey.hash a.items.items a.order a.by_key a.live a.room c.self.invariant.0 n below (get_or a.order.lists 0 []) in
     let put : c.put_item.new.items.items ≡ set more n (Some c.args.item) = c.put_item.ensures.items ∙ ap (λ xs. set xs n (Some c.args.item)) c.make_place.ensures.items in
-    let law = sound_last g.T.HasKey.eq g.T.HasKey.key_of g.T.HasKey.hash g.met.T.HasKey.is_same g.met.T.HasKey.is_own more a.order a.by_key a.live a.room sound c.stand_once.ensures n here inside c.args.item c.bucket-key.result
+    let law = sound_last g.T.HasKey.eq g.T.HasKey.key_of g.T.HasKey.hash g.met.T.HasKey.is_same g.met.T.HasKey.is_own more a.order a.by_key a.live a.room sound c.last.ensures.once n here inside c.args.item c.bucket-key.result
     (ap (λ ks. first_such (λ t. g.T.HasKey.eq (g.T.HasKey.key_of t) (g.T.HasKey.key_of c.args.item)) ks) same
     ∙ ap (λ (v : Items g.row.T.Denot). first_such (λ t. g.T.HasKey.eq (g.T.HasKey.key_of t) (g.T.HasKey.key_of c.args.item)) v.items) c.self.view_is ∙ c.requires.absent)
     (c.bucket-key.ensures.is ∙ ap (λ h. h % a.room) c.hash.ensures) c.bucket-key.ensures.below in
@@ -83,8 +83,8 @@ pub returns-clause-items : goal.returns-clause-items
 returns-clause-items g c =
     let a = c.self.inside in
     let n = c.in-Some.number in
-    let here = sym c.last.ensures ∙ c.in-Some.is in
-    let below = known g.T.HasKey.eq g.T.HasKey.key_of g.T.HasKey.hash g.met.T.HasKey.is_same g.met.T.HasKey.is_own a.items.items a.order a.by_key a.live a.room c.self.invariant.0 c.stand_once.ensures n here in
+    let here = sym c.last.ensures.is ∙ c.in-Some.is in
+    let below = known g.T.HasKey.eq g.T.HasKey.key_of g.T.HasKey.hash g.met.T.HasKey.is_same g.met.T.HasKey.is_own a.items.items a.order a.by_key a.live a.room c.self.invariant.0 c.last.ensures.once n here in
     let more : List (Option g.row.T.Denot) = with_places n a.items.items in
     let sound = sound_more g.T.HasKey.eq g.T.HasKey.key_of g.T.HasKey.hash a.items.items a.order a.by_key a.live a.room c.self.invariant.0 n below in
     let inside = inside_more g.T.HasKey.eq g.T.HasKey.key_of g.T.HasKey.hash a.items.items a.order a.by_key a.live a.room c.self.invariant.0 n below in
@@ -94,7 +94,7 @@ returns-clause-items g c =
     ap (λ (ks : List (Numbered g.row.T.Denot)). record { items = ks; room = a.room })
     (ap (λ (s : Lists). items_of c.put_item.new.items.items (get_or s.lists 0 [])) order
     ∙ ap (λ items. items_of items (get_or (moved 0 n a.order).lists 0 [])) put
-    ∙ items_come g.T.HasKey.eq g.T.HasKey.key_of g.T.HasKey.hash g.met.T.HasKey.is_same g.met.T.HasKey.is_own more a.order a.by_key a.live a.room sound c.stand_once.ensures n here inside c.args.item
+    ∙ items_come g.T.HasKey.eq g.T.HasKey.key_of g.T.HasKey.hash g.met.T.HasKey.is_same g.met.T.HasKey.is_own more a.order a.by_key a.live a.room sound c.last.ensures.once n here inside c.args.item
     ∙ ap (λ (ks : List (Numbered g.row.T.Denot)). ks ++ record { number = n; item = c.args.item } ∷ []) same
     ∙ ap (λ (v : Items g.row.T.Denot). v.items ++ record { number = n; item = c.args.item } ∷ []) c.self.view_is)
     ∙ ap (λ (v : Items g.row.T.Denot). record { items = c.args.self.now.items ++ record { number = n; item = c.args.item } ∷ []; room = v.room }) c.self.view_is
@@ -104,10 +104,10 @@ returns-clause-fresh g c =
     let a = c.self.inside in
     let n = c.in-Some.number in
     sym (ap (λ (v : Items g.row.T.Denot). find (has_number n) v.items) c.self.view_is)
-    ∙ absent_item n a.items.items (get_or a.order.lists 0 []) (lacks g.T.HasKey.eq g.T.HasKey.key_of g.T.HasKey.hash g.met.T.HasKey.is_same g.met.T.HasKey.is_own a.items.items a.order a.by_key a.live a.room c.self.invariant.0 c.stand_once.ensures c.in-Some.number (sym c.last.ensures ∙ c.in-Some.is))
+    ∙ absent_item n a.items.items (get_or a.order.lists 0 []) (lacks g.T.HasKey.eq g.T.HasKey.key_of g.T.HasKey.hash g.met.T.HasKey.is_same g.met.T.HasKey.is_own a.items.items a.order a.by_key a.live a.room c.self.invariant.0 c.last.ensures.once c.in-Some.number (sym c.last.ensures.is ∙ c.in-Some.is))
 
 pub returns-clause-below : goal.returns-clause-below
 returns-clause-below g c =
     let a = c.self.inside in
-    let below = known g.T.HasKey.eq g.T.HasKey.key_of g.T.HasKey.hash g.met.T.HasKey.is_same g.met.T.HasKey.is_own a.items.items a.order a.by_key a.live a.room c.self.invariant.0 c.stand_once.ensures c.in-Some.number (sym c.last.ensures ∙ c.in-Some.is) in
+    let below = known g.T.HasKey.eq g.T.HasKey.key_of g.T.HasKey.hash g.met.T.HasKey.is_same g.met.T.HasKey.is_own a.items.items a.order a.by_key a.live a.room c.self.invariant.0 c.last.ensures.once c.in-Some.number (sym c.last.ensures.is ∙ c.in-Some.is) in
     subst (λ (v : Items g.row.T.Denot). c.in-Some.number < v.room) c.self.view_is below

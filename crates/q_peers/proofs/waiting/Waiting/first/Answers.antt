@@ -6,5 +6,5 @@ use Rattle.q_peers.proofs.waiting.Waiting.first.Goals as goal
 pub returns : goal.returns
 returns c =
     let a = c.self.inside in
-    c.first.ensures ∙ sym (first_row a.rows.rows a.order a.by_peer a.by_site a.live a.room c.self.invariant)
+    c.first.ensures.is ∙ sym (first_row a.rows.rows a.order a.by_peer a.by_site a.live a.room c.self.invariant)
     ∙ ap (λ (v : Items). first_such any_row v.items) c.self.view_is

@@ -10,7 +10,7 @@ use Rattle.q_peers.proofs.Standing.{first_in_bucket}
 use Rattle.q_peers.proofs.waiting.Waiting.first_at.Goals as goal
 
 pub first_at_from-requires : goal.first_at_from-requires
-first_at_from-requires c = begins c.site_bucket.result c.self.inside.by_site c.first-from.result c.first-from.ensures
+first_at_from-requires c = begins c.site_bucket.result c.self.inside.by_site c.first-from.result c.first-from.ensures.is
 
 pub returns : goal.returns
 returns c =
@@ -18,6 +18,6 @@ returns c =
     let b = c.site_bucket.result in
     let p = is_at c.args.site.now in
     c.first_at_from.ensures
-    ∙ ap (λ o. find (passes p a.rows.rows) (from_on o a.by_site.lists)) c.first-from.ensures
-    ∙ first_in_bucket a.rows.rows a.order a.by_peer a.by_site a.live a.room c.self.invariant site_key a.by_site c.self.invariant.by_site c.stand_once.ensures b p c.site_bucket.ensures.below (site_bucket c.args.site.now a.room b c.site_bucket.ensures.is)
+    ∙ ap (λ o. find (passes p a.rows.rows) (from_on o a.by_site.lists)) c.first-from.ensures.is
+    ∙ first_in_bucket a.rows.rows a.order a.by_peer a.by_site a.live a.room c.self.invariant site_key a.by_site c.self.invariant.by_site c.first-from.ensures.once b p c.site_bucket.ensures.below (site_bucket c.args.site.now a.room b c.site_bucket.ensures.is)
     ∙ ap (λ (v : Items). first_such p v.items) c.self.view_is

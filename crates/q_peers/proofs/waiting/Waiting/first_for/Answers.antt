@@ -10,7 +10,7 @@ use Rattle.q_peers.proofs.Standing.{first_in_bucket}
 use Rattle.q_peers.proofs.waiting.Waiting.first_for.Goals as goal
 
 pub first_for_from-requires : goal.first_for_from-requires
-first_for_from-requires c = begins c.peer_bucket.result c.self.inside.by_peer c.first-from.result c.first-from.ensures
+first_for_from-requires c = begins c.peer_bucket.result c.self.inside.by_peer c.first-from.result c.first-from.ensures.is
 
 pub returns : goal.returns
 returns c =
@@ -18,6 +18,6 @@ returns c =
     let b = c.peer_bucket.result in
     let p = is_for c.args.id c.args.site.now in
     c.first_for_from.ensures
-    ∙ ap (λ o. find (passes p a.rows.rows) (from_on o a.by_peer.lists)) c.first-from.ensures
-    ∙ first_in_bucket a.rows.rows a.order a.by_peer a.by_site a.live a.room c.self.invariant peer_key a.by_peer c.self.invariant.by_peer c.stand_once.ensures b p c.peer_bucket.ensures.below (bucket_for c.args.id c.args.site.now a.room b c.peer_bucket.ensures.is)
+    ∙ ap (λ o. find (passes p a.rows.rows) (from_on o a.by_peer.lists)) c.first-from.ensures.is
+    ∙ first_in_bucket a.rows.rows a.order a.by_peer a.by_site a.live a.room c.self.invariant peer_key a.by_peer c.self.invariant.by_peer c.first-from.ensures.once b p c.peer_bucket.ensures.below (bucket_for c.args.id c.args.site.now a.room b c.peer_bucket.ensures.is)
     ∙ ap (λ (v : Items). first_such p v.items) c.self.view_is

@@ -16,6 +16,6 @@ pub returns : goal.returns
 returns c =
     let a = c.self.inside in
     let n = c.args.number in
-    c.next.ensures
-    ∙ sym (next_row a.rows.rows a.order a.by_peer a.by_site a.live a.room c.self.invariant c.stand_once.ensures n (row_shown c.in_ok-_row._row) (sym c.get.ensures ∙ ap (option_map row_shown) c.in_ok-_row.was))
+    c.next.ensures.is
+    ∙ sym (next_row a.rows.rows a.order a.by_peer a.by_site a.live a.room c.self.invariant c.next.ensures.once n (row_shown c.in_ok-_row._row) (sym c.get.ensures ∙ ap (option_map row_shown) c.in_ok-_row.was))
     ∙ ap (λ (v : Items). next_such (λ r. any_row) n v.items) c.self.view_is

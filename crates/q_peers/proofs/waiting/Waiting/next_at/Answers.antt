@@ -28,7 +28,7 @@ next-from-requires c =
     (sym c.get.ensures ∙ ap (option_map row_shown) c.in_ok-row.was) (bucket_below (site_key r) a.room c.self.invariant.some)
 
 pub first_at_from-requires : goal.first_at_from-requires
-first_at_from-requires c = goes_on c.args.number c.self.inside.by_site c.next-from.result c.next-from.ensures
+first_at_from-requires c = goes_on c.args.number c.self.inside.by_site c.next-from.result c.next-from.ensures.is
 
 pub returns : goal.returns
 returns c =
@@ -37,7 +37,7 @@ returns c =
     let r = row_shown c.in_ok-row.row in
     let like : Row → Row → Bool = λ q. is_at q.site in
     c.first_at_from.ensures
-    ∙ ap (λ o. find (passes (like r) a.rows.rows) (from_on o a.by_site.lists)) c.next-from.ensures
+    ∙ ap (λ o. find (passes (like r) a.rows.rows) (from_on o a.by_site.lists)) c.next-from.ensures.is
     ∙ next_in_bucket a.rows.rows a.order a.by_peer a.by_site a.live a.room c.self.invariant site_key a.by_site c.self.invariant.by_site c.stand_once.ensures like n r
     (sym c.get.ensures ∙ ap (option_map row_shown) c.in_ok-row.was) (bucket_below (site_key r) a.room c.self.invariant.some)
     (site_bucket r.site a.room (site_key r % a.room) refl)

@@ -12,7 +12,7 @@ give_rank-requires-clause-fits c =
     let known = subst (λ (v : Ranking). n < v.numbers) (sym c.self.view_is) c.requires.known in
     let below : n < length a.ranks.items = omega (arith, known, c.self.invariant.each) in
     let free = subst (λ (v : Ranking). is_in n v.order ≡ false) (sym c.self.view_is) c.requires.free in
-    let last = c.rank_of.ensures ∙ ap (rank_of a.ranks.items) c.last.ensures in
+    let last = c.rank_of.ensures ∙ ap (rank_of a.ranks.items) c.last.ensures.is in
     let above = subst (λ (low : ℕ). IfSome c.rank_behind-rank.result (λ r. low < r)) last c.rank_behind-rank.ensures.behind in
     subst (λ (s : Lists). IfSome c.rank_behind-rank.result (λ r. Rises (set a.ranks.items n r) (get_or s.lists 0 []))) (sym c.push.ensures)
     (fits_pushed a.order a.ranks.items a.numbers c.self.invariant n below free c.rank_behind-rank.result above)
