@@ -33,7 +33,6 @@ pub(crate) fn greatest_age(
     ensures { (n : ℕ) (c : Candidate) → item_at n candidates.now.items ≡ Some c
         → c.site.transport ≡ transport → age_at now c ≤ result }
 {
-    arrivals.stand_sorted();
     let Some(first) = arrivals.first_of(u32::from(transport)) else {
         return 0;
     };

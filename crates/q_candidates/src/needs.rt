@@ -24,7 +24,6 @@ impl Index {
         ensures { IsNextNeed transport from most self.now.lanes.items result }
     {
         self.lanes.stand_apart();
-        self.needs.stand_sorted();
         let next = self.needs.first_from(&cut_at(transport, from))?;
         if next.group != u32::from(transport) {
             return None;

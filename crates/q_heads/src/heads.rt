@@ -138,7 +138,6 @@ impl Heads {
         ensures { result
             ≡ find (λ x. is_of ticket.now.group x && goes_before ticket.now x) self.now.items }
     {
-        self.tickets.stand_sorted();
         let next = self.tickets.behind(ticket)?;
         if next.group == ticket.group {
             Some(next)
@@ -151,7 +150,6 @@ impl Heads {
     pub fn first(&self, class: u32) -> Option<Ticket>
         ensures { result ≡ foremost (heads_of class self.now) }
     {
-        self.marks.stand_sorted();
         let mark = self.marks.first_of(class)?;
         self.tickets.first_of(mark.item)
     }
@@ -161,7 +159,6 @@ impl Heads {
         requires { head.now.group < self.now.lanes }
         ensures { result ≡ foremost (heads_behind head.now self.now) }
     {
-        self.marks.stand_sorted();
         let class = class_of(&self.classes, head.group);
         let mark = self.marks.behind(&mark_of(class, head))?;
         if mark.group == class {

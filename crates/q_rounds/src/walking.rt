@@ -49,7 +49,6 @@ pub(crate) fn first_ticket(
 ) -> Option<Ticket>
     ensures { IsFirst (can_start sites.now.items peers.now.items round) tickets.now.items result }
 {
-    tickets.stand_sorted();
     let mut at = tickets.first_of(round);
     while let Some(ticket) = at {
         if ticket.group != round {

@@ -86,7 +86,8 @@ impl Sorted {
 
     /// The first ticket that doesn't go before this one.
     pub fn first_from(&self, ticket: &Ticket) -> Option<Ticket>
-        ensures { result ≡ find (λ x. not (goes_before x ticket.now)) self.now.items }
+        ensures is { result ≡ find (λ x. not (goes_before x ticket.now)) self.now.items }
+        ensures rising { Rises self.now.items }
     {
         self.blocks.first_past(&Cut {
             ticket: *ticket,
@@ -96,9 +97,9 @@ impl Sorted {
 
     /// The first ticket of the group.
     pub fn first_of(&self, group: u32) -> Option<Ticket>
-        ensures { result ≡ find (is_of group) self.now.items }
+        ensures is { result ≡ find (is_of group) self.now.items }
+        ensures rising { Rises self.now.items }
     {
-        self.stand_sorted();
         let least = Ticket {
             group,
             key: 0,
@@ -114,7 +115,8 @@ impl Sorted {
 
     /// The first ticket behind this one.
     pub fn behind(&self, ticket: &Ticket) -> Option<Ticket>
-        ensures { result ≡ find (goes_before ticket.now) self.now.items }
+        ensures is { result ≡ find (goes_before ticket.now) self.now.items }
+        ensures rising { Rises self.now.items }
     {
         self.blocks.first_past(&Cut {
             ticket: *ticket,

@@ -89,7 +89,6 @@ impl Turns {
         ensures peers { AreOfPeers self.now.peers candidates.new.items }
     {
         self.peers.stand_apart();
-        self.messages.stand_sorted();
         let mut at = self.messages.first_from(&least_of(id));
         while let Some(ticket) = at {
             if !is_of_message(&ticket, id) {

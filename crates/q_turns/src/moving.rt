@@ -164,7 +164,6 @@ pub(crate) fn move_job(
     ensures placed { AreTickets (head_at (rank_by lines.now.items) lanes.now.items
         peers.now.items) heads.new.items }
 {
-    messages.stand_sorted();
     let mut at = messages.first_from(&least_of(id));
     while let Some(ticket) = at {
         if !is_of_message(&ticket, id) {

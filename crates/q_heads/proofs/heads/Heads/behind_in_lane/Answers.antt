@@ -8,17 +8,17 @@ use Rattle.q_heads.proofs.heads.Heads.behind_in_lane.Goals as goal
 pub returns-in_err-next : goal.returns-in_err-next
 returns-in_err-next c =
     let e = c.args.ticket.now in
-    c.from_residual.ensures ∙ sym (none_behind_it e c.self.inside.tickets.items (sym c.behind.ensures ∙ c.in_err-next.was))
+    c.from_residual.ensures ∙ sym (none_behind_it e c.self.inside.tickets.items (sym c.behind.ensures.is ∙ c.in_err-next.was))
     ∙ ap (λ (s : Lanes). find (λ x. is_of e.group x && goes_before e x) s.items) c.self.view_is
 
 pub returns-then-next-ticket : goal.returns-then-next-ticket
 returns-then-next-ticket c =
     let e = c.args.ticket.now in
-    sym (own_behind_it e c.self.inside.tickets.items c.in_ok-next.next (sym c.behind.ensures ∙ c.in_ok-next.was) c.if-next-ticket.true)
+    sym (own_behind_it e c.self.inside.tickets.items c.in_ok-next.next (sym c.behind.ensures.is ∙ c.in_ok-next.was) c.if-next-ticket.true)
     ∙ ap (λ (s : Lanes). find (λ x. is_of e.group x && goes_before e x) s.items) c.self.view_is
 
 pub returns-else-next-ticket : goal.returns-else-next-ticket
 returns-else-next-ticket c =
     let e = c.args.ticket.now in
-    sym (other_behind_it e c.self.inside.tickets.items c.in_ok-next.next c.stand_sorted.ensures.rising (sym c.behind.ensures ∙ c.in_ok-next.was) c.if-next-ticket.false)
+    sym (other_behind_it e c.self.inside.tickets.items c.in_ok-next.next c.behind.ensures.rising (sym c.behind.ensures.is ∙ c.in_ok-next.was) c.if-next-ticket.false)
     ∙ ap (λ (s : Lanes). find (λ x. is_of e.group x && goes_before e x) s.items) c.self.view_is

@@ -7,11 +7,11 @@ use Rattle.q_heads.proofs.heads.Heads.first.Goals as goal
 pub returns-in_err-mark : goal.returns-in_err-mark
 returns-in_err-mark c =
     let a = c.self.inside in
-    c.from_residual.ensures ∙ sym (first_none (seen a.tickets a.classes.items) a.marks.items c.stand_sorted.ensures.rising c.self.invariant.marked c.args.class (sym c.first_of.ensures ∙ c.in_err-mark.was))
+    c.from_residual.ensures ∙ sym (first_none (seen a.tickets a.classes.items) a.marks.items c.first_of.ensures.rising c.self.invariant.marked c.args.class (sym c.first_of.ensures.is ∙ c.in_err-mark.was))
     ∙ ap (λ (s : Lanes). foremost (heads_of c.args.class s)) c.self.view_is
 
 pub returns : goal.returns
 returns c =
     let a = c.self.inside in
-    c.first_of-2.ensures ∙ first_some (seen a.tickets a.classes.items) a.marks.items c.stand_sorted.ensures.rising c.self.invariant.marked c.args.class c.in_ok-mark.mark (sym c.first_of.ensures ∙ c.in_ok-mark.was)
+    c.first_of-2.ensures.is ∙ first_some (seen a.tickets a.classes.items) a.marks.items c.first_of.ensures.rising c.self.invariant.marked c.args.class c.in_ok-mark.mark (sym c.first_of.ensures.is ∙ c.in_ok-mark.was)
     ∙ ap (λ (s : Lanes). foremost (heads_of c.args.class s)) c.self.view_is

@@ -17,11 +17,11 @@ pub loop-at-init : goal.loop-at-init
 loop-at-init c =
     let a = c.self.inside in
     let items = a.messages.items in
-    let is = c.first_from-at.ensures ∙ ap (λ (e : Ticket). find (λ (x : Ticket). not (goes_before x e)) items) c.least_of.ensures in
+    let is = c.first_from-at.ensures.is ∙ ap (λ (e : Ticket). find (λ (x : Ticket). not (goes_before x e)) items) c.least_of.ensures in
     record {
       room = refl;
       stood = stands_found _ items c.first_from-at.result is;
-      filed = filing_begins c.args.id a.peers.items c.stand_apart.ensures.apart c.stand_apart.ensures.keys items c.self.invariant.listed c.stand_sorted.ensures.rising c.args.self.now.lines c.args.facts c.first_from-at.result c.args.candidates.now.items is;
+      filed = filing_begins c.args.id a.peers.items c.stand_apart.ensures.apart c.stand_apart.ensures.keys items c.self.invariant.listed c.first_from-at.ensures.rising c.args.self.now.lines c.args.facts c.first_from-at.result c.args.candidates.now.items is;
     }
 
 pub returns-then-not-is_of_message-clause-filed : goal.returns-then-not-is_of_message-clause-filed
@@ -47,10 +47,10 @@ file_at-requires-clause-there c =
     let of = sym c.is_of_message.ensures ∙ c.if-not-is_of_message.false in
     subst (λ (t : Turning). IfSome c.site_in-site.result (λ s. list_any (is_peer c.args.id s) t.peers ≡ true)) c.self.view_is
     (subst (λ (o : Option Site). IfSome o (λ s. list_any (is_peer c.args.id s) (values_of a.peers.items) ≡ true)) (sym c.site_in-site.ensures)
-    (waits_there c.args.id a.peers.items c.stand_apart.ensures.apart c.stand_apart.ensures.keys items c.self.invariant.listed c.stand_sorted.ensures.rising c.args.self.now.lines c.args.facts e c.loop-at.at _ c.in-Some.is stood of refl))
+    (waits_there c.args.id a.peers.items c.stand_apart.ensures.apart c.stand_apart.ensures.keys items c.self.invariant.listed c.first_from-at.ensures.rising c.args.self.now.lines c.args.facts e c.loop-at.at _ c.in-Some.is stood of refl))
 
 pub loop-at-smaller : goal.loop-at-smaller
-loop-at-smaller c = walk_smaller c.self.inside.messages.items c.in-Some.ticket c.loop-at.at c.behind-at.result c.in-Some.is c.behind-at.ensures
+loop-at-smaller c = walk_smaller c.self.inside.messages.items c.in-Some.ticket c.loop-at.at c.behind-at.result c.in-Some.is c.behind-at.ensures.is
 
 pub loop-at-preserved : goal.loop-at-preserved
 loop-at-preserved c =
@@ -66,8 +66,8 @@ loop-at-preserved c =
     (subst (λ (t : Turning). IsFiledAt lines t.peers c.args.id c.site_in-site.result c.args.facts c.loop-at.candidates.items c.file_at.new.candidates.items) (sym c.self.view_is) c.file_at.ensures.filed) in
     record {
       room = c.file_at.ensures.room ∙ inv.room;
-      stood = stands_found (goes_before e) items c.behind-at.result c.behind-at.ensures;
-      filed = filing_goes c.args.id ks c.stand_apart.ensures.apart c.stand_apart.ensures.keys items c.self.invariant.listed c.stand_sorted.ensures.rising lines c.args.facts e c.loop-at.at c.behind-at.result c.in-Some.is stood of c.behind-at.ensures
+      stood = stands_found (goes_before e) items c.behind-at.result c.behind-at.ensures.is;
+      filed = filing_goes c.args.id ks c.stand_apart.ensures.apart c.stand_apart.ensures.keys items c.self.invariant.listed c.first_from-at.ensures.rising lines c.args.facts e c.loop-at.at c.behind-at.result c.in-Some.is stood of c.behind-at.ensures.is
           c.args.candidates.now.items c.loop-at.candidates.items c.file_at.new.candidates.items inv.filed filed;
     }
 
