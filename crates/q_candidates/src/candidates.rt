@@ -83,7 +83,6 @@ impl Candidates {
     pub fn find(&self, id: Id, site: &Site) -> Option<&Candidate>
         ensures { option_copied result ≡ find (is_of id site.now) self.now.items }
     {
-        self.candidates.stand_apart();
         let number = self.candidates.find(&PeerKey { id, site: *site })?;
         self.candidates.get(number)
     }
@@ -95,7 +94,6 @@ impl Candidates {
             → length self.old.items < self.old.room }
         ensures { self.new ≡ record self.old { items = put_in candidate self.old.items } }
     {
-        self.candidates.stand_apart();
         self.arrivals.stand_sorted();
         let Some(number) = self.candidates.find(&candidate.key()) else {
             let number = self.candidates.push(candidate);
@@ -119,7 +117,6 @@ impl Candidates {
         ensures { self.new ≡ record self.old
             { items = filter (λ c. not (is_of id site.now c)) self.old.items } }
     {
-        self.candidates.stand_apart();
         let Some(number) = self.candidates.find(&PeerKey { id, site: *site }) else {
             return;
         };

@@ -85,7 +85,6 @@ impl Table {
     pub(crate) fn get(&self, site: &Site) -> Option<Dest>
         ensures { result ≡ find (is_at site.now) self.now.items }
     {
-        self.dests.stand_apart();
         let number = self.dests.find(site)?;
         self.dests.get(number).copied()
     }
@@ -101,7 +100,6 @@ impl Table {
     pub(crate) fn behind(&self, site: &Site) -> Option<Dest>
         ensures { result ≡ first_dest (behind_dests site.now self.now.items) }
     {
-        self.dests.stand_apart();
         let number = self.dests.find(site)?;
         let next = self.dests.next(number)?;
         self.dests.get(next).copied()
@@ -128,7 +126,6 @@ impl Table {
             { items = map (changed_at dest.known.site (λ d. dest)) self.old.items } }
     {
         dest.known.stay_bounded();
-        self.dests.stand_apart();
         if let Some(number) = self.dests.find(dest.site()) {
             self.dests.put(number, dest);
             rank_at(&mut self.times, number, found.time_rank(), dest.time_rank());
@@ -140,7 +137,6 @@ impl Table {
         ensures { self.new ≡ record self.old
             { items = filter (λ d. not (is_at site.now d)) self.old.items } }
     {
-        self.dests.stand_apart();
         if let Some(number) = self.dests.find(site) {
             let _dest = self.dests.remove(number);
             let _time = self.times.remove(&number);

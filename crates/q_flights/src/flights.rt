@@ -89,7 +89,6 @@ impl Flights {
     pub fn get(&self, number: u64) -> Option<DeliveryRef<'_>>
         ensures { option_map delivery_shown result ≡ find (has_number number) self.now.items }
     {
-        self.heads.stand_apart();
         let at = self.heads.find(&number)?;
         let head = self.heads.get(at)?;
         Some(head.with(self.positions.get(at)))
@@ -137,7 +136,6 @@ impl Flights {
         ensures items { self.new ≡ record self.old
             { items = filter (is_other number) self.old.items } }
     {
-        self.heads.stand_apart();
         let Some(at) = self.heads.find(&number) else {
             return false;
         };

@@ -75,7 +75,6 @@ impl Line {
     pub fn job(&self, id: Id) -> Option<&Job>
         ensures { option_copied result ≡ find (is_job_of id) self.now.jobs }
     {
-        self.jobs.stand_apart();
         let number = self.jobs.find(&id)?;
         self.jobs.get(number)
     }
@@ -101,7 +100,6 @@ impl Line {
     pub fn behind(&self, id: Id) -> Option<&Job>
         ensures { option_copied result ≡ first_job (behind_jobs id self.now.jobs) }
     {
-        self.jobs.stand_apart();
         let number = self.jobs.find(&id)?;
         let next = self.jobs.next(number)?;
         self.jobs.get(next)
@@ -131,7 +129,6 @@ impl Line {
     pub fn put(&mut self, job: Job)
         ensures { self.new ≡ record self.old { jobs = map (account_in job) self.old.jobs } }
     {
-        self.jobs.stand_apart();
         if let Some(number) = self.jobs.find(&job.id) {
             self.jobs.put(number, job);
         }
@@ -145,7 +142,6 @@ impl Line {
             → rank_of other self.new.jobs self.new.ranks
             ≡ rank_of other self.old.jobs self.old.ranks }
     {
-        self.jobs.stand_apart();
         self.ranks.stand_ranked();
         if let Some(number) = self.jobs.find(&id) {
             let _job = self.jobs.remove(number);
@@ -163,7 +159,6 @@ impl Line {
             → rank_of other self.new.jobs self.new.ranks
             ≡ rank_of other self.old.jobs self.old.ranks }
     {
-        self.jobs.stand_apart();
         self.ranks.stand_ranked();
         let Some(from) = self.jobs.find(&child) else {
             return false;
@@ -172,7 +167,6 @@ impl Line {
             return false;
         };
         self.ranks.remove(from);
-        self.jobs.stand_apart();
         let Some(at) = self.jobs.find(&parent) else {
             return false;
         };

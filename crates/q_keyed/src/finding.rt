@@ -1,7 +1,7 @@
 //! Which item has a key, and which is first or next.
-ghost use Rattle.std.specs.Prelude.{◌≡◌, ◌≤◌, ◌<◌, ◌%◌, find, IfSome, true};
+ghost use Rattle.std.specs.Prelude.{◌≡◌, ◌≤◌, ◌<◌, ◌%◌, ◌^◌, find, IfSome, length, true};
 ghost use Rattle.q_chains.specs.Lists.{stands};
-ghost use Rattle.q_keyed.specs.Numbered.{first_number, first_such, next_number};
+ghost use Rattle.q_keyed.specs.Numbered.{AreApart, AreKeysApart, first_number, first_such, next_number};
 ghost use Rattle.q_chains.specs.Slots.{passes};
 ghost use Rattle.q_chains.specs.Onward.{from_on};
 
@@ -51,10 +51,25 @@ fn find_from<T: HasKey>(
 }
 
 impl<T: HasKey> Keyed<T> {
+    /// No two items have one number or one key, and there are no more than have room, whatever was
+    /// called: this does nothing, and is there for callers whose proofs want to know it.
+    pub fn stand_apart(&self)
+        ensures apart { AreApart self.now.items }
+        ensures keys { AreKeysApart T.eq T.key_of self.now.items }
+        ensures within { length self.now.items ≤ self.now.room }
+        ensures few { self.now.room < 2 ^ 30 }
+    {
+        self.order.stand_once();
+    }
+
     /// The number of the item under a key.
     pub fn find(&self, key: &T::Key) -> Option<u32>
-        ensures { result ≡ first_such (λ t. T.eq (T.key_of t) key.now) self.now.items }
+        ensures is { result ≡ first_such (λ t. T.eq (T.key_of t) key.now) self.now.items }
+        ensures apart { AreApart self.now.items }
+        ensures keys { AreKeysApart T.eq T.key_of self.now.items }
+        ensures within { length self.now.items ≤ self.now.room }
     {
+        self.stand_apart();
         let from = self.by_key.first(bucket(T::hash_of(key), self.room));
         find_from(&self.items, &self.by_key, from, key)
     }

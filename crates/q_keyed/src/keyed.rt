@@ -1,7 +1,7 @@
 //! The items.
 ghost use Rattle.std.specs.Prelude.{◌≡◌, ◌<◌, ◌≤◌, ◌-◌, ◌++◌, ◌^◌, [], ◌∷◌, IfOk, IfSome, find, length, map, None, true};
 ghost use Rattle.std.specs.Option.{is_some, option_copied};
-ghost use Rattle.q_keyed.specs.Numbered.{AreApart, AreKeysApart, first_such, has_number, inserted_at, item_at, moved_last, put_at, without_number};
+ghost use Rattle.q_keyed.specs.Numbered.{first_such, has_number, inserted_at, item_at, moved_last, put_at, without_number};
 
 use crate::finding::bucket;
 use crate::key::HasKey;
@@ -64,17 +64,6 @@ impl<T: HasKey + Drop> Keyed<T> {
             live: 0,
             room,
         })
-    }
-
-    /// No two items have one number or one key, and there are no more than have room, whatever was
-    /// called: this does nothing, and is there for callers whose proofs want to know it.
-    pub fn stand_apart(&self)
-        ensures apart { AreApart self.now.items }
-        ensures keys { AreKeysApart T.eq T.key_of self.now.items }
-        ensures within { length self.now.items ≤ self.now.room }
-        ensures few { self.now.room < 2 ^ 30 }
-    {
-        self.order.stand_once();
     }
 
     /// How many items there are.

@@ -65,7 +65,6 @@ impl OpenRows {
     pub fn place(&self, site: &Site) -> Option<usize>
         ensures { result ≡ place_of site.now self.now.items }
     {
-        self.rows.stand_apart();
         let number = self.rows.find(site)?;
         match self.rows.get(number) {
             Some(row) => Some(row.place),
@@ -80,7 +79,6 @@ impl OpenRows {
         ensures { self.new ≡ record self.old
             { items = with_place site.now place self.old.items } }
     {
-        self.rows.stand_apart();
         let row = OpenRow { site: *site, place };
         match self.rows.find(site) {
             Some(number) => self.rows.put(number, row),

@@ -22,7 +22,6 @@ impl Rounds {
             ≡ next_in sites.now.items transport id (values_of self.now.items) }
     {
         self.peers.stand_apart();
-        self.rounds.stand_apart();
         let Some(round) = self.rounds.find(&RoundKey { id, transport }) else {
             return None;
         };

@@ -38,7 +38,6 @@ fn set_rows(rounds: &mut Keyed<Round>, id: Id, transport: usize, rows: u64)
     ensures rest { rounds.new ≡ record rounds.old { items = rounds.new.items } }
     ensures set { HasSet id transport rows rounds.old.room rounds.old.items rounds.new.items }
 {
-    rounds.stand_apart();
     let round = Round {
         id,
         transport,

@@ -49,7 +49,6 @@ impl Schedule {
         ensures { self.new ≡ record self.old
             { messages = map (read_to id unread) self.old.messages } }
     {
-        self.messages.stand_apart();
         let Some(number) = self.messages.find(&id) else {
             return;
         };
@@ -76,7 +75,6 @@ impl Schedule {
         ensures { self.new ≡ record self.old
             { messages = filter (is_another id) self.old.messages } }
     {
-        self.messages.stand_apart();
         let Some(number) = self.messages.find(&id) else {
             return;
         };

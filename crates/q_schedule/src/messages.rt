@@ -13,7 +13,6 @@ use q_turns::Facts;
 pub(crate) fn message(messages: &Keyed<Ranked>, id: Id) -> Option<&Ranked>
     ensures { option_copied result ≡ find (is_ranked id) (values_of messages.now.items) }
 {
-    messages.stand_apart();
     let number = messages.find(&id)?;
     messages.get(number)
 }

@@ -18,7 +18,7 @@ returns-clause-made c =
     let lanes = c.args.lanes.now in
     let heads = c.args.heads.now in
     let n = c.push-lane.result in
-    let none = none_from (lane_of site lanes.items) (ap is_some (sym c.find.ensures) ∙ sym c.is_some.ensures ∙ c.if-is_some.false) in
+    let none = none_from (lane_of site lanes.items) (ap is_some (sym c.find.ensures.is) ∙ sym c.is_some.ensures ∙ c.if-is_some.false) in
     let below : n < heads.lanes = omega (arith, c.push-lane.ensures.below, c.requires.known) in
     subst (λ (v : Items Lane). HasMade site lanes.items v.items heads c.set_class.new.self) (sym (c.push-lane.ensures.items ∙ ap (λ (s : Site). record lanes { items = lanes.items ++ record { number = n; item = record { site = s } } ∷ [] }) c.site.view_is))
     (subst (λ (s : Lanes). HasMade site lanes.items (lanes.items ++ record { number = n; item = record { site = site } } ∷ []) heads s)

@@ -21,7 +21,7 @@ pub push-number-requires-clause-room : goal.push-number-requires-clause-room
 push-number-requires-clause-room c =
     let ks = c.self.inside.candidates.items in
     let x = c.args.candidate in
-    let none : first_such (is_of x.id x.site) ks ≡ None = sym (c.find.ensures ∙ ap (λ k. first_such (λ t. key_eq (key_of t) k) ks) c.key.ensures) ∙ c.in_default.is in
+    let none : first_such (is_of x.id x.site) ks ≡ None = sym (c.find.ensures.is ∙ ap (λ k. first_such (λ t. key_eq (key_of t) k) ks) c.key.ensures) ∙ c.in_default.is in
     let room = subst (λ (v : Listed). find (is_of x.id x.site) v.items ≡ None → length v.items < v.room) (sym c.self.view_is) c.requires.room (none_of x.id x.site ks none) in
     omega (arith, room, length-map ks (λ (k : Numbered Candidate). k.item))
 
@@ -29,7 +29,7 @@ pub enter-requires-clause-space : goal.enter-requires-clause-space
 enter-requires-clause-space c =
     let ks = c.self.inside.candidates.items in
     let x = c.args.candidate in
-    let none : first_such (is_of x.id x.site) ks ≡ None = sym (c.find.ensures ∙ ap (λ k. first_such (λ t. key_eq (key_of t) k) ks) c.key.ensures) ∙ c.in_default.is in
+    let none : first_such (is_of x.id x.site) ks ≡ None = sym (c.find.ensures.is ∙ ap (λ k. first_such (λ t. key_eq (key_of t) k) ks) c.key.ensures) ∙ c.in_default.is in
     let room = subst (λ (v : Listed). find (is_of x.id x.site) v.items ≡ None → length v.items < v.room) (sym c.self.view_is) c.requires.room (none_of x.id x.site ks none) in
     record {
       candidates = ks;
@@ -56,7 +56,7 @@ returns-in_default c =
     let a = c.self.inside in
     let ks = a.candidates.items in
     let x = c.args.candidate in
-    let none : first_such (is_of x.id x.site) ks ≡ None = sym (c.find.ensures ∙ ap (λ k. first_such (λ t. key_eq (key_of t) k) ks) c.key.ensures) ∙ c.in_default.is in
+    let none : first_such (is_of x.id x.site) ks ≡ None = sym (c.find.ensures.is ∙ ap (λ k. first_such (λ t. key_eq (key_of t) k) ks) c.key.ensures) ∙ c.in_default.is in
     ap (λ (v : Items Candidate). listed_of (values_of v.items) v.room) c.push-number.ensures.items
     ∙ ap (λ cs. listed_of cs a.candidates.room) (put_new x c.push-number.result ks none)
     ∙ ap (λ (v : Listed). listed_of (put_in x v.items) v.room) c.self.view_is
@@ -65,8 +65,8 @@ pub returns-in_default-copied : goal.returns-in_default-copied
 returns-in_default-copied c =
     let ks = c.self.inside.candidates.items in
     let x = c.args.candidate in
-    let here : first_such (is_of x.id x.site) ks ≡ Some c.in-Some.number = sym (c.find.ensures ∙ ap (λ k. first_such (λ t. key_eq (key_of t) k) ks) c.key.ensures) ∙ c.in-Some.is in
-    let it = held x.id x.site c.in-Some.number ks c.stand_apart.ensures.apart c.stand_apart.ensures.keys here in
+    let here : first_such (is_of x.id x.site) ks ≡ Some c.in-Some.number = sym (c.find.ensures.is ∙ ap (λ k. first_such (λ t. key_eq (key_of t) k) ks) c.key.ensures) ∙ c.in-Some.is in
+    let it = held x.id x.site c.in-Some.number ks c.find.ensures.apart c.find.ensures.keys here in
     absurd (unless_none _ it.0 (sym (c.copied.ensures ∙ c.get.ensures) ∙ c.in_default-copied.is) it.1)
 
 pub put-requires : goal.put-requires
@@ -74,9 +74,9 @@ put-requires c =
     let ks = c.self.inside.candidates.items in
     let x = c.args.candidate in
     let n = c.in-Some.number in
-    let here : first_such (is_of x.id x.site) ks ≡ Some n = sym (c.find.ensures ∙ ap (λ k. first_such (λ t. key_eq (key_of t) k) ks) c.key.ensures) ∙ c.in-Some.is in
-    let it = held x.id x.site n ks c.stand_apart.ensures.apart c.stand_apart.ensures.keys here in
-    subst (λ (o : Option Candidate). IfSome o (λ t. key_of t ≡ key_of x)) (sym it.1) (same_key x.id x.site n ks c.stand_apart.ensures.apart c.stand_apart.ensures.keys here x refl)
+    let here : first_such (is_of x.id x.site) ks ≡ Some n = sym (c.find.ensures.is ∙ ap (λ k. first_such (λ t. key_eq (key_of t) k) ks) c.key.ensures) ∙ c.in-Some.is in
+    let it = held x.id x.site n ks c.find.ensures.apart c.find.ensures.keys here in
+    subst (λ (o : Option Candidate). IfSome o (λ t. key_of t ≡ key_of x)) (sym it.1) (same_key x.id x.site n ks c.find.ensures.apart c.find.ensures.keys here x refl)
 
 pub enter-requires-2-clause-space : goal.enter-requires-2-clause-space
 enter-requires-2-clause-space c =
@@ -86,7 +86,7 @@ enter-requires-2-clause-space c =
     record {
       candidates = without_number n ks;
       filed = c.leave.ensures.filed ks (without_number n ks) c.self.invariant.ordered.filed there (is_less n ks);
-      fewer = omega (arith, fewer_at n ks (ap is_some there), c.stand_apart.ensures.within, c.leave.ensures.room, c.self.invariant.ordered.room);
+      fewer = omega (arith, fewer_at n ks (ap is_some there), c.find.ensures.within, c.leave.ensures.room, c.self.invariant.ordered.room);
     }
 
 pub invariant_of-self-2 : goal.invariant_of-self-2
@@ -112,9 +112,9 @@ returns c =
     let ks = a.candidates.items in
     let x = c.args.candidate in
     let n = c.in-Some.number in
-    let here : first_such (is_of x.id x.site) ks ≡ Some n = sym (c.find.ensures ∙ ap (λ k. first_such (λ t. key_eq (key_of t) k) ks) c.key.ensures) ∙ c.in-Some.is in
+    let here : first_such (is_of x.id x.site) ks ≡ Some n = sym (c.find.ensures.is ∙ ap (λ k. first_such (λ t. key_eq (key_of t) k) ks) c.key.ensures) ∙ c.in-Some.is in
     ap (λ (v : Items Candidate). listed_of (values_of v.items) v.room) c.put.ensures
-    ∙ ap (λ cs. listed_of cs a.candidates.room) (put_old x.id x.site n ks c.stand_apart.ensures.apart c.stand_apart.ensures.keys here x refl refl)
+    ∙ ap (λ cs. listed_of cs a.candidates.room) (put_old x.id x.site n ks c.find.ensures.apart c.find.ensures.keys here x refl refl)
     ∙ ap (λ (v : Listed). listed_of (put_in x v.items) v.room) c.self.view_is
 
 pub insert-requires : goal.insert-requires
@@ -122,7 +122,7 @@ insert-requires c =
     let a = c.self.inside in
     let ks = a.candidates.items in
     let x = c.args.candidate in
-    let none : first_such (is_of x.id x.site) ks ≡ None = sym (c.find.ensures ∙ ap (λ k. first_such (λ t. key_eq (key_of t) k) ks) c.key.ensures) ∙ c.in_default.is in
+    let none : first_such (is_of x.id x.site) ks ≡ None = sym (c.find.ensures.is ∙ ap (λ k. first_such (λ t. key_eq (key_of t) k) ks) c.key.ensures) ∙ c.in_default.is in
     let room = subst (λ (v : Listed). find (is_of x.id x.site) v.items ≡ None → length v.items < v.room) (sym c.self.view_is) c.requires.room (none_of x.id x.site ks none) in
     omega (arith, room, length-map ks (λ (k : Numbered Candidate). k.item), most_arrivals ks a.arrivals.items c.self.invariant.arrived c.stand_sorted.ensures.rising, c.self.invariant.arrival_room)
 
@@ -134,4 +134,4 @@ insert-requires-2 c =
     let there = sym (c.copied.ensures ∙ c.get.ensures) ∙ c.in-Some-copied.is in
     let is = c.remove.ensures ∙ ap (λ e. record a.arrivals { items = filter (is_another e) a.arrivals.items }) c.arrival_ticket-2.ensures in
     let arrived = subst (λ (w : Tickets). AreTickets (arrival_at (without_number n ks)) w.items) (sym is) (arrived_out n c.in-Some-copied.was ks (without_number n ks) a.arrivals.items c.self.invariant.arrived there (is_less n ks)) in
-    omega (arith, most_arrivals (without_number n ks) c.remove.new.self.items arrived c.stand_sorted-2.ensures.rising, fewer_at n ks (ap is_some there), c.stand_apart.ensures.within, ap (λ (w : Tickets). w.room) is, c.self.invariant.arrival_room)
+    omega (arith, most_arrivals (without_number n ks) c.remove.new.self.items arrived c.stand_sorted-2.ensures.rising, fewer_at n ks (ap is_some there), c.find.ensures.within, ap (λ (w : Tickets). w.room) is, c.self.invariant.arrival_room)

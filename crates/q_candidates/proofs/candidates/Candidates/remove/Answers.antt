@@ -15,13 +15,13 @@ pub returns-in_default : goal.returns-in_default
 returns-in_default c =
     let a = c.self.inside in
     sym c.self.view_is
-    ∙ ap (λ cs. listed_of cs a.candidates.room) (sym (none_left_out c.args.id c.args.site.now a.candidates.items (sym c.find.ensures ∙ c.in_default.is)))
+    ∙ ap (λ cs. listed_of cs a.candidates.room) (sym (none_left_out c.args.id c.args.site.now a.candidates.items (sym c.find.ensures.is ∙ c.in_default.is)))
     ∙ ap (λ (v : Listed). listed_of (filter (λ x. not (is_of c.args.id c.args.site.now x)) v.items) v.room) c.self.view_is
 
 pub returns-in_default-copied : goal.returns-in_default-copied
 returns-in_default-copied c =
     let a = c.self.inside in
-    let it = held c.args.id c.args.site.now c.in-Some.number a.candidates.items c.stand_apart.ensures.apart c.stand_apart.ensures.keys (sym c.find.ensures ∙ c.in-Some.is) in
+    let it = held c.args.id c.args.site.now c.in-Some.number a.candidates.items c.find.ensures.apart c.find.ensures.keys (sym c.find.ensures.is ∙ c.in-Some.is) in
     absurd (unless_none _ it.0 (sym (c.copied.ensures ∙ c.get.ensures) ∙ c.in_default-copied.is) it.1)
 
 pub invariant_of-self : goal.invariant_of-self
@@ -38,5 +38,5 @@ pub returns : goal.returns
 returns c =
     let a = c.self.inside in
     ap (λ (v : Items Candidate). listed_of (values_of v.items) v.room) c.remove-candidate.ensures.items
-    ∙ ap (λ cs. listed_of cs a.candidates.room) (left_out c.args.id c.args.site.now c.in-Some.number a.candidates.items c.stand_apart.ensures.apart c.stand_apart.ensures.keys (sym c.find.ensures ∙ c.in-Some.is))
+    ∙ ap (λ cs. listed_of cs a.candidates.room) (left_out c.args.id c.args.site.now c.in-Some.number a.candidates.items c.find.ensures.apart c.find.ensures.keys (sym c.find.ensures.is ∙ c.in-Some.is))
     ∙ ap (λ (v : Listed). listed_of (filter (λ x. not (is_of c.args.id c.args.site.now x)) v.items) v.room) c.self.view_is

@@ -14,26 +14,26 @@ use Rattle.q_dest.proofs.table.Table.remove.Goals as goal
 pub invariant_of-self : goal.invariant_of-self
 invariant_of-self c =
     let a = c.self.inside in
-    let s = c.stand_apart.ensures in
+    let s = c.find.ensures in
     let n = c.in-Some.number in
     let next = sym c.remove-dest.ensures.items in
     record {
       times_are = c.remove-time.ensures.items ∙ less time_rank a.dests a.times c.self.invariant.times_are n ∙ ap (numbers_by time_rank) next;
       dead_are = c.remove-dead.ensures.items ∙ less dead_rank a.dests a.dead c.self.invariant.dead_are n ∙ ap (numbers_by dead_rank) next;
       bounded = subst (λ (x : Items Dest). AreBounded (values_of x.items)) next
-          (subst AreBounded (sym (left_there c.args.site.now n a.dests.items s.apart s.keys (sym c.find.ensures ∙ c.in-Some.is)))
+          (subst AreBounded (sym (left_there c.args.site.now n a.dests.items s.apart s.keys (sym c.find.ensures.is ∙ c.in-Some.is)))
           (bounded_left (is_else c.args.site.now) (values_of a.dests.items) c.self.invariant.bounded));
     }
 
 pub returns-in-Some : goal.returns-in-Some
 returns-in-Some c =
-    let s = c.stand_apart.ensures in
+    let s = c.find.ensures in
     ap (λ (v : Items Dest). record { items = values_of v.items; room = v.room }) c.remove-dest.ensures.items
-    ∙ ap (λ ds. record { items = ds; room = c.self.inside.dests.room }) (left_there c.args.site.now c.in-Some.number c.self.inside.dests.items s.apart s.keys (sym c.find.ensures ∙ c.in-Some.is))
+    ∙ ap (λ ds. record { items = ds; room = c.self.inside.dests.room }) (left_there c.args.site.now c.in-Some.number c.self.inside.dests.items s.apart s.keys (sym c.find.ensures.is ∙ c.in-Some.is))
     ∙ ap (λ (p : Dests). record p { items = filter (is_else c.args.site.now) p.items }) c.self.view_is
 
 pub returns-in_default : goal.returns-in_default
 returns-in_default c =
     sym c.self.view_is
-    ∙ ap (λ ds. record { items = ds; room = c.self.inside.dests.room }) (sym (left_nowhere c.args.site.now c.self.inside.dests.items (sym c.find.ensures ∙ c.in_default.is)))
+    ∙ ap (λ ds. record { items = ds; room = c.self.inside.dests.room }) (sym (left_nowhere c.args.site.now c.self.inside.dests.items (sym c.find.ensures.is ∙ c.in_default.is)))
     ∙ ap (λ (p : Dests). record p { items = filter (is_else c.args.site.now) p.items }) c.self.view_is

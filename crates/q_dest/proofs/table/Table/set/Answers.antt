@@ -14,38 +14,38 @@ use Rattle.q_dest.proofs.table.Table.set.Goals as goal
 
 pub put-requires : goal.put-requires
 put-requires c =
-    let s = c.stand_apart.ensures in
+    let s = c.find.ensures in
     let ks = c.self.inside.dests.items in
-    own c.args.dest.known.site c.in-Some.number ks s.apart s.keys (ap (λ (s : Site). first_such (is_at s) ks) (sym c.site.ensures) ∙ sym c.find.ensures ∙ c.in-Some.is)
+    own c.args.dest.known.site c.in-Some.number ks s.apart s.keys (ap (λ (s : Site). first_such (is_at s) ks) (sym c.site.ensures) ∙ sym c.find.ensures.is ∙ c.in-Some.is)
 
 pub rank_at-requires : goal.rank_at-requires
 rank_at-requires c =
     let a = c.self.inside in
-    let s = c.stand_apart.ensures in
+    let s = c.find.ensures in
     let n = c.in-Some.number in
     let site = c.args.dest.known.site in
-    let found : first_such (is_at site) a.dests.items ≡ Some n = ap (λ (s : Site). first_such (is_at s) a.dests.items) (sym c.site.ensures) ∙ sym c.find.ensures ∙ c.in-Some.is in
+    let found : first_such (is_at site) a.dests.items ≡ Some n = ap (λ (s : Site). first_such (is_at s) a.dests.items) (sym c.site.ensures) ∙ sym c.find.ensures.is ∙ c.in-Some.is in
     unset time_rank a.dests a.times c.self.invariant.times_are n c.args.found.now _ c.time_rank.ensures
     (put_own n c.args.found.now a.dests.items s.apart (item_found (is_at site) n a.dests.items s.apart found ∙ ap (λ (p : Dests). find (is_at site) p.items) c.self.view_is ∙ c.requires))
 
 pub rank_at-requires-in-Some : goal.rank_at-requires-in-Some
 rank_at-requires-in-Some c =
     let a = c.self.inside in
-    let s = c.stand_apart.ensures in
+    let s = c.find.ensures in
     let n = c.in-Some.number in
     let site = c.args.dest.known.site in
-    let found : first_such (is_at site) a.dests.items ≡ Some n = ap (λ (s : Site). first_such (is_at s) a.dests.items) (sym c.site.ensures) ∙ sym c.find.ensures ∙ c.in-Some.is in
+    let found : first_such (is_at site) a.dests.items ≡ Some n = ap (λ (s : Site). first_such (is_at s) a.dests.items) (sym c.site.ensures) ∙ sym c.find.ensures.is ∙ c.in-Some.is in
     unset dead_rank a.dests a.dead c.self.invariant.dead_are n c.args.found.now _ c.dead_rank.ensures
     (put_own n c.args.found.now a.dests.items s.apart (item_found (is_at site) n a.dests.items s.apart found ∙ ap (λ (p : Dests). find (is_at site) p.items) c.self.view_is ∙ c.requires))
 
 pub invariant_of-self : goal.invariant_of-self
 invariant_of-self c =
     let a = c.self.inside in
-    let s = c.stand_apart.ensures in
+    let s = c.find.ensures in
     let n = c.in-Some.number in
     let site = c.args.dest.known.site in
     let next = sym c.put.ensures in
-    let found : first_such (is_at site) a.dests.items ≡ Some n = ap (λ (s : Site). first_such (is_at s) a.dests.items) (sym c.site.ensures) ∙ sym c.find.ensures ∙ c.in-Some.is in
+    let found : first_such (is_at site) a.dests.items ≡ Some n = ap (λ (s : Site). first_such (is_at s) a.dests.items) (sym c.site.ensures) ∙ sym c.find.ensures.is ∙ c.in-Some.is in
     record {
       times_are = c.rank_at.ensures ∙ set time_rank a.dests a.times c.self.invariant.times_are n c.args.dest _ c.time_rank-in-Some.ensures ∙ ap (numbers_by time_rank) next;
       dead_are = c.rank_at-in-Some.ensures ∙ set dead_rank a.dests a.dead c.self.invariant.dead_are n c.args.dest _ c.dead_rank-in-Some.ensures ∙ ap (numbers_by dead_rank) next;
@@ -56,11 +56,11 @@ invariant_of-self c =
 
 pub returns-in-Some : goal.returns-in-Some
 returns-in-Some c =
-    let s = c.stand_apart.ensures in
+    let s = c.find.ensures in
     let site = c.args.dest.known.site in
     let ks = c.self.inside.dests.items in
     ap (λ (v : Items Dest). record { items = values_of v.items; room = v.room }) c.put.ensures
-    ∙ ap (λ ds. record { items = ds; room = c.self.inside.dests.room }) (put_there site c.in-Some.number ks s.apart s.keys (ap (λ (s : Site). first_such (is_at s) ks) (sym c.site.ensures) ∙ sym c.find.ensures ∙ c.in-Some.is) c.args.dest)
+    ∙ ap (λ ds. record { items = ds; room = c.self.inside.dests.room }) (put_there site c.in-Some.number ks s.apart s.keys (ap (λ (s : Site). first_such (is_at s) ks) (sym c.site.ensures) ∙ sym c.find.ensures.is ∙ c.in-Some.is) c.args.dest)
     ∙ ap (λ (p : Dests). record p { items = map (changed_at site (λ (d : Dest). c.args.dest)) p.items }) c.self.view_is
 
 pub returns-in_default : goal.returns-in_default
@@ -68,5 +68,5 @@ returns-in_default c =
     let site = c.args.dest.known.site in
     let ks = c.self.inside.dests.items in
     sym c.self.view_is
-    ∙ ap (λ ds. record { items = ds; room = c.self.inside.dests.room }) (sym (put_nowhere site ks (ap (λ (s : Site). first_such (is_at s) ks) (sym c.site.ensures) ∙ sym c.find.ensures ∙ c.in_default.is) c.args.dest))
+    ∙ ap (λ ds. record { items = ds; room = c.self.inside.dests.room }) (sym (put_nowhere site ks (ap (λ (s : Site). first_such (is_at s) ks) (sym c.site.ensures) ∙ sym c.find.ensures.is ∙ c.in_default.is) c.args.dest))
     ∙ ap (λ (p : Dests). record p { items = map (changed_at site (λ (d : Dest). c.args.dest)) p.items }) c.self.view_is

@@ -15,7 +15,7 @@ returns-in_err-at c =
     let n = c.args.number in
     let ks = a.heads.items in
     ap (option_map delivery_shown) c.from_residual.ensures
-    ∙ sym (found_nowhere n (filled a.positions.lists ks) (filled_first a.positions.lists n ks ∙ sym c.find.ensures ∙ c.in_err-at.was))
+    ∙ sym (found_nowhere n (filled a.positions.lists ks) (filled_first a.positions.lists n ks ∙ sym c.find.ensures.is ∙ c.in_err-at.was))
     ∙ ap (λ (v : Flying). find (has_number n) v.items) c.self.view_is
 
 pub returns-in_err-head : goal.returns-in_err-head
@@ -28,7 +28,7 @@ returns-in_err-head c =
     ap (option_map delivery_shown) c.from_residual-in_err-head.ensures
     ∙ ap (delivery_at lists at) (sym (ap option_copied c.in_err-head.was) ∙ c.get.ensures)
     ∙ sym (filled_item lists at ks)
-    ∙ found_at n at (filled lists ks) (filled_apart lists ks c.stand_apart.ensures.apart) (filled_first lists n ks ∙ sym c.find.ensures ∙ c.in_ok-at.was)
+    ∙ found_at n at (filled lists ks) (filled_apart lists ks c.find.ensures.apart) (filled_first lists n ks ∙ sym c.find.ensures.is ∙ c.in_ok-at.was)
     ∙ ap (λ (v : Flying). find (has_number n) v.items) c.self.view_is
 
 pub returns : goal.returns
@@ -41,5 +41,5 @@ returns c =
     ap (λ (f : Delivery). Some f) (c.with.ensures ∙ ap (λ (xs : List ℕ). delivery_of c.in_ok-head.head.now xs) c.get-2.ensures)
     ∙ ap (delivery_at lists at) (sym (ap option_copied c.in_ok-head.was) ∙ c.get.ensures)
     ∙ sym (filled_item lists at ks)
-    ∙ found_at n at (filled lists ks) (filled_apart lists ks c.stand_apart.ensures.apart) (filled_first lists n ks ∙ sym c.find.ensures ∙ c.in_ok-at.was)
+    ∙ found_at n at (filled lists ks) (filled_apart lists ks c.find.ensures.apart) (filled_first lists n ks ∙ sym c.find.ensures.is ∙ c.in_ok-at.was)
     ∙ ap (λ (v : Flying). find (has_number n) v.items) c.self.view_is

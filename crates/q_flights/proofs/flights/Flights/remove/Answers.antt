@@ -21,7 +21,7 @@ returns-in_default-clause-taken c =
     let n = c.args.number in
     let ks = a.heads.items in
     let lists = a.positions.lists in
-    ap is_some (sym (found_nowhere n (filled lists ks) (filled_first lists n ks ∙ sym c.find.ensures ∙ c.in_default.is)))
+    ap is_some (sym (found_nowhere n (filled lists ks) (filled_first lists n ks ∙ sym c.find.ensures.is ∙ c.in_default.is)))
     ∙ ap (λ (v : Flying). is_some (find (has_number n) v.items)) c.self.view_is
 
 pub returns-in_default-clause-items : goal.returns-in_default-clause-items
@@ -34,7 +34,7 @@ returns-in_default-clause-items c =
     ap (λ (fs : List Delivery). record now { items = fs })
     (sym (whole n now.items
     (sym (ap (λ (v : Flying). find (has_number n) v.items) c.self.view_is)
-    ∙ found_nowhere n (filled lists ks) (filled_first lists n ks ∙ sym c.find.ensures ∙ c.in_default.is))))
+    ∙ found_nowhere n (filled lists ks) (filled_first lists n ks ∙ sym c.find.ensures.is ∙ c.in_default.is))))
 
 -- it was found at that place
 
@@ -45,7 +45,7 @@ invariant_of-self c =
     let at = c.in-Some.at in
     let ks = a.heads.items in
     let lists = a.positions.lists in
-    absurd (not_gone n at (filled lists ks) (filled_apart lists ks c.stand_apart.ensures.apart) (filled_first lists n ks ∙ sym c.find.ensures ∙ c.in-Some.is)
+    absurd (not_gone n at (filled lists ks) (filled_apart lists ks c.find.ensures.apart) (filled_first lists n ks ∙ sym c.find.ensures.is ∙ c.in-Some.is)
     (filled_item lists at ks ∙ ap (delivery_at lists at) (sym c.remove.ensures.taken ∙ c.in_default-remove.is)))
 
 pub returns-in_default-remove-clause-taken : goal.returns-in_default-remove-clause-taken
@@ -55,7 +55,7 @@ returns-in_default-remove-clause-taken c =
     let at = c.in-Some.at in
     let ks = a.heads.items in
     let lists = a.positions.lists in
-    absurd (not_gone n at (filled lists ks) (filled_apart lists ks c.stand_apart.ensures.apart) (filled_first lists n ks ∙ sym c.find.ensures ∙ c.in-Some.is)
+    absurd (not_gone n at (filled lists ks) (filled_apart lists ks c.find.ensures.apart) (filled_first lists n ks ∙ sym c.find.ensures.is ∙ c.in-Some.is)
     (filled_item lists at ks ∙ ap (delivery_at lists at) (sym c.remove.ensures.taken ∙ c.in_default-remove.is)))
 
 pub returns-in_default-remove-clause-items : goal.returns-in_default-remove-clause-items
@@ -65,7 +65,7 @@ returns-in_default-remove-clause-items c =
     let at = c.in-Some.at in
     let ks = a.heads.items in
     let lists = a.positions.lists in
-    absurd (not_gone n at (filled lists ks) (filled_apart lists ks c.stand_apart.ensures.apart) (filled_first lists n ks ∙ sym c.find.ensures ∙ c.in-Some.is)
+    absurd (not_gone n at (filled lists ks) (filled_apart lists ks c.find.ensures.apart) (filled_first lists n ks ∙ sym c.find.ensures.is ∙ c.in-Some.is)
     (filled_item lists at ks ∙ ap (delivery_at lists at) (sym c.remove.ensures.taken ∙ c.in_default-remove.is)))
 
 -- it goes
@@ -78,7 +78,7 @@ count_ended-requires c =
     let ks = a.heads.items in
     let lists = a.positions.lists in
     let there : find (has_number n) (deliveries_of lists ks) ≡ Some (delivery_of c.in-Some-remove.head (get_or lists at [])) =
-    sym (found_at n at (filled lists ks) (filled_apart lists ks c.stand_apart.ensures.apart) (filled_first lists n ks ∙ sym c.find.ensures ∙ c.in-Some.is))
+    sym (found_at n at (filled lists ks) (filled_apart lists ks c.find.ensures.apart) (filled_first lists n ks ∙ sym c.find.ensures.is ∙ c.in-Some.is))
     ∙ filled_item lists at ks ∙ ap (delivery_at lists at) (sym c.remove.ensures.taken ∙ c.in-Some-remove.is) in
     counted_some (deliveries_of lists ks) a.counts n _ c.transport.result c.self.invariant.sound.counted c.self.invariant.sound.rise there c.transport.type_inv c.transport.ensures
 
@@ -92,7 +92,7 @@ left c =
     let lists = a.positions.lists in
     ap (λ (v : Items DeliveryHead). deliveries_of lists v.items) c.remove.ensures.items
     ∙ ap values_of (filled_left lists at ks)
-    ∙ left_at n at (filled lists ks) (filled_apart lists ks c.stand_apart.ensures.apart) (filled_keys lists ks c.stand_apart.ensures.keys) (filled_first lists n ks ∙ sym c.find.ensures ∙ c.in-Some.is)
+    ∙ left_at n at (filled lists ks) (filled_apart lists ks c.find.ensures.apart) (filled_keys lists ks c.find.ensures.keys) (filled_first lists n ks ∙ sym c.find.ensures.is ∙ c.in-Some.is)
 
 pub invariant_of-self-2 : goal.invariant_of-self-2
 invariant_of-self-2 c =
@@ -102,7 +102,7 @@ invariant_of-self-2 c =
     let ks = a.heads.items in
     let lists = a.positions.lists in
     let there : find (has_number n) (deliveries_of lists ks) ≡ Some (delivery_of c.in-Some-remove.head (get_or lists at [])) =
-    sym (found_at n at (filled lists ks) (filled_apart lists ks c.stand_apart.ensures.apart) (filled_first lists n ks ∙ sym c.find.ensures ∙ c.in-Some.is))
+    sym (found_at n at (filled lists ks) (filled_apart lists ks c.find.ensures.apart) (filled_first lists n ks ∙ sym c.find.ensures.is ∙ c.in-Some.is))
     ∙ filled_item lists at ks ∙ ap (delivery_at lists at) (sym c.remove.ensures.taken ∙ c.in-Some-remove.is) in
     let sound : IsSound (filter (is_other n) (deliveries_of lists ks)) c.count_ended.new.counts = record {
       rise = rising_left (is_other n) (deliveries_of lists ks) c.self.invariant.sound.rise;
@@ -121,7 +121,7 @@ returns-clause-taken c =
     let ks = a.heads.items in
     let lists = a.positions.lists in
     let there : find (has_number n) (deliveries_of lists ks) ≡ Some (delivery_of c.in-Some-remove.head (get_or lists at [])) =
-    sym (found_at n at (filled lists ks) (filled_apart lists ks c.stand_apart.ensures.apart) (filled_first lists n ks ∙ sym c.find.ensures ∙ c.in-Some.is))
+    sym (found_at n at (filled lists ks) (filled_apart lists ks c.find.ensures.apart) (filled_first lists n ks ∙ sym c.find.ensures.is ∙ c.in-Some.is))
     ∙ filled_item lists at ks ∙ ap (delivery_at lists at) (sym c.remove.ensures.taken ∙ c.in-Some-remove.is) in
     sym (ap is_some there) ∙ ap (λ (v : Flying). is_some (find (has_number n) v.items)) c.self.view_is
 

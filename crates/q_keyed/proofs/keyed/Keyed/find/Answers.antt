@@ -10,8 +10,8 @@ use Rattle.q_keyed.proofs.keyed.Keyed.find.Goals as goal
 pub find_from-requires : goal.find_from-requires
 find_from-requires g c = begins c.bucket.result c.self.inside.by_key c.first-from.result c.first-from.ensures.is
 
-pub returns : goal.returns
-returns g c =
+pub returns-clause-is : goal.returns-clause-is
+returns-clause-is g c =
     let a = c.self.inside in
     let k = c.args.key.now in
     let b = c.bucket.result in
