@@ -46,8 +46,9 @@ pub(crate) struct Spool<F: Files<File = File> + Clock + Drop> {
 }
 
 fn folder(alloc: Global, root: &str, area: Area) -> Result<Folder, AllocError> {
+    let path = format!(in alloc; "{root}/{}", area.folder())?;
     Ok(Folder {
-        path: format!(in alloc; "{root}/{}", area.folder())?,
+        path,
         handle: None,
         seen: None,
         is_listed: false,
@@ -99,13 +100,14 @@ impl<F: Files<File = File> + Clock + Drop> Spool<F> {
         access: Access,
     ) -> Result<Self, AllocError> {
         let folders = all_folders(alloc, root)?;
+        let root = format!(in alloc; "{root}")?;
         Ok(Spool {
             system: System {
                 alloc,
                 files,
                 syncs: 0,
             },
-            root: format!(in alloc; "{root}")?,
+            root,
             access,
             is_ready: false,
             folders,
