@@ -9,26 +9,43 @@ use q_text::{first_line, is_text, trim, trim_start};
 use q_transport::{TableError, read_table};
 use std::alloc::{AllocError, Global};
 
-/// A parameter that may not be above another one, both with the value that fits to each of the other.
+/// A parameter of a pair: its name, its default, and the value that fits to each of the other.
+struct Bound {
+    name: &'static str,
+    default: &'static str,
+    widest: &'static str,
+}
+
+/// Two parameters of which one may not be above the other.
 struct Pair {
-    low: &'static str,
-    high: &'static str,
-    least: &'static str,
-    most: &'static str,
+    low: Bound,
+    high: Bound,
 }
 
 const PAIRS: [Pair; 2] = [
     Pair {
-        low: "qmgr_message_recipient_minimum",
-        high: "qmgr_message_recipient_limit",
-        least: "1",
-        most: "100000",
+        low: Bound {
+            name: "qmgr_message_recipient_minimum",
+            default: "10",
+            widest: "1",
+        },
+        high: Bound {
+            name: "qmgr_message_recipient_limit",
+            default: "20000",
+            widest: "100000",
+        },
     },
     Pair {
-        low: "minimal_backoff_time",
-        high: "maximal_backoff_time",
-        least: "1s",
-        most: "9999999s",
+        low: Bound {
+            name: "minimal_backoff_time",
+            default: "300",
+            widest: "1",
+        },
+        high: Bound {
+            name: "maximal_backoff_time",
+            default: "4000",
+            widest: "9999999",
+        },
     },
 ];
 
@@ -54,25 +71,58 @@ fn setting(line: &[u8]) -> (&[u8], &[u8]) {
     }
 }
 
-/// Whether a file of these two lines has only values that their parameters take.
-fn is_in_range(alloc: Global, line: &[u8], other: &str, value: &str) -> Result<bool, AllocError> {
-    let shown = line.escape_ascii();
-    let text = format!(in alloc; "{other} = {value}\n{shown}\n")?;
+/// Whether a line has a value that its parameter takes, where the other of its pair doesn't matter.
+fn is_in_range(alloc: Global, line: &[u8], other: &Bound) -> Result<bool, AllocError> {
+    let (shown, name, value) = (line.escape_ascii(), other.name, other.widest);
+    let text = format!(in alloc; "{name} = {value}\n{shown}\n")?;
     Ok(read_params(text.as_bytes()).is_ok())
 }
 
-/// What is wrong with a value: it is none of its parameter, or two parameters disagree.
-fn bad_value(alloc: Global, line: &[u8]) -> Result<String, AllocError> {
-    let (name, value) = setting(line);
-    let (text, said) = (name.escape_ascii(), value.escape_ascii());
-    for pair in &PAIRS {
-        if name == pair.low.as_bytes() && is_in_range(alloc, line, pair.high, pair.most)? {
-            return format!(in alloc; "{text}: {said} is above {}", pair.high);
-        }
-        if name == pair.high.as_bytes() && is_in_range(alloc, line, pair.low, pair.least)? {
-            return format!(in alloc; "{text}: {said} is below {}", pair.low);
+/// The value that a file sets a parameter to.
+fn value_in<'a>(bytes: &'a [u8], parameter: &str) -> Option<&'a [u8]> {
+    for line in bytes.split(|byte| *byte == b'\n') {
+        let (name, value) = setting(line);
+        if name == parameter.as_bytes() {
+            return Some(value);
         }
     }
+    None
+}
+
+/// That a value doesn't fit to that of the other parameter, in this sense.
+fn disagrees(
+    alloc: Global,
+    bytes: &[u8],
+    line: &[u8],
+    sense: &str,
+    other: &Bound,
+) -> Result<String, AllocError> {
+    let (name, value) = setting(line);
+    let (text, said) = (name.escape_ascii(), value.escape_ascii());
+    match value_in(bytes, other.name) {
+        Some(value) => {
+            let want = value.escape_ascii();
+            format!(in alloc; "{text}: {said} is {sense} {}, {want}", other.name)
+        }
+        None => format!(in alloc;
+            "{text}: {said} is {sense} {}, {}",
+            other.name, other.default
+        ),
+    }
+}
+
+/// What is wrong with a value: it is none of its parameter, or two parameters disagree.
+fn bad_value(alloc: Global, bytes: &[u8], line: &[u8]) -> Result<String, AllocError> {
+    let (name, value) = setting(line);
+    for pair in &PAIRS {
+        if name == pair.low.name.as_bytes() && is_in_range(alloc, line, &pair.high)? {
+            return disagrees(alloc, bytes, line, "above", &pair.high);
+        }
+        if name == pair.high.name.as_bytes() && is_in_range(alloc, line, &pair.low)? {
+            return disagrees(alloc, bytes, line, "below", &pair.low);
+        }
+    }
+    let (text, said) = (name.escape_ascii(), value.escape_ascii());
     format!(in alloc; "{text}: {said} is no value of it")
 }
 
@@ -85,14 +135,19 @@ fn no_text(alloc: Global, line: &[u8]) -> Result<String, AllocError> {
 }
 
 /// Why a line of the parameters is refused.
-fn parameter_cause(alloc: Global, line: &[u8], cause: ParamCause) -> Result<String, AllocError> {
+fn parameter_cause(
+    alloc: Global,
+    bytes: &[u8],
+    line: &[u8],
+    cause: ParamCause,
+) -> Result<String, AllocError> {
     let name = setting(line).0.escape_ascii();
     match cause {
         ParamCause::NotText => no_text(alloc, line),
         ParamCause::NoEquals => format!(in alloc; "{name}: no equals sign"),
         ParamCause::UnknownName => format!(in alloc; "{name}: no such parameter"),
         ParamCause::Twice => format!(in alloc; "{name}: set by an earlier line"),
-        ParamCause::BadValue => bad_value(alloc, line),
+        ParamCause::BadValue => bad_value(alloc, bytes, line),
     }
 }
 
@@ -102,7 +157,8 @@ pub(crate) fn cause_in_params(alloc: Global, host: &mut Host<'_>) -> Option<Stri
     match read_params(bytes.as_slice()) {
         Ok(_) => None,
         Err(ParamError { line, cause }) => {
-            parameter_cause(alloc, line_at(bytes.as_slice(), line), cause).ok()
+            let bytes = bytes.as_slice();
+            parameter_cause(alloc, bytes, line_at(bytes, line), cause).ok()
         }
     }
 }
