@@ -17,6 +17,7 @@ use Rattle.q_pool.specs.Slots.{changed_at, with_bounce, with_damage}
 use Rattle.q_core.specs.declared.state.Question.TheVariants.{Nothing}
 use Rattle.q_pool.specs.declared.slot.Slot.{Slot}
 use Rattle.q_core.specs.declared.decision.Found.{Found}
+use Rattle.q_core.specs.declared.decision.Found.TheVariants as founds
 use Rattle.q_core.specs.declared.state.Core.{Core}
 use Rattle.q_core.specs.declared.state.Seen.{Seen}
 use Rattle.q_core.specs.declared.state.Seen.TheVariants.{Known, Unknown}
@@ -60,6 +61,10 @@ scan_ended c (Some request) = record c {
   asked = None;
   deferred = Unknown;
 }
+
+-- a damaged file of this id stands first in active
+abbrev pub with_damaged : Id → Core → Core
+with_damaged id c = record c { active = Known (founds.Damaged id 0 true) }
 
 -- what a look at deferred has shown
 abbrev pub looked_at : Core → Found → Core

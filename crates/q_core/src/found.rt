@@ -1,15 +1,16 @@
 //! Answers to looks, and to reads that fail.
-ghost use Rattle.std.specs.Prelude.{◌≡◌, map, true};
+ghost use Rattle.std.specs.Prelude.{◌≡◌, false, map, true};
 ghost use Rattle.q_core.specs.Agrees.{Agrees, ForLedgers};
 ghost use Rattle.q_core.specs.Answers.{IsFound, is_fit, ForRead};
-ghost use Rattle.q_core.specs.Changes.{IsDamageNoted, IsSlotChange};
+ghost use Rattle.q_core.specs.Changes.{IsDamageNoted, IsSlotChange, with_damaged};
 ghost use Rattle.q_core.specs.Deciding.{is_answered};
+ghost use Rattle.q_core.specs.Held.{is_admitted_in};
 ghost use Rattle.q_core.specs.Looking.{LeavesFewer};
 ghost use Rattle.q_pool.specs.Slots.{changed_at, with_damage};
 ghost use Rattle.q_model.specs.declared.id.Id.{Id};
 
 use crate::decision::Found;
-use crate::state::{Core, Question};
+use crate::state::{Core, Question, Seen};
 use crate::tidy::unread;
 use crate::touched::touch_message;
 use q_model::Id;
@@ -59,5 +60,29 @@ impl Core {
     {
         self.note_found(found);
         self.question = Question::Nothing;
+    }
+
+    /// The bounce that was decided of the message can't be made, since a name or its content can't be
+    /// read: the message goes to corrupt in place of it. Where an earlier life left it, it is seen as a
+    /// damaged file.
+    ///
+    /// It is an error to call it for any other message than that of the last decision, a `Bounce`.
+    pub fn unbounceable(&mut self, id: Id)
+        ensures kept { is_admitted_in self.old id ≡ true
+            → IsSlotChange self.old self.new id with_damage }
+        ensures left { is_admitted_in self.old id ≡ false → self.new ≡ with_damaged id self.old }
+        ensures question { self.new.question ≡ self.old.question }
+    {
+        if self.has_slot(id) {
+            self.note_damage(id);
+            return;
+        }
+        self.active = Seen::Known {
+            found: Found::Damaged {
+                id,
+                due: 0,
+                alone: true,
+            },
+        };
     }
 }

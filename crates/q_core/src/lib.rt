@@ -12,6 +12,8 @@
 //! - a read of recipients, which the caller answers by `sited` for the site of each that was read
 //!   and then `loaded`, or by `found` with `Damaged` where a record can't be read.
 //!
+//! Where a bounce that it has decided can't be made, the caller says so by `unbounceable`.
+//!
 //! It is an error to hear an event or to ask for a decision while a look or a read waits for its
 //! answer. `decision` tells beforehand what `next_decision` would answer. Once it has answered a
 //! `Skip`, `row_positions` tells by its number which recipients were put off; `entry_positions` tells

@@ -95,7 +95,8 @@ impl Core {
 
     /// The delivery of this number, where it is in flight.
     pub fn flight(&self, number: u64) -> Option<Flight>
-        ensures { ForLedgers self.now (λ w l. result
+        ensures value { result ≡ option_map flight_shown (flight_in self.now number) }
+        ensures ledger { ForLedgers self.now (λ w l. result
             ≡ option_map flight_shown (flight_of l number)) }
     {
         match self.delivery(number) {
@@ -127,7 +128,9 @@ impl Core {
 
     /// The positions of the delivery of this number, where it is in flight.
     pub fn entry_positions(&self, number: u64) -> Option<&[u32]>
-        ensures { ForLedgers self.now (λ w l. option_copied result ≡ option_map
+        ensures value { option_copied result
+            ≡ option_map (λ f. f.row.positions) (flight_in self.now number) }
+        ensures ledger { ForLedgers self.now (λ w l. option_copied result ≡ option_map
             (λ f. f.row.positions) (flight_of l number)) }
     {
         match self.delivery(number) {

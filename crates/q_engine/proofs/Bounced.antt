@@ -39,7 +39,9 @@ use Rattle.q_core.specs.declared.decision.Decision.TheVariants as decisions
 use Rattle.q_files.specs.Submissions.{AddsMessage, submitted}
 use Rattle.q_message.specs.FileHeads.{IsHead}
 use Rattle.q_message.specs.Told.{bytes_at}
-use Rattle.q_engine.specs.BounceTexts.{AddsBounce, TellsNotice}
+use Rattle.q_engine.specs.BounceTexts.{AddsBounce, IsNoBounce, TellsNotice}
+use Rattle.q_engine.proofs.Unread.{not_unread}
+use Rattle.q_model.specs.QueueFile.{queue_file}
 use Rattle.q_engine.specs.Stands.{HasDecided}
 use Rattle.q_engine.specs.declared.engine.Engine.{Engine}
 use Rattle.q_engine.proofs.ContentFronts.{head_is}
@@ -93,6 +95,7 @@ record IsBounced (l : Ledger) (id : Id) : Type 0 where
   done : is_done message ≡ true
   alone : message.id.bounce ≡ false
   unsaid : has_bounce l id ≡ false
+  asked : is_none message.sender ≡ false
 
 bounced : (l : Ledger) (id : Id) (o : Option Message) → message_of l.book id ≡ o → option_map_or (λ (m : Message). is_active m.place && is_at_rest l id && is_done m && wants_bounce m && not (has_bounce l id)) o false ≡ true → IsBounced l id
 bounced l id None e h = absurd cc
@@ -106,6 +109,7 @@ bounced l id (Some m) e h =
       done = two.1;
       alone = not-true m.id.bounce (and_parts (not (has_none m.failures) && not (is_none m.sender)) (not m.id.bounce) three.1).1;
       unsaid = not-true (has_bounce l id) four.1;
+      asked = not-true (is_none m.sender) (and_parts (not (has_none m.failures)) (not (is_none m.sender)) (and_parts (not (has_none m.failures) && not (is_none m.sender)) (not m.id.bounce) three.1).0).1;
     }
 
 bounce_speaks : (w : World) (l : Ledger) (id : Id) → IsConsistent w l → next w l ≡ Some (entries.Bounce id) → IsBounced l id
@@ -125,6 +129,7 @@ module _ (w : World) (l : Ledger) (id : Id) (engine : Engine) (v : View) (h : Ha
       record {
         message = m;
         file = in_active l id m one.active s is;
+        asked = one.asked;
         form = form;
         fresh = fresh;
         no_log = h.logs (bounce_of id) form fresh;
@@ -134,6 +139,18 @@ module _ (w : World) (l : Ledger) (id : Id) (engine : Engine) (v : View) (h : Ha
   -- its file is there
   pub bounce_there : IsSome (v.files s.area s.name)
   bounce_there = let one = bounce_speaks w l id h.was.consistent h.following in file_there v l.book id one.message s h.host (in_active l id one.message one.active s is)
+
+-- ---- where there is none to be made
+
+-- the file can't be read
+pub unread_bounce : (v : View) (s : Spot) (id : Id) (arrival : ℕ) → IfSome (bytes_at v s) (λ bytes. queue_file bytes ≡ None) → IsNoBounce v s id arrival
+unread_bounce v s id arrival none b k h adds = not_unread v b id adds.message s h adds.file none
+
+-- it says no sender
+pub unsent_bounce : (v : View) (s : Spot) (id : Id) (arrival : ℕ) (head : FileHead) → IfSome (bytes_at v s) (IsHead head) → head.head.sender ≡ None → IsNoBounce v s id arrival
+unsent_bounce v s id arrival head reading none b k h adds =
+    let bad : false ≡ true = sym adds.asked ∙ ap is_none (sender_read v b id adds.message s head h adds.file reading ∙ none) in
+    cc
 
 -- ---- the calls
 

@@ -1,5 +1,5 @@
 -- The notice of a message: what is read for it, and how its message changes the book.
-use Rattle.std.specs.Prelude.{◌≡◌, Bool, false, List, None, Some, take, ℕ}
+use Rattle.std.specs.Prelude.{◌≡◌, Bool, false, is_none, List, None, Some, take, ℕ}
 use Rattle.q_model.specs.declared.id.Id.{Id}
 use Rattle.q_model.specs.declared.outcome.Failure.{Failure}
 use Rattle.q_model.specs.declared.spot.Area.TheVariants as areas
@@ -35,13 +35,18 @@ abbrev pub TellsNotice : View → Spot → Id → List ℕ → List ℕ → Type
 TellsNotice v spot id sender text = (b : Book) (m : Message) → HostStands v b
     → IsFileAt b id m spot → m.sender ≡ Some sender → text ≡ notice m
 
--- The book has the bounce of the message more, whose file stands at the spot. The id of the bounce is
--- new, and no failure log of it is left in the files.
+-- The book has the bounce of the message more, whose file stands at the spot, and which has a sender. The
+-- id of the bounce is new, and no failure log of it is left in the files.
 pub record AddsBounce (files : Files) (spot : Spot) (id : Id) (arrival : ℕ) (b k : Book)
     : Type 0 where
   pub message : Message
   pub file : IsFileAt b id message spot
+  pub asked : is_none message.sender ≡ false
   pub form : IsId (bounce_of id)
   pub fresh : stands b (bounce_of id) ≡ false
   pub no_log : files areas.Bounce (id_text (bounce_of id)) ≡ None
   pub changed : k ≡ add_message b (bounce_message arrival message)
+
+-- no message of a book for which the host stands has its file there and a bounce to be made
+abbrev pub IsNoBounce : View → Spot → Id → ℕ → Type 0
+IsNoBounce v spot id arrival = (b k : Book) → HostStands v b → AddsBounce v.files spot id arrival b k → ⊥

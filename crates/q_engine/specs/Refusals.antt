@@ -1,5 +1,5 @@
 -- Which events are refused, and why; and what becomes of a refusal of the host.
-use Rattle.std.specs.Prelude.{◌≡◌, ◌≤◌, ◌<◌, IsErrOf, Result, ◌-◌, ◌^◌, ◌&&◌, ◌==◌, Bool, if◌then◌else◌, length, List, min, nat_lt, None, not, Option, Some, true, false, ℕ}
+use Rattle.std.specs.Prelude.{◌≡◌, ◌≤◌, ◌<◌, IsErrOf, IsSome, Result, ◌-◌, ◌^◌, ◌&&◌, ◌==◌, Bool, if◌then◌else◌, length, List, min, nat_lt, None, not, Option, Some, true, false, ℕ}
 use Rattle.q_model.specs.declared.event.Event.{Event}
 use Rattle.q_model.specs.declared.event.Event.TheVariants as events
 use Rattle.q_model.specs.declared.outcome.Outcome.{Outcome}
@@ -14,6 +14,7 @@ use Rattle.q_host.specs.Faults.{Faults}
 use Rattle.q_host.specs.declared.error.HostError.{HostError}
 use Rattle.q_host.specs.declared.error.HostError.TheVariants.{Disk, NoMemory, Tell}
 use Rattle.q_core.specs.Agrees.{Agrees}
+use Rattle.q_core.specs.Queries.{flight_in}
 use Rattle.q_engine.specs.Heard.{is_moment}
 use Rattle.q_engine.specs.Stands.{HasCounts}
 use Rattle.q_engine.specs.declared.engine.Engine.{Engine}
@@ -73,19 +74,24 @@ refused_event l event = if is_early l.timed event then Some errors.Untimed
 abbrev pub ForAgreed : Engine → (World → Ledger → Type 0) → Type 0
 ForAgreed engine says = (w : World) → (l : Ledger) → Agrees w engine.core.value l → HasCounts engine l → says w l
 
--- a message has a serial left
-abbrev pub HasSerial : Engine → Event → Type 0
-HasSerial engine (events.At t) = Unit {0}
-HasSerial engine (events.Mail sender to content) = engine.arrivals < 2 ^ 32 - 1
-HasSerial engine (events.Reply number state os) = Unit {0}
-HasSerial engine (events.Trigger kind) = Unit {0}
+-- the delivery of this number is in flight
+abbrev pub Flies : Engine → ℕ → Type 0
+Flies engine number = IsSome (flight_in engine.core.value number)
 
--- an event that isn't refused: a moment came, and a message has a serial left
+-- a message has a serial left, and a reply a delivery in flight
+abbrev pub IsPossible : Engine → Event → Type 0
+IsPossible engine (events.At t) = Unit {0}
+IsPossible engine (events.Mail sender to content) = engine.arrivals < 2 ^ 32 - 1
+IsPossible engine (events.Reply number state os) = Flies engine number
+IsPossible engine (events.Trigger kind) = Unit {0}
+
+-- an event that isn't refused: a moment came, and it is possible
 abbrev pub IsAdmissible : Engine → Event → Type 0
 IsAdmissible engine (events.At t) = Unit {0}
 IsAdmissible engine (events.Mail sender to content) =
     (engine.core.value.timed ≡ true) × (engine.arrivals < 2 ^ 32 - 1)
-IsAdmissible engine (events.Reply number state os) = engine.core.value.timed ≡ true
+IsAdmissible engine (events.Reply number state os) =
+    (engine.core.value.timed ≡ true) × Flies engine number
 IsAdmissible engine (events.Trigger kind) = engine.core.value.timed ≡ true
 
 -- the refusal is one of an event, and not of the host

@@ -1,7 +1,7 @@
 //! Which events are refused, before anything is done.
 ghost use Rattle.std.specs.Prelude.{◌≡◌, ◌<◌, ◌-◌, ◌^◌, IfNone, IfSome, true};
 ghost use Rattle.q_engine.specs.Heard.{is_moment};
-ghost use Rattle.q_engine.specs.Refusals.{ForAgreed, HasSerial, is_early, is_of_event, IsAdmissible, refused_event, refused_kind, refused_mail, refused_reply, told_count};
+ghost use Rattle.q_engine.specs.Refusals.{Flies, ForAgreed, is_early, is_of_event, IsAdmissible, IsPossible, refused_event, refused_kind, refused_mail, refused_reply, told_count};
 ghost use Rattle.q_model.specs.Deliveries.{flight_of};
 
 use crate::engine::Engine;
@@ -45,6 +45,7 @@ impl Engine {
     fn reply_refusal(&self, number: u64, outcomes: &[Outcome]) -> Option<EngineError>
         ensures ledger { ForAgreed self.now (λ w l. result
             ≡ refused_reply number outcomes.now (flight_of l number)) }
+        ensures flies { IfNone result (Flies self.now number) }
         ensures kind { IfSome result (λ error. is_of_event error ≡ true) }
     {
         let Some(positions) = self.core.entry_positions(number) else {
@@ -62,7 +63,7 @@ impl Engine {
 
     fn kind_refusal(&self, event: &Event) -> Option<EngineError>
         ensures ledger { ForAgreed self.now (λ w l. result ≡ refused_kind l event.now) }
-        ensures serial { IfNone result (HasSerial self.now event.now) }
+        ensures possible { IfNone result (IsPossible self.now event.now) }
         ensures kind { IfSome result (λ error. is_of_event error ≡ true) }
     {
         match event {

@@ -1,9 +1,9 @@
 //! What becomes of a message that is done: its notice to the sender is stored where it wants one,
 //! and then it is gone.
-ghost use Rattle.std.specs.Prelude.{◌≡◌, ◌≤◌, ◌∷◌, [], IfOk, IsTrue, None, OnOk};
+ghost use Rattle.std.specs.Prelude.{◌≡◌, ◌≤◌, ◌∷◌, [], false, IfOk, IsTrue, None, OnOk};
 ghost use Rattle.q_books.specs.HostStands.{KeepsNotes, TakesBy, TriesBy};
 ghost use Rattle.q_core.specs.declared.decision.Decision.TheVariants as decisions;
-ghost use Rattle.q_engine.specs.BounceTexts.{AddsBounce};
+ghost use Rattle.q_engine.specs.BounceTexts.{AddsBounce, IsNoBounce};
 ghost use Rattle.q_engine.specs.Steps.{CarriesOut, EachError, GivesDecisionUp, HasNext};
 ghost use Rattle.q_entries.specs.Causes.{HostCause};
 ghost use Rattle.q_host.specs.Faults.{DiskCause};
@@ -15,12 +15,11 @@ ghost use Rattle.q_places.specs.Kept.{kept_file};
 use crate::engine::Engine;
 use crate::mailing::store;
 use crate::notices::notice_at;
-use crate::read_fault::read_fault;
+use crate::read_fault::head_at;
 use q_books::file_spot;
 use q_entries::tell;
 use q_files::remove;
 use q_host::{Host, HostError};
-use q_message::read_head;
 use q_model::{Address, Addresses, Entry, FileHead, Head, Id, Moment, NoMemory, Place, Spot};
 use std::alloc::Global;
 
@@ -45,39 +44,43 @@ fn alone(alloc: Global, address: &Address) -> Result<Addresses, NoMemory>
     Ok(to)
 }
 
-/// Stores the bounce of the message whose file stands at the spot. It has a sender wherever the host
-/// tells its files.
+/// Stores the bounce of the message whose file stands at the spot. Whether that could be made: where
+/// the host tells its files, the message has a sender and can be read.
 fn store_bounce<H: Host>(
     alloc: Global,
     host: &mut H,
     spot: Spot,
     id: Id,
     arrival: Moment,
-) -> Result<(), HostError>
+) -> Result<bool, HostError>
     requires there { IsThere H.tells (H.view host.old) spot }
     requires arrival { arrival ≤ 999990000000 }
     ensures ok { OnOk result (TakesBy (AddsBounce (H.view host.old).files spot id arrival)
         H.tells H.view host.old host.new) }
+    ensures made { IfOk result (λ made. made ≡ false → IsTrue H.tells
+        → IsNoBounce (H.view host.old) spot id arrival) }
     // Whatever it answers.
     ensures tries { TriesBy (AddsBounce (H.view host.old).files spot id arrival)
         H.tells H.view host.old host.new }
     ensures notes { IsTrue H.tells → KeepsNotes (H.view host.old) (H.view host.new) }
     ensures cause { DiskCause (H.faults host.old) (H.faults host.new) result }
 {
-    let head = match read_head(host, spot) {
-        Ok(head) => head,
-        Err(error) => return Err(read_fault(error)),
+    let Some(head) = head_at(host, spot)? else {
+        return Ok(false);
     };
     let Some(sender) = sender_of(&head) else {
-        return Err(HostError::NoMemory);
+        return Ok(false);
     };
-    let text = notice_at(alloc, host, spot, id, &head, &sender)?;
+    let Some(text) = notice_at(alloc, host, spot, id, &head, &sender)? else {
+        return Ok(false);
+    };
     let to = alone(alloc, &sender)?;
     let head = Head {
         sender: None,
         arrival,
     };
-    store(alloc, host, bounce_of(id), &head, &to, text.as_slice())
+    store(alloc, host, bounce_of(id), &head, &to, text.as_slice())?;
+    Ok(true)
 }
 
 impl Engine {
@@ -101,22 +104,28 @@ impl Engine {
         tell(alloc, host, &self.table, &Entry::Remove { id })
     }
 
-    /// Stores the notice of a message that is done, for its sender.
+    /// Stores the notice of a message that is done, for its sender. A message of which it can't be
+    /// made, since it can't be read, goes to corrupt instead; that is told later, with its `Corrupt`.
     pub(crate) fn bounce<H: Host>(
-        &self,
+        &mut self,
         alloc: Global,
         host: &mut H,
         id: Id,
     ) -> Result<(), HostError>
-        requires { IsTrue H.tells → HasNext (decisions.Bounce id) self.now (H.view host.old) }
+        requires { IsTrue H.tells → HasNext (decisions.Bounce id) self.old (H.view host.old) }
         ensures ok { OnOk result (Told H.tells H.view host.old host.new
-            (CarriesOut (decisions.Bounce id) self.now self.now)) }
+            (CarriesOut (decisions.Bounce id) self.old self.new)) }
         ensures err { EachError result (λ error. Told H.tells H.view host.old host.new
-            (GivesDecisionUp (decisions.Bounce id) self.now error)) }
+            (GivesDecisionUp (decisions.Bounce id) self.old error)) }
+        ensures question { self.new.core.value.question ≡ self.old.core.value.question }
         ensures cause { HostCause (H.faults host.old) (H.faults host.new) result }
     {
         let spot = file_spot(Place::Active, id);
-        store_bounce(alloc, host, spot, id, self.core.now())?;
+        let made = store_bounce(alloc, host, spot, id, self.core.now())?;
+        if !made {
+            self.core.unbounceable(id);
+            return Ok(());
+        }
         tell(alloc, host, &self.table, &Entry::Bounce { id })
     }
 }

@@ -1,5 +1,5 @@
 //! The notice of a message, made of its queue file and of its failure log.
-ghost use Rattle.std.specs.Prelude.{◌≡◌, ◌≤◌, IfOk, IsTrue, length, min};
+ghost use Rattle.std.specs.Prelude.{◌≡◌, ◌≤◌, IfNone, IfOk, IfSome, IsTrue, length, min};
 ghost use Rattle.q_engine.specs.BounceTexts.{IsContentFront, TellsNotice};
 ghost use Rattle.q_host.specs.Calls.{Stays};
 ghost use Rattle.q_host.specs.Faults.{DiskCause};
@@ -7,7 +7,7 @@ ghost use Rattle.q_message.specs.FileHeads.{IsHead};
 ghost use Rattle.q_message.specs.Told.{IsThere, TellsOf};
 
 use crate::failures::{failures_at, positions_of};
-use crate::read_fault::read_fault;
+use crate::read_fault::unless_damaged;
 use q_host::{Host, HostError};
 use q_message::read_names;
 use q_model::{Address, Bytes, FileHead, Id, MOST_RETURNED_BYTES, Spot};
@@ -45,7 +45,8 @@ fn content_front<H: Host>(
     Ok(Bytes::from_vec(bytes))
 }
 
-/// The notice of the message whose file, with this head, stands at the spot, for this sender.
+/// The notice of the message whose file, with this head, stands at the spot, for this sender. None
+/// where a name can't be read, which never comes where the host tells its files.
 pub(crate) fn notice_at<H: Host>(
     alloc: Global,
     host: &mut H,
@@ -53,11 +54,12 @@ pub(crate) fn notice_at<H: Host>(
     id: Id,
     head: &FileHead,
     sender: &Address,
-) -> Result<Bytes, HostError>
+) -> Result<Option<Bytes>, HostError>
     requires there { IsThere H.tells (H.view host.old) spot }
     requires reading { TellsOf H.tells (H.view host.old) spot (IsHead head.now) }
-    ensures notice { IfOk result (λ text. IsTrue H.tells
-        → TellsNotice (H.view host.old) spot id sender.now text) }
+    ensures notice { IfOk result (λ o. IfSome o (λ text. IsTrue H.tells
+        → TellsNotice (H.view host.old) spot id sender.now text)) }
+    ensures read { IfOk result (λ o. IfNone o (IsTrue H.tells → ⊥)) }
     ensures stays { IsTrue H.tells → Stays (H.view host.old) (H.view host.new) }
     ensures cause { DiskCause (H.faults host.old) (H.faults host.new) result }
 {
@@ -65,11 +67,11 @@ pub(crate) fn notice_at<H: Host>(
     let positions = positions_of(alloc, failures.as_slice())?;
     let names = match read_names(alloc, host, spot, head, &positions) {
         Ok(names) => names,
-        Err(error) => return Err(read_fault(error)),
+        Err(error) => return unless_damaged(error),
     };
     // There are as many wherever the host tells its files.
     if names.len() != failures.len() {
-        return Err(HostError::NoMemory);
+        return Ok(None);
     }
     let front = content_front(alloc, host, spot, head)?;
     let text = notice(
@@ -81,5 +83,5 @@ pub(crate) fn notice_at<H: Host>(
         head.content_len,
         front.as_slice(),
     )?;
-    Ok(text)
+    Ok(Some(text))
 }

@@ -1,6 +1,6 @@
 //! Reading queue files that may have rotted.
 ghost use Rattle.std.specs.Prelude.{◌≡◌, IfNone, IfOk, IfSome, IsTrue, None};
-ghost use Rattle.q_engine.specs.ReadFaults.{read_fault, unless_damaged};
+ghost use Rattle.q_engine.specs.ReadFaults.{unless_damaged};
 ghost use Rattle.q_host.specs.Calls.{Stays};
 ghost use Rattle.q_host.specs.Faults.{DiskCause};
 ghost use Rattle.q_message.specs.FileHeads.{IsHead};
@@ -10,18 +10,6 @@ ghost use Rattle.q_model.specs.QueueFile.{queue_file};
 use q_host::{Host, HostError};
 use q_message::{MessageError, read_head};
 use q_model::{FileHead, Spot};
-
-/// The fault that reading a queue file of the book had.
-pub(crate) fn read_fault(error: MessageError) -> HostError
-    ensures { result ≡ read_fault error }
-{
-    match error {
-        MessageError::Disk => HostError::Disk,
-        MessageError::NoMemory => HostError::NoMemory,
-        // It never comes where the host tells its files.
-        MessageError::NotAMessage { .. } => HostError::NoMemory,
-    }
-}
 
 /// Nothing, where the file is no queue file.
 pub(crate) fn unless_damaged<T: Drop>(error: MessageError) -> Result<Option<T>, HostError>

@@ -4,7 +4,7 @@ ghost use Rattle.q_host.specs.View.{Told};
 ghost use Rattle.std.specs.Prelude.{◌≡◌, IsTrue, length, OnOk, Some, true};
 ghost use Rattle.std.specs.List.{list_all};
 ghost use Rattle.std.specs.Option.{option_copied};
-ghost use Rattle.q_engine.specs.Refusals.{ForAgreed};
+ghost use Rattle.q_engine.specs.Refusals.{Flies, ForAgreed};
 ghost use Rattle.q_core.specs.Deciding.{is_answered};
 ghost use Rattle.q_books.specs.HostStands.{KeepsOtherNotes};
 ghost use Rattle.q_engine.specs.Delays.{AddsDelays};
@@ -69,6 +69,7 @@ impl Engine {
     ) -> Result<(), HostError>
         requires ready { IsReady self.old }
         requires timed { self.old.core.value.timed ≡ true }
+        requires flies { Flies self.old number }
         requires fits { ForAgreed self.old (λ w l. may_reply l number site outcomes ≡ true) }
         requires codes { list_all has_log_code outcomes ≡ true }
         ensures ok { OnOk result (Told H.tells H.view host.old host.new
@@ -79,10 +80,10 @@ impl Engine {
         ensures cause { HostCause (H.faults host.old) (H.faults host.new) result }
     {
         let Some(flight) = self.core.flight(number) else {
-            return Err(HostError::NoMemory);
+            unreachable!()
         };
         let Some(positions) = self.core.entry_positions(number) else {
-            return Err(HostError::NoMemory);
+            unreachable!()
         };
         let positions = copied(alloc, positions)?;
         self.core.event(Heard::Reply {

@@ -9,6 +9,8 @@ use Rattle.q_model.specs.Values.{FileHead}
 use Rattle.q_model.specs.declared.outcome.Failure.{Failure}
 use Rattle.q_engine.specs.BounceTexts.{IsContentFront}
 use Rattle.q_engine.proofs.NoticesTold.{told_by, told_of}
+use Rattle.q_engine.proofs.Unread.{err_same, unless_none}
+use Rattle.q_message.specs.declared.error.MessageError.TheVariants.{NotAMessage}
 use Rattle.q_engine.proofs.notices.notice_at.Goals as goal
 
 pub read_names-requires-clause-within : goal.read_names-requires-clause-within
@@ -34,3 +36,10 @@ returns-clause-notice g c t b m h file has =
     let told = told_of v b c.args.id m s h file c.args.sender.now head fs c.in_ok-positions.positions c.in-Ok.names c.in_ok-front.front has (c.requires.reading t) failed (c.in_ok-positions.ensures ∙ ap (map (λ (f : Failure). f.position)) c.as_slice.ensures) named begins in
     let size : c.head.inside.content_len ≡ head.content_len = ap (λ (x : FileHead). x.content_len) c.head.view_is in
     c.in_ok-text.ensures.notice m (told_by m c.args.id c.args.sender.now fs c.in-Ok.names head.content_len c.head.inside.content_len c.in_ok-front.front c.as_slice-2.result.now size c.as_slice-2.ensures told)
+
+pub returns-in-Err-clause-notice : goal.returns-in-Err-clause-notice
+returns-in-Err-clause-notice g c = unless_none c.unless_damaged.result c.in-Err.error _ c.unless_damaged.ensures (λ place is. tt)
+
+pub returns-in-Err-clause-read : goal.returns-in-Err-clause-read
+returns-in-Err-clause-read g c =
+    unless_none c.unless_damaged.result c.in-Err.error _ c.unless_damaged.ensures (λ place is. c.read_names.ensures.no_message place (err_same c.read_names.result c.in-Err.error (NotAMessage place) c.in-Err.is is))

@@ -6,7 +6,7 @@ use Rattle.q_engine.specs.Stands.{IsNextEntry}
 use Rattle.q_engine.specs.declared.engine.Engine.{Engine}
 use Rattle.q_engine.proofs.CarriedOut.{next_fewer}
 use Rattle.q_engine.proofs.DecisionMarks.{mark_answered, marks}
-use Rattle.q_engine.proofs.Stopping.{host_readable, host_stopped, ok_stop, same_host}
+use Rattle.q_engine.proofs.Stopping.{host_readable, host_stopped, same_host}
 use Rattle.q_engine.proofs.engine.Engine.carry_out.Goals as goal
 
 pub dispatch-requires-clause-decided : goal.dispatch-requires-clause-decided
@@ -67,8 +67,3 @@ returns-clause-answered g c = on_ok c.mark.result (λ told.
 
 pub dispatch-requires-clause-row : goal.dispatch-requires-clause-row
 dispatch-requires-clause-row g c = subst (λ (e : Engine). KeepsRow c.args.decision.now e.core.value) (sym c.forget_left.ensures.rest) c.requires.row
-
-pub returns-in_default-clause-cause : goal.returns-in_default-clause-cause
-returns-in_default-clause-cause g c =
-    let done = c.in_ok-dispatch.ensures.cause in
-    ok_stop (g.H.Host.faults c.args.host.now) (g.H.Host.faults c.dispatch.new.host) _ done.disk_later done.tell_later

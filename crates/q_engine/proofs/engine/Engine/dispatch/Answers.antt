@@ -37,7 +37,7 @@ pub returns-in-Log-clause-ok : goal.returns-in-Log-clause-ok
 returns-in-Log-clause-ok g c = arm_ok c.log.result (IsTrue g.H.Host.tells) c.args.decision.now (decisions.Log c.in-Log.id c.in-Log.failure) c.args.self.now c.args.self.now _ _ c.in-Log.is c.log.ensures.ok
 
 pub returns-in-Bounce-clause-ok : goal.returns-in-Bounce-clause-ok
-returns-in-Bounce-clause-ok g c = arm_ok c.bounce.result (IsTrue g.H.Host.tells) c.args.decision.now (decisions.Bounce c.in-Bounce.id) c.args.self.now c.args.self.now _ _ c.in-Bounce.is c.bounce.ensures.ok
+returns-in-Bounce-clause-ok g c = arm_ok c.bounce.result (IsTrue g.H.Host.tells) c.args.decision.now (decisions.Bounce c.in-Bounce.id) c.args.self.now c.bounce.new.self _ _ c.in-Bounce.is c.bounce.ensures.ok
 
 pub returns-in-Read-clause-ok : goal.returns-in-Read-clause-ok
 returns-in-Read-clause-ok g c = arm_ok c.load.result (IsTrue g.H.Host.tells) c.args.decision.now (decisions.Read c.in-Read.id c.in-Read.from c.in-Read.max) c.args.self.now c.load.new.self _ _ c.in-Read.is c.load.ensures.ok

@@ -4,7 +4,7 @@ use Rattle.std.specs.List.{list_all}
 use Rattle.q_model.specs.Replies.{fits_state}
 use Rattle.q_model.specs.declared.event.Event.{Event}
 use Rattle.q_engine.specs.Heard.{has_log_code, IsEventInForm}
-use Rattle.q_engine.specs.Refusals.{refused_event}
+use Rattle.q_engine.specs.Refusals.{IsAdmissible, refused_event}
 use Rattle.q_engine.proofs.Accepted.{reply_accepted}
 use Rattle.q_engine.proofs.engine.Engine.hear.Goals as goal
 
@@ -17,3 +17,9 @@ hear_reply-requires-clause-fits g c w l a n =
 pub hear_reply-requires-clause-codes : goal.hear_reply-requires-clause-codes
 hear_reply-requires-clause-codes g c =
     (and_parts (fits_state c.in-Reply.site c.in-Reply.outcomes) (list_all has_log_code c.in-Reply.outcomes) (subst (λ (ev : Event). IsEventInForm ev) c.in-Reply.is c.requires.form)).1
+
+pub hear_reply-requires-clause-timed : goal.hear_reply-requires-clause-timed
+hear_reply-requires-clause-timed g c = (subst (λ (ev : Event). IsAdmissible c.args.self.now ev) c.in-Reply.is c.requires.admissible).0
+
+pub hear_reply-requires-clause-flies : goal.hear_reply-requires-clause-flies
+hear_reply-requires-clause-flies g c = (subst (λ (ev : Event). IsAdmissible c.args.self.now ev) c.in-Reply.is c.requires.admissible).1

@@ -17,7 +17,7 @@ pub returns-clause-ok : goal.returns-clause-ok
 returns-clause-ok g c = on_ok c.tell.result (λ told t w l n.
     let d = decisions.Start c.args.number c.args.id c.args.site in
     let e = entries.Start c.args.number c.args.id c.args.site c.in_ok-positions.positions in
-    let tells : TellsPositions c.args.self.now c.args.number c.in_ok-positions.positions = (λ u k a. ap (λ (p : List ℕ). Some p) c.in_ok-positions.ensures ∙ c.in-Some.ensures u k (lent_agrees u k _ _ c.deref.ensures a)) in
+    let tells : TellsPositions c.args.self.now c.args.number c.in_ok-positions.positions = (λ u k a. ap (λ (p : List ℕ). Some p) c.in_ok-positions.ensures ∙ c.in-Some.ensures.ledger u k (lent_agrees u k _ _ c.deref.ensures a)) in
     let h = start_decided w l c.args.number c.args.id c.args.site c.args.self.now (g.H.Host.view c.args.host.now) c.in_ok-positions.positions tells n in
     carried w l d e c.args.self.now (g.H.Host.view c.args.host.now) h l.book (g.H.Host.view c.tell.new.host) (record { life = refl; arrive = refl; preempt = refl; stays = λ id. refl }) refl (told t l.book h.host) (plain_notes w l e (g.H.Host.view c.args.host.now) (g.H.Host.view c.tell.new.host) refl (files_keep (g.H.Host.view c.args.host.now) (g.H.Host.view c.tell.new.host) (c.tell.ensures.files t)))) c.tell.ensures.ok
 
@@ -25,6 +25,6 @@ pub returns-clause-err : goal.returns-clause-err
 returns-clause-err g c error is t w l n =
     let d = decisions.Start c.args.number c.args.id c.args.site in
     let e = entries.Start c.args.number c.args.id c.args.site c.in_ok-positions.positions in
-    let tells : TellsPositions c.args.self.now c.args.number c.in_ok-positions.positions = (λ u k a. ap (λ (p : List ℕ). Some p) c.in_ok-positions.ensures ∙ c.in-Some.ensures u k (lent_agrees u k _ _ c.deref.ensures a)) in
+    let tells : TellsPositions c.args.self.now c.args.number c.in_ok-positions.positions = (λ u k a. ap (λ (p : List ℕ). Some p) c.in_ok-positions.ensures ∙ c.in-Some.ensures.ledger u k (lent_agrees u k _ _ c.deref.ensures a)) in
     let h = start_decided w l c.args.number c.args.id c.args.site c.args.self.now (g.H.Host.view c.args.host.now) c.in_ok-positions.positions tells n in
     given_up w l d e c.args.self.now (g.H.Host.view c.args.host.now) h l.book error (g.H.Host.view c.tell.new.host) refl (c.tell.ensures.err error is t l.book h.host)
