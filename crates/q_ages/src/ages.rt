@@ -33,13 +33,12 @@ fn count_queues<H: Host>(
     ensures cause { DiskCause (H.faults host.old) (H.faults host.new) result }
 {
     let mut walk = Walk::new(alloc, request.queues)?;
-    for _ in 0..u64::MAX {
+    loop {
         let Some(found) = walk.next(host)? else {
             return Ok(());
         };
         count_message(alloc, host, now, request.senders, &found, table)?;
     }
-    Err(HostError::NoMemory)
 }
 
 /// The text of the table.

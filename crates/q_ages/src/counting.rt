@@ -88,13 +88,12 @@ fn count_recipients<H: Host>(
     ensures stays { IsTrue H.tells → Stays (H.view host.old) (H.view host.new) }
     ensures cause { DiskCause (H.faults host.old) (H.faults host.new) result }
 {
-    for _ in 0..u64::MAX {
+    loop {
         let Some(taken) = pending.next(host)? else {
             return Ok(());
         };
         table.add(alloc, &split_domain(&taken.address), age, 1)?;
     }
-    Err(HostError::NoMemory)
 }
 
 /// Counts a message: each pending recipient, or the message itself under its sender's domain.

@@ -4,7 +4,7 @@
 //! to go on. Else its head is read again, and what stands before the first recipient to be read is
 //! passed over, in batches. No address outlives its batch.
 ghost use Rattle.std.specs.List.{list_all};
-ghost use Rattle.std.specs.Prelude.{◌≡◌, ◌≤◌, IfNone, IfOk, IfSome, IsTrue, length, min, nat_lt, None, slice_get, Some, take, true, false, ℕ};
+ghost use Rattle.std.specs.Prelude.{◌≡◌, ◌<◌, ◌≤◌, ◌+◌, ◌-◌, IfNone, IfOk, IfSome, IsTrue, length, min, nat_lt, None, slice_get, Some, take, true, false, ℕ};
 ghost use Rattle.q_engine.specs.KeptPlaces.{HasProgress};
 ghost use Rattle.q_engine.specs.Pending.{AreRead, LeavesFrom};
 ghost use Rattle.q_host.specs.Calls.{Stays};
@@ -66,8 +66,11 @@ fn place_behind<H: Host>(
         (λ bytes. HasCursor bytes recipients cursor) }
     requires whole { TellsOf H.tells (H.view host.old) spot
         (IsPlaceBehind cursor.position 256 next) }
+    requires passed { recipients - next.position + below ≤ recipients - cursor.position }
     ensures place { IfOk result (λ place. TellsOf H.tells (H.view host.old) spot
         (IsPlaceBehind cursor.position (min below 256) place)) }
+    ensures fewer { IfOk result (λ place.
+        recipients - place.position < recipients - cursor.position) }
     ensures no_message { OnNoMessage result (λ _. IsTrue H.tells → ⊥) }
     ensures room { batch.new.room ≡ 256 }
     ensures stays { IsTrue H.tells → Stays (H.view host.old) (H.view host.new) }
@@ -104,7 +107,7 @@ fn place_from<H: Host>(
         position: 0,
         at: file.first_at,
     };
-    for _ in 0..u64::MAX {
+    loop {
         batch.clear();
         let next = read_recipients(host, spot, file.recipients, cursor, ROOM, &mut batch)?;
         let below = count_below(&batch, from);
@@ -113,7 +116,6 @@ fn place_from<H: Host>(
         }
         cursor = place_behind(host, spot, file.recipients, cursor, next, below, &mut batch)?;
     }
-    Err(MessageError::NoMemory)
 }
 
 /// Reads the next recipients from a place on. There is room for one more than the file has, so that

@@ -61,7 +61,7 @@ pub fn mark_place<H: Host>(
         position: 0,
         at: file.first_at,
     };
-    for _ in 0..u64::MAX {
+    loop {
         batch.clear();
         let next = read_recipients(host, spot, file.recipients, cursor, ROOM, &mut batch)?;
         if let Some(at) = offset_in(&batch, position) {
@@ -72,5 +72,4 @@ pub fn mark_place<H: Host>(
         }
         cursor = next;
     }
-    Err(MessageError::NoMemory)
 }

@@ -4,3 +4,5 @@ pub mod Puts
 pub mod Sequences
 pub mod Told
 pub mod ReadPieces
+pub mod NamesInOrder
+pub mod NamesLeft

@@ -5,9 +5,11 @@
 
 mod error;
 mod host;
+mod listing;
 mod reading;
 
 pub use error::HostError;
 pub use host::Host;
+pub use listing::last_of_full;
 pub use q_model::Area;
 pub use reading::read_file;

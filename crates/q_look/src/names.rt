@@ -5,7 +5,7 @@ ghost use Rattle.q_host.specs.Faults.{DiskCause};
 ghost use Rattle.q_look.specs.FirstNames.{HasNone, IsFirstWanted, IsFirstIn, IsNamed};
 
 use crate::wanted::Wanted;
-use q_host::{Host, HostError};
+use q_host::{Host, HostError, last_of_full};
 use q_model::{Area, DeferredName, Name, Names};
 use std::alloc::Global;
 
@@ -39,15 +39,14 @@ pub(crate) fn first_name<H: Host, W: Wanted>(
 {
     let mut names = Names::new(alloc)?;
     let mut behind = after;
-    for _ in 0..u64::MAX {
+    'walk: loop {
         host.list_after(area, behind, &mut names)?;
         if let Some(file) = first_of(names.as_slice(), wanted) {
             return Ok(Some(file));
         }
-        if names.len() < Names::ROOM {
+        let Some(last) = last_of_full(&names) else {
             return Ok(None);
-        }
-        behind = Some(names.get(Names::ROOM - 1));
+        };
+        behind = Some(last);
     }
-    Err(HostError::NoMemory)
 }

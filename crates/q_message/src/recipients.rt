@@ -1,5 +1,5 @@
 //! Reading recipients of a queue file.
-ghost use Rattle.std.specs.Prelude.{◌≡◌, ◌≤◌, [], IsTrue, IfOk, OnOk};
+ghost use Rattle.std.specs.Prelude.{◌≡◌, ◌<◌, ◌≤◌, ◌+◌, ◌-◌, [], IsTrue, IfOk, length, OnOk};
 ghost use Rattle.q_host.specs.Calls.{Stays};
 ghost use Rattle.q_message.specs.Causes.{ReadCause};
 ghost use Rattle.q_message.specs.Pending.{AreTaken, HasCursor, IsPlaceBehind};
@@ -57,6 +57,10 @@ pub fn read_recipients<H: Host>(
         (AreTaken cursor.position max out.new.items)) }
     ensures next { IfOk result (λ next. TellsOf H.tells (H.view host.old) spot
         (IsPlaceBehind cursor.position max next)) }
+    // Of every host: what was taken is passed, and fewer than `max` are taken only at the end.
+    ensures fewer { IfOk result (λ next. recipients - next.position + length out.new.items
+        ≤ recipients - cursor.position) }
+    ensures full { IfOk result (λ next. next.position < recipients → max ≤ length out.new.items) }
     ensures no_message { OnNoMessage result (λ _. IsTrue H.tells → ⊥) }
     ensures room { out.new.room ≡ out.old.room }
     ensures stays { IsTrue H.tells → Stays (H.view host.old) (H.view host.new) }

@@ -1,5 +1,5 @@
 -- What a reader has ahead, as it reads on and gives one recipient after another.
-use Rattle.std.proofs.Common.{◌≡◌, ◌∙◌, ℕ, zero, suc, ◌+◌, ◌≤◌, Bool, true, false, not, List, [], ◌∷◌, ◌++◌, length, filter, map, take, drop, slice_get, Option, Some, None, if◌then◌else◌, refl, sym, ap, subst, arith}
+use Rattle.std.proofs.Common.{◌≡◌, ◌∙◌, ℕ, zero, suc, ◌+◌, ◌<◌, ◌≤◌, Bool, true, false, not, List, [], ◌∷◌, ◌++◌, length, filter, map, take, drop, slice_get, Option, Some, None, if◌then◌else◌, refl, sym, ap, subst, arith}
 use Rattle.std.specs.Option.{IfSome, option_map, option_map_or}
 use Rattle.std.proofs.lemmas.List.{drop_all, length-map, take-append-drop}
 use Rattle.std.proofs.lemmas.Option.{slice_get-map}
@@ -17,7 +17,7 @@ use Rattle.q_model.specs.Values.{FileHead, Spot, Taken}
 use Rattle.q_pending.proofs.FileLaws.{has_file, HasFile, left_behind, none_left, of_file}
 use Rattle.q_pending.proofs.LoggedLaws.{pending_is}
 use Rattle.q_pending.specs.declared.pending.Pending.{Pending}
-use Rattle.q_pending.specs.Readings.{GivesPending, GivesUnmarked, HasNoneAhead, IsFileOfMessage, IsPendingAhead, IsUnmarkedAhead, KeepsAhead}
+use Rattle.q_pending.specs.Readings.{GivesPending, GivesUnmarked, HasNoneAhead, IsFileOfMessage, IsPendingAhead, IsUnmarkedAhead, KeepsAhead, pending_left}
 
 -- ---- what is read
 
@@ -174,3 +174,7 @@ begins f m q file none first flags = record {
   };
   not_logged = pending_is f m q.logged.items file.stands flags;
 }
+
+-- where one was given, fewer are left
+pub fewer_given : (new old : Pending) (o : Option Taken) (taken : Taken) → o ≡ Some taken → IfSome o (λ _. pending_left new < pending_left old) → pending_left new < pending_left old
+fewer_given new old o taken is fewer = subst (λ (p : Option Taken). IfSome p (λ _. pending_left new < pending_left old)) is fewer

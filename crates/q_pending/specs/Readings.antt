@@ -1,5 +1,5 @@
 -- What a reader of pending recipients gives.
-use Rattle.std.specs.Prelude.{◌++◌, ◌≡◌, ◌≤◌, ◌∷◌, [], drop, filter, IfSome, IsSome, List, map, None, not, Option, Some, ℕ}
+use Rattle.std.specs.Prelude.{◌++◌, ◌≡◌, ◌≤◌, ◌∷◌, ◌+◌, ◌-◌, [], drop, filter, IfSome, IsSome, length, List, map, None, not, Option, Some, ℕ}
 use Rattle.q_books.specs.Spots.{spot_of}
 use Rattle.q_logfile.specs.Flags.{flag_at}
 use Rattle.q_message.specs.Pending.{HasCursor, taken_at, unmarked_from}
@@ -59,3 +59,7 @@ KeepsAhead f p q = (m : Message) (positions : List ℕ) → IsUnmarkedAhead f m 
 -- nothing is ahead of the reader
 abbrev pub HasNoneAhead : Files → Pending → Type 0
 HasNoneAhead f p = (m : Message) (positions : List ℕ) → IsUnmarkedAhead f m p positions → positions ≡ []
+
+-- how many recipients the reader may still come to, whatever the files are
+abbrev pub pending_left : Pending → ℕ
+pending_left p = p.recipients - p.next.position + (length p.batch.items - p.index)

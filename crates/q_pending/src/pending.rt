@@ -1,11 +1,11 @@
 //! A reader of the pending recipients of a message.
-ghost use Rattle.std.specs.Prelude.{◌<◌, ◌^◌, ◌≡◌, ◌≤◌, false, IfOk, IsTrue, length, List, OnOk, true, ℕ};
+ghost use Rattle.std.specs.Prelude.{◌<◌, ◌^◌, ◌≡◌, ◌≤◌, false, IfOk, IfSome, IsTrue, length, List, OnOk, true, ℕ};
 ghost use Rattle.q_host.specs.Calls.{Stays};
 ghost use Rattle.q_host.specs.Faults.{DiskCause};
 ghost use Rattle.q_message.specs.FileHeads.{IsHead};
 ghost use Rattle.q_message.specs.Told.{IsThere, TellsOf};
 ghost use Rattle.q_model.specs.Message.{Message, pending};
-ghost use Rattle.q_pending.specs.Readings.{GivesPending, GivesUnmarked, HasNoneAhead, IsFileOfMessage, IsPendingAhead, IsReading, IsUnmarkedAhead, KeepsAhead};
+ghost use Rattle.q_pending.specs.Readings.{GivesPending, GivesUnmarked, HasNoneAhead, IsFileOfMessage, IsPendingAhead, IsReading, IsUnmarkedAhead, KeepsAhead, pending_left};
 
 use q_host::{Host, HostError};
 use q_logfile::{flags_of, is_set, log_of};
@@ -79,6 +79,7 @@ impl Pending {
             → KeepsAhead (H.view host.old).files self.old self.new) }
         ensures none { OnOk result (IsTrue H.tells → length self.new.batch.items ≡ 0
             → HasNoneAhead (H.view host.old).files self.new) }
+        ensures left { OnOk result (pending_left self.new ≤ pending_left self.old) }
         ensures logged { self.new.logged.items ≡ self.old.logged.items }
         ensures stays { IsTrue H.tells → Stays (H.view host.old) (H.view host.new) }
         ensures cause { DiskCause (H.faults host.old) (H.faults host.new) result }
@@ -123,6 +124,7 @@ impl Pending {
         ensures none { IfOk result (λ more. more ≡ false → IsTrue H.tells
             → HasNoneAhead (H.view host.old).files self.new) }
         ensures few { IfOk result (λ _. length self.new.batch.items < 2 ^ 64) }
+        ensures left { OnOk result (pending_left self.new ≤ pending_left self.old) }
         ensures logged { self.new.logged.items ≡ self.old.logged.items }
         ensures stays { IsTrue H.tells → Stays (H.view host.old) (H.view host.new) }
         ensures cause { DiskCause (H.faults host.old) (H.faults host.new) result }
@@ -142,6 +144,8 @@ impl Pending {
         ensures next { IfOk result (λ o. IsTrue H.tells → (m : Message) → (positions : List ℕ)
             → IsUnmarkedAhead (H.view host.old).files m self.old positions
             → GivesUnmarked (H.view host.old).files m self.new positions o) }
+        ensures fewer { IfOk result (λ o. IfSome o (λ _.
+            pending_left self.new < pending_left self.old)) }
         ensures logged { self.new.logged.items ≡ self.old.logged.items }
         ensures stays { IsTrue H.tells → Stays (H.view host.old) (H.view host.new) }
         ensures cause { DiskCause (H.faults host.old) (H.faults host.new) result }
@@ -163,10 +167,13 @@ impl Pending {
         ensures next { IfOk result (λ o. IsTrue H.tells → (m : Message) → (positions : List ℕ)
             → IsPendingAhead (H.view host.old).files m self.old positions
             → GivesPending (H.view host.old).files m self.new positions o) }
+        // Each that is given leaves fewer, on any host.
+        ensures fewer { IfOk result (λ o. IfSome o (λ _.
+            pending_left self.new < pending_left self.old)) }
         ensures stays { IsTrue H.tells → Stays (H.view host.old) (H.view host.new) }
         ensures cause { DiskCause (H.faults host.old) (H.faults host.new) result }
     {
-        for _ in 0..u64::MAX {
+        loop {
             let Some(taken) = self.next_unmarked(host)? else {
                 return Ok(None);
             };
@@ -174,6 +181,5 @@ impl Pending {
                 return Ok(Some(taken));
             }
         }
-        Err(HostError::NoMemory)
     }
 }

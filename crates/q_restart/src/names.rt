@@ -5,7 +5,7 @@ ghost use Rattle.q_host.specs.Faults.{DiskCause};
 ghost use Rattle.q_host.specs.View.{Told};
 ghost use Rattle.q_restart.specs.Walks.{AreAllNames};
 
-use q_host::{Host, HostError};
+use q_host::{Host, HostError, last_of_full};
 use q_model::{Area, Name, Names};
 use std::alloc::Global;
 
@@ -23,13 +23,12 @@ pub(crate) fn all_names<H: Host>(
     let mut part = Names::new(alloc)?;
     let mut all = Vec::new(alloc);
     let mut after = None;
-    for _ in 0..u64::MAX {
+    loop {
         host.list_after(area, after, &mut part)?;
         all.extend_from_slice(part.as_slice())?;
-        if part.len() < Names::ROOM {
+        let Some(last) = last_of_full(&part) else {
             return Ok(all);
-        }
-        after = Some(part.get(Names::ROOM - 1));
+        };
+        after = Some(last);
     }
-    Err(HostError::NoMemory)
 }

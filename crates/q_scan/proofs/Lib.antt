@@ -1,2 +1,1 @@
-pub mod NamesInOrder
 pub mod WalkLaws

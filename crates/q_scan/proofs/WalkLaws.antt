@@ -19,7 +19,7 @@ use Rattle.q_model.proofs.NameOrder.{due_text-order, is_less}
 use Rattle.q_scan.specs.Filled.{IsFilled, IsStepped}
 use Rattle.q_scan.specs.Fits.{IsLater}
 use Rattle.q_scan.specs.Walks.{AllStand, IsDueName, IsNextOf, IsStillAhead, IsUpToDate, IsWalked, IsWithin, LeavesAhead, Walk}
-use Rattle.q_scan.proofs.NamesInOrder.{after_on, either_order, head_or_behind, in_behind, in_none, not_both, not_itself, rise_less}
+use Rattle.q_host.proofs.NamesInOrder.{after_on, either_order, head_or_behind, in_behind, in_none, not_both, not_itself, rise_less}
 
 -- ---- listing
 

@@ -1,7 +1,8 @@
 //! A walk over the names of an area.
-ghost use Rattle.std.specs.Prelude.{◌≡◌, [], IfOk, IfSome, IsSome, IsTrue, List, ℕ, None, OnOk, slice_get};
+ghost use Rattle.std.specs.Prelude.{◌≡◌, ◌<◌, ◌≤◌, [], IfOk, IfSome, IsSome, IsTrue, List, ℕ, None, OnOk, slice_get};
 ghost use Rattle.q_host.specs.Calls.{Stays};
 ghost use Rattle.q_host.specs.Faults.{DiskCause};
+ghost use Rattle.q_host.specs.NamesLeft.{names_left};
 ghost use Rattle.q_model.specs.SpoolFiles.{Files};
 ghost use Rattle.q_scan.specs.Walks.{GoesForward, IsGiven, IsNextOf, IsStillAhead, IsUpToDate, IsWalked, LeavesAhead};
 ghost use Rattle.q_scan.specs.Filled.{IsFilled, IsStepped};
@@ -67,9 +68,13 @@ impl Scan {
     /// Passes the first of the names that are left.
     fn step(&mut self)
         requires { IsSome (slice_get self.old.ahead 0) }
-        ensures { IsStepped self.old self.new }
+        ensures stepped { IsStepped self.old self.new }
+        ensures fewer { names_left self.new.place < names_left self.old.place }
     {
-        self.place = Some(self.names.get(self.next));
+        let name = self.names.get(self.next);
+        // Any value has a name's form, so that one less is left.
+        let _ = name.bytes();
+        self.place = Some(name);
         self.next += 1;
     }
 
@@ -108,6 +113,10 @@ impl Scan {
         // Names rise, so that none comes twice.
         ensures given { IfOk result (λ o. IfSome o (IsGiven until self.old self.new)) }
         ensures forward { OnOk result (GoesForward self.old self.new) }
+        // No more names are left, and fewer behind one that was given, whatever else is added.
+        ensures left_over { OnOk result (names_left self.new.place ≤ names_left self.old.place) }
+        ensures fewer { IfOk result (λ o. IfSome o (λ _.
+            names_left self.new.place < names_left self.old.place)) }
         // No name that stands there is left out.
         ensures left { IfOk result (λ o. IsTrue H.tells → (n : List ℕ)
             → IsSome ((H.view host.old).files self.old.area n) → IsWalked self.old.area n
@@ -121,7 +130,7 @@ impl Scan {
         ensures stays { IsTrue H.tells → Stays (H.view host.old) (H.view host.new) }
         ensures cause { DiskCause (H.faults host.old) (H.faults host.new) result }
     {
-        for _ in 0..u64::MAX {
+        loop {
             self.fill(host)?;
             let Some(name) = self.first() else {
                 return Ok(None);
@@ -135,7 +144,6 @@ impl Scan {
                 }
             }
         }
-        Err(HostError::NoMemory)
     }
 
     /// Goes on behind this name, or from the first name on where it is None. The next call lists

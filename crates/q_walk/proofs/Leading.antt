@@ -1,5 +1,5 @@
 -- What a step of a walk leaves ahead.
-use Rattle.std.proofs.Common.{◌≡◌, ◌∙◌, ◌⊎◌, ℕ, List, [], ◌∷◌, ◌++◌, Bool, true, false, Option, Some, None, ap, sym, subst, refl, inl, inr}
+use Rattle.std.proofs.Common.{◌<◌, ◌≤◌, ◌+◌, arith, ◌≡◌, ◌∙◌, ◌⊎◌, ℕ, List, [], ◌∷◌, ◌++◌, Bool, true, false, Option, Some, None, ap, sym, subst, refl, inl, inr}
 use Rattle.std.specs.List.{AllByRecursion}
 use Rattle.std.specs.Option.{option_map}
 use Rattle.std.specs.Prelude.{IfSome, IsSome}
@@ -8,6 +8,7 @@ use Rattle.std.specs.declared.cmp.Ordering.TheVariants.{Less}
 use Rattle.std.specs.Cmp.Lexicographic.{slice_cmp}
 use Rattle.std.proofs.lemmas.Bool.{false_from_ne_true}
 use Rattle.std.proofs.lemmas.List.{append-nil}
+use Rattle.q_host.specs.NamesLeft.{names_left}
 use Rattle.q_host.specs.Reads.{IsAfter}
 use Rattle.q_message.specs.FileHeads.{head_of}
 use Rattle.q_model.specs.declared.id.Id.{Id}
@@ -22,16 +23,17 @@ use Rattle.q_model.specs.Values.{FileHead}
 use Rattle.q_books.specs.Spots.{spot_of}
 use Rattle.q_scan.specs.Walks.{IsDueAhead, IsFirstDue, IsNextOf, IsUpToDate, IsWithin}
 use Rattle.q_scan.specs.Walks.{Walk as Scan}
-use Rattle.q_scan.proofs.NamesInOrder.{after_on, either_order, not_both}
+use Rattle.q_host.proofs.NamesInOrder.{after_on, either_order, not_both}
 use Rattle.q_walk.specs.declared.queue.Queue.{Queue}
 use Rattle.q_walk.specs.declared.queue.Queue.TheVariants as queues
 use Rattle.q_walk.specs.declared.walk.Found.{Found}
 use Rattle.q_walk.specs.declared.walk.Step.{Step}
+use Rattle.q_walk.specs.declared.walk.Step.TheVariants as steps
 use Rattle.q_walk.specs.declared.walk.Walk.{Walk}
 use Rattle.q_walk.specs.Listed.{comes_before, listed, of_queue}
-use Rattle.q_walk.specs.Queues.{held_behind, held_in, is_chosen, is_in, IsNamed, queue_after, queue_area}
-use Rattle.q_walk.specs.Steps.{IsFileFound, IsNextName, Leads, SaysFile}
-use Rattle.q_walk.specs.Walks.{GivesNext, is_behind, IsAhead, left}
+use Rattle.q_walk.specs.Queues.{held_behind, held_in, is_chosen, is_in, IsNamed, names_behind, queue_after, queue_area}
+use Rattle.q_walk.specs.Steps.{IsFileFound, IsNextName, Leads, LeavesFewer, SaysFile}
+use Rattle.q_walk.specs.Walks.{GivesNext, is_behind, IsAhead, left, walk_left}
 use Rattle.q_walk.proofs.Held.{all_held, held_order, in_area, in_sound, in_within, IsHeld, IsThisOf, message_there, not_none, one_held, read_file, same_bytes}
 use Rattle.q_walk.proofs.Ordered.{all_at, before_less, file_name, is_less, not_less, IsOneOf, left_all, left_none, left_skip, left_step}
 use Rattle.q_model.proofs.EachLaws.{each-both, each-same}
@@ -266,3 +268,24 @@ module _ (f : Files) (b : Book) (h : Stands f b) (old new : Walk) (ms : List Mes
 pub led : (f g : Files) (b : Book) (old new : Walk) (ms : List Message) (step : Step) → g ≡ f → (Stands g b → IsAhead g b old ms → Leads g b new ms step) → Stands f b → IsAhead f b old ms → Leads f b new ms step
 led f g b old new ms step same h stands ahead =
     subst (λ (k : Files). Leads k b new ms step) same (h (subst (λ (k : Files). Stands k b) (sym same) stands) (subst (λ (k : Files). IsAhead k b old ms) (sym same) ahead))
+
+-- ---- how many names are left
+
+-- fewer than behind a name of the queue are left from the front of the next queue on
+pub fewer_behind : (queue next : Queue) (old new : Option (List ℕ)) → queue_after queue ≡ Some next → new ≡ None → names_behind next + names_left new < names_behind queue + names_left old
+fewer_behind queues.Incoming next old new after none = omega (arith, ap names_behind (queue_same queues.Active next after), ap names_left none)
+fewer_behind queues.Active next old new after none = omega (arith, ap names_behind (queue_same queues.Deferred next after), ap names_left none)
+fewer_behind queues.Deferred next old new after none = omega (arith, ap names_behind (queue_same queues.Hold next after), ap names_left none)
+fewer_behind queues.Hold next old new after none = absurd cc
+
+-- a name that was passed in a queue leaves fewer
+pub fewer_named : (old new : Walk) (o : Option (List ℕ)) (name : List ℕ) → o ≡ Some name → new.queue ≡ old.queue → IfSome o (λ _. names_left new.scan.place < names_left old.scan.place) → walk_left new < walk_left old
+fewer_named old new o name is queue fewer =
+    let less = subst (λ (p : Option (List ℕ)). IfSome p (λ _. names_left new.scan.place < names_left old.scan.place)) is fewer in
+    omega (arith, ap names_behind queue, less)
+
+-- and what leaves fewer than no more leaves fewer
+pub fewer_then : (old between new : Walk) → between.queue ≡ old.queue → names_left between.scan.place ≤ names_left old.scan.place → (step : Step) → LeavesFewer between new step → LeavesFewer old new step
+fewer_then old between new queue left (steps.Given found) fewer = omega (arith, ap names_behind queue, left, fewer)
+fewer_then old between new queue left steps.Passed fewer = omega (arith, ap names_behind queue, left, fewer)
+fewer_then old between new queue left steps.Ended fewer = tt

@@ -9,7 +9,7 @@ use Rattle.std.proofs.lemmas.Cmp.{nat_list_cmp_total}
 use Rattle.q_model.proofs.EachLaws.{each-same}
 use Rattle.q_model.specs.Message.{Message}
 use Rattle.q_model.specs.SpoolFiles.{name_at}
-use Rattle.q_scan.proofs.NamesInOrder.{either_order, not_both, not_itself}
+use Rattle.q_host.proofs.NamesInOrder.{either_order, not_both, not_itself}
 use Rattle.q_walk.specs.Listed.{comes_before}
 use Rattle.q_walk.specs.Orders.{in_order, put_in_order}
 use Rattle.q_walk.specs.Walks.{is_behind, left}

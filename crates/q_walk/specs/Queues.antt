@@ -1,5 +1,6 @@
 -- The queues of a walk.
-use Rattle.std.specs.Prelude.{◌≡◌, ◌++◌, [], Bool, List, None, Option, Some, true, ℕ}
+use Rattle.std.specs.Prelude.{◌≡◌, ◌++◌, ◌+◌, ◌*◌, [], Bool, List, None, Option, Some, true, ℕ}
+use Rattle.q_host.specs.NamesLeft.{names_left}
 use Rattle.q_model.specs.declared.id.Id.{Id}
 use Rattle.q_model.specs.declared.rows.Place.{Place}
 use Rattle.q_model.specs.declared.spot.Area.{Area}
@@ -60,3 +61,10 @@ held_behind q queues.Incoming b = held_in q queues.Active b
 held_behind q queues.Active b = held_in q queues.Deferred b ++ held_in q queues.Hold b
 held_behind q queues.Deferred b = held_in q queues.Hold b
 held_behind q queues.Hold b = []
+
+-- how many names there may be in the queues behind this one, and one more of each
+abbrev pub names_behind : Queue → ℕ
+names_behind queues.Incoming = 3 * (1 + names_left None)
+names_behind queues.Active = 2 * (1 + names_left None)
+names_behind queues.Deferred = 1 + names_left None
+names_behind queues.Hold = 0

@@ -1,5 +1,5 @@
 -- The steps of a walk.
-use Rattle.std.specs.Prelude.{◌≡◌, [], false, List, None, Option, Some, true, ℕ}
+use Rattle.std.specs.Prelude.{◌≡◌, ◌<◌, [], false, List, None, Option, Some, true, ℕ}
 use Rattle.q_books.specs.Spots.{spot_of}
 use Rattle.q_message.specs.FileHeads.{IsHead}
 use Rattle.q_model.specs.declared.id.Id.{Id}
@@ -14,7 +14,7 @@ use Rattle.q_walk.specs.declared.walk.Step.{Step}
 use Rattle.q_walk.specs.declared.walk.Step.TheVariants as steps
 use Rattle.q_walk.specs.declared.walk.Walk.{Walk}
 use Rattle.q_walk.specs.Queues.{is_chosen}
-use Rattle.q_walk.specs.Walks.{GivesNext, IsAhead}
+use Rattle.q_walk.specs.Walks.{GivesNext, IsAhead, walk_left}
 
 -- what was found is the file of the place and id, which has these bytes
 pub record IsFileFound (place : Place) (id : Id) (bytes : List ℕ) (found : Found) : Type 0 where
@@ -43,3 +43,8 @@ abbrev pub Leads : Files → Book → Walk → List Message → Step → Type 0
 Leads f b w ms (steps.Given found) = GivesNext f b w ms (Some found)
 Leads f b w ms steps.Passed = IsAhead f b w ms
 Leads f b w ms steps.Ended = ms ≡ []
+
+-- unless it ended, the walk may come to fewer names
+abbrev pub LeavesFewer : Walk → Walk → Step → Type 0
+LeavesFewer old new steps.Ended = Unit {0}
+LeavesFewer old new step = walk_left new < walk_left old

@@ -1,8 +1,9 @@
 -- What a walk over queues gives.
 use Rattle.std.specs.Cmp.Lexicographic.{slice_cmp}
 use Rattle.std.specs.Ordering.{is_lt, nat_cmp}
-use Rattle.std.specs.Prelude.{◌≡◌, ◌++◌, ◌∷◌, [], Bool, filter, List, None, Option, Some, true, ℕ}
+use Rattle.std.specs.Prelude.{◌≡◌, ◌++◌, ◌+◌, ◌∷◌, [], Bool, filter, List, None, Option, Some, true, ℕ}
 use Rattle.q_books.specs.Spots.{spot_of}
+use Rattle.q_host.specs.NamesLeft.{names_left}
 use Rattle.q_message.specs.FileHeads.{head_of}
 use Rattle.q_model.specs.Book.{Book}
 use Rattle.q_model.specs.FilesStand.{file_message, MessageStands}
@@ -11,7 +12,7 @@ use Rattle.q_model.specs.SpoolFiles.{Files, name_at}
 use Rattle.q_scan.specs.Walks.{IsUpToDate}
 use Rattle.q_walk.specs.declared.walk.Found.{Found}
 use Rattle.q_walk.specs.declared.walk.Walk.{Walk}
-use Rattle.q_walk.specs.Queues.{held_behind, held_in, queue_area}
+use Rattle.q_walk.specs.Queues.{held_behind, held_in, names_behind, queue_area}
 
 -- the message's file stands behind the name; each stands behind none
 abbrev pub is_behind : Option (List ℕ) → Message → Bool
@@ -41,3 +42,7 @@ abbrev pub GivesNext : Files → Book → Walk → List Message → Option Found
 GivesNext f b w ms None = ms ≡ []
 GivesNext f b w ms (Some found) = (m : Message) × (rest : List Message)
     × (ms ≡ m ∷ rest) × IsFound f m found × IsAhead f b w rest
+
+-- how many names a walk may still come to, and one more of each queue behind
+abbrev pub walk_left : Walk → ℕ
+walk_left w = names_behind w.queue + names_left w.scan.place

@@ -1,7 +1,8 @@
 //! A walk over the messages of queues.
-ghost use Rattle.std.specs.Prelude.{◌≡◌, IfOk, IfSome, IsTrue, List, None, OnOk, Some};
+ghost use Rattle.std.specs.Prelude.{◌≡◌, ◌<◌, ◌≤◌, IfOk, IfSome, IsTrue, List, None, OnOk, Some};
 ghost use Rattle.q_host.specs.Calls.{Stays};
 ghost use Rattle.q_host.specs.Faults.{DiskCause};
+ghost use Rattle.q_host.specs.NamesLeft.{names_left};
 ghost use Rattle.q_model.specs.Book.{Book};
 ghost use Rattle.q_model.specs.FilesStand.{Stands};
 ghost use Rattle.q_model.specs.Message.{Message};
@@ -9,8 +10,8 @@ ghost use Rattle.q_model.specs.SpoolFiles.{Files, IsPlace};
 ghost use Rattle.q_scan.specs.Walks.{IsUpToDate};
 ghost use Rattle.q_walk.specs.Listed.{listed};
 ghost use Rattle.q_walk.specs.Queues.{held_behind};
-ghost use Rattle.q_walk.specs.Steps.{IsNextName, Leads, SaysFile};
-ghost use Rattle.q_walk.specs.Walks.{GivesNext, IsAhead};
+ghost use Rattle.q_walk.specs.Steps.{IsNextName, Leads, LeavesFewer, SaysFile};
+ghost use Rattle.q_walk.specs.Walks.{GivesNext, IsAhead, walk_left};
 
 use crate::queue::{Queue, is_chosen, named_in, queue_after, queue_area};
 use q_books::file_spot;
@@ -100,6 +101,10 @@ impl Walk {
         ensures queue { self.new.queue ≡ self.old.queue }
         ensures area { self.new.scan.area ≡ self.old.scan.area }
         ensures place { IfOk result (λ o. IfSome o (λ x. self.new.scan.place ≡ Some x)) }
+        ensures left_over { OnOk result (names_left self.new.scan.place
+            ≤ names_left self.old.scan.place) }
+        ensures fewer { IfOk result (λ o. IfSome o (λ _.
+            names_left self.new.scan.place < names_left self.old.scan.place)) }
         ensures exact { IfOk result (λ o. IsTrue H.tells
             → IsUpToDate (H.view host.old).files self.old.scan
             → IsNextName (H.view host.old).files self.old o) }
@@ -117,8 +122,9 @@ impl Walk {
 
     /// Goes on to the queue behind this one, of which no name is left.
     fn next_queue(&mut self) -> Result<Step, NoMemory>
-        ensures { IfOk result (λ step. (f : Files) → (b : Book)
+        ensures step { IfOk result (λ step. (f : Files) → (b : Book)
             → Leads f b self.new (held_behind self.old.queues self.old.queue b) step) }
+        ensures fewer { IfOk result (LeavesFewer self.old self.new) }
     {
         let Some(queue) = queue_after(self.queue) else {
             return Ok(Step::Ended);
@@ -133,6 +139,7 @@ impl Walk {
         ensures step { IfOk result (λ step. IsTrue H.tells → (b : Book) → (ms : List Message)
             → Stands (H.view host.old).files b → IsAhead (H.view host.old).files b self.old ms
             → Leads (H.view host.old).files b self.new ms step) }
+        ensures fewer { IfOk result (LeavesFewer self.old self.new) }
         ensures stays { IsTrue H.tells → Stays (H.view host.old) (H.view host.new) }
         ensures cause { DiskCause (H.faults host.old) (H.faults host.new) result }
     {
@@ -154,16 +161,17 @@ impl Walk {
         ensures next { IfOk result (λ o. IsTrue H.tells → (b : Book) → (ms : List Message)
             → Stands (H.view host.old).files b → IsAhead (H.view host.old).files b self.old ms
             → GivesNext (H.view host.old).files b self.new ms o) }
+        // Each that is given leaves fewer, whatever else is added.
+        ensures fewer { IfOk result (λ o. IfSome o (λ _. walk_left self.new < walk_left self.old)) }
         ensures stays { IsTrue H.tells → Stays (H.view host.old) (H.view host.new) }
         ensures cause { DiskCause (H.faults host.old) (H.faults host.new) result }
     {
-        for _ in 0..u64::MAX {
+        loop {
             match self.step(host)? {
                 Step::Given(found) => return Ok(Some(found)),
                 Step::Passed => {}
                 Step::Ended => return Ok(None),
             }
         }
-        Err(HostError::NoMemory)
     }
 }

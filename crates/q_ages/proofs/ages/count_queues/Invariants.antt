@@ -5,10 +5,11 @@ use Rattle.q_host.specs.Calls.{Stays}
 use Rattle.q_model.specs.Book.{Book}
 use Rattle.q_model.specs.FilesStand.{Stands}
 use Rattle.q_walk.specs.Listed.{listed}
+use Rattle.q_walk.specs.Walks.{walk_left}
 use Rattle.q_ages.proofs.ages.count_queues.Given as goal
 
-abbrev pub invariant-loop : goal.invariant-loop
-invariant-loop g l =
+abbrev pub invariant-loop-walk : goal.invariant-loop-walk
+invariant-loop-walk g l =
     let view = g.H.Host.view in
     let faults = g.H.Host.faults in
     record {
@@ -17,3 +18,7 @@ invariant-loop g l =
       disk_later : (faults l.fn.host).disk ≤ (faults l.host).disk;
       tell_later : (faults l.fn.host).tell ≤ (faults l.host).tell;
     }
+
+-- each that is counted leaves fewer
+abbrev pub decreases-loop-walk : goal.decreases-loop-walk
+decreases-loop-walk g l = walk_left l.walk

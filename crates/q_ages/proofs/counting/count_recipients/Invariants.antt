@@ -1,12 +1,12 @@
 use Rattle.std.proofs.Common.{◌≤◌, IsTrue, List, ℕ}
 use Rattle.q_host.specs.Calls.{Stays}
 use Rattle.q_model.specs.Message.{Message}
-use Rattle.q_pending.specs.Readings.{IsPendingAhead, IsReading}
+use Rattle.q_pending.specs.Readings.{IsPendingAhead, IsReading, pending_left}
 use Rattle.q_ages.proofs.AddingLaws.{HasLeft}
 use Rattle.q_ages.proofs.counting.count_recipients.Given as goal
 
-abbrev pub invariant-loop : goal.invariant-loop
-invariant-loop g l =
+abbrev pub invariant-loop-taken : goal.invariant-loop-taken
+invariant-loop-taken g l =
     let view = g.H.Host.view in
     let faults = g.H.Host.faults in
     record {
@@ -16,3 +16,7 @@ invariant-loop g l =
       disk_later : (faults l.fn.host).disk ≤ (faults l.host).disk;
       tell_later : (faults l.fn.host).tell ≤ (faults l.host).tell;
     }
+
+-- each that is counted leaves fewer
+abbrev pub decreases-loop-taken : goal.decreases-loop-taken
+decreases-loop-taken g l = pending_left l.pending

@@ -1,6 +1,7 @@
-use Rattle.std.proofs.Common.{◌≤◌, ◌∙◌, arith, min, subst, IsTrue}
+use Rattle.std.proofs.Common.{◌≤◌, ◌∙◌, ap, arith, min, subst, IsTrue}
 use Rattle.std.specs.Option.{IfSome}
 use Rattle.q_model.specs.SpoolFiles.{Files}
+use Rattle.q_model.specs.Values.{FileHead}
 use Rattle.q_message.specs.Pending.{AreTaken, IsPlaceBehind}
 use Rattle.q_host.proofs.Stays.{stays_on}
 use Rattle.q_engine.proofs.OpenRecipients.{cursor_behind, leaves_from, passes_more}
@@ -8,16 +9,16 @@ use Rattle.q_engine.proofs.seeking.place_from.Goals as goal
 
 pub returns-then-below-eq0-clause-leaves : goal.returns-then-below-eq0-clause-leaves
 returns-then-below-eq0-clause-leaves g c t =
-    let loop = c.loop in
+    let loop = c.loop-batch in
     let spot = c.args.spot in
     let v = g.H.Host.view c.args.host.now in
     let items = c.read_recipients.new.out.items in
     let taken = subst (λ (f : Files). IfSome (f spot.area spot.name) (AreTaken loop.cursor.position 256 items)) (loop.invariant.stays t).files (c.in_ok-next.ensures.taken t) in
     leaves_from (v.files spot.area spot.name) c.args.from c.count_below-below.result loop.cursor items c.if-below-eq0.true (loop.invariant.below t) taken c.count_below-below.ensures.behind
 
-pub loop-preserved : goal.loop-preserved
-loop-preserved g c =
-    let loop = c.loop in
+pub loop-batch-preserved : goal.loop-batch-preserved
+loop-batch-preserved g c =
+    let loop = c.loop-batch in
     let spot = c.args.spot in
     let v = g.H.Host.view c.args.host.now in
     let items = c.read_recipients.new.out.items in
@@ -35,3 +36,9 @@ loop-preserved g c =
       disk_later = omega (arith, loop.invariant.disk_later, c.in_ok-next.ensures.cause.disk_later, c.in_ok-cursor.ensures.cause.disk_later);
       tell_later = omega (arith, loop.invariant.tell_later, c.in_ok-next.ensures.cause.tell_later, c.in_ok-cursor.ensures.cause.tell_later);
     }
+
+pub place_behind-requires-clause-passed : goal.place_behind-requires-clause-passed
+place_behind-requires-clause-passed g c = omega (arith, ap (λ (x : FileHead). x.recipients) c.file.view_is, c.in_ok-next.ensures.fewer, c.count_below-below.ensures.few)
+
+pub loop-batch-smaller : goal.loop-batch-smaller
+loop-batch-smaller g c = omega (arith, ap (λ (x : FileHead). x.recipients) c.file.view_is, c.in_ok-cursor.ensures.fewer)

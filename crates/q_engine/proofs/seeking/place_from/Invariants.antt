@@ -1,4 +1,4 @@
-use Rattle.std.proofs.Common.{◌≡◌, ◌≤◌, IsTrue}
+use Rattle.std.proofs.Common.{◌≡◌, ◌-◌, ◌≤◌, IsTrue}
 use Rattle.std.specs.Option.{IfSome}
 use Rattle.q_host.specs.Calls.{Stays}
 use Rattle.q_message.specs.Pending.{HasCursor}
@@ -7,8 +7,8 @@ use Rattle.q_engine.proofs.OpenRecipients.{PassesBelow}
 use Rattle.q_engine.proofs.seeking.place_from.Given as goal
 
 -- only recipients below the position were passed over
-abbrev pub invariant-loop : goal.invariant-loop
-invariant-loop g l =
+abbrev pub invariant-loop-batch : goal.invariant-loop-batch
+invariant-loop-batch g l =
     let view = g.H.Host.view in
     let faults = g.H.Host.faults in
     record {
@@ -19,3 +19,7 @@ invariant-loop g l =
       disk_later : (faults l.fn.host).disk ≤ (faults l.host).disk;
       tell_later : (faults l.fn.host).tell ≤ (faults l.host).tell;
     }
+
+-- some of the recipients are passed each time
+abbrev pub decreases-loop-batch : goal.decreases-loop-batch
+decreases-loop-batch g l = l.file.recipients - l.cursor.position

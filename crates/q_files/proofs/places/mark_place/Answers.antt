@@ -8,7 +8,7 @@ use Rattle.q_files.proofs.places.mark_place.Goals as goal
 
 pub returns-in-Some-clause-place : goal.returns-in-Some-clause-place
 returns-in-Some-clause-place g c t =
-    let loop = c.loop in
+    let loop = c.loop-batch in
     let v = g.H.Host.view c.args.host.now in
     let items = c.read_recipients.new.out.items in
     let taken = subst (λ (f : Files). IfSome (f c.args.spot.area c.args.spot.name) (AreTaken loop.cursor.position 256 items)) (loop.invariant.stays t).files (c.in_ok-next.ensures.taken t) in
@@ -16,7 +16,7 @@ returns-in-Some-clause-place g c t =
 
 pub returns-then-next-position-clause-place : goal.returns-then-next-position-clause-place
 returns-then-next-position-clause-place g c t =
-    let loop = c.loop in
+    let loop = c.loop-batch in
     let v = g.H.Host.view c.args.host.now in
     let items = c.read_recipients.new.out.items in
     let taken = subst (λ (f : Files). IfSome (f c.args.spot.area c.args.spot.name) (AreTaken loop.cursor.position 256 items)) (loop.invariant.stays t).files (c.in_ok-next.ensures.taken t) in
@@ -34,3 +34,9 @@ returns-then-position-file-clause-mark g c t =
     let f = (g.H.Host.view c.args.host.now).files in
     let count : c.file.inside.recipients ≡ c.args.file.now.recipients = ap (λ (x : FileHead). x.recipients) c.file.view_is in
     finds-mark f c.args.spot c.args.position None (place-none (f c.args.spot.area c.args.spot.name) c.args.file.now c.args.position (c.requires.reading t) (omega (arith, count, c.if-position-file.true)))
+
+pub loop-batch-smaller : goal.loop-batch-smaller
+loop-batch-smaller g c =
+    let count : c.file.inside.recipients ≡ c.args.file.now.recipients = ap (λ (x : FileHead). x.recipients) c.file.view_is in
+    let full = c.in_ok-next.ensures.full (omega (arith, count, c.if-next-position.false, c.if-position-file.false)) in
+    omega (arith, count, c.in_ok-next.ensures.fewer, full)

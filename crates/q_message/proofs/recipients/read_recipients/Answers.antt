@@ -1,4 +1,5 @@
 use Rattle.std.proofs.Common.{◌≡◌, ◌+◌, ◌<◌, ◌≤◌, ◌∷◌, ◌++◌, [], List, ℕ, Some, ap, arith, length, slice_get, subst, sym, ◌∙◌}
+use Rattle.std.proofs.lemmas.List.{length-append}
 use Rattle.q_model.specs.QueueFile.{FileRecipient}
 use Rattle.q_model.specs.QueueFileBytes.{recipient_at}
 use Rattle.q_model.specs.Values.{Batch, Taken}
@@ -37,6 +38,14 @@ loop-position-preserved g c =
       few = elim c.if-not-recipient.branch [
         | then-not-recipient w ↦ few_more c.loop-position.out.items c.if-not-recipient.out.items _ c.args.max (ap (λ (b : Batch). b.items) w.out-is ∙ w.push.ensures.items) (omega (arith, c.if-len-max.true, c.len.ensures))
         | else-not-recipient w ↦ subst (λ (b : Batch). length b.items ≤ c.args.max) (sym w.out-is) loop.invariant.few
+      ];
+      less = elim c.if-not-recipient.branch [
+        | then-not-recipient w ↦
+            let one = ap (λ (b : Batch). length b.items) w.out-is ∙ ap length w.push.ensures.items ∙ length-append loop.out.items _ in
+            omega (arith, loop.invariant.less, one, c.loop-position-test.true)
+        | else-not-recipient w ↦
+            let same = ap (λ (b : Batch). length b.items) w.out-is in
+            omega (arith, loop.invariant.less, same, c.loop-position-test.true)
       ];
       reads = λ t bytes here m given.
           let r = loop.invariant.reads t bytes here m given in
@@ -92,3 +101,9 @@ returns-clause-next g c t = each_told ((g.H.Host.view c.args.host.now).files c.a
       | then-loop-position-test+else-len-max w ↦ (left_none m c.args.cursor.position c.args.max c.loop-position.out.items c.loop-position.position (omega (arith, w.if-len-max.false, w.len.ensures)) r.left).1
       | else-loop-position-test w ↦ (left_end m c.args.cursor.position c.args.max c.loop-position.out.items c.loop-position.position (omega (arith, w.loop-position-test.false)) r.left).1
     ]))
+
+pub returns-clause-full : goal.returns-clause-full
+returns-clause-full g c more = elim c.loop-position-test.branch [
+  | then-loop-position-test+else-len-max w ↦ omega (arith, w.if-len-max.false, w.len.ensures)
+  | else-loop-position-test w ↦ absurd (omega (arith, more, w.loop-position-test.false))
+]

@@ -1,4 +1,4 @@
-use Rattle.std.proofs.Common.{◌≡◌, ◌-◌, ◌≤◌, List, ℕ, Some, IsTrue, length}
+use Rattle.std.proofs.Common.{◌≡◌, ◌+◌, ◌-◌, ◌≤◌, List, ℕ, Some, IsTrue, length}
 use Rattle.q_model.specs.QueueFile.{FileMessage, queue_file}
 use Rattle.q_host.specs.Calls.{Stays}
 use Rattle.q_message.proofs.PendingLaws.{IsReading}
@@ -14,6 +14,7 @@ invariant-loop-position g l =
       tell_later : (faults l.fn.host).tell ≤ (faults l.host).tell;
       room : l.out.room ≡ l.fn.out.room;
       few : length l.out.items ≤ l.max;
+      less : l.recipients - l.position + length l.out.items ≤ l.recipients - l.fn.cursor.position;
       reads : IsTrue g.H.Host.tells → (bytes : List ℕ) → (view l.fn.host).files l.spot.area l.spot.name ≡ Some bytes → (m : FileMessage) → queue_file bytes ≡ Some m
           → IsReading bytes m l.fn.cursor.position l.max l.window l.out.items l.position;
     }

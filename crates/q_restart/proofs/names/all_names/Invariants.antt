@@ -1,11 +1,12 @@
 use Rattle.std.proofs.Common.{◌≤◌, IsTrue}
 use Rattle.q_host.specs.Calls.{Stays}
+use Rattle.q_host.specs.NamesLeft.{names_left}
 use Rattle.q_restart.proofs.NameLists.{IsFront}
 use Rattle.q_restart.proofs.names.all_names.Given as goal
 
 -- all names up to one were found
-abbrev pub invariant-loop : goal.invariant-loop
-invariant-loop g l =
+abbrev pub invariant-loop-all : goal.invariant-loop-all
+invariant-loop-all g l =
     let view = g.H.Host.view in
     let faults = g.H.Host.faults in
     record {
@@ -14,3 +15,7 @@ invariant-loop g l =
       disk_later : (faults l.fn.host).disk ≤ (faults l.host).disk;
       tell_later : (faults l.fn.host).tell ≤ (faults l.host).tell;
     }
+
+-- each listing leaves fewer names
+abbrev pub decreases-loop-all : goal.decreases-loop-all
+decreases-loop-all g l = names_left l.after

@@ -1,18 +1,23 @@
 use Rattle.std.proofs.Common.{◌≤◌, IsTrue, List, ℕ}
 use Rattle.q_host.specs.Calls.{Stays}
 use Rattle.q_model.specs.Message.{Message}
-use Rattle.q_pending.specs.Readings.{IsPendingAhead, IsReading}
+use Rattle.q_pending.specs.Readings.{IsPendingAhead, IsReading, pending_left}
 use Rattle.q_pending.proofs.pending.Pending.next.Given as goal
 
 -- only recipients with a record were passed over
-abbrev pub invariant-loop : goal.invariant-loop
-invariant-loop g l =
+abbrev pub invariant-loop-taken : goal.invariant-loop-taken
+invariant-loop-taken g l =
     let view = g.H.Host.view in
     let faults = g.H.Host.faults in
     record {
       reading : IsTrue g.H.Host.tells → IsReading (view l.fn.host).files l.self;
       ahead : IsTrue g.H.Host.tells → (m : Message) (positions : List ℕ) → IsPendingAhead (view l.fn.host).files m l.fn.self positions → IsPendingAhead (view l.fn.host).files m l.self positions;
+      fewer : pending_left l.self ≤ pending_left l.fn.self;
       stays : IsTrue g.H.Host.tells → Stays (view l.fn.host) (view l.host);
       disk_later : (faults l.fn.host).disk ≤ (faults l.host).disk;
       tell_later : (faults l.fn.host).tell ≤ (faults l.host).tell;
     }
+
+-- each that is passed over leaves fewer
+abbrev pub decreases-loop-taken : goal.decreases-loop-taken
+decreases-loop-taken g l = pending_left l.self
