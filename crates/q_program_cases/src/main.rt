@@ -1,17 +1,22 @@
 //! Runs the program on real folders, as an operator would, by the steps of the pages that its words
-//! name, and shows what came. Each case begins in a folder of its own. Moments are shown as MOMENT, and
-//! numbers of processes as N, since they are others each time.
+//! name, and shows what came. Each case begins in a folder of its own. Moments are shown as MOMENT,
+//! numbers of processes as N, and ports as PORT, since they are others each time.
 //!
-//! The commands are processes of this program: `q_program_cases qmgr WORD..` does as `qmgr WORD..`. It
-//! is an error to name a page that isn't there, or one with a line that is no step.
+//! The commands and the hops are processes of this program: `q_program_cases qmgr WORD..` does as
+//! `qmgr WORD..`, `q_program_cases answer REPLY..` as `q_hop REPLY..`, and `q_program_cases stuck
+//! REPLY..` reads nothing behind the last reply. It is an error to name a page that isn't there, or one
+//! with a line that is no step.
 #![tactic(auto)]
 
+mod hop;
+mod hops;
 mod room;
 mod running;
 mod shown;
 mod stage;
 
 use anyhow::Result;
+use hop::{serve, serve_stuck};
 use q_program::program;
 use room::Room;
 use stage::Stage;
@@ -35,18 +40,26 @@ fn run_page(rt: HostRuntime, page: &str) -> Result<()> {
     stage.leave()
 }
 
+/// Carries out the pages that the words name.
+fn run_pages(rt: HostRuntime, pages: &[String]) -> Result<()> {
+    for page in pages {
+        run_page(rt, page.as_str())?;
+    }
+    Ok(())
+}
+
 fn main(rt: HostRuntime) -> Result<ExitCode> {
     let mut words = Vec::new(rt.alloc());
     for word in env::args(&rt)?.skip(1) {
         words.push(word)?;
     }
-    if let [first, words @ ..] = words.as_slice() {
-        if first.as_str() == "qmgr" {
-            return Ok(ExitCode::from(program(rt, words)));
+    if let [first, behind @ ..] = words.as_slice() {
+        match first.as_str() {
+            "qmgr" => return Ok(ExitCode::from(program(rt, behind))),
+            "answer" => serve(rt, behind)?,
+            "stuck" => serve_stuck(rt, behind)?,
+            _ => run_pages(rt, &words)?,
         }
-    }
-    for page in &words {
-        run_page(rt, page.as_str())?;
     }
     Ok(ExitCode::SUCCESS)
 }

@@ -1,11 +1,14 @@
 //! The steps of a case.
+use crate::hops::next_hop;
 use crate::room::Room;
 use crate::running::{Running, Streams, run};
 use anyhow::{Context, Result, bail};
+use q_serving::Server;
 use std::fs;
-use std::fs::read_dir;
+use std::fs::{OpenOptions, read_dir};
+use std::io::Write;
 
-/// A case: its room, what the next command reads and writes, and the commands that run.
+/// A case: its room, what the next command reads and writes, the commands that run, and the hops.
 #[derive(Drop)]
 pub(crate) struct Stage {
     rt: HostRuntime,
@@ -13,6 +16,7 @@ pub(crate) struct Stage {
     streams: Streams,
     first: Option<Running>,
     second: Option<Running>,
+    servers: Vec<Server>,
 }
 
 fn no_streams(rt: HostRuntime) -> Streams {
@@ -37,11 +41,15 @@ impl Stage {
             streams: no_streams(rt),
             first: None,
             second: None,
+            servers: Vec::new(rt.alloc()),
         }
     }
 
-    /// Ends the case.
+    /// Ends the case, and its hops.
     pub(crate) fn leave(self) -> Result<()> {
+        for server in self.servers {
+            server.stop()?;
+        }
         self.room.leave()
     }
 
@@ -84,6 +92,30 @@ impl Stage {
         Ok(())
     }
 
+    // The next command reads a line so many times.
+    fn repeat(&mut self, count: &str, line: &str) -> Result<()> {
+        let mut input = String::new(self.rt.alloc());
+        for _ in 0..count.parse::<u32>()? {
+            input.push_str(line)?;
+            input.push('\n')?;
+        }
+        self.streams.input = input;
+        Ok(())
+    }
+
+    // Starts a hop that behaves so, and routes a domain to it by a line more of a table.
+    fn route(&mut self, table: &str, text: &str) -> Result<()> {
+        let (domain, kind) = cut(text);
+        let hop = next_hop(self.rt, kind, &mut self.servers)?;
+        let path = self.room.inside(table)?;
+        let line = format!(in self.rt.alloc(); "{domain} smtp:{hop}\n")?;
+        let mut file = OpenOptions::new()
+            .append(true)
+            .create(true)
+            .open(&self.rt, &path)?;
+        Ok(file.write_all(line.as_bytes())?)
+    }
+
     // The command that runs under this name.
     fn running(&mut self, name: &str) -> &mut Option<Running> {
         if name == "first" {
@@ -119,11 +151,14 @@ impl Stage {
             return Ok(());
         }
         println!(self.rt; "$ {line}")?;
+        let (name, behind) = cut(text);
         match word {
             "qmgr" => self.run(text)?,
             "input" => self.streams.input = format!(in self.rt.alloc(); "{text}\n")?,
             "input-from" => self.streams.input_from = Some(self.room.inside(text)?),
             "output-to" => self.streams.output_to = Some(self.room.inside(text)?),
+            "input-lines" => self.repeat(name, behind)?,
+            "route" => self.route(name, behind)?,
             "names" => self.show_names(text)?,
             "begin" | "send" | "hear" | "end" => self.go_on(word, text)?,
             _ => self.change(word, text)?,

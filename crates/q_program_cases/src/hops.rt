@@ -1,20 +1,9 @@
-//! The hops of a case.
-use anyhow::{Context, Result};
+//! The hops of a case, as processes of their own.
+use anyhow::{Context, Result, bail};
 use q_serving::{ACCEPTANCE, Server, start};
 use std::env;
 use std::net::{Ipv4Addr, TcpListener};
 use std::process::Command;
-
-/// How a next hop behaves.
-#[derive(Clone, Copy, Debug, PartialEq, Eq)]
-pub(crate) enum Hop {
-    /// It takes the message.
-    Accepts,
-    /// It answers 354, and then neither reads nor answers.
-    Stuck,
-    /// Nobody listens on its port.
-    Nobody,
-}
 
 /// Starts a hop by these words, and says its name.
 fn start_hop(
@@ -43,11 +32,13 @@ fn nobody(rt: HostRuntime) -> Result<String> {
     Ok(format!(in rt.alloc(); "[127.0.0.1]:{port}")?)
 }
 
-/// The name of a next hop that behaves so. Where it is a process, it is added to these.
-pub(crate) fn next_hop(rt: HostRuntime, hop: Hop, servers: &mut Vec<Server>) -> Result<String> {
-    match hop {
-        Hop::Accepts => start_hop(rt, "answer", &ACCEPTANCE, servers),
-        Hop::Stuck => start_hop(rt, "stuck", &ACCEPTANCE[..5], servers),
-        Hop::Nobody => nobody(rt),
+/// The name of a next hop that takes the message (`accepts`), that answers 354 and then neither reads nor
+/// answers (`stuck`), or where nobody listens (`nobody`). Where it is a process, it is added to these.
+pub(crate) fn next_hop(rt: HostRuntime, kind: &str, servers: &mut Vec<Server>) -> Result<String> {
+    match kind {
+        "accepts" => start_hop(rt, "answer", &ACCEPTANCE, servers),
+        "stuck" => start_hop(rt, "stuck", &ACCEPTANCE[..5], servers),
+        "nobody" => nobody(rt),
+        _ => bail!("no hop: {kind}"),
     }
 }
