@@ -1,6 +1,5 @@
 //! The names of an area, in order and 64 at a time.
-use crate::fixture::{Shown, Spool, name, room};
-use q_folder_host::FolderHost;
+use crate::fixture::{Spool, System, name};
 use q_host::Host;
 use q_model::{Area, Names};
 use std::alloc::Global;
@@ -70,15 +69,13 @@ fn all_lists(rt: &impl Abort, alloc: Global, host: &mut Spool<'_>) -> Result<(),
 
 #[test]
 fn names_in_order(rt: HostRuntime) -> Result<(), Fail> {
-    let root = room(rt, "listed-spool")?;
-    let output = Shown::new();
-    match FolderHost::open(rt.alloc(), rt, &output, root.as_str()) {
+    let system = System::new(rt, "listed-spool")?;
+    match system.open() {
         Ok(mut host) => {
-            add_others(rt, root.as_str())?;
+            add_others(rt, system.root.as_str())?;
             all_lists(&rt, rt.alloc(), &mut host)?
         }
         Err(_) => panic!(rt; "not opened"),
     }
-    fs::remove_dir_all(&rt, root.as_str())?;
-    Ok(())
+    system.leave()
 }

@@ -1,13 +1,10 @@
 //! A host that looks beside another: it makes and locks nothing, and passes over what vanishes.
-use crate::fixture::{Shown, name, room};
-use q_folder_host::{Access, FolderHost};
+use crate::fixture::{Spool, System, name};
 use q_host::{Host, HostError};
 use q_model::{Area, Names};
 use std::fs;
 use std::process::Abort;
 use std::test::Fail;
-
-type Look<'a> = FolderHost<HostRuntime, &'a Shown>;
 
 // A file of 12 bytes comes to incoming.
 fn come(rt: HostRuntime, root: &str) -> Result<String, Fail> {
@@ -20,7 +17,7 @@ fn come(rt: HostRuntime, root: &str) -> Result<String, Fail> {
 fn reads_on(
     abort: &impl Abort,
     rt: HostRuntime,
-    look: &mut Look<'_>,
+    look: &mut Spool<'_>,
     path: &str,
 ) -> Result<(), Fail> {
     let id = name("00000001-00000001")?;
@@ -35,7 +32,7 @@ fn reads_on(
 }
 
 // What is gone reads as an empty file.
-fn misses(rt: &impl Abort, look: &mut Look<'_>) -> Result<(), Fail> {
+fn misses(rt: &impl Abort, look: &mut Spool<'_>) -> Result<(), Fail> {
     let id = name("00000001-00000002")?;
     let mut buf = [0; 4];
     assert!(rt; !look.has(Area::Incoming, id)?);
@@ -45,7 +42,7 @@ fn misses(rt: &impl Abort, look: &mut Look<'_>) -> Result<(), Fail> {
 }
 
 // A call that changes something is refused, and changes nothing.
-fn changes_nothing(rt: &impl Abort, look: &mut Look<'_>, names: &mut Names) -> Result<(), Fail> {
+fn changes_nothing(rt: &impl Abort, look: &mut Spool<'_>, names: &mut Names) -> Result<(), Fail> {
     let id = name("00000001-00000002")?;
     let fault = Err(HostError::Disk);
     assert_eq!(rt; look.create(Area::Hold, id), fault);
@@ -59,12 +56,11 @@ fn changes_nothing(rt: &impl Abort, look: &mut Look<'_>, names: &mut Names) -> R
 
 #[test]
 fn looks_beside_another(rt: HostRuntime) -> Result<(), Fail> {
-    let root = room(rt, "looked-spool")?;
-    let output = Shown::new();
-    match FolderHost::open(rt.alloc(), rt, &output, root.as_str()) {
+    let system = System::new(rt, "looked-spool")?;
+    match system.open() {
         Ok(_host) => {
-            let path = come(rt, root.as_str())?;
-            let mut look = FolderHost::new(rt.alloc(), rt, &output, root.as_str(), Access::Look)?;
+            let path = come(rt, system.root.as_str())?;
+            let mut look = system.look()?;
             let mut names = Names::new(rt.alloc())?;
             reads_on(&rt, rt, &mut look, path.as_str())?;
             misses(&rt, &mut look)?;
@@ -73,20 +69,5 @@ fn looks_beside_another(rt: HostRuntime) -> Result<(), Fail> {
         }
         Err(_) => panic!(rt; "not opened"),
     }
-    fs::remove_dir_all(&rt, root.as_str())?;
-    Ok(())
-}
-
-#[test]
-fn makes_nothing(rt: HostRuntime) -> Result<(), Fail> {
-    let root = room(rt, "empty-spool")?;
-    let output = Shown::new();
-    let mut look = FolderHost::new(rt.alloc(), rt, &output, root.as_str(), Access::Look)?;
-    let id = name("00000001-00000001")?;
-    assert_eq!(rt; look.has(Area::Incoming, id), Err(HostError::Disk));
-    assert!(rt; !fs::exists(&rt, root.as_str())?);
-    fs::create_dir(&rt, root.as_str())?;
-    assert!(rt; !look.has(Area::Incoming, id)?);
-    fs::remove_dir(&rt, root.as_str())?;
-    Ok(())
+    system.leave()
 }

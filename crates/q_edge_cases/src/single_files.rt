@@ -1,9 +1,7 @@
 //! One file at a time: its way through the calls, and what is missing.
-use crate::fixture::{Shown, Spool, name, room};
-use q_folder_host::FolderHost;
+use crate::fixture::{Spool, System, name};
 use q_host::{Host, HostError};
 use q_model::Area;
-use std::fs;
 use std::process::Abort;
 use std::test::Fail;
 
@@ -55,32 +53,30 @@ fn misses(rt: &impl Abort, host: &mut Spool<'_>) -> Result<(), Fail> {
 }
 
 // Each call to tell is one write, and a closed output is a fault of telling.
-fn tells(rt: &impl Abort, host: &mut Spool<'_>, output: &Shown) -> Result<(), Fail> {
+fn tells(rt: &impl Abort, host: &mut Spool<'_>, system: &System) -> Result<(), Fail> {
     host.tell(b"life 1\n")?;
     host.tell(b"end\n")?;
-    assert_eq!(rt; output.bytes.get(), 11);
-    assert_eq!(rt; output.calls.get(), 2);
-    output.closed.set(true);
+    assert_eq!(rt; system.bytes.get(), 11);
+    assert_eq!(rt; system.calls.get(), 2);
+    system.closed.set(true);
     assert_eq!(rt; host.tell(b"end\n"), Err(HostError::Tell));
     Ok(())
 }
 
-fn all_calls(rt: &impl Abort, host: &mut Spool<'_>, output: &Shown) -> Result<(), Fail> {
+fn all_calls(rt: &impl Abort, host: &mut Spool<'_>, system: &System) -> Result<(), Fail> {
     comes(host)?;
     is_read(rt, host)?;
     goes(rt, host)?;
     misses(rt, host)?;
-    tells(rt, host, output)
+    tells(rt, host, system)
 }
 
 #[test]
 fn files_and_told_lines(rt: HostRuntime) -> Result<(), Fail> {
-    let root = room(rt, "spool")?;
-    let output = Shown::new();
-    match FolderHost::open(rt.alloc(), rt, &output, root.as_str()) {
-        Ok(mut host) => all_calls(&rt, &mut host, &output)?,
+    let system = System::new(rt, "spool")?;
+    match system.open() {
+        Ok(mut host) => all_calls(&rt, &mut host, &system)?,
         Err(_) => panic!(rt; "not opened"),
     }
-    fs::remove_dir_all(&rt, root.as_str())?;
-    Ok(())
+    system.leave()
 }
