@@ -1,5 +1,5 @@
 -- What `qmgr` says of a command.
-use Rattle.std.specs.Prelude.{◌≡◌, ◌⊎◌, List, map, String, string_bytes, ℕ}
+use Rattle.std.specs.Prelude.{◌≡◌, ◌⊎◌, Bool, false, List, map, String, string_bytes, true, ℕ}
 use Rattle.q_events.specs.Forms.{IsMailInForm}
 use Rattle.q_host.specs.Calls.{Stays}
 use Rattle.q_host.specs.View.{View}
@@ -42,6 +42,24 @@ HasForm (requests.Qshape request) = IsShape request.shape
 HasForm requests.Queue = Unit {0}
 HasForm (requests.Load mails) = Unit {0}
 
+-- the command takes bytes of its source
+abbrev pub takes_input : Request → Bool
+takes_input requests.Replay = true
+takes_input (requests.Submit sender to) = true
+takes_input request = false
+
+-- it asks the clock
+abbrev pub asks_clock : Request → Bool
+asks_clock (requests.Submit sender to) = true
+asks_clock (requests.Drain rests) = true
+asks_clock (requests.Qshape request) = true
+asks_clock request = false
+
+-- it delivers over connections
+abbrev pub uses_connections : Request → Bool
+uses_connections (requests.Drain rests) = true
+uses_connections request = false
+
 -- how the command ends that is asked for
 abbrev pub Does : Request → Texts → Moments → Connections → Status → View → View → Type 0
 Does requests.Replay texts moments connections s u v = Replays texts u v s
@@ -66,3 +84,17 @@ MayCarryOut words texts moments connections s u v =
 -- the words ask for a drain with so many rests
 abbrev pub IsDrainOf : List (List ℕ) → ℕ → Type 0
 IsDrainOf words rests = IsRequest words (requests.Drain rests)
+
+-- of the source, the clock and the connections those stay as they were that the command has no use for
+pub record UsesNoMore (words : List (List ℕ)) {S C N : Type 0} (x x' : S) (c c' : C) (n n' : N)
+    : Type 0 where
+  pub request : Request
+  pub asked : IsRequest words request
+  pub source : takes_input request ≡ false → x' ≡ x
+  pub clock : asks_clock request ≡ false → c' ≡ c
+  pub connections : uses_connections request ≡ false → n' ≡ n
+
+-- the same, or memory ran out before the words were read, and all stay
+abbrev pub LeavesAlone : List (List ℕ) → {S C N : Type 0} → S → S → C → C → N → N → Type 0
+LeavesAlone words x x' c c' n n' =
+    ((x' ≡ x) × (c' ≡ c) × (n' ≡ n)) ⊎ UsesNoMore words x x' c c' n n'

@@ -5,7 +5,7 @@ ghost use Rattle.q_replay.specs.ReplayEnds.{IsFitSpool};
 ghost use Rattle.q_top.specs.Causes.{HasHostCause, HasSourceCause};
 ghost use Rattle.q_top.specs.Courses.{Connections, Moments, Texts};
 ghost use Rattle.q_drain.specs.Drained.{CountsRests};
-ghost use Rattle.q_top.specs.Qmgr.{Does, HasForm, IsDrainOf, MayCarryOut, RefusesWords, texts_of, words_status};
+ghost use Rattle.q_top.specs.Qmgr.{asks_clock, Does, HasForm, IsDrainOf, LeavesAlone, MayCarryOut, RefusesWords, takes_input, texts_of, uses_connections, words_status};
 ghost use Rattle.q_top.specs.Statuses.{is_unreadable};
 ghost use Rattle.q_words.specs.declared.request.Request.TheVariants.{Drain};
 ghost use Rattle.q_words.specs.Requests.{IsRequest};
@@ -51,6 +51,9 @@ fn carry_out<L: Link, H: Host, S: Source, C: Clock, N: Hops<Link = L>>(
     ensures readable { IsTrue H.tells → is_unreadable result ≡ false }
     ensures host { HasHostCause (H.faults host.old) (H.faults host.new) result }
     ensures source { HasSourceCause (S.faults source.old) (S.faults source.new) result }
+    ensures source_stays { takes_input request ≡ false → source.new ≡ source.old }
+    ensures clock_stays { asks_clock request ≡ false → clock.new ≡ clock.old }
+    ensures connections_stay { uses_connections request ≡ false → hops.new ≡ hops.old }
     ensures no_usage { result ≢ Status.Usage }
     ensures unfinished { (n : ℕ) → result ≡ Status.Unfinished n → (request ≡ Drain n)
         × CountsRests (N.view hops.old) (N.view hops.new) n }
@@ -108,6 +111,10 @@ pub fn qmgr<L: Link, H: Host, S: Source, C: Clock, N: Hops<Link = L>>(
         (record { before = S.left source.old; after = S.left source.new })
         (record { before = C.given clock.old; after = C.given clock.new })
         (record { before = N.view hops.old; after = N.view hops.new }) result) }
+    // Only replay and submit take from the source, none but submit, drain and qshape asks the clock, and
+    // none but drain uses connections.
+    ensures alone { is_usage (texts_of words.now) ≡ false → LeavesAlone (texts_of words.now)
+        source.old source.new clock.old clock.new hops.old hops.new }
     // Only a drain is left unfinished, and only where all rests were given that its words say.
     ensures unfinished { (n : ℕ) → result ≡ Status.Unfinished n → IsDrainOf (texts_of words.now) n
         × CountsRests (N.view hops.old) (N.view hops.new) n }

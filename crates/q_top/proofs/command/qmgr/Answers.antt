@@ -1,4 +1,4 @@
-use Rattle.std.proofs.Common.{subst}
+use Rattle.std.proofs.Common.{inl, inr, refl, subst}
 use Rattle.q_top.proofs.Asked.{asked_form}
 use Rattle.q_top.specs.Qmgr.{texts_of}
 use Rattle.q_words.specs.declared.request.Request.{Request}
@@ -17,3 +17,15 @@ returns-in-Ok-clause-unfinished g c n is =
 
 pub returns-in-Err-clause-readable : goal.returns-in-Err-clause-readable
 returns-in-Err-clause-readable g c t = rw c.words_status.ensures (words_readable c.in-Err.error)
+
+pub returns-in-Ok-clause-alone : goal.returns-in-Ok-clause-alone
+returns-in-Ok-clause-alone g c usage = inr (record {
+  request = c.in-Ok.request;
+  asked = c.in-Ok.ensures.1;
+  source = c.carry_out.ensures.source_stays;
+  clock = c.carry_out.ensures.clock_stays;
+  connections = c.carry_out.ensures.connections_stay;
+})
+
+pub returns-in-Err-clause-alone : goal.returns-in-Err-clause-alone
+returns-in-Err-clause-alone g c usage = inl (refl, refl, refl)
