@@ -1,5 +1,5 @@
 //! What the tests of the host stand on: the system's files and an output, in a folder of their own.
-use q_folder_host::{Access, Fault, FolderHost};
+use q_folder_host::{Access, Fault, FolderHost, Syncs};
 use q_model::Name;
 use std::alloc::Allocator;
 use std::cell::Cell;
@@ -16,7 +16,7 @@ pub(crate) fn name(text: &str) -> Result<Name, Fail> {
 }
 
 /// The system's files, of which none can be opened for writing while they are guarded; and an output
-/// that shows how many bytes it was given, and in how many calls, or is closed.
+/// that shows how many bytes it was given, and in how many calls, or is closed. Its clock stands still.
 #[derive(Drop)]
 pub(crate) struct System {
     pub(crate) rt: HostRuntime,
@@ -25,6 +25,8 @@ pub(crate) struct System {
     pub(crate) bytes: Cell<usize>,
     pub(crate) calls: Cell<usize>,
     pub(crate) closed: Cell<bool>,
+    /// What the clock shows, in milliseconds.
+    pub(crate) millis: Cell<u64>,
 }
 
 /// A host over both.
@@ -42,12 +44,21 @@ impl System {
             bytes: Cell::new(0),
             calls: Cell::new(0),
             closed: Cell::new(false),
+            millis: Cell::new(0),
         })
     }
 
     /// A host that may change the folders.
     pub(crate) fn open(&self) -> Result<Spool<'_>, Fault> {
         FolderHost::open(self.rt.alloc(), self, self, self.root.as_str())
+    }
+
+    /// A host that syncs folders together.
+    pub(crate) fn grouped(&self) -> Result<Spool<'_>, Fail> {
+        let syncs = Syncs::Grouped { keeps_lines: true };
+        let access = Access::Change { wait: 0, syncs };
+        let alloc = self.rt.alloc();
+        Ok(FolderHost::new(alloc, self, self, self.root.as_str(), access)?)
     }
 
     /// A host that looks at them.
@@ -117,7 +128,7 @@ impl Files for System {
 
 impl Clock for System {
     fn monotonic(&self) -> io::Result<Duration> {
-        self.rt.monotonic()
+        Ok(Duration::from_millis(self.millis.get()))
     }
 
     fn since_1970(&self) -> io::Result<Duration> {

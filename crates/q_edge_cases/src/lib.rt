@@ -8,6 +8,8 @@ mod clocks;
 #[cfg(test)]
 mod fixture;
 #[cfg(test)]
+mod grouping;
+#[cfg(test)]
 mod listing;
 #[cfg(test)]
 mod looking;

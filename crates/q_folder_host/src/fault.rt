@@ -81,6 +81,9 @@ pub enum Fault {
         name: Name,
         error: io::Error,
     },
+    /// An earlier change of a folder could not be made durable, so nothing is told any more.
+    #[error("an earlier change could not be made durable")]
+    Lost,
     /// The output could not be written.
     #[error("{0}")]
     Output(io::Error),

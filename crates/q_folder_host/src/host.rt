@@ -3,7 +3,7 @@ ghost use Rattle.std.specs.Prelude.{◌≡◌, IfOk, IsErrOf, Ok};
 ghost use Rattle.q_host.specs.Faults.{DiskCause};
 ghost use Rattle.q_host.specs.declared.error.HostError.TheVariants.{NoMemory};
 
-use crate::access::Access;
+use crate::access::{Access, Syncs};
 use crate::fault::Fault;
 use crate::spool::Spool;
 use q_host::{Host, HostError};
@@ -13,6 +13,46 @@ use std::fs::File;
 use std::rt::Files;
 use std::time::Clock;
 
+/// How many bytes of lines are kept back.
+const MOST_KEPT: usize = 65_536;
+
+// Writes lines that stand on the disk.
+fn write<P: Print>(output: &P, bytes: &[u8]) -> Result<(), Fault> {
+    if bytes.is_empty() {
+        return Ok(());
+    }
+    output.write_all(bytes).map_err(Fault::Output)
+}
+
+// Makes durable what these lines say, and writes them behind those that were kept back, of which none
+// is written twice.
+fn leave<F: Files<File = File> + Clock + Drop, P: Print>(
+    spool: &mut Spool<F>,
+    output: &P,
+    told: &mut Vec<u8>,
+    bytes: &[u8],
+) -> Result<(), Fault> {
+    spool.settle()?;
+    let written = write(output, told.as_slice());
+    told.clear();
+    written?;
+    write(output, bytes)
+}
+
+// Keeps lines back, or writes them.
+fn pass_on<F: Files<File = File> + Clock + Drop, P: Print>(
+    spool: &mut Spool<F>,
+    output: &P,
+    told: &mut Vec<u8>,
+    bytes: &[u8],
+) -> Result<(), Fault> {
+    let fits = bytes.len() <= MOST_KEPT.saturating_sub(told.len());
+    if fits && spool.may_keep_lines() && told.extend_from_slice(bytes).is_ok() {
+        return Ok(());
+    }
+    leave(spool, output, told, bytes)
+}
+
 /// The folders of a spool below one root, made ready at the first call that needs them, and an
 /// output; and how often each has failed, which stops at 2^64 - 1. A call that answers `Disk` or
 /// `Tell` counts one fault, and keeps what it was.
@@ -20,6 +60,8 @@ use std::time::Clock;
 pub struct FolderHost<F: Files<File = File> + Clock + Drop, P: Print + Drop> {
     spool: Spool<F>,
     output: P,
+    // lines that were told and aren't written yet
+    told: Vec<u8>,
     fault: Option<Fault>,
     disk_faults: u64,
     tell_faults: u64,
@@ -37,6 +79,7 @@ impl<F: Files<File = File> + Clock + Drop, P: Print + Drop> FolderHost<F, P> {
         Ok(FolderHost {
             spool: Spool::new(alloc, files, root, access)?,
             output,
+            told: Vec::new(alloc),
             fault: None,
             disk_faults: 0,
             tell_faults: 0,
@@ -47,7 +90,11 @@ impl<F: Files<File = File> + Clock + Drop, P: Print + Drop> FolderHost<F, P> {
     /// made, the root too, for their owner alone; the folder above it has to be there. Where another
     /// process has them, it isn't waited for.
     pub fn open(alloc: Global, files: F, output: P, root: &str) -> Result<Self, Fault> {
-        let mut host = FolderHost::new(alloc, files, output, root, Access::Change { wait: 0 })?;
+        let access = Access::Change {
+            wait: 0,
+            syncs: Syncs::Each,
+        };
+        let mut host = FolderHost::new(alloc, files, output, root, access)?;
         host.spool.ready()?;
         Ok(host)
     }
@@ -67,6 +114,19 @@ impl<F: Files<File = File> + Clock + Drop, P: Print + Drop> FolderHost<F, P> {
     /// the folders were made ready too. It stops at 2^64 - 1.
     pub fn syncs(&self) -> u64 {
         self.spool.system.syncs
+    }
+
+    /// Makes durable what was done, and writes the lines that were kept back. It is to be called at the
+    /// end: what wasn't written is told by nobody. A fault is kept as one of telling.
+    pub fn flush(&mut self) -> Result<(), HostError> {
+        match leave(&mut self.spool, &self.output, &mut self.told, b"") {
+            Ok(()) => Ok(()),
+            Err(fault) => {
+                self.fault = Some(fault);
+                self.tell_faults = self.tell_faults.saturating_add(1);
+                Err(HostError::Tell)
+            }
+        }
     }
 
     // The answer of the folders, with its fault counted and kept.
@@ -168,10 +228,10 @@ impl<F: Files<File = File> + Clock + Drop, P: Print + Drop> Host for FolderHost<
     }
 
     fn tell(&mut self, bytes: &[u8]) -> Result<(), HostError> {
-        match self.output.write_all(bytes) {
+        match pass_on(&mut self.spool, &self.output, &mut self.told, bytes) {
             Ok(()) => Ok(()),
-            Err(error) => {
-                self.fault = Some(Fault::Output(error));
+            Err(fault) => {
+                self.fault = Some(fault);
                 self.tell_faults = self.tell_faults.saturating_add(1);
                 Err(HostError::Tell)
             }

@@ -113,7 +113,7 @@ impl<F: Files<File = File> + Clock + Drop> Spool<F> {
 
     /// Looks whether a file of a queue can be written.
     pub(crate) fn judge_writable(&self, area: Area, name: Name, path: &str) -> Result<(), Fault> {
-        match self.system.open_for_writing(path) {
+        match self.system.open(path, true) {
             Ok(_) => Ok(()),
             Err(e) => {
                 let place = format!(in self.system.alloc; "{}/{name}", area.folder())?;

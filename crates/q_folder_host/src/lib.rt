@@ -1,9 +1,16 @@
 //! A host over folders of the system, one for each area below a root, and an output. It tells nothing
 //! of its content, so what a crash leaves of it is left to the system; what it does for that is this:
 //!
-//! - What answers Ok is durable as `Host` says: bytes once their file was synced; a file that was
-//!   made, renamed or removed once the call is over, since its folders are synced in the call. A
-//!   file that is made in tmp is the exception: opening a spool clears tmp, so nothing rests on it.
+//! - By [`Syncs::Each`] what answers Ok is durable as `Host` says: bytes once their file was synced; a
+//!   file that was made, renamed or removed once the call is over, since its folders are synced in the
+//!   call. A file that is made in tmp is the exception: opening a spool clears tmp, so nothing rests on
+//!   it.
+//! - By [`Syncs::Grouped`] files are synced in their calls too, and folders together: before a line
+//!   leaves, before bytes of a file are written that came to its place or rest on a failure log that
+//!   did, at once where boot is changed, and else 50 milliseconds behind the first change, at the next
+//!   one. So what was written to the output stands on the disk, where metadata reach it in the order of
+//!   their changes; a loss of power may leave the folders as they were some lines before. Lines that are
+//!   kept back leave by `flush`, which is to be called at the end.
 //! - What reads give of names when the host is opened is durable, since it syncs all folders. Bytes
 //!   that a killed process left unsynced are not: opening a spool syncs failure logs, and the first
 //!   sync of a message left in active comes before anything rests on its marks.
@@ -19,17 +26,21 @@
 #![tactic(auto)]
 
 mod access;
+mod changing;
 mod fault;
 mod folders;
 mod host;
 mod judging;
+mod kept;
+mod late;
 mod locking;
 mod looking;
 mod names;
 mod opening;
+mod reading;
 mod spool;
 mod system;
 
-pub use access::Access;
+pub use access::{Access, Syncs};
 pub use fault::{Call, Fault};
 pub use host::FolderHost;

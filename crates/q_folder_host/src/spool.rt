@@ -1,20 +1,22 @@
 //! The folders of a spool, made ready at the first call.
-ghost use Rattle.std.specs.Prelude.{◌≤◌, IfOk, length, OnOk};
+ghost use Rattle.std.specs.Prelude.{◌≤◌, length, OnOk};
 ghost use Rattle.q_host.specs.Reads.{Rise};
 
 use crate::access::Access;
 use crate::fault::{Call, Fault};
 use crate::folders::Folder;
+use crate::kept::Kept;
+use crate::late::Late;
 use crate::names::list_names;
 use crate::system::System;
 use q_model::{Area, Name, Names};
 use std::alloc::{AllocError, Global};
 use std::collections::BTreeSet;
 use std::fs::File;
+use std::io;
 use std::io::ErrorKind;
 use std::rt::Files;
 use std::time::Clock;
-use std::{fs, io};
 
 /// All areas, in their order.
 pub(crate) const AREAS: [Area; 10] = [
@@ -39,6 +41,10 @@ pub(crate) struct Spool<F: Files<File = File> + Clock + Drop> {
     pub(crate) is_ready: bool,
     // in the order of the areas
     pub(crate) folders: [Folder; 10],
+    // what isn't durable yet
+    pub(crate) late: Late,
+    // the file of the last calls
+    pub(crate) kept: Option<Kept>,
     // holds the lock until it is closed
     pub(crate) lock: Option<File>,
     // who had the spool when it was opened to be looked at
@@ -111,6 +117,8 @@ impl<F: Files<File = File> + Clock + Drop> Spool<F> {
             access,
             is_ready: false,
             folders,
+            late: Late::new(alloc),
+            kept: None,
             lock: None,
             user: None,
         })
@@ -121,23 +129,11 @@ impl<F: Files<File = File> + Clock + Drop> Spool<F> {
         if !self.is_ready {
             match self.access {
                 Access::Look => self.open_to_look()?,
-                Access::Change { wait } => self.open_to_change(wait)?,
+                Access::Change { wait, .. } => self.open_to_change(wait)?,
             }
             self.is_ready = true;
         }
         Ok(())
-    }
-
-    // Makes the folders ready for a call that changes a file, which one who looks refuses.
-    fn ready_to(&mut self, call: Call, area: Area, name: Name) -> Result<(), Fault> {
-        self.ready()?;
-        match self.access {
-            Access::Look => {
-                let refused = io::Error::from(ErrorKind::ReadOnlyFilesystem);
-                said(call, area, name, Err(refused))
-            }
-            Access::Change { .. } => Ok(()),
-        }
     }
 
     // The path of a file. A name has no slash, so no path leaves its folder.
@@ -170,111 +166,5 @@ impl<F: Files<File = File> + Clock + Drop> Spool<F> {
         self.list(area)?;
         let listed = list_names(&self.folders[area as usize].names, &after, out);
         listed.map_err(|_| Fault::NoMemory(AllocError))
-    }
-
-    pub(crate) fn has(&mut self, area: Area, name: Name) -> Result<bool, Fault> {
-        self.ready()?;
-        let path = self.path(area, name)?;
-        if self.access == Access::Look {
-            return self.sees(area, name, path.as_str());
-        }
-        said(
-            Call::Find,
-            area,
-            name,
-            fs::exists(&self.system.files, &path),
-        )
-    }
-
-    pub(crate) fn size(&mut self, area: Area, name: Name) -> Result<u64, Fault> {
-        self.ready()?;
-        let path = self.path(area, name)?;
-        if self.access == Access::Look {
-            return self.size_seen(area, name, path.as_str());
-        }
-        let file = fs::metadata(&self.system.files, &path);
-        said(Call::Size, area, name, file.map(|file| file.len()))
-    }
-
-    /// Reads from an offset on until the buffer is full or the file ends.
-    pub(crate) fn read(
-        &mut self,
-        area: Area,
-        name: Name,
-        at: u64,
-        buf: &mut [u8],
-    ) -> Result<usize, Fault>
-        ensures within { IfOk result (λ count. count ≤ length buf.new) }
-    {
-        self.ready()?;
-        let path = self.path(area, name)?;
-        if self.access == Access::Look {
-            return self.read_seen(area, name, path.as_str(), at, buf);
-        }
-        match self.system.read(path.as_str(), at, buf) {
-            Ok(count) => Ok(count),
-            Err(e) => Err(failed(Call::Read, area, name, e)),
-        }
-    }
-
-    pub(crate) fn create(&mut self, area: Area, name: Name) -> Result<(), Fault> {
-        self.ready_to(Call::Create, area, name)?;
-        let path = self.path(area, name)?;
-        let folder = &mut self.folders[area as usize];
-        let made = self.system.create(area, path.as_str(), folder);
-        folder.came(name, made.is_ok());
-        said(Call::Create, area, name, made)
-    }
-
-    pub(crate) fn write_at(
-        &mut self,
-        area: Area,
-        name: Name,
-        at: u64,
-        bytes: &[u8],
-    ) -> Result<(), Fault> {
-        self.ready_to(Call::Write, area, name)?;
-        let path = self.path(area, name)?;
-        let written = self.system.write_at(path.as_str(), at, bytes);
-        said(Call::Write, area, name, written)
-    }
-
-    pub(crate) fn sync(&mut self, area: Area, name: Name) -> Result<(), Fault> {
-        self.ready_to(Call::Sync, area, name)?;
-        let path = self.path(area, name)?;
-        let synced = self.system.sync_bytes(path.as_str());
-        said(Call::Sync, area, name, synced)
-    }
-
-    pub(crate) fn rename(
-        &mut self,
-        area: Area,
-        name: Name,
-        to: Area,
-        new: Name,
-    ) -> Result<(), Fault> {
-        self.ready_to(Call::Rename, area, name)?;
-        let path = self.path(area, name)?;
-        let onto = self.path(to, new)?;
-        // What can't be marked isn't delivered.
-        if to == Area::Active {
-            self.judge_writable(area, name, path.as_str())?;
-        }
-        let folders = &self.folders;
-        let from = &folders[area as usize];
-        let into = &folders[to as usize];
-        let moved = self.system.rename(path.as_str(), from, onto.as_str(), into);
-        self.folders[area as usize].left(name, moved.is_ok());
-        self.folders[to as usize].came(new, moved.is_ok());
-        said(Call::Rename, area, name, moved)
-    }
-
-    pub(crate) fn remove(&mut self, area: Area, name: Name) -> Result<(), Fault> {
-        self.ready_to(Call::Remove, area, name)?;
-        let path = self.path(area, name)?;
-        let folder = &mut self.folders[area as usize];
-        let removed = self.system.remove(path.as_str(), folder);
-        folder.left(name, removed.is_ok());
-        said(Call::Remove, area, name, removed)
     }
 }

@@ -5,13 +5,12 @@ ghost use Rattle.q_model.specs.FaultCounts.{Rose};
 
 use crate::folders::Folder;
 use crate::names::names_of;
-use q_model::Area;
 use std::alloc::Global;
 use std::fs::{File, OpenOptions};
+use std::io;
 use std::io::ErrorKind;
 use std::os::unix::fs::FileExt;
 use std::rt::Files;
-use std::{fs, io};
 
 /// The system, and how often it was asked to sync a file or a folder.
 #[derive(Drop)]
@@ -58,28 +57,24 @@ impl<F: Files<File = File> + Drop> System<F> {
     }
 
     /// Makes a file's bytes and its length durable.
-    pub(crate) fn sync_bytes(&mut self, path: &str) -> io::Result<()> {
-        let file = File::open(&self.files, path)?;
+    pub(crate) fn sync_bytes(&mut self, file: &File) -> io::Result<()> {
         self.syncs = self.syncs.saturating_add(1);
         file.sync_data()
     }
 
-    /// Reads from an offset on until the buffer is full or the file ends.
-    pub(crate) fn read(&self, path: &str, at: u64, buf: &mut [u8]) -> io::Result<usize>
-        ensures within { IfOk result (λ count. count ≤ length buf.new) }
-    {
-        let file = File::open(&self.files, path)?;
-        read_from(&file, at, buf)
+    /// Opens a file that is there, to be read, or to be written over too.
+    pub(crate) fn open(&self, path: &str, writes: bool) -> io::Result<File> {
+        OpenOptions::new()
+            .read(true)
+            .write(writes)
+            .open(&self.files, path)
     }
 
-    /// Opens a file that is there to be written over.
-    pub(crate) fn open_for_writing(&self, path: &str) -> io::Result<File> {
-        OpenOptions::new().write(true).open(&self.files, path)
-    }
-
-    /// Writes all bytes from an offset on, over what is there. No file is made.
-    pub(crate) fn write_at(&self, path: &str, at: u64, bytes: &[u8]) -> io::Result<()> {
-        self.open_for_writing(path)?.write_all_at(bytes, at)
+    /// Makes an empty file, in place of any, and opens it.
+    pub(crate) fn create(&self, path: &str) -> io::Result<File> {
+        let mut how = OpenOptions::new();
+        how.read(true).write(true).create(true).truncate(true);
+        how.open(&self.files, path)
     }
 
     /// Reads the names that stand in a folder, where they aren't known.
@@ -90,36 +85,5 @@ impl<F: Files<File = File> + Drop> System<F> {
             folder.is_listed = true;
         }
         Ok(())
-    }
-
-    /// Makes an empty file, in place of any. It is synced, so that what stood there is gone for
-    /// sure; nothing rests on a file in tmp.
-    pub(crate) fn create(&mut self, area: Area, path: &str, folder: &Folder) -> io::Result<()> {
-        let file = File::create(&self.files, path)?;
-        if area == Area::Tmp {
-            return Ok(());
-        }
-        self.sync(&file)?;
-        self.sync_folder(folder)
-    }
-
-    /// Moves a file. The new folder is synced first: until both are, a crash may leave the file in
-    /// both, never in none.
-    pub(crate) fn rename(
-        &mut self,
-        path: &str,
-        from: &Folder,
-        onto: &str,
-        into: &Folder,
-    ) -> io::Result<()> {
-        fs::rename(&self.files, path, onto)?;
-        self.sync_folder(into)?;
-        self.sync_folder(from)
-    }
-
-    /// Takes a file away.
-    pub(crate) fn remove(&mut self, path: &str, folder: &Folder) -> io::Result<()> {
-        fs::remove_file(&self.files, path)?;
-        self.sync_folder(folder)
     }
 }

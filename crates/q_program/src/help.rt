@@ -2,7 +2,7 @@
 
 /// How the program is called.
 pub(crate) const USAGE: &str = "
-Usage: qmgr [-w SECONDS] SPOOL COMMAND [WORD]...
+Usage: qmgr [-s] [-w SECONDS] SPOOL COMMAND [WORD]...
        qmgr --help | --version";
 
 /// What `--version` prints.
@@ -12,12 +12,13 @@ pub(crate) const VERSION: &str = "qmgr 0.1";
 pub(crate) const HELP: &str = "\
 qmgr, the queue manager of a mail server
 
-Usage: qmgr [-w SECONDS] SPOOL COMMAND [WORD]...
+Usage: qmgr [-s] [-w SECONDS] SPOOL COMMAND [WORD]...
        qmgr --help | --version
 
 SPOOL is the folder of the spool. The first three commands make it where it is missing, and lock
-it; where another process has it, they wait for it, at most SECONDS (default 0). queue and qshape
-change nothing, and look beside a process that has it. load touches no folder.
+it; where another process has it, they wait for it, at most SECONDS (default 0). With -s each change
+of a folder is synced by itself, else many together. queue and qshape change nothing, and look beside
+a process that has it. load touches no folder.
 
 Commands:
   submit SENDER RECIPIENT...    take in one message, whose content is standard input; <> is the

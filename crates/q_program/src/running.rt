@@ -1,28 +1,58 @@
 //! The program.
-use crate::call::{Call, read_call};
+use crate::call::{Call, Options, read_call};
 use crate::heard::Heard;
 use crate::help::{HELP, USAGE, VERSION};
 use crate::noted::Noted;
 use crate::report::report;
 use crate::saying::say;
 use crate::tally::Counted;
-use q_folder_host::{Access, FolderHost};
+use q_folder_host::{Access, FolderHost, Syncs};
 use q_stream::{RealClock, StdSource};
 use q_tcp_hops::TcpHops;
 use q_top::{Status, qmgr};
 use q_words::{Request, WordsError, read_words};
-use std::env;
 use std::fmt::Display;
 use std::io::ErrorKind;
+use std::{env, fs};
 
 /// A host over the folders of a spool, whose output is counted.
 pub(crate) type Host<'a> = FolderHost<HostRuntime, Counted<'a>>;
 
+/// Whether standard input is a file, so that nobody who writes it waits for an answer.
+fn reads_a_file(rt: HostRuntime) -> bool {
+    match fs::metadata(&rt, "/dev/stdin") {
+        Ok(found) => found.is_file(),
+        Err(_) => false,
+    }
+}
+
+/// When folders are synced. Who writes the list of a replay may wait for what it tells.
+fn syncs_of(rt: HostRuntime, request: &Result<Request, WordsError>, options: Options) -> Syncs {
+    if options.syncs_each {
+        return Syncs::Each;
+    }
+    let is_replay = matches!(request, Ok(Request::Replay));
+    Syncs::Grouped {
+        keeps_lines: !is_replay || reads_a_file(rt),
+    }
+}
+
 /// What a command may do with the spool: two of them look at it alone.
-fn access_of(request: &Result<Request, WordsError>, wait: u32) -> Access {
+fn access_of(rt: HostRuntime, request: &Result<Request, WordsError>, options: Options) -> Access {
     match request {
         Ok(Request::Queue) | Ok(Request::Qshape(_)) => Access::Look,
-        _ => Access::Change { wait },
+        _ => Access::Change {
+            wait: options.wait,
+            syncs: syncs_of(rt, request, options),
+        },
+    }
+}
+
+/// Lets leave what a command told, and answers how it ended then.
+fn flushed(host: &mut Host<'_>, status: Status) -> Status {
+    match host.flush() {
+        Err(_) if status != Status::Disk => Status::Tell,
+        _ => status,
     }
 }
 
@@ -33,9 +63,9 @@ fn refuse<D: Display + Drop>(rt: HostRuntime, status: Status, why: D) -> u8 {
 }
 
 /// Runs the command of these words on the spool in a folder.
-fn run(rt: HostRuntime, wait: u32, folder: &str, words: &[String]) -> u8 {
+fn run(rt: HostRuntime, options: Options, folder: &str, words: &[String]) -> u8 {
     let request = read_words(rt.alloc(), words);
-    let access = access_of(&request, wait);
+    let access = access_of(rt, &request, options);
     let heard = Heard::new(rt.alloc(), matches!(request, Ok(Request::Replay)));
     let output = Counted { rt, heard: &heard };
     let reader = Noted {
@@ -59,6 +89,7 @@ fn run(rt: HostRuntime, wait: u32, folder: &str, words: &[String]) -> u8 {
         &mut clock,
         &mut hops,
     );
+    let status = flushed(&mut host, status);
     report(rt, words, &request, &mut host, status, &heard);
     status.number()
 }
@@ -78,10 +109,10 @@ pub fn program(rt: HostRuntime, words: &[String]) -> u8 {
         Call::Help => tell(rt, HELP),
         Call::Version => tell(rt, VERSION),
         Call::Run {
-            wait,
+            options,
             folder,
             words,
-        } => run(rt, wait, folder.as_str(), words),
+        } => run(rt, options, folder.as_str(), words),
         Call::Wrong(why) => {
             say(rt, format_args!("{}: {why}\n{USAGE}", Status::Usage));
             Status::Usage.number()
