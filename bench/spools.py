@@ -1,4 +1,4 @@
-"""What bench/drain and bench/spool share: the built program, fresh spools, commands that come to an end,
+"""What the scripts of this folder share: the built program, fresh spools, commands that come to an end,
 and the words of a script."""
 
 import argparse
