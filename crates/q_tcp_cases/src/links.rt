@@ -116,13 +116,13 @@ fn a_server_that_reads_late(rt: HostRuntime) -> Result<(), Fail> {
     Ok(())
 }
 
-// Reads at the server's side until a write of a byte is taken.
+// Reads at the server's side until a write of a byte is taken, behind a rest that hears of it.
 fn take_and_write(hops: &mut TcpHops<HostRuntime>, late: &mut Joined) -> Result<Put, Fail> {
-    let mut buf = [0u8; 4096];
-    for _ in 0..100_000 {
+    let mut buf = [0u8; 65_536];
+    for _ in 0..10_000 {
         late.stream.read_exact(&mut buf)?;
         match late.link.write(b"x") {
-            Put::NotYet => {}
+            Put::NotYet => hops.rest(&mut late.link),
             answer => return Ok(answer),
         }
     }

@@ -3,15 +3,19 @@ ghost use Rattle.std.specs.Prelude.{◌≡◌, IfOk};
 ghost use Rattle.q_tcp_hops.specs.TcpLinks.{fresh, no_calls};
 
 use crate::TcpLink;
+use crate::readiness::Readiness;
 use mio::event::Events;
 use mio::net::TcpStream;
 use mio::{Interest, Poll, Token};
 use q_link::{Hops, NoLink, address_of};
 use q_model::{Hop, NoMemory};
+use slab::Slab;
 use std::alloc::Global;
 use std::io;
+use std::io::ErrorKind;
 use std::marker::Model;
 use std::net::{Net, SocketAddr};
+use std::rc::Rc;
 use std::time::Duration;
 
 /// How long a rest waits at most, in milliseconds.
@@ -27,6 +31,8 @@ pub struct TcpHops<N: Net + Drop> {
     // tells which links are ready; a link that is dropped leaves it by itself
     poll: Poll,
     events: Events,
+    // of each link that isn't closed, under its token
+    links: Slab<Rc<Readiness>>,
     connect_faults: u64,
     rests: u64,
     link_faults: u64,
@@ -59,6 +65,7 @@ impl<N: Net + Drop> TcpHops<N> {
             net,
             poll,
             events,
+            links: Slab::new(alloc),
             connect_faults: 0,
             rests: 0,
             link_faults: 0,
@@ -66,16 +73,41 @@ impl<N: Net + Drop> TcpHops<N> {
         })
     }
 
-    // Begins a connection, and doesn't wait for it.
-    fn open(&self, address: SocketAddr) -> io::Result<TcpLink>
-        ensures { IfOk result (λ link. link ≡ fresh) }
-    {
+    // Begins a connection that the system tells of under this token, and doesn't wait for it.
+    fn begin(&self, address: SocketAddr, key: usize) -> io::Result<TcpStream> {
         let mut stream = TcpStream::connect(&self.net, address)?;
         // a command is sent at once, also behind one that the hop hasn't confirmed
         stream.set_nodelay(true)?;
         let both = Interest::READABLE | Interest::WRITABLE;
-        self.poll.registry().register(&mut stream, Token(0), both)?;
-        Ok(TcpLink::new(stream))
+        self.poll
+            .registry()
+            .register(&mut stream, Token(key), both)?;
+        Ok(stream)
+    }
+
+    // Opens a link.
+    fn open(&mut self, alloc: Global, address: SocketAddr) -> io::Result<TcpLink>
+        ensures counts { self.new ≡ self.old }
+        ensures link { IfOk result (λ link. link ≡ fresh) }
+    {
+        let ready = Rc::new(alloc, Readiness::new())?;
+        let key = self.links.insert(ready.clone()?)?;
+        match self.begin(address, key) {
+            Ok(stream) => Ok(TcpLink::new(stream, ready, key)),
+            Err(error) => {
+                self.links.try_remove(key);
+                Err(error)
+            }
+        }
+    }
+
+    // Notes which links the last poll found ready.
+    fn note_ready(&self) {
+        for event in self.events.iter() {
+            if let Some(ready) = self.links.get(event.token().0) {
+                ready.note(event);
+            }
+        }
     }
 }
 
@@ -86,12 +118,13 @@ impl<N: Net + Drop> Hops for TcpHops<N> {
 
     ghost view = { λ hops. record hops { told = None } };
 
-    fn connect(&mut self, _alloc: Global, hop: &Hop) -> Result<TcpLink, NoLink> {
+    fn connect(&mut self, alloc: Global, hop: &Hop) -> Result<TcpLink, NoLink> {
         let Some(address) = address_of(hop) else {
             return Err(NoLink::NoRoute);
         };
-        match self.open(SocketAddr::V4(address)) {
+        match self.open(alloc, SocketAddr::V4(address)) {
             Ok(link) => Ok(link),
+            Err(error) if error.kind() == ErrorKind::OutOfMemory => Err(NoLink::NoMemory),
             Err(_) => {
                 self.connect_faults = self.connect_faults.saturating_add(1);
                 Err(NoLink::Failed)
@@ -105,9 +138,11 @@ impl<N: Net + Drop> Hops for TcpHops<N> {
         // One that fails is a short rest: the next calls ask each link anyway.
         let longest = Some(Duration::from_millis(REST_MILLIS));
         let _ = self.poll.poll(&mut self.events, longest);
+        self.note_ready();
     }
 
     fn close(&mut self, _alloc: Global, link: TcpLink) -> Result<(), NoMemory> {
+        self.links.try_remove(link.key);
         self.link_faults = self.link_faults.saturating_add(link.faults);
         self.link_ends = self.link_ends.saturating_add(u64::from(link.ended));
         Ok(())

@@ -1,5 +1,6 @@
 //! Connections over TCP, none of which waits for another: a connect, a read or a write that would
-//! wait answers at once, and a rest waits until any link is ready, ten milliseconds at most.
+//! wait answers at once, and a rest waits until any link is ready, ten milliseconds at most. A call
+//! that couldn't go on answers the same without the system until a rest hears of its link.
 //!
 //! What is proved: each answer is one that a link may give, and every count and state follows from
 //! the answers. That the bytes are those of the connection to the hop's address, that a rest ends
@@ -14,6 +15,7 @@
 mod hops;
 mod link;
 mod link_wait;
+mod readiness;
 
 pub use hops::TcpHops;
 pub use link::TcpLink;

@@ -5,16 +5,21 @@ ghost use Rattle.q_link.specs.Reads.{Fails, Reads, Writes};
 ghost use Rattle.q_tcp_hops.specs.TcpLinks.{fresh, rested};
 
 use crate::link_wait::LinkWait;
+use crate::readiness::Readiness;
 use mio::net::TcpStream;
 use q_link::{Got, Link, Put};
 use std::io;
 use std::io::{ErrorKind, Read, Write};
 use std::marker::Model;
+use std::rc::Rc;
 
 /// A connection. A contract sees how often it failed, for what it waits and whether it ended.
 #[derive(Drop)]
 pub struct TcpLink {
     stream: TcpStream,
+    ready: Rc<Readiness>,
+    // under which the hops have its readiness
+    pub(crate) key: usize,
     pub(crate) faults: u64,
     waiting: LinkWait,
     pub(crate) ended: bool,
@@ -35,8 +40,8 @@ impl Model for TcpLink {
     } };
 }
 
-// The connection isn't there yet, nothing came, there is no room for what is sent, or a signal came
-// first: another call may do.
+// The connection isn't there yet, nothing came, or there is no room for what is sent: the system says
+// when another call may do. Or a signal came first, and it may at once.
 fn is_not_yet(error: &io::Error) -> bool {
     matches!(
         error.kind(),
@@ -44,13 +49,20 @@ fn is_not_yet(error: &io::Error) -> bool {
     )
 }
 
+// Another call may do at once.
+fn is_at_once(error: &io::Error) -> bool {
+    error.kind() == ErrorKind::Interrupted
+}
+
 impl TcpLink {
     /// A link over a stream that doesn't block.
-    pub(crate) fn new(stream: TcpStream) -> TcpLink
+    pub(crate) fn new(stream: TcpStream, ready: Rc<Readiness>, key: usize) -> TcpLink
         ensures { result ≡ fresh }
     {
         TcpLink {
             stream,
+            ready,
+            key,
             faults: 0,
             waiting: LinkWait::No,
             ended: false,
@@ -79,6 +91,10 @@ impl Link for TcpLink {
         requires some { 0 < length buf.old }
         ensures reads { Reads self.old self.new result buf.new }
     {
+        if !self.ready.reads.get() {
+            self.waiting = LinkWait::ForRead;
+            return Got::NotYet;
+        }
         match self.stream.read(buf) {
             Ok(0) => {
                 self.waiting = LinkWait::No;
@@ -90,6 +106,7 @@ impl Link for TcpLink {
                 Got::Took(count)
             }
             Err(error) if is_not_yet(&error) => {
+                self.ready.reads.set(is_at_once(&error));
                 self.waiting = LinkWait::ForRead;
                 Got::NotYet
             }
@@ -104,6 +121,10 @@ impl Link for TcpLink {
         requires some { 0 < length bytes.now }
         ensures writes { Writes self.old self.new result bytes.now }
     {
+        if !self.ready.writes.get() {
+            self.waiting = LinkWait::ForWrite;
+            return Put::NotYet;
+        }
         match self.stream.write(bytes) {
             Ok(0) => {
                 self.waiting = LinkWait::ForWrite;
@@ -114,6 +135,7 @@ impl Link for TcpLink {
                 Put::Gave(count)
             }
             Err(error) if is_not_yet(&error) => {
+                self.ready.writes.set(is_at_once(&error));
                 self.waiting = LinkWait::ForWrite;
                 Put::NotYet
             }
