@@ -1,12 +1,14 @@
 -- No two ids or places share a file.
-use Rattle.std.proofs.Common.{◌≡◌, ℕ, ◌^◌, ◌<◌, true, ◌∷◌, take, drop, refl, sym, ap, ◌∙◌}
+use Rattle.std.proofs.Common.{◌≡◌, ℕ, ◌^◌, ◌<◌, true, ◌∷◌, take, drop, refl, sym, ap, ◌∙◌, List, codes, Option, Some, None, bytes_eq, if◌then◌else◌}
 use Rattle.std.specs.Str.Parse.{digits_value}
 use Rattle.std.proofs.lemmas.Bool.{eq-eqb, eqb-true}
 use Rattle.std.proofs.lemmas.List.{take_at, drop_at}
+use Rattle.std.proofs.lemmas.Option.{same_Some}
 use Rattle.q_model.specs.declared.id.Id.{Id}
 use Rattle.q_model.specs.declared.rows.Place.{Place}
 use Rattle.q_model.specs.declared.spot.Area.{Area}
 use Rattle.q_model.specs.IdTexts.{decimals, due_text, id_text, IsId}
+use Rattle.q_model.specs.Folders.{AreFoldersApart, folder_name}
 use Rattle.q_model.specs.SpoolFiles.{area_of, IsPlace, name_at}
 use Rattle.q_model.specs.Places.{place_eq}
 use Rattle.q_model.specs.declared.rows.Place.TheVariants as places
@@ -33,6 +35,38 @@ same_spot (places.Deferred d) (places.Deferred k) i j hp hq hi hj a e =
 same_spot places.Hold places.Hold i j hp hq hi hj a e = (refl, id_text-injective i j hi hj e)
 same_spot places.Corrupt places.Corrupt i j hp hq hi hj a e = (refl, id_text-injective i j hi hj e)
 same_spot p q i j hp hq hi hj a e = absurd cc
+
+-- the area of a folder's name
+area_of_folder : List ℕ → Option Area
+area_of_folder name =
+    if bytes_eq name (codes "boot") then Some areas.Boot else
+    if bytes_eq name (codes "conf") then Some areas.Conf else
+    if bytes_eq name (codes "tmp") then Some areas.Tmp else
+    if bytes_eq name (codes "incoming") then Some areas.Incoming else
+    if bytes_eq name (codes "active") then Some areas.Active else
+    if bytes_eq name (codes "deferred") then Some areas.Deferred else
+    if bytes_eq name (codes "hold") then Some areas.Hold else
+    if bytes_eq name (codes "corrupt") then Some areas.Corrupt else
+    if bytes_eq name (codes "bounce") then Some areas.Bounce else
+    if bytes_eq name (codes "defer") then Some areas.Defer else None
+
+folder_read_back : (a : Area) → area_of_folder (folder_name a) ≡ Some a
+unfolding area_of_folder
+folder_read_back areas.Boot = refl
+folder_read_back areas.Conf = refl
+folder_read_back areas.Tmp = refl
+folder_read_back areas.Incoming = refl
+folder_read_back areas.Active = refl
+folder_read_back areas.Deferred = refl
+folder_read_back areas.Hold = refl
+folder_read_back areas.Corrupt = refl
+folder_read_back areas.Bounce = refl
+folder_read_back areas.Defer = refl
+
+-- no two areas share a folder
+pub folders_apart : AreFoldersApart
+folders_apart a b same =
+    same_Some a b (sym (folder_read_back a) ∙ ap area_of_folder same ∙ folder_read_back b)
 
 -- the test tells whether two places are the same
 pub place_eq-refl : (p : Place) → place_eq p p ≡ true

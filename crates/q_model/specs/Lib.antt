@@ -59,6 +59,7 @@ pub mod Records
 pub mod QueueFile
 pub mod QueueFileBytes
 pub mod FailureLog
+pub mod Folders
 pub mod SpoolFiles
 pub mod FilesStand
 pub mod Orderly

@@ -1,4 +1,7 @@
 //! Places of files in a spool.
+ghost use Rattle.std.specs.Prelude.{◌≡◌};
+ghost use Rattle.q_model.specs.Folders.{folder_name};
+
 use crate::Name;
 use std::marker::Model;
 
@@ -20,8 +23,24 @@ pub enum Area {
 }
 
 impl Area {
-    /// The name of the area's folder.
-    pub fn folder(self) -> &'static str {
+    /// The areas, each once, in their order.
+    pub const ALL: [Area; 10] = [
+        Area::Boot,
+        Area::Conf,
+        Area::Tmp,
+        Area::Incoming,
+        Area::Active,
+        Area::Deferred,
+        Area::Hold,
+        Area::Corrupt,
+        Area::Bounce,
+        Area::Defer,
+    ];
+
+    /// The name of the area's folder. No two areas have the same.
+    pub fn folder(self) -> &'static str
+        ensures named { result.now ≡ folder_name self }
+    {
         match self {
             Area::Boot => "boot",
             Area::Conf => "conf",
