@@ -57,9 +57,11 @@ pub fn read_recipients<H: Host>(
         (AreTaken cursor.position max out.new.items)) }
     ensures next { IfOk result (λ next. TellsOf H.tells (H.view host.old) spot
         (IsPlaceBehind cursor.position max next)) }
-    // Of every host: what was taken is passed, and fewer than `max` are taken only at the end.
+    // Of every host: what was taken is passed, no more than `max` are taken, and fewer only at the
+    // end.
     ensures fewer { IfOk result (λ next. recipients - next.position + length out.new.items
         ≤ recipients - cursor.position) }
+    ensures few { OnOk result (length out.new.items ≤ max) }
     ensures full { IfOk result (λ next. next.position < recipients → max ≤ length out.new.items) }
     ensures no_message { OnNoMessage result (λ _. IsTrue H.tells → ⊥) }
     ensures room { out.new.room ≡ out.old.room }
