@@ -57,11 +57,11 @@ IsConfFault tells c (errors.BadLine file line) = IsTrue tells → c ≡ at_fault
 IsConfFault tells c errors.Disk = Unit {0}
 IsConfFault tells c errors.NoMemory = Unit {0}
 
--- a refusal of a host that only reads
-abbrev pub host_error : HostError → ConfError
-host_error faults.Disk = errors.Disk
-host_error faults.Tell = errors.NoMemory
-host_error faults.NoMemory = errors.NoMemory
+-- what a refusal to read is answered as; telling is none
+abbrev pub IsRefusal : HostError → ConfError → Type 0
+IsRefusal faults.Disk error = error ≡ errors.Disk
+IsRefusal faults.NoMemory error = error ≡ errors.NoMemory
+IsRefusal faults.Tell error = ⊥
 
 -- its parameters and its table, as the rules have them
 unfoldable pub world_of : Conf → World

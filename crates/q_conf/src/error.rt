@@ -1,6 +1,7 @@
 //! Why the files of conf can't be gone by.
-ghost use Rattle.std.specs.Prelude.{◌≡◌};
-ghost use Rattle.q_conf.specs.Confs.{host_error};
+ghost use Rattle.std.specs.Prelude.{◌≢◌};
+ghost use Rattle.q_conf.specs.Confs.{IsRefusal};
+ghost use Rattle.q_host.specs.declared.error.HostError.TheVariants as faults;
 
 use q_host::HostError;
 use thiserror::Error;
@@ -28,10 +29,12 @@ pub enum ConfError {
 
 /// The refusal of a host that only reads, which never tells.
 pub(crate) fn host_error(error: HostError) -> ConfError
-    ensures { result ≡ host_error error }
+    requires { error ≢ faults.Tell }
+    ensures { IsRefusal error result }
 {
     match error {
         HostError::Disk => ConfError::Disk,
-        HostError::Tell | HostError::NoMemory => ConfError::NoMemory,
+        HostError::NoMemory => ConfError::NoMemory,
+        HostError::Tell => unreachable!(),
     }
 }
