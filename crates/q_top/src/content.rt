@@ -30,7 +30,7 @@ pub(crate) fn read_content<S: Source>(alloc: Global, source: &mut S) -> Result<B
 {
     let mut piece = [0; PIECE];
     let mut content = Vec::new(alloc);
-    for _ in 0..u64::MAX {
+    loop {
         let count = match source.take(&mut piece) {
             Take::Took(count) => count,
             Take::End => return Ok(Bytes::from_vec(content)),
@@ -43,5 +43,4 @@ pub(crate) fn read_content<S: Source>(alloc: Global, source: &mut S) -> Result<B
             return Err(ContentError::NoMemory);
         };
     }
-    Err(ContentError::NoMemory)
 }
