@@ -6,6 +6,7 @@ use Rattle.q_host.specs.View.{View}
 use Rattle.q_model.specs.declared.id.Id.{Id}
 use Rattle.q_model.specs.declared.rows.Place.{Place}
 use Rattle.q_model.specs.Book.{Book}
+use Rattle.q_model.specs.FilesStand.{Stands}
 use Rattle.q_model.specs.Message.{Message, pending}
 use Rattle.q_model.specs.SpoolFiles.{Files}
 use Rattle.q_model.specs.Values.{FileHead}
@@ -13,6 +14,9 @@ use Rattle.q_telling.specs.Telling.{TellsFront, TellsMore}
 use Rattle.q_telling.proofs.TellingLaws.{front_more, front_on, tells_on}
 use Rattle.q_walk.specs.declared.walk.Found.{Found}
 use Rattle.q_walk.specs.declared.walk.Walk.{Walk}
+use Rattle.q_walk.proofs.Counts.{few_listed, few_recipients}
+use Rattle.q_walk.specs.Counted.{counted}
+use Rattle.q_walk.specs.Listed.{all_queues, listed}
 use Rattle.q_walk.specs.Walks.{GivesNext, IsAhead, IsFound}
 use Rattle.q_listing.specs.Listings.{found_line, lines_in, message_line, message_lines, notes_in, queue_text, recipient_count, recipient_lines, total_line}
 use Rattle.q_listing.proofs.RecipientLaws.{found_still}
@@ -61,7 +65,7 @@ module _ (m : Message) (found : Found) (u v w : View) (is : IsFound u.files m fo
 
 -- the messages that are told, counted, and their recipients
 abbrev pub AreCounted : ℕ → ℕ → List Message → Type 0
-AreCounted messages recipients done = (messages ≡ length done) × (recipients ≡ recipient_count done)
+AreCounted messages recipients done = (messages ≡ counted (length done)) × (recipients ≡ counted (recipient_count done))
 
 -- the messages are told up to where the walk stands
 abbrev pub AreToldTo : Files → Book → List Message → Walk → ℕ → ℕ → View → View → Type 0
@@ -74,12 +78,12 @@ module _ (b : Book) (ms : List Message) (messages recipients : ℕ) (p q : Walk)
 
   -- the walk gives none
   pub messages_end : ((xs : List Message) → IsAhead v.files b p xs → GivesNext v.files b q xs None)
-      → (messages ≡ length ms) × (recipients ≡ recipient_count ms) × TellsMore (flat_map (lines_in u.files) ms) u w
+      → (messages ≡ counted (length ms)) × (recipients ≡ counted (recipient_count ms)) × TellsMore (flat_map (lines_in u.files) ms) u w
   messages_end next =
       let none = next s.rest here in
       let all = all_done (lines_in u.files) ms (IsAhead u.files b p) (AreCounted messages recipients) u v w s quiet none in (
-        s.counted.0 ∙ ap length all,
-        s.counted.1 ∙ ap recipient_count all,
+        s.counted.0 ∙ ap (λ (xs : List Message). counted (length xs)) all,
+        s.counted.1 ∙ ap (λ (xs : List Message). counted (recipient_count xs)) all,
         told_all (lines_in u.files) ms (IsAhead u.files b p) (AreCounted messages recipients) u v w s quiet none,
       )
 
@@ -91,18 +95,18 @@ module _ (b : Book) (ms : List Message) (messages recipients : ℕ) (p q : Walk)
     is_found = found_still v.files w.files (next s.rest here).0 found quiet.files (next s.rest here).3
 
     -- the next one is told
-    pub messages_more : (n sum : ℕ) → sum ≡ recipients + n → ((m : Message) → IsFound w.files m found → (n ≡ length (pending m)) × TellsMore (lines_in w.files m) w z)
-        → AreToldTo u.files b ms q (messages + 1) sum u z
-    messages_more n sum added tell =
+    pub messages_more : (n more sum : ℕ) → more ≡ counted (messages + 1) → sum ≡ counted (recipients + n) → ((m : Message) → IsFound w.files m found → (n ≡ length (pending m)) × TellsMore (lines_in w.files m) w z)
+        → AreToldTo u.files b ms q more sum u z
+    messages_more n more sum one added tell =
         let given = next s.rest here in
         let m = given.0 in
         let told = tell m is_found in
         told_more (lines_in u.files) ms (IsAhead u.files b p) (AreCounted messages recipients) u v w s quiet
-        (IsAhead u.files b q) (AreCounted (messages + 1) sum) z m given.1 given.2
+        (IsAhead u.files b q) (AreCounted more sum) z m given.1 given.2
         (subst (λ (f : Files). TellsMore (lines_in f m) w z) files_behind told.1)
         (subst (λ (f : Files). IsAhead f b q given.1) s.told.files given.4)
         (λ count. (
-          omega (arith, count.0, length-append s.done (m ∷ [])),
+          omega (arith, one, count.0, length-append s.done (m ∷ [])),
           omega (arith, added, count.1, told.0, sum_by-append (λ (x : Message). length (pending x)) s.done (m ∷ [])),
         ))
 
@@ -113,6 +117,11 @@ module _ (b : Book) (ms : List Message) (messages recipients : ℕ) (p q : Walk)
         (subst (λ (f : Files). TellsFront (lines_in f given.0) w z) files_behind (tell given.0 is_found))
 
 -- the last line by what was counted
-pub same_total : (messages recipients : ℕ) (ms : List Message) → messages ≡ length ms → recipients ≡ recipient_count ms
-    → total_line messages recipients ≡ total_line (length ms) (recipient_count ms)
-same_total messages recipients ms count sum = ap (λ (n : ℕ). total_line n recipients) count ∙ ap (λ (n : ℕ). total_line (length ms) n) sum
+pub same_total : (messages recipients : ℕ) (f : Files) (b : Book) → Stands f b → messages ≡ counted (length (listed all_queues b)) → recipients ≡ counted (recipient_count (listed all_queues b))
+    → total_line messages recipients ≡ total_line (length (listed all_queues b)) (recipient_count (listed all_queues b))
+same_total messages recipients f b stands count sum =
+    let few = few_listed f b stands in
+    let fits = few_recipients f b stands in
+    let first : messages ≡ length (listed all_queues b) = omega (arith, count, few) in
+    let second : recipients ≡ recipient_count (listed all_queues b) = omega (arith, sum, fits) in
+    ap (λ (n : ℕ). total_line n recipients) first ∙ ap (λ (n : ℕ). total_line (length (listed all_queues b)) n) second

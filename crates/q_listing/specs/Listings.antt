@@ -1,6 +1,6 @@
 -- The listing of the queues (postqueue(1), -p): each message with its pending recipients.
 use Rattle.std.specs.Option.{option_map_or}
-use Rattle.std.specs.Prelude.{◌++◌, ◌==◌, [], codes, decimal, find, flat_map, if◌then◌else◌, length, List, option_map, Option, reverse, sum_by, true, ℕ}
+use Rattle.std.specs.Prelude.{◌++◌, ◌==◌, [], codes, decimal, find, flat_map, if◌then◌else◌, length, List, option_map, Option, reverse, sum_by, ℕ}
 use Rattle.q_model.specs.declared.id.Id.{Id}
 use Rattle.q_model.specs.declared.outcome.Note.{Note}
 use Rattle.q_model.specs.declared.rows.Place.{Place}
@@ -14,8 +14,7 @@ use Rattle.q_model.specs.SpoolFiles.{Files}
 use Rattle.q_model.specs.Text.{sender_text, spaced}
 use Rattle.q_model.specs.TextParts.{text_line}
 use Rattle.q_walk.specs.declared.walk.Found.{Found}
-use Rattle.q_walk.specs.Listed.{listed}
-use Rattle.q_model.specs.declared.queues.Queues.{Queues}
+use Rattle.q_walk.specs.Listed.{all_queues, listed}
 
 -- ---- lines
 
@@ -79,10 +78,6 @@ abbrev pub message_lines : List Note → Message → List ℕ
 message_lines notes m =
     message_line (queue_text m.place) m.id (length m.content) m.arrival m.sender
     ++ recipient_lines notes m
-
--- all queues
-abbrev pub all_queues : Queues
-all_queues = record { incoming = true; active = true; deferred = true; hold = true }
 
 -- the records of the deferral log of an id
 abbrev pub notes_in : Files → Id → List Note

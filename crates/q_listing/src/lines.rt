@@ -116,14 +116,14 @@ pub(crate) fn add_recipient(
 pub(crate) fn add_total(
     alloc: Global,
     text: &mut Vec<u8>,
-    messages: u64,
-    recipients: u64,
+    messages: u128,
+    recipients: u128,
 ) -> Result<(), NoMemory>
     ensures { OnOk result (text.new.items ≡ text.old.items ++ total_line messages recipients) }
 {
     add(text, b"-- ")?;
-    add_number(alloc, text, messages)?;
+    add(text, messages.to_string(alloc)?.as_bytes())?;
     add(text, b" messages, ")?;
-    add_number(alloc, text, recipients)?;
+    add(text, recipients.to_string(alloc)?.as_bytes())?;
     add(text, b" recipients\n")
 }

@@ -1,11 +1,12 @@
 //! Telling the listing.
-ghost use Rattle.std.specs.Prelude.{◌≡◌, flat_map, IfOk, IsTrue, length, List, OnErr, OnOk};
+ghost use Rattle.std.specs.Prelude.{◌≡◌, ◌+◌, flat_map, IfOk, IsTrue, length, List, OnErr, OnOk};
 ghost use Rattle.q_host.specs.View.{Told};
 ghost use Rattle.q_listing.specs.Listings.{found_line, lines_in, listing, recipient_count, total_line};
 ghost use Rattle.q_model.specs.Book.{Book};
 ghost use Rattle.q_model.specs.FilesStand.{Stands};
 ghost use Rattle.q_model.specs.Message.{Message, pending};
 ghost use Rattle.q_telling.specs.Telling.{TellingCause, TellsFront, TellsMore};
+ghost use Rattle.q_walk.specs.Counted.{counted};
 ghost use Rattle.q_walk.specs.Walks.{IsAhead, IsFound};
 
 use crate::lines::{add_message, add_total};
@@ -16,11 +17,24 @@ use q_telling::tell_text;
 use q_walk::{Found, Walk};
 use std::alloc::Global;
 
-/// How many messages and pending recipients were told.
+/// How many messages and pending recipients were told. Of a book neither comes to its last value.
 #[derive(Clone, Copy, Debug, PartialEq, Eq)]
 struct Totals {
-    messages: u64,
-    recipients: u64,
+    messages: u128,
+    recipients: u128,
+}
+
+impl Totals {
+    /// A message more, with so many pending recipients.
+    fn with(self, recipients: u32) -> Totals
+        ensures messages { result.messages ≡ counted (self.messages + 1) }
+        ensures recipients { result.recipients ≡ counted (self.recipients + recipients) }
+    {
+        Totals {
+            messages: self.messages.saturating_add(1),
+            recipients: self.recipients.saturating_add(u128::from(recipients)),
+        }
+    }
 }
 
 /// Tells the line of a message that was found.
@@ -48,7 +62,7 @@ fn tell_head<H: Host>(alloc: Global, host: &mut H, found: &Found) -> Result<(), 
 }
 
 /// Tells the lines of a message that was found, and says how many pending recipients it has.
-fn tell_message<H: Host>(alloc: Global, host: &mut H, found: &Found) -> Result<u64, HostError>
+fn tell_message<H: Host>(alloc: Global, host: &mut H, found: &Found) -> Result<u32, HostError>
     ensures told { IfOk result (λ count. IsTrue H.tells → (m : Message)
         → IsFound (H.view host.old).files m found.now
         → (count ≡ length (pending m)) × TellsMore (lines_in (H.view host.old).files m)
@@ -62,12 +76,11 @@ fn tell_message<H: Host>(alloc: Global, host: &mut H, found: &Found) -> Result<u
     tell_recipients(alloc, host, found)
 }
 
-/// Tells the lines of the messages that the walk gives. `NoMemory` comes also where there are more
-/// recipients than can be counted.
+/// Tells the lines of the messages that the walk gives.
 fn tell_messages<H: Host>(alloc: Global, host: &mut H, walk: &mut Walk) -> Result<Totals, HostError>
     ensures told { IfOk result (λ totals. IsTrue H.tells → (b : Book) → (ms : List Message)
         → Stands (H.view host.old).files b → IsAhead (H.view host.old).files b walk.old ms
-        → (totals.messages ≡ length ms) × (totals.recipients ≡ recipient_count ms)
+        → (totals.messages ≡ counted (length ms)) × (totals.recipients ≡ counted (recipient_count ms))
         × TellsMore (flat_map (lines_in (H.view host.old).files) ms)
         (H.view host.old) (H.view host.new)) }
     ensures front { OnErr result (IsTrue H.tells → (b : Book) → (ms : List Message)
@@ -76,21 +89,17 @@ fn tell_messages<H: Host>(alloc: Global, host: &mut H, walk: &mut Walk) -> Resul
         (H.view host.old) (H.view host.new)) }
     ensures cause { TellingCause (H.faults host.old) (H.faults host.new) result }
 {
-    let mut recipients: u64 = 0;
-    for messages in 0..u64::MAX {
+    let mut totals = Totals {
+        messages: 0,
+        recipients: 0,
+    };
+    loop {
         let Some(found) = walk.next(host)? else {
-            return Ok(Totals {
-                messages,
-                recipients,
-            });
+            return Ok(totals);
         };
-        let more = tell_message(alloc, host, &found)?;
-        let Some(sum) = recipients.checked_add(more) else {
-            return Err(HostError::NoMemory);
-        };
-        recipients = sum;
+        let recipients = tell_message(alloc, host, &found)?;
+        totals = totals.with(recipients);
     }
-    Err(HostError::NoMemory)
 }
 
 /// Tells the last line.

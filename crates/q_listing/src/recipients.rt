@@ -1,7 +1,7 @@
 //! Telling the pending recipients of a message.
 ghost use Rattle.std.specs.BTreeMap.{get};
 ghost use Rattle.std.specs.Ordering.{nat_cmp};
-ghost use Rattle.std.specs.Prelude.{◌≡◌, IfNone, IfOk, IfSome, IsSomeAnd, IsTrue, length, List, OnErr, OnOk, ℕ};
+ghost use Rattle.std.specs.Prelude.{◌≡◌, ◌<◌, ◌^◌, IfNone, IfOk, IfSome, IsSomeAnd, IsTrue, length, List, OnErr, OnOk, ℕ};
 ghost use Rattle.q_host.specs.Calls.{Stays};
 ghost use Rattle.q_host.specs.Faults.{DiskCause};
 ghost use Rattle.q_host.specs.View.{Told};
@@ -9,7 +9,7 @@ ghost use Rattle.q_listing.specs.Listings.{coded_line, lines_by, notes_in, recip
 ghost use Rattle.q_message.specs.FileHeads.{IsHead};
 ghost use Rattle.q_message.specs.Told.{IsThere, TellsOf};
 ghost use Rattle.q_model.specs.Message.{Message, pending};
-ghost use Rattle.q_pending.specs.Readings.{IsFileOfMessage, IsPendingAhead, IsReading};
+ghost use Rattle.q_pending.specs.Readings.{IsFileOfMessage, IsPendingAhead, IsReading, pending_left};
 ghost use Rattle.q_telling.specs.Telling.{TellingCause, TellsFront, TellsMore};
 ghost use Rattle.q_walk.specs.Walks.{IsFound};
 
@@ -48,8 +48,9 @@ fn tell_each<H: Host>(
     host: &mut H,
     codes: &Codes,
     reader: &mut Pending,
-) -> Result<u64, HostError>
+) -> Result<u32, HostError>
     requires reading { IsTrue H.tells → IsReading (H.view host.old).files reader.old }
+    requires few { pending_left reader.old < 2 ^ 32 }
     ensures told { IfOk result (λ count. IsTrue H.tells → (m : Message) → (positions : List ℕ)
         → IsPendingAhead (H.view host.old).files m reader.old positions
         → (count ≡ length positions) × TellsMore (lines_by (get nat_cmp codes.now) m positions)
@@ -60,13 +61,14 @@ fn tell_each<H: Host>(
         (H.view host.old) (H.view host.new)) }
     ensures cause { TellingCause (H.faults host.old) (H.faults host.new) result }
 {
-    for count in 0..u64::MAX {
+    let mut count = 0;
+    loop {
         let Some(taken) = reader.next(host)? else {
             return Ok(count);
         };
         tell_recipient(alloc, host, codes, &taken)?;
+        count += 1;
     }
-    Err(HostError::NoMemory)
 }
 
 /// The head of the queue file at the spot; `None` where no queue file stands there.
@@ -99,6 +101,7 @@ fn reader_of<H: Host>(
 ) -> Result<Option<Pending>, HostError>
     ensures reading { IfOk result (λ o. IfSome o (λ reader. IsTrue H.tells
         → IsReading (H.view host.old).files reader)) }
+    ensures few { IfOk result (λ o. IfSome o (λ reader. pending_left reader < 2 ^ 32)) }
     ensures ahead { IfOk result (λ o. IsTrue H.tells → (m : Message)
         → IsFound (H.view host.old).files m found.now
         → IsSomeAnd o (λ reader. IsPendingAhead (H.view host.old).files m reader (pending m))) }
@@ -118,7 +121,7 @@ pub(crate) fn tell_recipients<H: Host>(
     alloc: Global,
     host: &mut H,
     found: &Found,
-) -> Result<u64, HostError>
+) -> Result<u32, HostError>
     ensures told { IfOk result (λ count. IsTrue H.tells → (m : Message)
         → IsFound (H.view host.old).files m found.now
         → (count ≡ length (pending m)) × TellsMore

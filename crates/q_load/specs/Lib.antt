@@ -4,5 +4,4 @@ pub mod Due
 pub mod Loads
 pub mod Lives
 pub mod Progress
-pub mod Remaining
 pub mod SummaryTexts

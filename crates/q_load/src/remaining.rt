@@ -7,8 +7,8 @@ ghost use Rattle.q_model.specs.FilesStand.{Stands};
 ghost use Rattle.q_model.specs.Lists.{has_none};
 ghost use Rattle.q_model.specs.Message.{Message};
 ghost use Rattle.q_model.specs.SpoolFiles.{Files};
-ghost use Rattle.q_load.specs.Remaining.{all_queues};
-ghost use Rattle.q_walk.specs.Listed.{listed};
+ghost use Rattle.q_walk.specs.Counted.{counted};
+ghost use Rattle.q_walk.specs.Listed.{all_queues, listed};
 ghost use Rattle.q_walk.specs.Walks.{IsAhead};
 
 use q_host::{Host, HostError};
@@ -46,22 +46,23 @@ pub(crate) fn is_some_left<H: Host>(alloc: Global, host: &mut H) -> Result<bool,
 }
 
 /// How many messages the walk gives.
-fn count_messages<H: Host>(walk: &mut Walk, host: &mut H) -> Result<u64, HostError>
+fn count_messages<H: Host>(walk: &mut Walk, host: &mut H) -> Result<u128, HostError>
     ensures exact { IfOk result (λ count. IsTrue H.tells → (b : Book) → (ms : List Message)
         → Stands (H.view host.old).files b → IsAhead (H.view host.old).files b walk.old ms
-        → count ≡ length ms) }
+        → count ≡ counted (length ms)) }
     ensures stays { Told H.tells H.view host.old host.new Stays }
 {
-    for count in 0..u64::MAX {
+    let mut count: u128 = 0;
+    loop {
         let Some(_) = walk.next(host)? else {
             return Ok(count);
         };
+        count = count.saturating_add(1);
     }
-    Err(HostError::NoMemory)
 }
 
 /// How many messages are left.
-pub(crate) fn count_left<H: Host>(alloc: Global, host: &mut H) -> Result<u64, HostError>
+pub(crate) fn count_left<H: Host>(alloc: Global, host: &mut H) -> Result<u128, HostError>
     ensures exact { IfOk result (λ count. IsTrue H.tells → (b : Book)
         → Stands (H.view host.old).files b → count ≡ length b.messages) }
     ensures stays { Told H.tells H.view host.old host.new Stays }

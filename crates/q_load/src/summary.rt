@@ -17,7 +17,7 @@ pub struct Summary {
     /// How often a job went before another, up to 2^64 - 1.
     pub preempts: u64,
     /// The messages that are left in the end.
-    pub left: u64,
+    pub left: u128,
 }
 
 fn add(text: &mut Vec<u8>, bytes: &[u8]) -> Result<(), NoMemory>
@@ -27,7 +27,7 @@ fn add(text: &mut Vec<u8>, bytes: &[u8]) -> Result<(), NoMemory>
     Ok(())
 }
 
-fn add_count(alloc: Global, text: &mut Vec<u8>, word: &[u8], count: u64) -> Result<(), NoMemory>
+fn add_count(alloc: Global, text: &mut Vec<u8>, word: &[u8], count: u128) -> Result<(), NoMemory>
     ensures { OnOk result (text.new.items ≡ text.old.items ++ count_line word.now count) }
 {
     let digits = count.to_string(alloc)?;
@@ -43,10 +43,10 @@ impl Summary {
         ensures { IfOk result (λ text. text.items ≡ summary_text self.now) }
     {
         let mut text = Vec::new(alloc);
-        add_count(alloc, &mut text, b"messages", u64::from(self.messages))?;
-        add_count(alloc, &mut text, b"recipients", self.recipients)?;
-        add_count(alloc, &mut text, b"starts", self.starts)?;
-        add_count(alloc, &mut text, b"preempts", self.preempts)?;
+        add_count(alloc, &mut text, b"messages", u128::from(self.messages))?;
+        add_count(alloc, &mut text, b"recipients", u128::from(self.recipients))?;
+        add_count(alloc, &mut text, b"starts", u128::from(self.starts))?;
+        add_count(alloc, &mut text, b"preempts", u128::from(self.preempts))?;
         add_count(alloc, &mut text, b"left", self.left)?;
         Ok(text)
     }

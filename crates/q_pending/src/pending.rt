@@ -47,6 +47,7 @@ impl Pending {
         ensures ahead { IfOk result (λ p. IsTrue H.tells → (m : Message)
             → IsFileOfMessage (H.view host.old).files m spot → id ≡ m.id
             → IsPendingAhead (H.view host.old).files m p (pending m)) }
+        ensures left { IfOk result (λ p. pending_left p ≡ head.now.recipients) }
         ensures stays { IsTrue H.tells → Stays (H.view host.old) (H.view host.new) }
         ensures cause { DiskCause (H.faults host.old) (H.faults host.new) result }
     {

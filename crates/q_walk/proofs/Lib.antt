@@ -2,3 +2,4 @@ pub mod Ordered
 pub mod Held
 pub mod Leading
 pub mod Reading
+pub mod Counts

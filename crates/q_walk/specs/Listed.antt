@@ -1,7 +1,7 @@
 -- The messages of queues in the order of a listing.
 use Rattle.std.specs.Cmp.Lexicographic.{slice_cmp}
 use Rattle.std.specs.Ordering.{is_lt, nat_cmp}
-use Rattle.std.specs.Prelude.{◌++◌, [], Bool, filter, if◌then◌else◌, is_some, List}
+use Rattle.std.specs.Prelude.{◌++◌, [], Bool, filter, if◌then◌else◌, is_some, List, true}
 use Rattle.q_model.specs.declared.rows.Place.{Place}
 use Rattle.q_model.specs.declared.rows.Place.TheVariants as places
 use Rattle.q_model.specs.Book.{Book}
@@ -31,3 +31,7 @@ of_queue chosen queue b =
 abbrev pub listed : Queues → Book → List Message
 listed q b = of_queue q.incoming is_incoming b ++ (of_queue q.active is_active b
     ++ (of_queue q.deferred is_deferred b ++ of_queue q.hold is_held b))
+
+-- all queues
+abbrev pub all_queues : Queues
+all_queues = record { incoming = true; active = true; deferred = true; hold = true }

@@ -1,10 +1,10 @@
 use Rattle.std.proofs.Common.{List, ℕ, length, subst}
 use Rattle.std.proofs.lemmas.Result.{on_err_weaker, on_ok_weaker}
 use Rattle.std.specs.Prelude.{flat_map}
-use Rattle.q_walk.specs.Listed.{listed}
+use Rattle.q_walk.specs.Listed.{all_queues, listed}
 use Rattle.q_telling.specs.Telling.{TellsFront, TellsMore}
 use Rattle.q_telling.proofs.TellingLaws.{front_more, front_none, front_on, tells_on}
-use Rattle.q_listing.specs.Listings.{all_queues, lines_in, listing, recipient_count, total_line}
+use Rattle.q_listing.specs.Listings.{lines_in, listing, recipient_count, total_line}
 use Rattle.q_listing.proofs.MessageLaws.{same_total}
 use Rattle.q_listing.proofs.ToldLaws.{err_has, none_told}
 use Rattle.q_listing.proofs.listing.tell_listing.Goals as goal
@@ -33,7 +33,7 @@ returns-clause-told g c =
     let ms = listed all_queues b in
     let told = c.in_ok-totals.ensures.told t b ms stands (c.in_ok-walk.ensures u.files b stands) in
     tells_on (flat_map (lines_in u.files) ms) (total_line (length ms) (recipient_count ms)) u v w told.2
-    (subst (λ (x : List ℕ). TellsMore x v w) (same_total c.in_ok-totals.totals.messages c.in_ok-totals.totals.recipients ms told.0 told.1) (total t))) c.tell_total.ensures.told
+    (subst (λ (x : List ℕ). TellsMore x v w) (same_total c.in_ok-totals.totals.messages c.in_ok-totals.totals.recipients u.files b stands told.0 told.1) (total t))) c.tell_total.ensures.told
 
 pub returns-clause-front : goal.returns-clause-front
 returns-clause-front g c =
@@ -44,4 +44,4 @@ returns-clause-front g c =
     let ms = listed all_queues b in
     let told = c.in_ok-totals.ensures.told t b ms stands (c.in_ok-walk.ensures u.files b stands) in
     front_on (flat_map (lines_in u.files) ms) (total_line (length ms) (recipient_count ms)) u v w told.2
-    (subst (λ (x : List ℕ). TellsFront x v w) (same_total c.in_ok-totals.totals.messages c.in_ok-totals.totals.recipients ms told.0 told.1) (part t))) c.tell_total.ensures.front
+    (subst (λ (x : List ℕ). TellsFront x v w) (same_total c.in_ok-totals.totals.messages c.in_ok-totals.totals.recipients u.files b stands told.0 told.1) (part t))) c.tell_total.ensures.front

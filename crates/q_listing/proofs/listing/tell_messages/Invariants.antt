@@ -2,17 +2,21 @@ use Rattle.std.proofs.Common.{◌≤◌, IsTrue, List}
 use Rattle.q_model.specs.Book.{Book}
 use Rattle.q_model.specs.FilesStand.{Stands}
 use Rattle.q_model.specs.Message.{Message}
-use Rattle.q_walk.specs.Walks.{IsAhead}
+use Rattle.q_walk.specs.Walks.{IsAhead, walk_left}
 use Rattle.q_listing.proofs.MessageLaws.{AreToldTo}
 use Rattle.q_listing.proofs.listing.tell_messages.Given as goal
 
-abbrev pub invariant-loop-messages : goal.invariant-loop-messages
-invariant-loop-messages g l =
+abbrev pub invariant-loop-found : goal.invariant-loop-found
+invariant-loop-found g l =
     let view = g.H.Host.view in
     let faults = g.H.Host.faults in
     record {
       told : IsTrue g.H.Host.tells → (b : Book) → (ms : List Message) → Stands (view l.fn.host).files b → IsAhead (view l.fn.host).files b l.fn.walk ms
-          → AreToldTo (view l.fn.host).files b ms l.walk l.messages l.recipients (view l.fn.host) (view l.host);
+          → AreToldTo (view l.fn.host).files b ms l.walk l.totals.messages l.totals.recipients (view l.fn.host) (view l.host);
       disk_later : (faults l.fn.host).disk ≤ (faults l.host).disk;
       tell_later : (faults l.fn.host).tell ≤ (faults l.host).tell;
     }
+
+-- each that is told leaves fewer
+abbrev pub decreases-loop-found : goal.decreases-loop-found
+decreases-loop-found g l = walk_left l.walk

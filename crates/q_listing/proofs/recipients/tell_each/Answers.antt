@@ -1,20 +1,22 @@
-use Rattle.std.proofs.Common.{arith, refl, subst, sym, Option, ◌∙◌}
+use Rattle.std.specs.Prelude.{IfSome}
+use Rattle.std.proofs.Common.{◌<◌, arith, refl, subst, sym, Option, ◌∙◌}
 use Rattle.std.specs.BTreeMap.{get}
 use Rattle.std.specs.Ordering.{nat_cmp}
 use Rattle.q_model.specs.SpoolFiles.{Files}
 use Rattle.q_model.specs.Values.{Taken}
-use Rattle.q_pending.specs.Readings.{GivesPending, IsPendingAhead, IsReading}
+use Rattle.q_pending.specs.Readings.{GivesPending, IsPendingAhead, IsReading, pending_left}
 use Rattle.q_telling.proofs.TellingLaws.{tells_none}
 use Rattle.q_listing.specs.Listings.{line_by}
 use Rattle.q_listing.proofs.RecipientLaws.{Counts, recipients_end, recipients_more, recipients_stop}
-use Rattle.q_listing.proofs.ToldLaws.{err_has, none_told, told_begins, told_waits}
+use Rattle.q_listing.proofs.ToldLaws.{err_has, told_begins, told_waits}
 use Rattle.q_listing.proofs.recipients.tell_each.Goals as goal
 
-pub loop-count-init : goal.loop-count-init
-loop-count-init g c =
+pub loop-taken-init : goal.loop-taken-init
+loop-taken-init g c =
     let host = c.args.host.now in
     let u = g.H.Host.view host in
     record {
+      few = omega arith;
       files = λ t. refl;
       reading = c.requires.reading;
       told = λ t m positions ahead. told_begins (line_by (get nat_cmp c.args.codes.now) m) positions (IsPendingAhead u.files m c.args.reader.now) (Counts 0) u (g.met.H.Host.only_now host) ahead refl;
@@ -24,7 +26,7 @@ loop-count-init g c =
 
 pub returns-in_err-taken-clause-front : goal.returns-in_err-taken-clause-front
 returns-in_err-taken-clause-front g c =
-    let loop = c.loop-count in
+    let loop = c.loop-taken in
     let u = g.H.Host.view c.args.host.now in
     let v = g.H.Host.view loop.host in
     let w = g.H.Host.view c.next.new.host in
@@ -34,7 +36,7 @@ returns-in_err-taken-clause-front g c =
 
 pub returns-in_default-clause-told : goal.returns-in_default-clause-told
 returns-in_default-clause-told g c t m positions ahead =
-    let loop = c.loop-count in
+    let loop = c.loop-taken in
     let u = g.H.Host.view c.args.host.now in
     let v = g.H.Host.view loop.host in
     let w = g.H.Host.view c.next.new.host in
@@ -44,7 +46,7 @@ returns-in_default-clause-told g c t m positions ahead =
 
 pub returns-in_err-tell_recipient-clause-front : goal.returns-in_err-tell_recipient-clause-front
 returns-in_err-tell_recipient-clause-front g c =
-    let loop = c.loop-count in
+    let loop = c.loop-taken in
     let u = g.H.Host.view c.args.host.now in
     let v = g.H.Host.view loop.host in
     let w = g.H.Host.view c.next.new.host in
@@ -55,14 +57,16 @@ returns-in_err-tell_recipient-clause-front g c =
     (λ ps h. subst (λ (o : Option Taken). GivesPending v.files m c.next.new.self ps o) c.in-Some.is (c.in_ok-taken.ensures.next t m ps h))
     (c.in_err-tell_recipient.ensures.front t))
 
-pub loop-count-preserved : goal.loop-count-preserved
-loop-count-preserved g c =
-    let loop = c.loop-count in
+pub loop-taken-preserved : goal.loop-taken-preserved
+loop-taken-preserved g c =
+    let loop = c.loop-taken in
     let u = g.H.Host.view c.args.host.now in
     let v = g.H.Host.view loop.host in
     let w = g.H.Host.view c.next.new.host in
     let z = g.H.Host.view c.tell_recipient.new.host in
+    let fewer = subst (λ (o : Option Taken). IfSome o (λ _. pending_left c.next.new.self < pending_left loop.reader)) c.in-Some.is c.in_ok-taken.ensures.fewer in
     record {
+      few = omega (arith, loop.invariant.few, fewer);
       files = λ t. (c.in_ok-tell_recipient.ensures.told t).files ∙ (c.in_ok-taken.ensures.stays t).files ∙ loop.invariant.files t;
       reading = λ t. subst (λ (f : Files). IsReading f c.next.new.self) (sym ((c.in_ok-tell_recipient.ensures.told t).files ∙ (c.in_ok-taken.ensures.stays t).files)) (c.in_ok-taken.ensures.reading t);
       told = λ t m positions ahead.
@@ -74,9 +78,10 @@ loop-count-preserved g c =
       tell_later = omega (arith, loop.invariant.tell_later, c.in_ok-taken.ensures.cause.tell_later, c.in_ok-tell_recipient.ensures.cause.tell_later);
     }
 
-pub returns-clause-front : goal.returns-clause-front
-returns-clause-front g c t m positions ahead =
-    let loop = c.loop-count in
-    let u = g.H.Host.view c.args.host.now in
-    let v = g.H.Host.view loop.host in
-    told_waits (line_by (get nat_cmp c.args.codes.now) m) positions (IsPendingAhead u.files m loop.reader) (Counts loop.count) u v v (loop.invariant.told t m positions ahead) (none_told v (g.met.H.Host.only_now loop.host))
+pub loop-taken-smaller : goal.loop-taken-smaller
+loop-taken-smaller g c = subst (λ (o : Option Taken). IfSome o (λ _. pending_left c.next.new.self < pending_left c.loop-taken.reader)) c.in-Some.is c.in_ok-taken.ensures.fewer
+
+pub overflow_add-count : goal.overflow_add-count
+overflow_add-count g c =
+    let fewer = subst (λ (o : Option Taken). IfSome o (λ _. pending_left c.next.new.self < pending_left c.loop-taken.reader)) c.in-Some.is c.in_ok-taken.ensures.fewer in
+    omega (arith, c.loop-taken.invariant.few, fewer, c.requires.few)

@@ -1,10 +1,8 @@
-use Rattle.std.proofs.Common.{◌∙◌}
-use Rattle.q_load.specs.Remaining.{all_queues}
-use Rattle.q_load.proofs.Places.{listed_length, ok_weaker}
-use Rattle.q_walk.specs.Listed.{listed}
+use Rattle.q_load.proofs.Places.{ok_weaker, whole_count}
+use Rattle.q_walk.specs.Listed.{all_queues, listed}
 use Rattle.q_load.proofs.remaining.count_left.Goals as goal
 
 pub returns-clause-exact : goal.returns-clause-exact
 returns-clause-exact g c =
     let f = (g.H.Host.view c.args.host.now).files in
-    ok_weaker c.count_messages.result (λ count h t b stands. h t b (listed all_queues b) stands (c.in_ok-walk.ensures f b stands) ∙ listed_length f b stands) c.count_messages.ensures.exact
+    ok_weaker c.count_messages.result (λ count h t b stands. whole_count f b count stands (h t b (listed all_queues b) stands (c.in_ok-walk.ensures f b stands))) c.count_messages.ensures.exact

@@ -1,3 +1,7 @@
+use Rattle.std.proofs.Common.{◌<◌, Option, subst}
+use Rattle.std.specs.Prelude.{IfSome}
+use Rattle.q_walk.specs.declared.walk.Found.{Found}
+use Rattle.q_walk.specs.Walks.{walk_left}
 use Rattle.q_host.proofs.Stays.{stays_on}
 use Rattle.q_load.proofs.Places.{all_counted, gives_on, one_counted}
 use Rattle.q_load.proofs.remaining.count_messages.Goals as goal
@@ -21,5 +25,8 @@ loop-count-preserved g c =
       stays = λ t. stays_on (view c.args.host.now) (view loop.host) (view c.next.new.host) (loop.invariant.stays t) (c.in_ok-next.ensures.stays t);
       counted = λ t b ms stands ahead.
           one_counted f b loop.walk c.next.new.self loop.count ms (loop.invariant.counted t b ms stands ahead) o
-          (gives_on f (view loop.host).files b loop.walk c.next.new.self o (loop.invariant.stays t).files stands (λ rest s a. c.in_ok-next.ensures.next t b rest s a)) c.in-Some.field-0 c.in-Some.is;
+          (gives_on f (view loop.host).files b loop.walk c.next.new.self o (loop.invariant.stays t).files stands (λ rest s a. c.in_ok-next.ensures.next t b rest s a)) c.saturating_add-count.result c.in-Some.field-0 c.saturating_add-count.ensures c.in-Some.is;
     }
+
+pub loop-count-smaller : goal.loop-count-smaller
+loop-count-smaller g c = subst (λ (o : Option Found). IfSome o (λ _. walk_left c.next.new.self < walk_left c.loop-count.walk)) c.in-Some.is c.in_ok-next.ensures.fewer

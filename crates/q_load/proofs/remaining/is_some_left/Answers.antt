@@ -1,7 +1,6 @@
 use Rattle.std.proofs.Common.{Option, subst}
-use Rattle.q_load.specs.Remaining.{all_queues}
 use Rattle.q_load.proofs.Places.{none_left, some_left}
-use Rattle.q_walk.specs.Listed.{listed}
+use Rattle.q_walk.specs.Listed.{all_queues, listed}
 use Rattle.q_walk.specs.Walks.{GivesNext}
 use Rattle.q_walk.specs.declared.walk.Found.{Found}
 use Rattle.q_load.proofs.remaining.is_some_left.Goals as goal
