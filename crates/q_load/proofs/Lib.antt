@@ -1,3 +1,4 @@
+pub mod Addresses
 pub mod Beginning
 pub mod Codes
 pub mod Counting

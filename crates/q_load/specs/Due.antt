@@ -1,7 +1,7 @@
 -- Which event of a generated load is due, by those heard so far behind the first, the last of them in
 -- front, and by the ledger that their run leaves.
 use Rattle.std.specs.Option.{option_or}
-use Rattle.std.specs.Prelude.{◌%◌, ◌&&◌, ◌+◌, ◌==◌, ◌||◌, [], Bool, count_by, false, if◌then◌else◌, length, List, map, nat_lt, None, not, Option, option_and_then, option_map, replicate, Some, true, ℕ, ◌∷◌}
+use Rattle.std.specs.Prelude.{◌%◌, ◌&&◌, ◌+◌, ◌==◌, ◌||◌, [], Bool, count_by, false, if◌then◌else◌, length, List, map, min, nat_lt, None, not, Option, option_and_then, option_map, replicate, Some, true, ℕ, ◌∷◌}
 use Rattle.q_engine.specs.Heard.{is_moment}
 use Rattle.q_load.specs.Mails.{mail}
 use Rattle.q_load.specs.Numbers.{number_of}
@@ -53,10 +53,10 @@ abbrev pub mail_due : ℕ → List Event → Option Event
 mail_due mails heard = if nat_lt (count_by is_mail heard) mails
     then Some (mail (number_of mails (count_by is_mail heard + 1))) else None
 
--- a moment, while a message is left and 200 moments weren't given
+-- a moment, while a message is left and 200 moments weren't given; the clock has a last one
 abbrev pub round_due : List Event → Ledger → Option Event
 round_due heard l = if nat_lt (count_by is_moment heard) 200 && not (has_none l.book.messages)
-    then Some (events.At (l.now + 4000)) else None
+    then Some (events.At (min (l.now + 4000) 999990000000)) else None
 
 -- the next event of a load of so many mails
 abbrev pub due : ℕ → List Event → Ledger → Option Event

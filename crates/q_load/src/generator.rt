@@ -127,10 +127,7 @@ impl Generator {
         if !is_some_left(alloc, host)? {
             return Ok(None);
         }
-        let moment = engine.now() + ROUND;
-        if moment > LAST_MOMENT {
-            return Err(HostError::NoMemory);
-        }
+        let moment = LAST_MOMENT.min(engine.now() + ROUND);
         Ok(Some(Event::At { moment }))
     }
 

@@ -1,6 +1,7 @@
 //! The mails of a load.
-ghost use Rattle.std.specs.Prelude.{◌≡◌, ◌≤◌, ◌++◌, decimal, IfOk, OnOk};
+ghost use Rattle.std.specs.Prelude.{◌<◌, ◌≡◌, ◌≤◌, ◌++◌, decimal, IfOk, OnOk, true};
 ghost use Rattle.q_engine.specs.Heard.{IsEventInForm};
+ghost use Rattle.q_model.specs.Texts.{is_address};
 ghost use Rattle.q_load.specs.Mails.{all_recipients, mail, recipient, recipient_count, recipients};
 
 use crate::numbers::next_number;
@@ -46,22 +47,23 @@ fn recipient_text(alloc: Global, number: u32, place: u32) -> Result<Vec<u8>, NoM
     Ok(text)
 }
 
-/// The address of these bytes. Those of a load are all addresses: where they weren't, want of memory
-/// would be answered.
-fn address_of(text: &[u8]) -> Result<Address, NoMemory>
-    ensures { IfOk result (λ address. address ≡ text.now) }
+/// The address of these bytes.
+fn address_of(text: &[u8]) -> Address
+    requires { is_address text.now ≡ true }
+    ensures { result ≡ text.now }
 {
     match Address::new(text) {
-        Some(address) => Ok(address),
-        None => Err(NoMemory),
+        Some(address) => address,
+        None => unreachable!(),
     }
 }
 
 fn recipient(alloc: Global, number: u32, place: u32) -> Result<Address, NoMemory>
+    requires { place < 20 }
     ensures { IfOk result (λ address. address ≡ recipient number place) }
 {
     let text = recipient_text(alloc, number, place)?;
-    address_of(text.as_slice())
+    Ok(address_of(text.as_slice()))
 }
 
 fn recipients(alloc: Global, number: u32) -> Result<Addresses, NoMemory>
@@ -79,7 +81,7 @@ pub(crate) fn mail(alloc: Global, number: u32) -> Result<Event, NoMemory>
     ensures exact { IfOk result (λ event. event ≡ mail number) }
     ensures form { IfOk result IsEventInForm }
 {
-    let sender = address_of(b"s@load.example")?;
+    let sender = address_of(b"s@load.example");
     let to = recipients(alloc, number)?;
     Ok(Event::Mail {
         sender: Some(sender),
