@@ -1,5 +1,5 @@
--- What the eight rules decide: nothing that comes from outside, and starts under the next number.
-use Rattle.std.proofs.Common.{◌≡◌, ℕ, ◌^◌, zero, suc, Bool, true, false, if◌then◌else◌, List, [], ◌∷◌, find, Option, Some, None, option_map, option_and_then, refl}
+-- What the eight rules decide: nothing that comes from outside, and starts under the next number, 2^48 at most.
+use Rattle.std.proofs.Common.{◌≡◌, ℕ, ◌<◌, ◌^◌, ltb-true, zero, suc, Bool, true, false, if◌then◌else◌, List, [], ◌∷◌, find, Option, Some, None, option_map, option_and_then, refl}
 use Rattle.std.specs.List.{AllByRecursion, enumerate_from}
 use Rattle.std.specs.Option.{option_map_or, option_or}
 use Rattle.std.specs.Prelude.{◌+◌, nat_lt, not, slice_get}
@@ -34,9 +34,9 @@ use Rattle.q_model.specs.declared.rows.Need.TheVariants as needs
 use Rattle.q_model.specs.declared.rows.Row.{Row}
 use Rattle.q_model.specs.declared.rows.Unsettled.{Unsettled}
 
--- it comes from inside, and what begins has the next number
+-- it comes from inside; what begins has the next number, and fewer than 2^48 began before it
 abbrev pub IsDecision : Ledger → Entry → Type 0
-IsDecision l (entries.Start number id site positions) = number ≡ starts l + 1
+IsDecision l (entries.Start number id site positions) = (number ≡ starts l + 1) × (starts l < 2 ^ 48)
 IsDecision l e = is_outside e ≡ false
 
 -- what is decided, if anything is
@@ -70,8 +70,8 @@ by_all : (l : Ledger) (cs : List (Bool × Entry)) → AllByRecursion (λ (c : Bo
 by_all l [] h = tt
 by_all l (c ∷ cs) h = by_first l c.0 c.1 cs h.0 (by_all l cs h.1)
 
-by_if : (l : Ledger) (b : Bool) (o : Option Entry) → Decides l o → Decides l (if b then o else None)
-by_if l true o h = h
+by_if : (l : Ledger) (b : Bool) (o : Option Entry) → (b ≡ true → Decides l o) → Decides l (if b then o else None)
+by_if l true o h = h refl
 by_if l false o h = tt
 
 some_first : {A : Type 0} (l : Ledger) (f : A → Option Entry) (x : A) (xs : List A) (o : Option Entry) → f x ≡ o → Decides l o → Decides l (first_some f xs) → Decides l (first_some f (x ∷ xs))
@@ -119,16 +119,16 @@ picked_decides : (w : World) (l : Ledger) (p : Pick) → Decides l (admit_or_cor
 picked_decides w l p = by_all l ((may_admit w l (pick_id p), entries.Admit (pick_id p)) ∷ (may_corrupt w l (pick_id p), entries.Corrupt (pick_id p)) ∷ []) (refl, (refl, tt))
 
 admission_decides : (w : World) (l : Ledger) → Decides l (admission_rule w l)
-admission_decides w l = by_if l (has_room w l) (option_and_then (admit_or_corrupt w l) (pick l)) (by_then l (admit_or_corrupt w l) (picked_decides w l) (pick l))
+admission_decides w l = by_if l (has_room w l) (option_and_then (admit_or_corrupt w l) (pick l)) (λ _. by_then l (admit_or_corrupt w l) (picked_decides w l) (pick l))
 
 load_decides : (w : World) (l : Ledger) → Decides l (load_rule w l)
 load_decides w l = by_then l (load_of w l) (λ a. by_then l (load_entry w l a) (λ m. refl) (message_of l.book a.id)) (find (may_read w l) l.admitted)
 
-choice_decides : (w : World) (l : Ledger) (transport : ℕ) → Decides l (choice w l transport)
-choice_decides w l transport = by_then l (choice_by w l transport) (λ parent. by_map_or l (preempt_by l transport parent) (start_next w l transport parent) (λ child. refl) (by_map l (start_of l) (λ r. refl) (next_row w l transport parent)) (best w l transport parent)) (current w l transport)
+choice_decides : (w : World) (l : Ledger) (transport : ℕ) → starts l < 2 ^ 48 → Decides l (choice w l transport)
+choice_decides w l transport few = by_then l (choice_by w l transport) (λ parent. by_map_or l (preempt_by l transport parent) (start_next w l transport parent) (λ child. refl) (by_map l (start_of l) (λ r. (refl, few)) (next_row w l transport parent)) (best w l transport parent)) (current w l transport)
 
 start_decides : (w : World) (l : Ledger) → Decides l (start_rule w l)
-start_decides w l = by_if l (nat_lt (starts l) (2 ^ 48)) (first_some (choice_of w l) (enumerate_from 0 l.lines)) (by_some l (choice_of w l) (λ line. choice_decides w l line.0) (enumerate_from 0 l.lines))
+start_decides w l = by_if l (nat_lt (starts l) (2 ^ 48)) (first_some (choice_of w l) (enumerate_from 0 l.lines)) (λ few. by_some l (choice_of w l) (λ line. choice_decides w l line.0 (ltb-true (starts l) (2 ^ 48) few)) (enumerate_from 0 l.lines))
 
 -- the rules from the last on
 rules_decides : (w : World) (l : Ledger) → Decides l (first_rule w l)
@@ -149,7 +149,7 @@ rules_decides w l =
 
 next_decides : (w : World) (l : Ledger) → Decides l (next w l)
 unfolding next
-next_decides w l = by_if l l.timed (first_rule w l) (rules_decides w l)
+next_decides w l = by_if l l.timed (first_rule w l) (λ _. rules_decides w l)
 
 -- ---- all decisions behind an event
 

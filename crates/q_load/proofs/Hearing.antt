@@ -1,12 +1,16 @@
 -- The events of a life, one behind another.
-use Rattle.std.proofs.Common.{◌≡◌, ◌++◌, ◌∙◌, ◌∷◌, [], List, None, Some, ap, append-nil, append_assoc, map, refl, subst, sym, ℕ}
+use Rattle.std.proofs.Common.{◌<◌, ◌≡◌, ◌++◌, ◌^◌, ◌≤◌, ◌∙◌, ◌∷◌, [], List, None, Some, ap, append-nil, append_assoc, arith, map, refl, subst, sym, ℕ}
+use Rattle.std.specs.Prelude.{count_by}
+use Rattle.q_engine.specs.Heard.{is_moment}
 use Rattle.q_engine.specs.Stands.{EngineStands}
 use Rattle.q_engine.specs.declared.engine.Engine.{Engine}
 use Rattle.q_host.specs.View.{View}
-use Rattle.q_load.specs.Due.{due}
-use Rattle.q_load.specs.Lives.{behind_all, HeardAll}
+use Rattle.q_load.proofs.Bounds.{due_ends, due_fewer, due_within, left_of, same_left}
+use Rattle.q_load.specs.Due.{due, is_mail, is_reply}
+use Rattle.q_load.specs.Ended.{HasEnded}
+use Rattle.q_load.specs.Lives.{behind_all, HeardAll, IsUnended}
 use Rattle.q_load.specs.Loads.{AreDue, begun, behind, first, IsSummary, ledger_of, load_world, summary_at}
-use Rattle.q_load.specs.Progress.{HasHeard}
+use Rattle.q_load.specs.Progress.{HasHeard, HasRoom}
 use Rattle.q_load.specs.declared.generator.Generator.{Generator}
 use Rattle.q_load.specs.declared.summary.Summary.{Summary}
 use Rattle.q_model.specs.Ledger.{Ledger}
@@ -78,3 +82,52 @@ sums_up mails engine v s all is = record {
   are = all.are;
   counts = is ∙ ap (summary_at mails) (sym (ledger_is all.heard));
 }
+
+-- ---- how far it came
+
+-- some ledger is on its way: no more replies came than deliveries ended, and no more mails and moments than may come
+pub record IsUnderWay (mails : ℕ) (g : Generator) (engine : Engine) (v : View) : Type 0 where
+  pub ledger : Ledger
+  pub heard : List Event
+  pub stands : EngineStands load_world engine v ledger
+  pub counts : HasHeard g heard
+  pub ended : HasEnded (count_by is_reply heard) ledger
+  pub came : count_by is_mail heard ≤ mails
+  pub moments : count_by is_moment heard ≤ 200
+
+pub way_begins : (mails : ℕ) (g : Generator) (engine : Engine) (v : View) → IsUnended engine v → HasHeard g [] → IsUnderWay mails g engine v
+way_begins mails g engine v h counts = record { ledger = h.0; heard = []; stands = h.1; counts = counts; ended = h.2; came = omega arith; moments = omega arith }
+
+module _ (mails : ℕ) (g : Generator) (engine : Engine) (v : View) where
+  -- its counts have room
+  pub has_room : mails < 2 ^ 32 → IsUnderWay mails g engine v → HasRoom g (2 ^ 60)
+  has_room fits h =
+      let counts = h.counts in
+      let began = h.ended.began in
+      let few = h.ended.few in
+      let came = h.came in
+      let rounds = h.moments in
+      record {
+        came = omega (arith, fits, counts.came, came);
+        replies = omega (arith, counts.replies, began, few);
+        rounds = omega (arith, counts.rounds, rounds);
+      }
+
+  module _ (h : IsUnderWay mails g engine v) (e : Event) (g' : Generator) where
+    -- one more
+    pub way_on : (engine' : Engine) (v' : View) → Some e ≡ due mails h.heard h.ledger → HasHeard g' (e ∷ h.heard) → EngineStands load_world engine' v' (behind h.ledger e) → IsUnderWay mails g' engine' v'
+    way_on engine' v' is counts stands =
+        let within = due_within mails h.heard h.ledger e (sym is) h.came h.moments in
+        record {
+          ledger = behind h.ledger e;
+          heard = e ∷ h.heard;
+          stands = stands;
+          counts = counts;
+          ended = due_ends mails h.heard h.ledger e (sym is) h.ended;
+          came = within.0;
+          moments = within.1;
+        }
+
+    -- fewer are left behind it
+    pub fewer_left : Some e ≡ due mails h.heard h.ledger → HasHeard g' (e ∷ h.heard) → left_of mails g'.replies g'.came g'.rounds < left_of mails g.replies g.came g.rounds
+    fewer_left is counts = same_left mails _ _ _ _ _ _ _ _ _ _ _ _ counts.replies counts.came counts.rounds h.counts.replies h.counts.came h.counts.rounds (due_fewer mails h.heard h.ledger e (sym is) h.ended)

@@ -1,7 +1,9 @@
 pub mod Addresses
+pub mod Bounds
 pub mod Beginning
 pub mod Codes
 pub mod Counting
+pub mod Deliveries
 pub mod Hearing
 pub mod Places
 pub mod Settled

@@ -4,6 +4,7 @@ use Rattle.q_books.specs.HostStands.{HostStands}
 use Rattle.q_engine.specs.Stands.{EngineStands}
 use Rattle.q_engine.specs.declared.engine.Engine.{Engine}
 use Rattle.q_host.specs.View.{View}
+use Rattle.q_load.specs.Ended.{HasEnded}
 use Rattle.q_load.specs.Loads.{AreDue, begun, behind, load_world}
 use Rattle.q_model.specs.Book.{empty_book}
 use Rattle.q_model.specs.Ledger.{Ledger}
@@ -12,6 +13,10 @@ use Rattle.q_model.specs.declared.event.Event.{Event}
 -- engine and host stand for some ledger of the world of loads
 abbrev pub IsOnLoad : Engine → View → Type 0
 IsOnLoad engine v = (l : Ledger) × EngineStands load_world engine v l
+
+-- the same of one of which no delivery has ended
+abbrev pub IsUnended : Engine → View → Type 0
+IsUnended engine v = (l : Ledger) × EngineStands load_world engine v l × HasEnded 0 l
 
 -- of each such ledger
 abbrev pub ForLoad : Engine → View → (Ledger → Type 0) → Type 0

@@ -4,7 +4,7 @@ ghost use Rattle.q_books.specs.HostStands.{HostStands};
 ghost use Rattle.q_engine.specs.Heard.{IsEventInForm};
 ghost use Rattle.q_engine.specs.Stands.{EngineStands, IsReady};
 ghost use Rattle.q_host.specs.View.{Told};
-ghost use Rattle.q_load.specs.Lives.{Begins, HearsAll, HearsOne, IsOnLoad};
+ghost use Rattle.q_load.specs.Lives.{Begins, HearsAll, HearsOne, IsOnLoad, IsUnended};
 ghost use Rattle.q_load.specs.Loads.{IsSummary, load_world, summary_at};
 ghost use Rattle.q_model.specs.Book.{empty_book};
 ghost use Rattle.q_model.specs.Ledger.{Ledger};
@@ -23,10 +23,6 @@ use std::alloc::Global;
 
 /// The moment of the first event.
 const FIRST_MOMENT: Moment = 1_000;
-
-/// How many events a load may have. None comes near: each ends a delivery, or is one of the mails and
-/// moments, which are few.
-const EVENTS: u64 = 1 << 60;
 
 /// A refusal of the engine. No event of a load is refused: where one were, want of memory would be
 /// answered.
@@ -71,7 +67,8 @@ fn hear<H: Host>(
     }
 }
 
-/// The life hears the events of a load behind the first.
+/// The life hears the events of a load behind the first, on a host that tells its files. They come to
+/// an end: each ends one of at most 2^48 deliveries, or is one of the mails and moments.
 fn hear_all<H: Host>(
     alloc: Global,
     engine: Engine,
@@ -79,20 +76,20 @@ fn hear_all<H: Host>(
     mails: u32,
 ) -> Result<Engine, HostError>
     requires ready { IsReady engine }
-    requires stands { IsTrue H.tells → IsOnLoad engine (H.view host.old) }
+    requires tells { IsTrue H.tells }
+    requires stands { IsUnended engine (H.view host.old) }
     ensures hears { IfOk result (λ next. Told H.tells H.view host.old host.new
         (HearsAll mails engine next)) }
 {
     let mut generator = Generator::new(mails);
     let mut engine = engine;
-    for _ in 0..EVENTS {
+    loop {
         let Some(event) = generator.due(alloc, &engine, host)? else {
             return Ok(engine);
         };
         generator.note(&event);
         engine = hear(alloc, engine, host, event)?;
     }
-    Err(HostError::NoMemory)
 }
 
 /// Counts what the life did, and ends it.
@@ -118,10 +115,11 @@ fn conclude<H: Host>(
     }
 }
 
-/// Runs a load on a host that stands for an empty spool.
+/// Runs a load on a host that tells its files and stands for an empty spool.
 fn run<H: Host>(alloc: Global, host: &mut H, mails: u32) -> Result<Summary, HostError>
-    requires { IsTrue H.tells → HostStands (H.view host.old) empty_book }
-    ensures { IfOk result (λ summary. IsTrue H.tells → IsSummary mails summary) }
+    requires tells { IsTrue H.tells }
+    requires stands { HostStands (H.view host.old) empty_book }
+    ensures { IfOk result (IsSummary mails) }
 {
     let begun = begin_life(alloc, host)?;
     let first = Event::At {

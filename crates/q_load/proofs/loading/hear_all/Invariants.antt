@@ -1,20 +1,21 @@
-use Rattle.std.proofs.Common.{◌≡◌, IsTrue}
+use Rattle.std.proofs.Common.{◌≡◌}
 use Rattle.q_engine.specs.Stands.{EngineStands, IsReady}
-use Rattle.q_load.specs.Lives.{IsOnLoad}
 use Rattle.q_load.specs.Loads.{load_world}
-use Rattle.q_load.specs.Progress.{HasRoom}
-use Rattle.q_load.proofs.Hearing.{IsHearing}
+use Rattle.q_load.proofs.Bounds.{left_of}
+use Rattle.q_load.proofs.Hearing.{IsHearing, IsUnderWay}
 use Rattle.q_model.specs.Ledger.{Ledger}
 use Rattle.q_load.proofs.loading.hear_all.Given as goal
 
-abbrev pub invariant-loop : goal.invariant-loop
-invariant-loop g l =
+abbrev pub invariant-loop-engine : goal.invariant-loop-engine
+invariant-loop-engine g l =
     let view = g.H.Host.view in
     record {
       ready : IsReady l.engine;
       mails : l.generator.mails ≡ l.mails;
-      room : HasRoom l.generator l.counter;
-      some : IsTrue g.H.Host.tells → IsOnLoad l.engine (view l.host);
-      went : IsTrue g.H.Host.tells → (k : Ledger) → EngineStands load_world l.fn.engine (view l.fn.host) k
-          → IsHearing l.mails k l.generator l.engine (view l.host);
+      way : IsUnderWay l.mails l.generator l.engine (view l.host);
+      went : (k : Ledger) → EngineStands load_world l.fn.engine (view l.fn.host) k → IsHearing l.mails k l.generator l.engine (view l.host);
     }
+
+-- each that is heard leaves fewer
+abbrev pub decreases-loop-engine : goal.decreases-loop-engine
+decreases-loop-engine g l = left_of l.mails l.generator.replies l.generator.came l.generator.rounds
