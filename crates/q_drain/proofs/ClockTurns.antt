@@ -6,6 +6,7 @@ use Rattle.std.proofs.lemmas.List.{append-nil}
 use Rattle.std.specs.Prelude.{◌||◌}
 use Rattle.q_agent.specs.Sessions.{OpenSession}
 use Rattle.q_books.specs.HostStands.{TellsCrashes}
+use Rattle.q_drain.proofs.Rooming.{room_more, room_quiet}
 use Rattle.q_drain.proofs.Cutting.{cases_front, cut_turn, front_replies}
 use Rattle.q_drain.proofs.Ending.{cases_deliver}
 use Rattle.q_drain.proofs.Moments.{begun_behind}
@@ -136,6 +137,7 @@ heard_part w l a old new hops u x engine early fs os s first t error f adds late
     (record {
       given = given_more a.clock old new t s r refl adds h.given;
       cut = cut_turn s r early (at_entries w k t) halts.done halts.rest parts c.0.clocked refl refl refl h.driving.connected;
+      room = room_more w l s.told halts.done h.driving.course.room (room_quiet w k halts.done quiet);
       records = λ now told.
           let d = h.records now told in (
             d.before,

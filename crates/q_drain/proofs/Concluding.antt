@@ -1,5 +1,6 @@
 -- A drain under way through the report of a delivery and the turn of its reply.
 use native.Mathlib.Omega.{arith}
+use Rattle.q_drain.specs.Rooms.{MayBeginMore}
 use Rattle.std.proofs.Common.{◌≡◌, ◌≤◌, ◌<◌, ◌⊎◌, inl, inr, ℕ, Bool, true, false, if◌then◌else◌, List, [], ◌∷◌, find, map, not, Option, Some, refl, sym, ap, ◌∙◌, subst, ltb-true, eq-eqb}
 use Rattle.std.proofs.lemmas.Bool.{le-leb, lt-leb, ltb-false}
 use Rattle.std.proofs.lemmas.Option.{same_Some}
@@ -90,9 +91,10 @@ pub concludes_under_way : (w : World) (l : Ledger) (a z : Outside) (v x : HostVi
     → IsReportOf true v (moment_after 0 s.told) o r z.hops hops
     → hops.connect_faults ≡ z.hops.connect_faults
     → may_reply (after_all w l s.told) o.number r.site r.outcomes ≡ true
+    → MayBeginMore (after_all w l s.told)
     → EngineStands w new x (after_all w (after_all w l s.told) (reply_entries w (after_all w l s.told) o.number r.site r.outcomes))
     → GoesOnBehind w l a z x hops new early fs os s o r
-concludes_under_way w l a z v x hops old new early fs os s polled o r h first report faults may stands =
+concludes_under_way w l a z v x hops old new early fs os s polled o r h first report faults may few stands =
     let t : HasRecord w l a z hops fs os s n o r = has_record w l a z v hops old early fs os s polled o r h first report in
     record {
       recorded = t.recorded;
@@ -134,7 +136,7 @@ concludes_under_way w l a z v x hops old new early fs os s polled o r h first re
     drives : (records : List Closed) → Driving w l (IsLinkOf (counts_of a (after_reply w l s o.number r.site r.outcomes records) o.number)) early (begun_behind w l s (entries.Reply o.number r.site r.outcomes) m) (without_flight o.number fs) (without o.number os) (after_reply w l s o.number r.site r.outcomes records)
     drives records =
         let st : Story = after_reply w l s o.number r.site r.outcomes records in
-        let e = drives_reply w l (IsLinkOf n) early fs os s o r.site r.outcomes records d there h.stands.core.consistent (reply_allowed w k o.number r.site r.outcomes h.stands.core.living may) in
+        let e = drives_reply w l (IsLinkOf n) early fs os s o r.site r.outcomes records d there h.stands.core.consistent (reply_allowed w k o.number r.site r.outcomes h.stands.core.living may) few in
         drives_retold w l (IsLinkOf n) (IsLinkOf (counts_of a st o.number)) (IsBeside polled o.number) early (begun_behind w l s (entries.Reply o.number r.site r.outcomes) m) (without_flight o.number fs) (without o.number os) st
         (λ y start t side number positive p. same_flag n (counts_of a st o.number) start t refl refl (ap (λ i. nat_le i o.number) number ∙ same_side polled o.number y.number late side ∙ ap (λ i. nat_le i polled) (sym number)) p)
         (beside polled o os d.opened.rises first) e

@@ -71,6 +71,7 @@ drives_whole w l Tells early fs os s d sweeps =
     let all = all_begun s early [] d.connected in
     record {
       told = d.course.run;
+      room = d.course.room;
       clocked = d.course.clocked;
       rested = sweeps_end s sweeps (omega (arith, counted, all));
       connected = all_connected s early d.connected;

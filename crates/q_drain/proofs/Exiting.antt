@@ -247,6 +247,7 @@ stops_between w l a z u v engine os known first given error lawful d =
     (record {
       given = b.given;
       cut = drives_cut w l (IsLinkBetween (d.between).between.0 (length s.moments)) (d.between).early [] (d.between).flights os s b.driving;
+      room = b.driving.course.room;
       records = λ now told. let r = b.records now told in (r.before, r.told, r.did, cases_deliver w l r.before.connects a.hops.connect_faults z.hops.connect_faults (d.between).flights os s r.cases);
     }))
 

@@ -1,6 +1,7 @@
 pub mod Deciding
 pub mod Silent
 pub mod Naming
+pub mod Rooming
 pub mod Running
 pub mod Flying
 pub mod Timing
@@ -32,6 +33,7 @@ pub mod Parting
 pub mod Polls
 pub mod GivingUp
 pub mod Noting
+pub mod Progressing
 pub mod Requested
 pub mod OpeningAll
 pub mod ClockTurns

@@ -1,6 +1,8 @@
 -- A drain through the next poll of its agent, and what follows it.
 use native.Mathlib.Omega.{arith}
-use Rattle.std.proofs.Common.{◌≡◌, ◌≤◌, ◌+◌, inl, inr, ℕ, Bool, true, false, List, [], ◌∷◌, ◌++◌, length, length-append, Option, Some, None, refl, sym, ap, ◌∙◌, subst, append-nil}
+use Rattle.q_drain.proofs.Rooming.{room_front}
+use Rattle.q_drain.specs.Rooms.{HadRoom, MayBeginMore}
+use Rattle.std.proofs.Common.{◌≡◌, ◌≤◌, ◌+◌, inl, inr, ℕ, Bool, true, false, List, [], ◌∷◌, ◌++◌, length, length-append, Option, Some, None, refl, sym, ap, ◌∙◌, subst, append-nil, ◌<◌}
 use Rattle.std.specs.List.{AllByRecursion}
 use Rattle.std.specs.Prelude.{◌^◌, IfSome, nat_lt}
 use Rattle.q_agent.specs.Answers.{HasFile, IsStanding, PollsNext}
@@ -24,7 +26,7 @@ use Rattle.q_drain.proofs.Requested.{gives_up}
 use Rattle.q_drain.proofs.Serving.{looked_under_way, polled_under_way}
 use Rattle.q_drain.proofs.Sessions.{open_files}
 use Rattle.q_drain.proofs.Silent.{decisions_inside, no_replies}
-use Rattle.q_drain.proofs.Turning.{course_reply, reply_entries}
+use Rattle.q_drain.proofs.Turning.{course_reply, reply_entries, run_reply, room_reply}
 use Rattle.q_drain.proofs.Waiting.{done, sweeps_busy, sweeps_more}
 use Rattle.q_drain.specs.Drains.{Delivers, IsOwnRun}
 use Rattle.q_drain.specs.Flights.{without_flight}
@@ -149,6 +151,7 @@ stays_open : (w : World) (l : Ledger) (a : Outside) (clock : Option (List ℕ)) 
 stays_open w l a clock hops next s h g = record {
   given = g.given;
   cut = g.cut;
+  room = g.room;
   records = λ now told.
       let c = h.0 now told in
       let r = g.records c.0 c.1 in (
@@ -232,15 +235,15 @@ module _ (w : World) (l : Ledger) (a : Outside) (clock : Option (List ℕ)) (u v
   turn_is = reply_turn w k r.number r.site r.outcomes ∙ ap (λ n. reply_entries w k n r.site r.outcomes) e.report.number
 
   own : IsOwnRun w l (s.told ++ es)
-  own = (course_reply w l s o.number r.site r.outcomes e.serving.under_way.driving.course).run
+  own = run_reply w l s o.number r.site r.outcomes e.serving.under_way.driving.course.run
 
-  gone : (front rest : List Entry) → es ≡ front ++ rest → GonePart w l a y s front
-  gone front rest parts = gone_part w l a z u next engine early fs agent.listed s agent.polled o r front rest e.serving.under_way e.first e.report faults parts
+  gone : (front rest : List Entry) → es ≡ front ++ rest → HadRoom w k front → GonePart w l a y s front
+  gone front rest parts room = gone_part w l a z u next engine early fs agent.listed s agent.polled o r front rest e.serving.under_way e.first e.report faults parts room
 
   -- there are no numbers left
   pub fills_up : (last : ℕ) → ForAgreed engine (λ w l. last ≡ starts l) → 2 ^ 48 ≤ last → FilledUp w l a y u v s
   fills_up last says full =
-      let g = gone [] es refl in
+      let g = gone [] es refl tt in
       let h = e.serving.under_way in
       let c = gone_clocked w l a z u (IsLinkOf (counts_of a s agent.polled)) engine early fs agent.listed s y h g in
       let same : g.story.told ≡ s.told = c.2 in
@@ -257,93 +260,102 @@ module _ (w : World) (l : Ledger) (a : Outside) (clock : Option (List ℕ)) (u v
         gave_up = g.gave_up;
       }
 
-  -- its reply was given up
-  pub reply_fails : (x : HostView) (error : HostError) → HaltsTurn (reply_event r) engine error v x → GivesUp w l a y u x error s
-  reply_fails x error halts =
-      let es : List Entry = turn w k (Heard (reply_event r)) in
-      let q = halts w k stands_still in
-      let h = halts_after w k [] es es k error u v x refl (sym (none_after w k)) (plays_looked w k u v e.lawful e.serving.under_way.stands.host takes) q in
-      let g = gone (h.0).done (h.0).rest (sym turn_is ∙ (h.0).all) in
-      let names = ap length (reply_names_turn w k r.number r.site r.outcomes) in
-      gives_up_part w l a y u x error s g.story es (subst (λ (xs : List Entry). IsOwnRun w l (s.told ++ xs)) (sym turn_is) own) (omega (arith, names)) h.0 g.told g.gave_up
+  -- where more deliveries may begin
+  module _ (few : MayBeginMore k) where
+    -- its reply was given up
+    pub reply_fails : (x : HostView) (error : HostError) → HaltsTurn (reply_event r) engine error v x → GivesUp w l a y u x error s
+    reply_fails x error halts =
+        let es : List Entry = turn w k (Heard (reply_event r)) in
+        let q = halts w k stands_still in
+        let h = halts_after w k [] es es k error u v x refl (sym (none_after w k)) (plays_looked w k u v e.lawful e.serving.under_way.stands.host takes) q in
+        let parts = sym turn_is ∙ (h.0).all in
+        let g = gone (h.0).done (h.0).rest parts (room_front w k (h.0).done (h.0).rest (subst (HadRoom w k) parts (room_reply w k o.number r.site r.outcomes few))) in
+        let names = ap length (reply_names_turn w k r.number r.site r.outcomes) in
+        gives_up_part w l a y u x error s g.story es (subst (λ (xs : List Entry). IsOwnRun w l (s.told ++ xs)) (sym turn_is) own) (omega (arith, names)) h.0 g.told g.gave_up
 
-  -- its reply was told
-  module _ (x : HostView) (new : Engine) (mid : Sessions) (made : mid ≡ after_end o agent) (replies : Replies r engine new v x) where
-    replied : HasReplied w k r new v x
-    replied = replies w k stands_still
+    -- its reply was told
+    module _ (x : HostView) (new : Engine) (mid : Sessions) (made : mid ≡ after_end o agent) (replies : Replies r engine new v x) where
+      replied : HasReplied w k r new v x
+      replied = replies w k stands_still
 
-    abbrev waiting : List Begun
-    waiting = begun_behind w l s (entries.Reply o.number r.site r.outcomes) (moment_after 0 s.told)
+      abbrev waiting : List Begun
+      waiting = begun_behind w l s (entries.Reply o.number r.site r.outcomes) (moment_after 0 s.told)
 
-    behind : GoesOnBehind w l a z x next new early fs agent.listed s o r
-    behind = concludes_under_way w l a z u x next engine new early fs agent.listed s agent.polled o r e.serving.under_way e.first e.report faults
-        (ap (λ n. may_reply k n r.site r.outcomes) (sym e.report.number) ∙ replied.may)
-        (subst (λ (xs : List Entry). EngineStands w new x (after_all w k xs)) turn_is replied.took.stands)
+      behind : GoesOnBehind w l a z x next new early fs agent.listed s o r
+      behind = concludes_under_way w l a z u x next engine new early fs agent.listed s agent.polled o r e.serving.under_way e.first e.report faults
+          (ap (λ n. may_reply k n r.site r.outcomes) (sym e.report.number) ∙ replied.may) few
+          (subst (λ (xs : List Entry). EngineStands w new x (after_all w k xs)) turn_is replied.took.stands)
 
-    abbrev story : Story
-    story = after_reply w l s o.number r.site r.outcomes behind.recorded
+      abbrev story : Story
+      story = after_reply w l s o.number r.site r.outcomes behind.recorded
 
-    serving : IsServing w l a y x new mid early waiting (without_flight o.number fs) story
-    serving = subst (λ (n : Sessions). IsServing w l a y x new n early waiting (without_flight o.number fs) story) (sym made)
-        (record { under_way = behind.goes_on; polled = polled_low w l a z u engine agent early [] fs s o e.first e.serving; some = e.serving.some })
+      serving : IsServing w l a y x new mid early waiting (without_flight o.number fs) story
+      serving = subst (λ (n : Sessions). IsServing w l a y x new n early waiting (without_flight o.number fs) story) (sym made)
+          (record { under_way = behind.goes_on; polled = polled_low w l a z u engine agent early [] fs s o e.first e.serving; some = e.serving.some })
 
-    plays : (b : HostView) → Looks w l story x b → PlaysRun w k es u b
-    plays b looks = plays_between w k es u v x b e.lawful e.serving.under_way.stands.host takes
-        (subst (λ (xs : List Entry). PlaysRun w k xs v x) turn_is replied.took.plays)
-        (subst (λ (m : Ledger). Takes m.book m.book x b) (after_all-append w l s.told es) looks.takes)
+      plays : (b : HostView) → Looks w l story x b → PlaysRun w k es u b
+      plays b looks = plays_between w k es u v x b e.lawful e.serving.under_way.stands.host takes
+          (subst (λ (xs : List Entry). PlaysRun w k xs v x) turn_is replied.took.plays)
+          (subst (λ (m : Ledger). Takes m.book m.book x b) (after_all-append w l s.told es) looks.takes)
 
-    pub may_open_more : (known : ℕ) → length early ≡ known → MayOpenAll clock x next new mid known
-    may_open_more known is = record { world = w; ledger = l; first = a; early = early; waiting = waiting; flights = without_flight o.number fs; story = story; serving = serving; known_is = is }
+      pub may_open_more : (known : ℕ) → length early ≡ known → MayOpenAll clock x next new mid known
+      may_open_more known is = record { world = w; ledger = l; first = a; early = early; waiting = waiting; flights = without_flight o.number fs; story = story; serving = serving; known_is = is }
 
-    -- and a session couldn't be opened
-    pub opening_fails : (b : HostView) (after_hops : HopsView) (known : ℕ) (error : HostError) → length early ≡ known → FailsToOpenAll new x b next after_hops mid known → GivesUp w l a (record { clock = clock; hops = after_hops }) u b error s
-    opening_fails b after_hops known error is fails =
-        let g = fails w l a clock early waiting (without_flight o.number fs) story is serving in
-        gives_up_whole w l a (record { clock = clock; hops = after_hops }) u b error s g.0 es own (plays b g.3) g.1 g.2
+      -- and a session couldn't be opened
+      pub opening_fails : (b : HostView) (after_hops : HopsView) (known : ℕ) (error : HostError) → length early ≡ known → FailsToOpenAll new x b next after_hops mid known → GivesUp w l a (record { clock = clock; hops = after_hops }) u b error s
+      opening_fails b after_hops known error is fails =
+          let g = fails w l a clock early waiting (without_flight o.number fs) story is serving in
+          gives_up_whole w l a (record { clock = clock; hops = after_hops }) u b error s g.0 es own (plays b g.3) g.1 g.2
 
-    -- or all were
-    pub served_replied : (b : HostView) (after_hops : HopsView) (sessions : Sessions) (known last : ℕ) (busy : Bool) → length early ≡ known → Sweeps (idle busy) s → OpensAll new x b next after_hops mid sessions known last
-        → ServedOn w l a (record { clock = clock; hops = after_hops }) u b (record { engine = new; known = last; busy = true }) sessions s
-    served_replied b after_hops sessions known last busy is sweeps opens =
-        let g = opens w l a clock early waiting (without_flight o.number fs) story is serving in
-        let ds : List Entry = decisions w (after w k (entries.Reply o.number r.site r.outcomes)) in
-        let one : length (ended es) ≡ 1 = ap (λ (xs : List Ended). length (record { number = o.number; site = r.site; outcomes = r.outcomes } ∷ xs)) (no_replies ds (decisions_inside w (after w k (entries.Reply o.number r.site r.outcomes)))) in
-        record {
-          entries_told = es;
-          early = early ++ waiting;
-          flights = (g.0).flights;
-          story = (g.0).story;
-          told = (g.0).told;
-          rests = (g.0).rests;
-          plays = plays b g.1;
-          adds = adds_between w k es u v x b e.stays.files (subst (λ (xs : List Entry). AddsAllNotes w k xs v.files x.files) turn_is replied.took.notes.adds) (g.1).files;
-          known_is = sym g.2;
-          sweeps = sweeps_replied busy s (g.0).story sweeps (g.0).moments (g.0).rests (more_done s (g.0).story es 1 (g.0).told one);
-          serving = (g.0).serving;
-        }
+      -- or all were
+      pub served_replied : (b : HostView) (after_hops : HopsView) (sessions : Sessions) (known last : ℕ) (busy : Bool) → length early ≡ known → Sweeps (idle busy) s → OpensAll new x b next after_hops mid sessions known last
+          → ServedOn w l a (record { clock = clock; hops = after_hops }) u b (record { engine = new; known = last; busy = true }) sessions s
+      served_replied b after_hops sessions known last busy is sweeps opens =
+          let g = opens w l a clock early waiting (without_flight o.number fs) story is serving in
+          let ds : List Entry = decisions w (after w k (entries.Reply o.number r.site r.outcomes)) in
+          let one : length (ended es) ≡ 1 = ap (λ (xs : List Ended). length (record { number = o.number; site = r.site; outcomes = r.outcomes } ∷ xs)) (no_replies ds (decisions_inside w (after w k (entries.Reply o.number r.site r.outcomes)))) in
+          record {
+            entries_told = es;
+            early = early ++ waiting;
+            flights = (g.0).flights;
+            story = (g.0).story;
+            told = (g.0).told;
+            rests = (g.0).rests;
+            plays = plays b g.1;
+            adds = adds_between w k es u v x b e.stays.files (subst (λ (xs : List Entry). AddsAllNotes w k xs v.files x.files) turn_is replied.took.notes.adds) (g.1).files;
+            known_is = sym g.2;
+            sweeps = sweeps_replied busy s (g.0).story sweeps (g.0).moments (g.0).rests (more_done s (g.0).story es 1 (g.0).told one);
+            serving = (g.0).serving;
+          }
 
-  -- the reply was given up, or a session couldn't be opened behind it
-  pub report_fails : {H : Type 0} (view : H → HostView) (before b : H) → view before ≡ v → (mid : Sessions) (made : mid ≡ after_end o agent) (after_hops : HopsView) (known : ℕ) (error : HostError) → length early ≡ known
-      → GivesUpReport view r engine error before b next after_hops mid known → GivesUp w l a (record { clock = clock; hops = after_hops }) u (view b) error s
-  report_fails view before b at mid made after_hops known error is (inl (halts, same)) =
-      subst (λ (x : HopsView). GivesUp w l a (record { clock = clock; hops = x }) u (view b) error s) (sym same) (reply_fails (view b) error (subst (λ (x : HostView). HaltsTurn (reply_event r) engine error x (view b)) at halts))
-  report_fails view before b at mid made after_hops known error is (inr f) =
-      opening_fails (view f.between) f.next mid made (subst (λ (x : HostView). Replies r engine f.next x (view f.between)) at f.replied) (view b) after_hops known error is f.fails
+    -- the reply was given up, or a session couldn't be opened behind it
+    pub report_fails : {H : Type 0} (view : H → HostView) (before b : H) → view before ≡ v → (mid : Sessions) (made : mid ≡ after_end o agent) (after_hops : HopsView) (known : ℕ) (error : HostError) → length early ≡ known
+        → GivesUpReport view r engine error before b next after_hops mid known → GivesUp w l a (record { clock = clock; hops = after_hops }) u (view b) error s
+    report_fails view before b at mid made after_hops known error is (inl (halts, same)) =
+        subst (λ (x : HopsView). GivesUp w l a (record { clock = clock; hops = x }) u (view b) error s) (sym same) (reply_fails (view b) error (subst (λ (x : HostView). HaltsTurn (reply_event r) engine error x (view b)) at halts))
+    report_fails view before b at mid made after_hops known error is (inr f) =
+        opening_fails (view f.between) f.next mid made (subst (λ (x : HostView). Replies r engine f.next x (view f.between)) at f.replied) (view b) after_hops known error is f.fails
 
-  as_busy : (next : Served) → next.busy ≡ true → record { engine = next.engine; known = next.known; busy = true } ≡ next
-  as_busy n is = ap (λ (b : Bool). record { engine = n.engine; known = n.known; busy = b }) (sym is)
+    as_busy : (next : Served) → next.busy ≡ true → record { engine = next.engine; known = next.known; busy = true } ≡ next
+    as_busy n is = ap (λ (b : Bool). record { engine = n.engine; known = n.known; busy = b }) (sym is)
 
-  -- it was told, and all were
-  pub served_by_report : {H : Type 0} (view : H → HostView) (before b : H) → view before ≡ v → (mid : Sessions) (made : mid ≡ after_end o agent) (after_hops : HopsView) (sessions : Sessions) (known : ℕ) (served : Served) (busy : Bool) → length early ≡ known
-      → Sweeps (idle busy) s → served.busy ≡ true → HearsReport view r engine served before b next after_hops mid sessions known → ServedOn w l a (record { clock = clock; hops = after_hops }) u (view b) served sessions s
-  served_by_report view before b at mid made after_hops sessions known served busy is sweeps own heard =
-      subst (λ (n : Served). ServedOn w l a (record { clock = clock; hops = after_hops }) u (view b) n sessions s) (as_busy served own)
-      (served_replied (view heard.between) served.engine mid made (subst (λ (x : HostView). Replies r engine served.engine x (view heard.between)) at heard.replied) (view b) after_hops sessions known served.known busy is sweeps heard.opened)
+    -- it was told, and all were
+    pub served_by_report : {H : Type 0} (view : H → HostView) (before b : H) → view before ≡ v → (mid : Sessions) (made : mid ≡ after_end o agent) (after_hops : HopsView) (sessions : Sessions) (known : ℕ) (served : Served) (busy : Bool) → length early ≡ known
+        → Sweeps (idle busy) s → served.busy ≡ true → HearsReport view r engine served before b next after_hops mid sessions known → ServedOn w l a (record { clock = clock; hops = after_hops }) u (view b) served sessions s
+    served_by_report view before b at mid made after_hops sessions known served busy is sweeps own heard =
+        subst (λ (n : Served). ServedOn w l a (record { clock = clock; hops = after_hops }) u (view b) n sessions s) (as_busy served own)
+        (served_replied (view heard.between) served.engine mid made (subst (λ (x : HostView). Replies r engine served.engine x (view heard.between)) at heard.replied) (view b) after_hops sessions known served.known busy is sweeps heard.opened)
 
 -- ---- by the answer of the agent
 
 now_is : (w : World) (l : Ledger) (a z : Outside) (v : HostView) (engine : Engine) (agent : Sessions) (early waiting : List Begun) (fs : List Delivery) (s : Story) (now : ℕ) → ForAgreed engine (λ w l. now ≡ l.now) → IsServing w l a z v engine agent early waiting fs s → now ≡ moment_after 0 s.told
 now_is w l a z v engine agent early waiting fs s now says h = says w (after_all w l s.told) h.under_way.stands.core h.under_way.stands.counts ∙ h.under_way.driving.course.now
+
+-- so many have begun
+pub begins_fewer : (w : World) (l : Ledger) (a z : Outside) (v : HostView) (engine : Engine) (agent : Sessions) (early waiting : List Begun) (fs : List Delivery) (s : Story) (last : ℕ) → ForAgreed engine (λ w l. last ≡ starts l) → last < 2 ^ 48 → IsServing w l a z v engine agent early waiting fs s → MayBeginMore (after_all w l s.told)
+begins_fewer w l a z v engine agent early waiting fs s last says few h =
+    let count = says w (after_all w l s.told) h.under_way.stands.core h.under_way.stands.counts in
+    omega (arith, few, count)
 
 -- the session that was polled is over
 pub ends_poll : (w : World) (l : Ledger) (a : Outside) (clock : Option (List ℕ)) (u v : HostView) (hops next : HopsView) (engine : Engine) (agent mid : Sessions) (early : List Begun) (fs : List Delivery) (s : Story) (tells : Bool) (now : ℕ) (o : OpenSession) (r : Report)

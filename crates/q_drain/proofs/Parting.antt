@@ -1,5 +1,7 @@
 -- A session is over, and its reply is told in part, or not at all.
 use native.Mathlib.Omega.{arith}
+use Rattle.q_drain.proofs.Rooming.{room_more}
+use Rattle.q_drain.specs.Rooms.{HadRoom}
 use Rattle.std.proofs.Common.{◌≡◌, ℕ, List, [], ◌∷◌, ◌++◌, length, map, Option, Some, refl, sym, ap, ◌∙◌, subst, le_refl, append-nil}
 use Rattle.std.specs.Option.{is_some}
 use Rattle.q_agent.specs.Sessions.{OpenSession, Rises, without}
@@ -13,7 +15,7 @@ use Rattle.q_drain.proofs.Recorded.{has_record}
 use Rattle.q_drain.proofs.Replying.{all_cases, case_added, longer, untold_case, with_more}
 use Rattle.q_drain.proofs.Reports.{case_of, each_more, fails_cut, few_ended}
 use Rattle.q_drain.proofs.Silent.{decisions_inside, no_replies}
-use Rattle.q_drain.proofs.Turning.{course_reply, reply_entries}
+use Rattle.q_drain.proofs.Turning.{course_reply, reply_entries, clocked_reply}
 use Rattle.q_drain.specs.AllTold.{IsTold}
 use Rattle.q_drain.specs.Cases.{AreCases, Case, IsPlace, records_of, replies_of}
 use Rattle.q_drain.specs.Causes.{IsDelivery}
@@ -127,8 +129,9 @@ pub gone_part : (w : World) (l : Ledger) (a z : Outside) (v : HostView) (hops : 
     → IsReportOf true v (moment_after 0 s.told) o r z.hops hops
     → hops.connect_faults ≡ z.hops.connect_faults
     → reply_entries w (after_all w l s.told) o.number r.site r.outcomes ≡ done ++ rest
+    → HadRoom w (after_all w l s.told) done
     → GonePart w l a (record { clock = z.clock; hops = hops }) s done
-gone_part w l a z v hops engine early fs os s polled o r done rest h first report faults parts =
+gone_part w l a z v hops engine early fs os s polled o r done rest h first report faults parts room =
     let t = has_record w l a z v hops engine early fs os s polled o r h first report in
     let d = h.driving in
     let es : List Entry = reply_entries w (after_all w l s.told) o.number r.site r.outcomes in
@@ -141,7 +144,8 @@ gone_part w l a z v hops engine early fs os s polled o r done rest h first repor
       hops = refl;
       gave_up = record {
         given = h.given;
-        cut = cut_turn s p early es done rest parts (course_reply w l s o.number r.site r.outcomes d.course).clocked refl refl refl d.connected;
+        cut = cut_turn s p early es done rest parts (clocked_reply w l s o.number r.site r.outcomes d.course.clocked) refl refl refl d.connected;
+        room = room_more w l s.told done d.course.room room;
         records = λ now told.
             let c = t.tells now told in (
               c.before,

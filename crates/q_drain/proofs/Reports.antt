@@ -1,5 +1,6 @@
 -- A session is over: its reply is told, and its case is added.
 use native.Mathlib.Omega.{arith}
+use Rattle.q_drain.specs.Rooms.{MayBeginMore}
 use Rattle.std.proofs.Common.{◌≡◌, ◌≤◌, ◌<◌, ◌+◌, inl, inr, ℕ, Bool, true, false, if◌then◌else◌, List, [], ◌∷◌, ◌++◌, length, length-append, map, not, Option, Some, None, refl, sym, ap, ◌∙◌, subst, eq-eqb, le_refl}
 use Rattle.std.proofs.lemmas.Bool.{ne_eqb}
 use Rattle.std.proofs.lemmas.List.{append-nil}
@@ -113,8 +114,9 @@ pub drives_reply : (w : World) (l : Ledger) (Tells : Begun → Told → Type 0) 
     → Driving w l Tells early [] fs os s → IsIn o os
     → IsConsistent w (after_all w l s.told)
     → IsEntryOf w (after_all w l s.told) (entries.Reply o.number site outcomes)
+    → MayBeginMore (after_all w l s.told)
     → Driving w l Tells early (begun_behind w l s (entries.Reply o.number site outcomes) (moment_after 0 s.told)) (without_flight o.number fs) (without o.number os) (after_reply w l s o.number site outcomes records)
-drives_reply w l Tells early fs os s o site outcomes records d there c entry =
+drives_reply w l Tells early fs os s o site outcomes records d there c entry few =
     let k : Ledger = after_all w l s.told in
     let e : Entry = entries.Reply o.number site outcomes in
     let ds : List Entry = decisions w (after w k e) in
@@ -131,11 +133,11 @@ drives_reply w l Tells early fs os s o site outcomes records d there c entry =
     let before = d.course.starts in
     let counted = d.opened.counted in
     let less = one_less o os d.opened.rises there in
-    let course = course_reply w l s o.number site outcomes d.course in
+    let course = course_reply w l s o.number site outcomes d.course few in
     let gs : List Delivery = without_flight o.number fs in
     let ps : List OpenSession = without o.number os in
     record {
-      course = record { run = course.run; clocked = course.clocked; now = course.now; starts = course.starts };
+      course = record { run = course.run; room = course.room; clocked = course.clocked; now = course.now; starts = course.starts };
       connected = connected_turn w (after w k e) s r early m ds d.connected refl refl
           (begun_added 0 s.told (e ∷ ds)) (moment_added 0 s.told (e ∷ ds) ∙ same_moment m ds inside) turn.1 inside (omega (arith, one, before, all));
       opened = open_turn w l s r Tells early gs ps m e ds refl c turn

@@ -126,6 +126,7 @@ gives_up w l a z v engine agent early waiting fs s h =
     record {
       given = u.given;
       cut = drives_cut w l (IsLinkOf (counts_of a s agent.polled)) early waiting fs agent.listed s u.driving;
+      room = u.driving.course.room;
       records = λ now told. let r = u.records now told in (r.before, r.told, r.did, cases_deliver w l r.before.connects a.hops.connect_faults z.hops.connect_faults fs agent.listed s r.cases);
     }
 
@@ -245,6 +246,7 @@ tried w l a clock u engine hops_old hops_new old early b rest fs s h counts n mo
             );
           };
         };
+        room = g.room;
         records = λ now told.
             let x = adds now told in
             let r = h.under_way.records x.0 x.1 in

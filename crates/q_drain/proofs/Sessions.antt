@@ -45,7 +45,7 @@ pub drives_request : (w : World) (l : Ledger) (Tells : Begun → Told → Type 0
 drives_request w l Tells early fs os s b rest o d is =
     let course = d.course in
     record {
-      course = record { run = course.run; clocked = course.clocked; now = course.now; starts = course.starts };
+      course = record { run = course.run; room = course.room; clocked = course.clocked; now = course.now; starts = course.starts };
       connected = connected_more s early b rest d.connected;
       opened = open_more w l s Tells early b rest fs os o d.connected d.opened is;
     }
@@ -238,7 +238,7 @@ drives_rest w l Tells early waiting fs old new s r d =
     let count : length new.listed ≡ length old.listed = ap length listed ∙ rested_length r.waited r.rested r.before r.behind ∙ ap length (sym r.sessions) in
     let counted = a.counted in
     record {
-      course = record { run = course.run; clocked = course.clocked; now = course.now; starts = course.starts };
+      course = record { run = course.run; room = course.room; clocked = course.clocked; now = course.now; starts = course.starts };
       connected = record { begins = c.begins; numbers = c.numbers; current = c.current; connects = c.connects; hops = c.hops };
       opened = record {
         flights = a.flights;

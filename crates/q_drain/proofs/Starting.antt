@@ -42,7 +42,7 @@ nothing = record { told = []; moments = []; connects = 0; hops = []; rests = 0; 
 pub drives_nothing : (w : World) (l : Ledger) (Tells : Begun → Told → Type 0) → l.now ≡ 0 → l.flights ≡ [] → starts l ≡ 0 → Driving w l Tells [] [] [] [] nothing
 unfolding run after_all
 drives_nothing w l Tells now flights none = record {
-  course = record { run = refl; clocked = refl; now = now; starts = none };
+  course = record { run = refl; room = tt; clocked = refl; now = now; starts = none };
   connected = record { begins = refl; numbers = tt; current = tt; connects = refl; hops = refl };
   opened = record { flights = flights; sessions = tt; rises = tt; below = tt; counted = refl };
 }

@@ -1,4 +1,7 @@
 -- The turn of an event is told: what was told stays the run of its events, and what begins waits to be opened.
+use Rattle.q_drain.specs.Sweeps.{IsClocked}
+use Rattle.q_drain.specs.Rooms.{HadRoom, MayBeginMore}
+use Rattle.q_drain.proofs.Rooming.{room_more, room_quiet}
 use Rattle.std.proofs.Common.{◌≡◌, ◌≢◌, ◌≤◌, ◌+◌, ℕ, true, false, List, [], ◌∷◌, ◌++◌, length, length-append, Some, refl, sym, ap, ◌∙◌, subst}
 use native.Mathlib.Omega.{arith}
 use Rattle.std.proofs.lemmas.List.{append-nil}
@@ -12,7 +15,7 @@ use Rattle.q_drain.proofs.Polling.{some_work}
 use Rattle.q_drain.proofs.Naming.{at_names_turn, at_turn, reply_names_turn, reply_turn}
 use Rattle.q_drain.proofs.Numbering.{decided_numbers, entry_starts, inside_starts}
 use Rattle.q_drain.proofs.Running.{run_longer}
-use Rattle.q_drain.proofs.Silent.{AreInside, decisions_inside, no_moments}
+use Rattle.q_drain.proofs.Silent.{AreInside, decisions_inside, no_moments, no_replies}
 use Rattle.q_drain.proofs.Timing.{at_timed, reply_timed}
 use Rattle.q_drain.proofs.Working.{work_like}
 use Rattle.q_drain.specs.Drains.{IsOwnRun}
@@ -81,6 +84,7 @@ course_by w l s t c late clocked =
     let es : List Entry = at_entries w k t in
     let ds = decisions_inside w (after w k (entries.At t)) in
     record {
+      room = room_more w l s.told es c.room (room_quiet w k es (no_replies (decisions w (after w k (entries.At t))) ds));
       run = subst (λ xs. IsOwnRun w l (s.told ++ xs)) (at_turn w k t (omega (arith, late))) (run_longer w l s.told (events.At t) c.run (at_names_turn w k t late));
       clocked = clocked;
       now = longer_now w l s.told es (at_timed w k (moment_after 0 s.told) t);
@@ -99,7 +103,7 @@ course_first w l s t c none silent least =
 
 -- one that isn't past those before it isn't told
 pub course_same : (w : World) (l : Ledger) (s : Story) (t : ℕ) → IsOnCourse w l s → s.moments ≢ [] → nat_lt (moment_after 0 s.told) t ≡ false → IsOnCourse w l (record s { moments = s.moments ++ t ∷ [] })
-course_same w l s t c some late = record { run = c.run; clocked = on s.moments some c.clocked; now = c.now; starts = c.starts }
+course_same w l s t c some late = record { run = c.run; room = c.room; clocked = on s.moments some c.clocked; now = c.now; starts = c.starts }
   where
     on : (moments : List ℕ) → moments ≢ [] → IsClockedBy moments s.told → IsClockedBy (moments ++ t ∷ []) s.told
     on [] some h = absurd (some refl)
@@ -110,14 +114,33 @@ course_same w l s t c some late = record { run = c.run; clocked = on s.moments s
 abbrev pub with_reply : World → Ledger → Story → ℕ → SiteState → List Outcome → Story
 with_reply w l s number site outcomes = record s { told = s.told ++ reply_entries w (after_all w l s.told) number site outcomes }
 
-pub course_reply : (w : World) (l : Ledger) (s : Story) (number : ℕ) (site : SiteState) (outcomes : List Outcome) → IsOnCourse w l s → IsOnCourse w l (with_reply w l s number site outcomes)
-course_reply w l s number site outcomes c =
+-- what was told with it is a run still
+pub run_reply : (w : World) (l : Ledger) (s : Story) (number : ℕ) (site : SiteState) (outcomes : List Outcome) → IsOwnRun w l s.told → IsOwnRun w l (s.told ++ reply_entries w (after_all w l s.told) number site outcomes)
+run_reply w l s number site outcomes run =
+    let k : Ledger = after_all w l s.told in
+    subst (λ xs. IsOwnRun w l (s.told ++ xs)) (reply_turn w k number site outcomes) (run_longer w l s.told (events.Reply number site outcomes) run (reply_names_turn w k number site outcomes))
+
+-- and no moment more
+pub clocked_reply : (w : World) (l : Ledger) (s : Story) (number : ℕ) (site : SiteState) (outcomes : List Outcome) → IsClocked s → IsClocked (with_reply w l s number site outcomes)
+clocked_reply w l s number site outcomes clocked =
+    let k : Ledger = after_all w l s.told in
+    none_clocked s.moments s.told (reply_entries w k number site outcomes) clocked (no_moments (decisions w (after w k (entries.Reply number site outcomes))) (decisions_inside w (after w k (entries.Reply number site outcomes))))
+
+-- heard where fewer deliveries have begun than may
+pub room_reply : (w : World) (k : Ledger) (number : ℕ) (site : SiteState) (outcomes : List Outcome) → MayBeginMore k → HadRoom w k (reply_entries w k number site outcomes)
+room_reply w k number site outcomes few =
+    let e : Entry = entries.Reply number site outcomes in
+    (λ some. few, room_quiet w (after w k e) (decisions w (after w k e)) (no_replies (decisions w (after w k e)) (decisions_inside w (after w k e))))
+
+pub course_reply : (w : World) (l : Ledger) (s : Story) (number : ℕ) (site : SiteState) (outcomes : List Outcome) → IsOnCourse w l s → MayBeginMore (after_all w l s.told) → IsOnCourse w l (with_reply w l s number site outcomes)
+course_reply w l s number site outcomes c few =
     let k : Ledger = after_all w l s.told in
     let es : List Entry = reply_entries w k number site outcomes in
     let ds = decisions_inside w (after w k (entries.Reply number site outcomes)) in
     record {
-      run = subst (λ xs. IsOwnRun w l (s.told ++ xs)) (reply_turn w k number site outcomes) (run_longer w l s.told (events.Reply number site outcomes) c.run (reply_names_turn w k number site outcomes));
-      clocked = none_clocked s.moments s.told es c.clocked (no_moments (decisions w (after w k (entries.Reply number site outcomes))) ds);
+      run = run_reply w l s number site outcomes c.run;
+      room = room_more w l s.told es c.room (room_reply w k number site outcomes few);
+      clocked = clocked_reply w l s number site outcomes c.clocked;
       now = longer_now w l s.told es (subst (λ t. (after_all w k es).now ≡ moment_after t es) c.now (reply_timed w k number site outcomes));
       starts = longer_starts w l s.told es c.starts (turn_starts w k (moment_after 0 s.told) (entries.Reply number site outcomes) (decisions w (after w k (entries.Reply number site outcomes))) refl ds);
     }

@@ -1,5 +1,5 @@
 -- A worked drain: two recipients, one of whom is refused; the hop sends its bytes one by one, and has no second link for the bounce.
-use Rattle.std.proofs.Common.{◌≡◌, ℕ, zero, suc, List, [], ◌∷◌, ◌++◌, Some, None, true, false, refl, codes, inl, ap, length, sym, subst, ◌∙◌}
+use Rattle.std.proofs.Common.{◌≡◌, ℕ, zero, suc, List, [], ◌∷◌, ◌++◌, Some, None, true, false, refl, codes, inl, lit<, drop, ap, length, sym, subst, ◌∙◌}
 use Rattle.std.proofs.lemmas.Option.{same_Some}
 use Rattle.std.specs.Prelude.{count_by, unwrap_or}
 use native.Mathlib.Omega.{arith}
@@ -32,6 +32,8 @@ use Rattle.q_smtp.specs.Dialogue.{Settled, dialogue, after_ehlo, after_helo, aft
 use Rattle.q_drain.specs.Cases.{Case, IsPlace, exchange}
 use Rattle.q_drain.specs.Causes.{has_failed, IsDelivery, IsLink, IsPatient, IsReply, IsSent}
 use Rattle.q_drain.specs.Drains.{Delivers, IsQuiet, IsWhole}
+use Rattle.q_drain.proofs.Rooming.{room_more, room_quiet}
+use Rattle.q_drain.specs.Rooms.{HadRoom}
 use Rattle.q_drain.specs.Stories.{Story}
 use Rattle.q_drain.specs.Sweeps.{IsRested}
 
@@ -124,10 +126,22 @@ story = record {
   rests = 66;
 }
 
+-- each reply came where one or two deliveries had begun
+had_room : HadRoom world begun_life story.told
+unfolding after after_all digits hex
+had_room =
+    let first : Ledger = after_all world begun_life to_start in
+    let second : Ledger = after_all world first from_reply in
+    room_more world begun_life to_start (from_reply ++ from_bounce) (room_quiet world begun_life to_start refl)
+    (room_more world first from_reply from_bounce
+    (λ some. lit< tt, room_quiet world (after world first (entries.Reply 1 Up said)) (drop 1 from_reply) refl)
+    (λ some. lit< tt, room_quiet world (after world second (entries.Reply 2 Down (outcomes.Later 0 ∷ []))) (drop 1 from_bounce) refl))
+
 whole_is : IsWhole world begun_life story
 unfolding run turn decisions decide after after_all next digits hex
 whole_is = record {
   told = refl;
+  room = had_room;
   clocked = refl;
   rested = record { least = omega arith; most = omega arith };
   connected = record { connects = refl; hops = refl };

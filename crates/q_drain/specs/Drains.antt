@@ -8,6 +8,7 @@ use Rattle.q_model.specs.Settings.{World}
 use Rattle.q_model.specs.Step.{after_all}
 use Rattle.q_drain.specs.Cases.{AreCases, Case}
 use Rattle.q_drain.specs.Causes.{FewFailed, IsDelivery}
+use Rattle.q_drain.specs.Rooms.{HadRoom}
 use Rattle.q_drain.specs.Stories.{Story}
 use Rattle.q_drain.specs.Told.{heard_of}
 use Rattle.q_drain.specs.Sweeps.{AllConnected, IsClocked, IsClockedSoFar, IsRested, SomeConnected}
@@ -27,6 +28,7 @@ IsOwnRun w l told = told ≡ run w l (heard_of told)
 -- What holds where it goes on to its last sweep.
 pub record IsWhole (w : World) (l : Ledger) (s : Story) : Type 0 where
   pub told : IsOwnRun w l s.told
+  pub room : HadRoom w l s.told
   pub clocked : IsClocked s
   pub rested : IsRested s
   pub connected : AllConnected s

@@ -15,6 +15,7 @@ use Rattle.q_drain.specs.Cases.{Case}
 use Rattle.q_drain.specs.Causes.{has_failed, IsDelivery}
 use Rattle.q_drain.specs.Drains.{IsOwnRun}
 use Rattle.q_drain.specs.Flights.{AreNumbered, flight}
+use Rattle.q_drain.specs.Rooms.{HadRoom}
 use Rattle.q_drain.specs.Stories.{Story}
 use Rattle.q_drain.specs.Told.{Begun, begun, ended, moment_after}
 use Rattle.q_drain.specs.Sweeps.{IsClocked}
@@ -36,6 +37,7 @@ FewCutOff cs fs os old new = (old + count_by has_failed cs + cut_off fs os ≤ n
 -- What was told is the run of its events; the ledger behind it has its clock and its deliveries.
 pub record IsOnCourse (w : World) (l : Ledger) (s : Story) : Type 0 where
   pub run : IsOwnRun w l s.told
+  pub room : HadRoom w l s.told
   pub clocked : IsClocked s
   pub now : (after_all w l s.told).now ≡ moment_after 0 s.told
   pub starts : starts (after_all w l s.told) ≡ length (begun s.told)

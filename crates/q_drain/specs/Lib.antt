@@ -3,7 +3,9 @@ pub mod Stories
 pub mod Cases
 pub mod Causes
 pub mod Sweeps
+pub mod Rooms
 pub mod Waits
+pub mod Progress
 pub mod AllTold
 pub mod Drains
 pub mod Flights

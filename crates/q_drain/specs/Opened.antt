@@ -3,6 +3,7 @@ use Rattle.std.specs.Prelude.{◌+◌, ◌++◌, ◌≡◌, ◌≤◌, [], lengt
 use Rattle.q_agent.specs.Sessions.{Sessions}
 use Rattle.q_drain.specs.Drains.{Delivers, IsCut}
 use Rattle.q_drain.specs.Flights.{flight}
+use Rattle.q_drain.specs.Rooms.{HadRoom}
 use Rattle.q_drain.specs.Standing.{HasGiven, IsUnderWay, Outside, counts_of}
 use Rattle.q_drain.specs.Stories.{Did, Story, with_request}
 use Rattle.q_drain.specs.Told.{Begun}
@@ -39,6 +40,7 @@ pub record MayOpen (clock : Option (List ℕ)) (v : HostView) (hops : HopsView) 
 pub record GaveUp (w : World) (l : Ledger) (a z : Outside) (s : Story) : Type 0 where
   pub given : HasGiven a.clock z.clock s
   pub cut : IsCut s
+  pub room : HadRoom w l s.told
   pub records : (now : ToldHops) → z.hops.told ≡ Some now
       → (before : ToldHops) × (a.hops.told ≡ Some before) × Did before now s
       × Delivers w l before.connects a.hops.connect_faults z.hops.connect_faults s

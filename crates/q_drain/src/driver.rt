@@ -15,15 +15,11 @@ use crate::poll::Served;
 use crate::sweep::{Sweep, make_sweep};
 use q_agent::Agent;
 use q_engine::{Engine, EngineError, Stop, stopped_by};
-use q_host::{Host, HostError};
+use q_host::Host;
 use q_link::{Hops, Link};
 use q_model::Bound;
 use q_stream::Clock;
 use std::alloc::Global;
-
-/// How many sweeps a drain may make. None comes near: each gives a rest, or begins or ends a
-/// delivery.
-const SWEEPS: u64 = 1 << 60;
 
 /// How a drain ends.
 #[derive(Drop)]
@@ -95,7 +91,7 @@ fn make_sweeps<L: Link, H: Host, C: Clock, N: Hops<Link = L>>(
     };
     let mut first = true;
     let mut given = 0;
-    for _ in 0..SWEEPS {
+    'sweeps: loop {
         let Served { engine, known, .. } = served;
         served = match make_sweep(alloc, engine, &mut agent, host, clock, hops, known, first)? {
             Sweep::Over(served) => served,
@@ -108,7 +104,6 @@ fn make_sweeps<L: Link, H: Host, C: Clock, N: Hops<Link = L>>(
         given = more;
         first = false;
     }
-    Err(Stop::Host(HostError::NoMemory))
 }
 
 /// Delivers the messages of a life that has just begun, by SMTP (RFC 5321), sweep by sweep, until

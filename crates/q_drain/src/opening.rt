@@ -1,5 +1,6 @@
 //! The sessions of deliveries that have begun.
-ghost use Rattle.std.specs.Prelude.{◌≡◌, ◌≤◌, ◌+◌, IfOk, IsTrue, List, Option, ℕ, OnErr, OnOk};
+ghost use Rattle.std.specs.Prelude.{◌≡◌, ◌≤◌, ◌<◌, ◌^◌, ◌+◌, IfOk, IsTrue, List, Option, ℕ, OnErr, OnOk};
+ghost use Rattle.q_agent.specs.Sessions.{OpenSession, with_session};
 ghost use Rattle.q_drain.specs.Opened.{
   FailsToOpen,
   FailsToOpenAll,
@@ -9,6 +10,7 @@ ghost use Rattle.q_drain.specs.Opened.{
   OpensFirst,
 };
 ghost use Rattle.q_drain.specs.Polling.{IsPolling};
+ghost use Rattle.q_drain.specs.Progress.{OpensUpTo};
 ghost use Rattle.q_host.specs.Calls.{Stays};
 ghost use Rattle.q_host.specs.Faults.{DiskCause};
 
@@ -35,6 +37,7 @@ fn open_next<L: Link, H: Host, N: Hops<Link = L>>(
     ensures ok { OnOk result (IsTrue H.tells → OpensFirst engine.now (H.view host.old)
         (H.view host.new) (N.view hops.old) (N.view hops.new) agent.old agent.new number) }
     ensures polling { OnOk result (IsPolling agent.new (number + 1)) }
+    ensures opens { OnOk result ((o : OpenSession) × (agent.new ≡ with_session o agent.old)) }
     ensures polled { agent.new.polled ≡ agent.old.polled }
     ensures rests { (N.view hops.new).rests ≡ (N.view hops.old).rests }
     ensures err { OnErr result (IsTrue H.tells → FailsToOpen engine.now (H.view host.old)
@@ -70,6 +73,8 @@ pub(crate) fn open_started<L: Link, H: Host, N: Hops<Link = L>>(
     ensures ok { IfOk result (λ last. IsTrue H.tells → OpensAll engine.now (H.view host.old)
         (H.view host.new) (N.view hops.old) (N.view hops.new) agent.old agent.new known last) }
     ensures last { IfOk result (λ last. known ≤ last × IsPolling agent.new (last + 1)) }
+    ensures opens { IfOk result (λ last. OpensUpTo known last agent.old agent.new) }
+    ensures fits { IfOk result (λ last. last < 2 ^ 64) }
     ensures polled { agent.new.polled ≡ agent.old.polled }
     ensures rests { (N.view hops.new).rests ≡ (N.view hops.old).rests }
     ensures err { OnErr result (IsTrue H.tells → FailsToOpenAll engine.now (H.view host.old)

@@ -1,7 +1,8 @@
 //! The polls of a sweep.
-ghost use Rattle.std.specs.Prelude.{◌≡◌, ◌+◌, false, IfOk, IfSome, IsTrue, List, Option, true, ℕ};
+ghost use Rattle.std.specs.Prelude.{◌≡◌, ◌+◌, ◌<◌, ◌^◌, ◌≤◌, false, IfOk, IfSome, IsTrue, List, Option, true, ℕ};
 ghost use Rattle.q_agent.specs.Sessions.{is_sweep_over};
 ghost use Rattle.q_drain.specs.Polling.{IsPolling, KeepsSome};
+ghost use Rattle.q_drain.specs.Progress.{LeavesLess, OpensUpTo, polls_left, work_left};
 ghost use Rattle.q_drain.specs.Reported.{GivesUpReport, HearsReport, MayOpenBehind};
 ghost use Rattle.q_drain.specs.Served.{GivesUpServing, MayServe, PollsOn};
 ghost use Rattle.q_engine.specs.Stands.{IsReady};
@@ -13,14 +14,10 @@ use crate::opening::open_started;
 use crate::reply::tell_reply;
 use q_agent::{Agent, Report};
 use q_engine::{Engine, Stop};
-use q_host::{Host, HostError};
+use q_host::Host;
 use q_link::{Hops, Link};
 use q_model::MOST_DELIVERIES;
 use std::alloc::Global;
-
-/// How many polls a sweep may have. None comes near: each ends in a report, or is that of a session
-/// that was open.
-const POLLS: u64 = 1 << 60;
 
 /// The engine within a sweep. The deliveries up to the number that is known have had their
 /// sessions, and `busy` says that a delivery began or ended in this sweep.
@@ -53,6 +50,9 @@ fn hear_report<L: Link, H: Host, N: Hops<Link = L>>(
     ensures ready { IfOk result (λ next. IsReady next.engine) }
     ensures polling { IfOk result (λ next. IsPolling agent.new (next.known + 1)) }
     ensures busy { IfOk result (λ next. next.busy ≡ true) }
+    ensures opens { IfOk result (λ next. known ≤ next.known
+        × OpensUpTo known next.known agent.old agent.new) }
+    ensures fits { IfOk result (λ next. next.known < 2 ^ 64) }
     ensures rests { (N.view hops.new).rests ≡ (N.view hops.old).rests }
     ensures err { EachStop result (λ error. IsTrue H.tells → GivesUpReport H.view report engine
         error host.old host.new (N.view hops.old) (N.view hops.new) agent.old known) }
@@ -90,6 +90,10 @@ fn poll_next<L: Link, H: Host, N: Hops<Link = L>>(
     ensures polling { IfOk result (λ next. IfSome next (λ s. IsPolling agent.new (s.known + 1))) }
     ensures some { IfOk result (λ next. IfSome next (λ s. KeepsSome served.busy s.busy
         agent.old agent.new)) }
+    ensures fewer { IfOk result (λ next. IfSome next (λ s.
+        polls_left s.known agent.new < polls_left served.known agent.old)) }
+    ensures left { IfOk result (λ next. IfSome next (λ s. LeavesLess served.busy s.busy
+        (work_left served.known agent.old) (work_left s.known agent.new))) }
     ensures rests { (N.view hops.new).rests ≡ (N.view hops.old).rests }
     ensures err { EachStop result (λ error. IsTrue H.tells → GivesUpServing served error
         (H.view host.old) (H.view host.new) (N.view hops.old) (N.view hops.new) agent.old) }
@@ -135,6 +139,8 @@ pub(crate) fn poll_all<L: Link, H: Host, N: Hops<Link = L>>(
     ensures polling { IfOk result (λ next. IfSome next (λ s. IsPolling agent.new (s.known + 1))) }
     ensures some { IfOk result (λ next. IfSome next (λ s. KeepsSome begun.busy s.busy
         agent.old agent.new)) }
+    ensures left { IfOk result (λ next. IfSome next (λ s. LeavesLess begun.busy s.busy
+        (work_left begun.known agent.old) (work_left s.known agent.new))) }
     ensures rests { (N.view hops.new).rests ≡ (N.view hops.old).rests }
     ensures err { EachStop result (λ error. IsTrue H.tells → GivesUpServing begun error
         (H.view host.old) (H.view host.new) (N.view hops.old) (N.view hops.new) agent.old) }
@@ -142,14 +148,11 @@ pub(crate) fn poll_all<L: Link, H: Host, N: Hops<Link = L>>(
     ensures cause { StopCause (H.faults host.old) (H.faults host.new) result }
 {
     let mut served = begun;
-    for _ in 0..POLLS {
-        if agent.sweep_over() {
-            return Ok(Some(served));
-        }
+    'polls: while !agent.sweep_over() {
         let Some(next) = poll_next(alloc, served, agent, host, hops)? else {
             return Ok(None);
         };
         served = next;
     }
-    Err(Stop::Host(HostError::NoMemory))
+    Ok(Some(served))
 }

@@ -2,6 +2,7 @@
 ghost use Rattle.std.specs.Prelude.{◌+◌, ◌≡◌, ◌≢◌, [], false, IfOk, IsTrue, true};
 ghost use Rattle.q_agent.specs.Sessions.{is_sweep_over};
 ghost use Rattle.q_drain.specs.Polling.{AreInOrder, IsPolling};
+ghost use Rattle.q_drain.specs.Progress.{LeavesLess, work_left};
 ghost use Rattle.q_drain.specs.Swept.{GivesSweepUp, MaySweep, OfEngine, OfServed, SweepsTo};
 ghost use Rattle.q_engine.specs.Stands.{IsReady};
 ghost use Rattle.q_engine.specs.Stops.{EachStop, FindsReadable, StopCause};
@@ -55,6 +56,8 @@ pub(crate) fn make_sweep<L: Link, H: Host, C: Clock, N: Hops<Link = L>>(
         IsPolling agent.new (served.known + 1) × (is_sweep_over agent.new ≡ true))) }
     ensures some { IfOk result (λ sweep. OfServed sweep (λ served.
         served.busy ≡ false → agent.new.listed ≢ [])) }
+    ensures left { IfOk result (λ sweep. OfServed sweep (λ served. LeavesLess false served.busy
+        (work_left known agent.old) (work_left served.known agent.new))) }
     ensures rests { (N.view hops.new).rests ≡ (N.view hops.old).rests }
     ensures err { EachStop result (λ error. IsTrue H.tells → GivesSweepUp (record {
       before = record { clock = C.given clock.old; hops = N.view hops.old };

@@ -128,6 +128,7 @@ nothing_done w b a =
     record {
       given = λ given is. (given, is, sym (append-nil given));
       cut = drives_cut w (begun_on w b) Tells [] [] [] [] nothing (drives_nothing w (begun_on w b) Tells start.now start.flights start.starts);
+      room = tt;
       records = λ now told. (
         now,
         told,
@@ -296,7 +297,7 @@ module _ (w : World) (b : Book) (o : Outsides) (u v : View) (first : IsTold w De
           others = Finish ∷ [];
           few = omega arith;
           front = ([], sym (append-nil (life_told story ++ Finish ∷ [])));
-          gave_up = record { given = (e.ends).given; cut = whole_cut w l story (e.ends).whole; records = (e.ends).delivered };
+          gave_up = record { given = (e.ends).given; cut = whole_cut w l story (e.ends).whole; room = ((e.ends).whole).room; records = (e.ends).delivered };
         }
 
     pub never_ended : (y : View) (error : ReplayError) → NotTaken w k End 0 error x y → DeliveryEnds w b o u y (Err error)

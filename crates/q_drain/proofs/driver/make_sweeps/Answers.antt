@@ -2,24 +2,26 @@ use Rattle.std.proofs.Common.{◌≡◌, ◌≢◌, ◌+◌, [], ap, arith, fals
 use Rattle.q_agent.specs.Sessions.{Sessions, is_sweep_over}
 use Rattle.q_books.specs.HostStands.{TellsCrashes}
 use Rattle.q_drain.proofs.Causes.{same_rests}
-use Rattle.q_drain.proofs.Exiting.{DrainsSo, counted_behind, drains_first, drains_more, ends_early, ends_full, ends_quiet, ends_unfinished, given_behind, none_behind, order_behind, stops_between}
+use Rattle.q_drain.proofs.Exiting.{DrainsSo, counted_behind, drains_first, drains_more, ends_early, ends_full, ends_quiet, ends_unfinished, given_behind, none_behind, order_behind}
 use Rattle.q_drain.proofs.Polls.{all_wait}
+use Rattle.q_drain.proofs.Progressing.{left_behind}
 use Rattle.q_drain.specs.Drained.{CountsRests, RestsBehind}
 use Rattle.q_drain.specs.Exits.{EndsUnfinished}
 use Rattle.q_drain.specs.Polling.{AreInOrder, IsPolling}
+use Rattle.q_drain.specs.Progress.{LeavesLess, work_left}
 use Rattle.q_drain.specs.Standing.{Outside}
 use Rattle.q_drain.specs.Swept.{OfEngine, OfServed, SweepsTo}
 use Rattle.q_drain.specs.declared.poll.Served.{Served}
 use Rattle.q_drain.specs.declared.sweep.Sweep.{Sweep}
-use Rattle.q_engine.proofs.Stopping.{memory_stop, ok_stop, same_stop, stop_readable}
+use Rattle.q_engine.proofs.Stopping.{ok_stop, same_stop, stop_readable}
 use Rattle.q_engine.specs.declared.stop.Stop.TheVariants as stops
 use Rattle.q_engine.specs.Stands.{IsReady}
 use Rattle.q_events.proofs.LineParts.{rose_later}
 use Rattle.q_link.specs.Records.{HopsView}
 use Rattle.q_drain.proofs.driver.make_sweeps.Goals as goal
 
-pub loop-init : goal.loop-init
-loop-init g c =
+pub sweeps-init : goal.sweeps-init
+sweeps-init g c =
     let u = g.H.Host.view c.args.host.now in
     let lawful : TellsCrashes u = record { only = g.met.H.Host.only_now c.args.host.now; told = g.met.H.Host.told_stays c.args.host.now } in
     let a : Outside = record { clock = g.C.Clock.given c.args.clock.now; hops = g.N.Hops.view c.args.hops.now } in
@@ -35,21 +37,21 @@ loop-init g c =
     }
 
 pub make_sweep-requires-clause-ready : goal.make_sweep-requires-clause-ready
-make_sweep-requires-clause-ready g c = c.loop.invariant.ready
+make_sweep-requires-clause-ready g c = c.sweeps.invariant.ready
 
 pub make_sweep-requires-clause-order : goal.make_sweep-requires-clause-order
-make_sweep-requires-clause-order g c = c.loop.invariant.order
+make_sweep-requires-clause-order g c = c.sweeps.invariant.order
 
 pub make_sweep-requires-clause-stands : goal.make_sweep-requires-clause-stands
 make_sweep-requires-clause-stands g c t =
-    let loop = c.loop in
+    let loop = c.sweeps in
     let (w, l, stands, start) = loop.invariant.may t in
     let d = loop.invariant.so t w l stands start in
     (w, l, record { clock = g.C.Clock.given c.args.clock.now; hops = g.N.Hops.view c.args.hops.now }, d.story, d.between)
 
 pub returns-in_err-served-clause-err : goal.returns-in_err-served-clause-err
 returns-in_err-served-clause-err g c error is t w l stands start =
-    let loop = c.loop in
+    let loop = c.sweeps in
     let view = g.H.Host.view in
     let a : Outside = record { clock = g.C.Clock.given c.args.clock.now; hops = g.N.Hops.view c.args.hops.now } in
     let z : Outside = record { clock = g.C.Clock.given loop.clock; hops = g.N.Hops.view loop.hops } in
@@ -60,9 +62,9 @@ returns-in_err-served-clause-err g c error is t w l stands start =
 
 pub returns-in_err-served-clause-cause : goal.returns-in_err-served-clause-cause
 returns-in_err-served-clause-cause g c =
-    let later = c.loop.invariant in
+    let later = c.sweeps.invariant in
     let cause = c.in_err-served.ensures.cause in
-    let mid = g.H.Host.faults c.loop.host in
+    let mid = g.H.Host.faults c.sweeps.host in
     record {
       disk_later = omega (arith, later.disk_later, cause.disk_later);
       tell_later = omega (arith, later.tell_later, cause.tell_later);
@@ -72,7 +74,7 @@ returns-in_err-served-clause-cause g c =
 
 pub returns-in-Idle-clause-ok : goal.returns-in-Idle-clause-ok
 returns-in-Idle-clause-ok g c t w l stands start =
-    let loop = c.loop in
+    let loop = c.sweeps in
     let view = g.H.Host.view in
     let a : Outside = record { clock = g.C.Clock.given c.args.clock.now; hops = g.N.Hops.view c.args.hops.now } in
     let z : Outside = record { clock = g.C.Clock.given loop.clock; hops = g.N.Hops.view loop.hops } in
@@ -84,7 +86,7 @@ returns-in-Idle-clause-ok g c t w l stands start =
 
 pub returns-in-Idle-clause-cause : goal.returns-in-Idle-clause-cause
 returns-in-Idle-clause-cause g c =
-    let later = c.loop.invariant in
+    let later = c.sweeps.invariant in
     let cause = c.in_ok-served.ensures.cause in
     record {
       disk_later = omega (arith, later.disk_later, cause.disk_later);
@@ -95,7 +97,7 @@ returns-in-Idle-clause-cause g c =
 
 pub returns-in-Full-clause-ok : goal.returns-in-Full-clause-ok
 returns-in-Full-clause-ok g c t w l stands start =
-    let loop = c.loop in
+    let loop = c.sweeps in
     let view = g.H.Host.view in
     let a : Outside = record { clock = g.C.Clock.given c.args.clock.now; hops = g.N.Hops.view c.args.hops.now } in
     let z : Outside = record { clock = g.C.Clock.given loop.clock; hops = g.N.Hops.view loop.hops } in
@@ -107,7 +109,7 @@ returns-in-Full-clause-ok g c t w l stands start =
 
 pub returns-in-Full-clause-cause : goal.returns-in-Full-clause-cause
 returns-in-Full-clause-cause g c =
-    let later = c.loop.invariant in
+    let later = c.sweeps.invariant in
     let cause = c.in_ok-served.ensures.cause in
     record {
       disk_later = omega (arith, later.disk_later, cause.disk_later);
@@ -124,11 +126,11 @@ rest_behind-requires-clause-waits g c =
     all_wait agent (served.known + 1) both.1 both.0
 
 pub rest_behind-requires-clause-few : goal.rest_behind-requires-clause-few
-rest_behind-requires-clause-few g c = c.loop.invariant.few
+rest_behind-requires-clause-few g c = c.sweeps.invariant.few
 
 pub returns-in_default-clause-ok : goal.returns-in_default-clause-ok
 returns-in_default-clause-ok g c t w l stands start =
-    let loop = c.loop in
+    let loop = c.sweeps in
     let view = g.H.Host.view in
     let hops = g.N.Hops.view c.make_sweep.new.hops in
     let rested = g.N.Hops.view c.rest_behind.new.hops in
@@ -152,7 +154,7 @@ returns-in_default-clause-ok g c t w l stands start =
 
 pub returns-in_default-clause-unfinished : goal.returns-in_default-clause-unfinished
 returns-in_default-clause-unfinished g c n is =
-    let loop = c.loop in
+    let loop = c.sweeps in
     let first = g.N.Hops.view c.args.hops.now in
     let hops = g.N.Hops.view c.make_sweep.new.hops in
     let rested = g.N.Hops.view c.rest_behind.new.hops in
@@ -165,13 +167,13 @@ returns-in_default-clause-unfinished g c n is =
 
 pub returns-in_default-clause-cause : goal.returns-in_default-clause-cause
 returns-in_default-clause-cause g c =
-    let later = c.loop.invariant in
+    let later = c.sweeps.invariant in
     let cause = c.in_ok-served.ensures.cause in
     ok_stop (g.H.Host.faults c.args.host.now) (g.H.Host.faults c.make_sweep.new.host) _ (omega (arith, later.disk_later, cause.disk_later)) (omega (arith, later.tell_later, cause.tell_later))
 
-pub loop-preserved : goal.loop-preserved
-loop-preserved g c =
-    let loop = c.loop in
+pub sweeps-preserved : goal.sweeps-preserved
+sweeps-preserved g c =
+    let loop = c.sweeps in
     let view = g.H.Host.view in
     let hops = g.N.Hops.view c.make_sweep.new.hops in
     let rested = g.N.Hops.view c.rest_behind.new.hops in
@@ -205,17 +207,18 @@ loop-preserved g c =
       tell_later = omega (arith, loop.invariant.tell_later, c.in_ok-served.ensures.cause.tell_later);
     }
 
-pub returns-clause-err : goal.returns-clause-err
-returns-clause-err g c error is t w l stands start =
-    let loop = c.loop in
-    let u = g.H.Host.view c.args.host.now in
-    let v = g.H.Host.view loop.host in
-    let lawful : TellsCrashes v = record { only = g.met.H.Host.only_now loop.host; told = g.met.H.Host.told_stays loop.host } in
-    stops_between w l (record { clock = g.C.Clock.given c.args.clock.now; hops = g.N.Hops.view c.args.hops.now }) (record { clock = g.C.Clock.given loop.clock; hops = g.N.Hops.view loop.hops }) u v loop.served.engine loop.agent.listed loop.served.known loop.first loop.given error lawful (loop.invariant.so t w l stands start)
-
-pub returns-clause-cause : goal.returns-clause-cause
-returns-clause-cause g c =
-    memory_stop (g.H.Host.faults c.args.host.now) (g.H.Host.faults c.loop.host) c.loop.invariant.disk_later c.loop.invariant.tell_later
-
 pub returns-in_err-served-clause-readable : goal.returns-in_err-served-clause-readable
 returns-in_err-served-clause-readable g c = stop_readable g.H.Host.tells c.from_residual.result c.in_err-served.field-0.0 c.from_residual.ensures.1 c.in_err-served.ensures.readable
+
+pub sweeps-smaller : goal.sweeps-smaller
+sweeps-smaller g c =
+    let loop = c.sweeps in
+    let served = c.in-Over.served in
+    let agent = c.make_sweep.new.agent in
+    let new = c.rest_behind.new.agent in
+    let hops = g.N.Hops.view c.make_sweep.new.hops in
+    let rested = g.N.Hops.view c.rest_behind.new.hops in
+    let behind = subst (λ (o : Option ℕ). RestsBehind served.busy loop.given c.args.rests agent new hops rested o) c.in-Some.is c.rest_behind.ensures in
+    left_behind served.busy loop.given c.args.rests c.in-Some.more served.known (work_left loop.served.known loop.agent) agent new hops rested loop.invariant.few
+    (subst (λ (sweep : Sweep). OfServed sweep (λ (s : Served). LeavesLess false s.busy (work_left loop.served.known loop.agent) (work_left s.known agent))) c.in-Over.is c.in_ok-served.ensures.left)
+    behind

@@ -1,13 +1,14 @@
-use Rattle.std.proofs.Common.{◌≤◌, ◌+◌, IsTrue}
+use Rattle.std.proofs.Common.{◌≤◌, ◌+◌, ◌-◌, IsTrue}
 use Rattle.q_drain.proofs.Exiting.{DrainsSo}
 use Rattle.q_drain.specs.Drained.{CountsRests}
 use Rattle.q_drain.specs.Exits.{ForStarted, MayStart}
 use Rattle.q_drain.specs.Polling.{AreInOrder}
+use Rattle.q_drain.specs.Progress.{work_left}
 use Rattle.q_engine.specs.Stands.{IsReady}
 use Rattle.q_drain.proofs.driver.make_sweeps.Given as goal
 
-abbrev pub invariant-loop : goal.invariant-loop
-invariant-loop g l =
+abbrev pub invariant-sweeps : goal.invariant-sweeps
+invariant-sweeps g l =
     let view = g.H.Host.view in
     let hops = g.N.Hops.view in
     let given = g.C.Clock.given in
@@ -22,3 +23,7 @@ invariant-loop g l =
       disk_later : (faults l.fn.host).disk ≤ (faults l.host).disk;
       tell_later : (faults l.fn.host).tell ≤ (faults l.host).tell;
     }
+
+-- each sweep begins or ends a delivery, or a rest is given behind it
+abbrev pub decreases-sweeps : goal.decreases-sweeps
+decreases-sweeps g l = work_left l.served.known l.agent + (l.rests - l.given)

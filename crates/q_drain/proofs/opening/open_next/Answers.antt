@@ -57,3 +57,6 @@ returns-clause-err g c =
     (λ tries t. fails_tried c.args.engine.now (g.H.Host.view c.args.host.now) (g.N.Hops.view c.args.hops.now) (g.N.Hops.view c.request.new.hops) c.args.agent.now c.args.number c.flight-2.inside.id c.flight-2.inside.site c.from_vec-to.result c.now.result
     c.requires.polling.order.below asked c.request.ensures.counts tries)
     c.request.ensures.tries
+
+pub returns-clause-opens : goal.returns-clause-opens
+returns-clause-opens g c = on_ok c.request.result (λ opened. (opened.0, opened.1)) c.request.ensures.ok

@@ -2,6 +2,7 @@ use Rattle.std.proofs.Common.{◌≡◌, ◌≤◌, ◌+◌, ◌-◌, ◌++◌, 
 use Rattle.q_drain.proofs.OpeningAll.{OpenedSome}
 use Rattle.q_drain.specs.Opened.{ForServing, IsServing, MayOpenAll}
 use Rattle.q_drain.specs.Polling.{IsPolling}
+use Rattle.q_drain.specs.Progress.{OpensUpTo}
 use Rattle.q_drain.proofs.opening.open_started.Given as goal
 
 abbrev pub invariant-loop-number : goal.invariant-loop-number
@@ -15,6 +16,7 @@ invariant-loop-number g l =
           → OpenedSome w l2 a clock (view l.fn.host) (view l.host) l.engine (hops l.hops) l.agent (early ++ waiting) s l.number);
       polling : IsPolling l.agent (l.number + 1);
       known : l.known ≤ l.number;
+      opens : OpensUpTo l.known l.number l.fn.agent l.agent;
       polled : l.agent.polled ≡ l.fn.agent.polled;
       rests : (hops l.hops).rests ≡ (hops l.fn.hops).rests;
       disk_later : (faults l.fn.host).disk ≤ (faults l.host).disk;

@@ -54,3 +54,9 @@ returns-in_err-engine-clause-readable g c = stop_readable g.H.Host.tells c.from_
 
 pub returns-in_err-known-clause-readable : goal.returns-in_err-known-clause-readable
 returns-in_err-known-clause-readable g c = host_readable g.H.Host.tells c.from_residual-in_err-known.result c.in_err-known.field-0.0 c.from_residual-in_err-known.ensures.1
+
+pub returns-clause-opens : goal.returns-clause-opens
+returns-clause-opens g c = (c.in_ok-known.ensures.last.0, c.in_ok-known.ensures.opens)
+
+pub returns-clause-fits : goal.returns-clause-fits
+returns-clause-fits g c = c.in_ok-known.ensures.fits

@@ -1,25 +1,28 @@
-use Rattle.std.proofs.Common.{◌+◌, ◌∙◌, arith, Option, refl, subst}
+use Rattle.std.proofs.Common.{◌+◌, ◌<◌, ◌∙◌, arith, Option, refl, subst}
 use Rattle.std.specs.Prelude.{IfSome}
 use Rattle.q_books.specs.HostStands.{TellsCrashes}
 use Rattle.q_drain.proofs.PollingAll.{fails_then, filled_then, may_serve, served_none, served_then, stops_serving}
 use Rattle.q_drain.proofs.Polls.{some_then}
+use Rattle.q_drain.proofs.Progressing.{left_then}
 use Rattle.q_drain.specs.Polling.{IsPolling, KeepsSome}
+use Rattle.q_drain.specs.Progress.{LeavesLess, polls_left, work_left}
 use Rattle.q_drain.specs.Served.{PollsOn}
 use Rattle.q_drain.specs.Standing.{Outside}
 use Rattle.q_drain.specs.declared.poll.Served.{Served}
-use Rattle.q_engine.proofs.Stopping.{memory_stop, ok_stop, same_stop, stop_later, stop_passed, stop_readable}
+use Rattle.q_engine.proofs.Stopping.{ok_stop, same_stop, stop_later, stop_passed, stop_readable}
 use Rattle.q_engine.specs.declared.stop.Stop.TheVariants as stops
 use Rattle.q_engine.specs.Stands.{IsReady}
 use Rattle.q_drain.proofs.poll.poll_all.Goals as goal
 
-pub loop-init : goal.loop-init
-loop-init g c =
+pub polls-init : goal.polls-init
+polls-init g c =
     let u = g.H.Host.view c.args.host.now in
     let lawful : TellsCrashes u = record { only = g.met.H.Host.only_now c.args.host.now; told = g.met.H.Host.told_stays c.args.host.now } in
     record {
       ready = c.requires.ready;
       polling = c.requires.polling;
       some = λ idle. (idle, λ some. some);
+      left = omega arith;
       rests = refl;
       may = c.requires.serves;
       on = λ t w l a clock early fs s known sweeps h. served_none w l a (record { clock = clock; hops = g.N.Hops.view c.args.hops.now }) u c.args.begun c.args.agent.now early fs s lawful known sweeps h;
@@ -29,28 +32,28 @@ loop-init g c =
 
 pub poll_next-requires-clause-serves : goal.poll_next-requires-clause-serves
 poll_next-requires-clause-serves g c t =
-    let loop = c.loop in
+    let loop = c.polls in
     let (clock, m) = loop.invariant.may t in (
       clock,
       may_serve clock (g.H.Host.view c.args.host.now) (g.H.Host.view loop.host) (g.N.Hops.view c.args.hops.now) (g.N.Hops.view loop.hops) c.args.begun loop.served c.args.agent.now loop.agent m
           (loop.invariant.on t m.world m.ledger m.first clock m.early m.flights m.story m.known_is m.sweeps m.serving),
     )
 
-pub returns-then-sweep_over-clause-ok : goal.returns-then-sweep_over-clause-ok
-returns-then-sweep_over-clause-ok g c t = c.loop.invariant.on t
+pub returns-clause-ok : goal.returns-clause-ok
+returns-clause-ok g c t = c.polls.invariant.on t
 
 pub returns-in_err-next-clause-err : goal.returns-in_err-next-clause-err
 returns-in_err-next-clause-err g c error is t w l a clock early fs s known sweeps h =
-    let loop = c.loop in
+    let loop = c.polls in
     let view = g.H.Host.view in
     let hops = g.N.Hops.view in
     let m = loop.invariant.on t w l a clock early fs s known sweeps h in
     fails_then w l a (record { clock = clock; hops = hops loop.hops }) (record { clock = clock; hops = hops c.poll_next.new.hops }) (view c.args.host.now) (view loop.host) (view c.poll_next.new.host) loop.served loop.agent s m error
     (c.in_err-next.ensures.err error (same_stop c.from_residual.result c.in_err-next.field-0.0 (stops.Host error) c.from_residual.ensures.1 is) t w l a clock m.early m.flights m.story m.known_is m.sweeps m.serving)
 
-pub loop-preserved : goal.loop-preserved
-loop-preserved g c =
-    let loop = c.loop in
+pub polls-preserved : goal.polls-preserved
+polls-preserved g c =
+    let loop = c.polls in
     let view = g.H.Host.view in
     let hops = g.N.Hops.view in
     record {
@@ -58,6 +61,8 @@ loop-preserved g c =
       polling = subst (λ (o : Option Served). IfSome o (λ s. IsPolling c.poll_next.new.agent (s.known + 1))) c.in-Some.is c.in_ok-next.ensures.polling;
       some = some_then c.args.begun.busy loop.served.busy c.in-Some.next.busy c.args.agent.now loop.agent c.poll_next.new.agent loop.invariant.some
           (subst (λ (o : Option Served). IfSome o (λ s. KeepsSome loop.served.busy s.busy loop.agent c.poll_next.new.agent)) c.in-Some.is c.in_ok-next.ensures.some);
+      left = left_then c.args.begun.busy loop.served.busy c.in-Some.next.busy _ _ _ loop.invariant.left
+          (subst (λ (o : Option Served). IfSome o (λ s. LeavesLess loop.served.busy s.busy (work_left loop.served.known loop.agent) (work_left s.known c.poll_next.new.agent))) c.in-Some.is c.in_ok-next.ensures.left);
       rests = c.in_ok-next.ensures.rests ∙ loop.invariant.rests;
       may = loop.invariant.may;
       on = λ t w l a clock early fs s known sweeps h.
@@ -70,41 +75,34 @@ loop-preserved g c =
 
 pub returns-in_default-clause-ok : goal.returns-in_default-clause-ok
 returns-in_default-clause-ok g c t w l a clock early fs s known sweeps h =
-    let loop = c.loop in
+    let loop = c.polls in
     let view = g.H.Host.view in
     let hops = g.N.Hops.view in
     let m = loop.invariant.on t w l a clock early fs s known sweeps h in
     filled_then w l a (record { clock = clock; hops = hops loop.hops }) (record { clock = clock; hops = hops c.poll_next.new.hops }) (view c.args.host.now) (view loop.host) (view c.poll_next.new.host) loop.served loop.agent s m
     (subst (λ (o : Option Served). PollsOn loop.served o (view loop.host) (view c.poll_next.new.host) (hops loop.hops) (hops c.poll_next.new.hops) loop.agent c.poll_next.new.agent) c.in_default.is (c.in_ok-next.ensures.ok t) w l a clock m.early m.flights m.story m.known_is m.sweeps m.serving)
 
-pub returns-clause-err : goal.returns-clause-err
-returns-clause-err g c error is t w l a clock early fs s known sweeps h =
-    let loop = c.loop in
-    let v = g.H.Host.view loop.host in
-    let lawful : TellsCrashes v = record { only = g.met.H.Host.only_now loop.host; told = g.met.H.Host.told_stays loop.host } in
-    let z : Outside = record { clock = clock; hops = g.N.Hops.view loop.hops } in
-    let m = loop.invariant.on t w l a clock early fs s known sweeps h in
-    fails_then w l a z z (g.H.Host.view c.args.host.now) v v loop.served loop.agent s m error
-    (stops_serving w l a z v loop.served loop.agent m.early m.flights m.story error lawful m.serving)
-
 pub returns-in_err-next-clause-cause : goal.returns-in_err-next-clause-cause
 returns-in_err-next-clause-cause g c =
-    let b = g.H.Host.faults c.loop.host in
-    let before = c.loop.invariant in
+    let b = g.H.Host.faults c.polls.host in
+    let before = c.polls.invariant in
     stop_later (g.H.Host.faults c.args.host.now) b (g.H.Host.faults c.poll_next.new.host) c.from_residual.result before.disk_later before.tell_later
     (stop_passed b (g.H.Host.faults c.poll_next.new.host) c.from_residual.result c.in_err-next.field-0.0 c.from_residual.ensures.1 c.in_err-next.ensures.cause)
 
 pub returns-in_default-clause-cause : goal.returns-in_default-clause-cause
 returns-in_default-clause-cause g c =
-    let before = c.loop.invariant in
+    let before = c.polls.invariant in
     let polled = c.in_ok-next.ensures.cause in
     ok_stop (g.H.Host.faults c.args.host.now) (g.H.Host.faults c.poll_next.new.host) _ (omega (arith, before.disk_later, polled.disk_later)) (omega (arith, before.tell_later, polled.tell_later))
 
 pub returns-clause-cause : goal.returns-clause-cause
-returns-clause-cause g c = memory_stop (g.H.Host.faults c.args.host.now) (g.H.Host.faults c.loop.host) c.loop.invariant.disk_later c.loop.invariant.tell_later
-
-pub returns-then-sweep_over-clause-cause : goal.returns-then-sweep_over-clause-cause
-returns-then-sweep_over-clause-cause g c = ok_stop (g.H.Host.faults c.args.host.now) (g.H.Host.faults c.loop.host) _ c.loop.invariant.disk_later c.loop.invariant.tell_later
+returns-clause-cause g c = ok_stop (g.H.Host.faults c.args.host.now) (g.H.Host.faults c.polls.host) _ c.polls.invariant.disk_later c.polls.invariant.tell_later
 
 pub returns-in_err-next-clause-readable : goal.returns-in_err-next-clause-readable
 returns-in_err-next-clause-readable g c = stop_readable g.H.Host.tells c.from_residual.result c.in_err-next.field-0.0 c.from_residual.ensures.1 c.in_err-next.ensures.readable
+
+pub returns-clause-left : goal.returns-clause-left
+returns-clause-left g c = c.polls.invariant.left
+
+pub polls-smaller : goal.polls-smaller
+polls-smaller g c = subst (λ (o : Option Served). IfSome o (λ s. polls_left s.known c.poll_next.new.agent < polls_left c.polls.served.known c.polls.agent)) c.in-Some.is c.in_ok-next.ensures.fewer

@@ -1,12 +1,14 @@
-use Rattle.std.proofs.Common.{◌≡◌, ◌≤◌, ◌∙◌, [], Option, arith, ap, refl, rules, subst, sym}
+use Rattle.std.proofs.Common.{◌≡◌, ◌<◌, ◌≤◌, ◌∙◌, [], Option, arith, ap, refl, rules, subst, sym}
 use Rattle.std.specs.List.{AllByRecursion}
 use Rattle.std.specs.Prelude.{◌^◌}
 use Rattle.q_agent.specs.Answers.{IsStanding, PollsNext}
 use Rattle.q_agent.specs.Sessions.{next_polled}
 use Rattle.q_agent.specs.declared.report.Report.{Report}
 use Rattle.q_books.specs.HostStands.{TellsCrashes}
-use Rattle.q_drain.proofs.NextPolls.{busy_keeps, ends_poll, fills_up, keeps_some, may_open_more, may_poll, poll_fails, polls_less, polls_on, reply_fits, report_fails, served_by_report, served_on, stands_still}
+use Rattle.q_drain.proofs.NextPolls.{begins_fewer, busy_keeps, ends_poll, fills_up, keeps_some, may_open_more, may_poll, poll_fails, polls_less, polls_on, reply_fits, report_fails, served_by_report, served_on, stands_still}
 use Rattle.q_drain.proofs.Polls.{polled_over, polled_rests, some_unpolled}
+use Rattle.q_drain.proofs.Progressing.{ends_one, leaves_less, leaves_same, passes_one}
+use Rattle.q_drain.specs.Progress.{LeavesLess, work_left}
 use Rattle.q_engine.proofs.Stopping.{disk_stopped, host_readable, ok_stop, same_stop, stop_later, stop_passed, stop_readable}
 use Rattle.q_engine.specs.declared.stop.Stop.TheVariants as stops
 use Rattle.q_model.specs.Step.{after_all}
@@ -75,7 +77,9 @@ returns-clause-ok g c t w l a clock early fs s known sweeps h =
     let was_polled = subst (λ (r : Option Report). PollsNext g.H.Host.tells u c.now.result hops next (next_polled agent) r agent c.poll_next.new.self) c.in-Some.is c.in_ok-report.ensures.ok in
     let made = (polled_over g.H.Host.tells u c.now.result hops next agent c.poll_next.new.self o.0 c.in-Some.report o.1 was_polled).1 in
     let e = ends_poll w l a clock u v hops next engine agent c.poll_next.new.self early fs s g.H.Host.tells c.now.result o.0 c.in-Some.report lawful (c.poll_next.ensures.stays t) o.1 t c.now.ensures.ledger was_polled h in
-    served_by_report w l a clock u v hops next engine agent early fs s o.0 c.in-Some.report e g.H.Host.view c.poll_next.new.host c.hear_report.new.host refl c.poll_next.new.self made (g.N.Hops.view c.hear_report.new.hops) c.hear_report.new.agent c.args.served.known c.in_ok-next.next c.args.served.busy known sweeps
+    let below : c.last_number.result < 2 ^ 48 = search rules in
+    let few = begins_fewer w l a (record { clock = clock; hops = hops }) u engine agent early [] fs s c.last_number.result c.last_number.ensures below h in
+    served_by_report w l a clock u v hops next engine agent early fs s o.0 c.in-Some.report e few g.H.Host.view c.poll_next.new.host c.hear_report.new.host refl c.poll_next.new.self made (g.N.Hops.view c.hear_report.new.hops) c.hear_report.new.agent c.args.served.known c.in_ok-next.next c.args.served.busy known sweeps
     c.in_ok-next.ensures.busy (c.in_ok-next.ensures.ok t)
 
 pub returns-clause-polling : goal.returns-clause-polling
@@ -180,7 +184,9 @@ hear_report-requires-clause-opens g c t =
     let was_polled = subst (λ (r : Option Report). PollsNext g.H.Host.tells u c.now.result hops next (next_polled agent) r agent c.poll_next.new.self) c.in-Some.is c.in_ok-report.ensures.ok in
     let made = (polled_over g.H.Host.tells u c.now.result hops next agent c.poll_next.new.self o.0 c.in-Some.report o.1 was_polled).1 in
     let e = ends_poll m.world m.ledger m.first clock u v hops next engine agent c.poll_next.new.self m.early m.flights m.story g.H.Host.tells c.now.result o.0 c.in-Some.report lawful (c.poll_next.ensures.stays t) o.1 t c.now.ensures.ledger was_polled m.serving in
-    (clock, λ new x replies. may_open_more m.world m.ledger m.first clock u v hops next engine agent m.early m.flights m.story o.0 c.in-Some.report e (g.H.Host.view x) new c.poll_next.new.self made replies c.args.served.known m.known_is)
+    let below : c.last_number.result < 2 ^ 48 = search rules in
+    let few = begins_fewer m.world m.ledger m.first (record { clock = clock; hops = hops }) u engine agent m.early [] m.flights m.story c.last_number.result c.last_number.ensures below m.serving in
+    (clock, λ new x replies. may_open_more m.world m.ledger m.first clock u v hops next engine agent m.early m.flights m.story o.0 c.in-Some.report e few (g.H.Host.view x) new c.poll_next.new.self made replies c.args.served.known m.known_is)
 
 pub returns-in_err-next-clause-err : goal.returns-in_err-next-clause-err
 returns-in_err-next-clause-err g c error is t w l a clock early fs s known sweeps h =
@@ -195,7 +201,9 @@ returns-in_err-next-clause-err g c error is t w l a clock early fs s known sweep
     let was_polled = subst (λ (r : Option Report). PollsNext g.H.Host.tells u c.now.result hops next (next_polled agent) r agent c.poll_next.new.self) c.in-Some.is c.in_ok-report.ensures.ok in
     let made = (polled_over g.H.Host.tells u c.now.result hops next agent c.poll_next.new.self o.0 c.in-Some.report o.1 was_polled).1 in
     let e = ends_poll w l a clock u v hops next engine agent c.poll_next.new.self early fs s g.H.Host.tells c.now.result o.0 c.in-Some.report lawful (c.poll_next.ensures.stays t) o.1 t c.now.ensures.ledger was_polled h in
-    report_fails w l a clock u v hops next engine agent early fs s o.0 c.in-Some.report e g.H.Host.view c.poll_next.new.host c.hear_report.new.host refl c.poll_next.new.self made (g.N.Hops.view c.hear_report.new.hops) c.args.served.known error known
+    let below : c.last_number.result < 2 ^ 48 = search rules in
+    let few = begins_fewer w l a (record { clock = clock; hops = hops }) u engine agent early [] fs s c.last_number.result c.last_number.ensures below h in
+    report_fails w l a clock u v hops next engine agent early fs s o.0 c.in-Some.report e few g.H.Host.view c.poll_next.new.host c.hear_report.new.host refl c.poll_next.new.self made (g.N.Hops.view c.hear_report.new.hops) c.args.served.known error known
     (c.in_err-next.ensures.err error (same_stop c.from_residual-in_err-next.result c.in_err-next.field-0.0 (stops.Host error) c.from_residual-in_err-next.ensures.1 is) t)
 
 pub returns-in_err-next-clause-rests : goal.returns-in_err-next-clause-rests
@@ -214,3 +222,46 @@ returns-in_err-report-clause-readable g c = host_readable g.H.Host.tells c.from_
 
 pub returns-in_err-next-clause-readable : goal.returns-in_err-next-clause-readable
 returns-in_err-next-clause-readable g c = stop_readable g.H.Host.tells c.from_residual-in_err-next.result c.in_err-next.field-0.0 c.from_residual-in_err-next.ensures.1 c.in_err-next.ensures.readable
+
+pub returns-in_default-clause-fewer : goal.returns-in_default-clause-fewer
+returns-in_default-clause-fewer g c =
+    let u = g.H.Host.view c.args.host.now in
+    let hops = g.N.Hops.view c.args.hops.now in
+    let next = g.N.Hops.view c.poll_next.new.hops in
+    let agent = c.args.agent.now in
+    let o = some_unpolled agent c.requires.over in
+    passes_one g.H.Host.tells u c.now.result hops next agent c.poll_next.new.self o.0 o.1 c.args.served.known
+    (subst (λ (r : Option Report). PollsNext g.H.Host.tells u c.now.result hops next (next_polled agent) r agent c.poll_next.new.self) c.in_default.is c.in_ok-report.ensures.ok)
+
+pub returns-in_default-clause-left : goal.returns-in_default-clause-left
+returns-in_default-clause-left g c =
+    let u = g.H.Host.view c.args.host.now in
+    let hops = g.N.Hops.view c.args.hops.now in
+    let next = g.N.Hops.view c.poll_next.new.hops in
+    let agent = c.args.agent.now in
+    let o = some_unpolled agent c.requires.over in
+    leaves_same g.H.Host.tells u c.now.result hops next agent c.poll_next.new.self o.0 o.1 c.args.served.known c.args.served.busy
+    (subst (λ (r : Option Report). PollsNext g.H.Host.tells u c.now.result hops next (next_polled agent) r agent c.poll_next.new.self) c.in_default.is c.in_ok-report.ensures.ok)
+
+pub returns-clause-fewer : goal.returns-clause-fewer
+returns-clause-fewer g c =
+    let u = g.H.Host.view c.args.host.now in
+    let hops = g.N.Hops.view c.args.hops.now in
+    let next = g.N.Hops.view c.poll_next.new.hops in
+    let agent = c.args.agent.now in
+    let o = some_unpolled agent c.requires.over in
+    let opened = c.in_ok-next.ensures.opens in
+    ends_one g.H.Host.tells u c.now.result hops next agent c.poll_next.new.self c.hear_report.new.agent o.0 c.in-Some.report o.1 c.args.served.known c.in_ok-next.next.known
+    (subst (λ (r : Option Report). PollsNext g.H.Host.tells u c.now.result hops next (next_polled agent) r agent c.poll_next.new.self) c.in-Some.is c.in_ok-report.ensures.ok) opened.0 c.in_ok-next.ensures.fits opened.1
+
+pub returns-clause-left : goal.returns-clause-left
+returns-clause-left g c =
+    let u = g.H.Host.view c.args.host.now in
+    let hops = g.N.Hops.view c.args.hops.now in
+    let next = g.N.Hops.view c.poll_next.new.hops in
+    let agent = c.args.agent.now in
+    let o = some_unpolled agent c.requires.over in
+    let opened = c.in_ok-next.ensures.opens in
+    subst (λ busy. LeavesLess c.args.served.busy busy (work_left c.args.served.known agent) (work_left c.in_ok-next.next.known c.hear_report.new.agent)) (sym c.in_ok-next.ensures.busy)
+    (leaves_less g.H.Host.tells u c.now.result hops next agent c.poll_next.new.self c.hear_report.new.agent o.0 c.in-Some.report o.1 c.args.served.known c.in_ok-next.next.known
+    (subst (λ (r : Option Report). PollsNext g.H.Host.tells u c.now.result hops next (next_polled agent) r agent c.poll_next.new.self) c.in-Some.is c.in_ok-report.ensures.ok) opened.0 c.in_ok-next.ensures.fits opened.1 c.args.served.busy)

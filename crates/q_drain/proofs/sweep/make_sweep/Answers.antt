@@ -1,12 +1,14 @@
 use Rattle.std.proofs.Common.{◌+◌, ◌∙◌, Option, ap, arith, false, ltb-true, subst, sym}
-use Rattle.std.specs.Prelude.{nat_lt}
+use Rattle.std.specs.Prelude.{IfSome, nat_lt}
 use Rattle.q_agent.specs.Sessions.{Sessions}
 use Rattle.q_books.specs.HostStands.{TellsCrashes}
 use Rattle.q_drain.proofs.PollingAll.{fails_then, filled_then, served_then}
 use Rattle.q_drain.proofs.Polls.{polling_anew}
+use Rattle.q_drain.proofs.Progressing.{left_first, left_then}
 use Rattle.q_drain.proofs.SweepsOn.{idles_on, may_open, opening_given_up, served_heard}
 use Rattle.q_drain.specs.Opened.{FailsToOpenAll, MayOpenAll, OpensAll}
 use Rattle.q_drain.specs.Polling.{IsPolling}
+use Rattle.q_drain.specs.Progress.{LeavesLess, OpensUpTo, work_left}
 use Rattle.q_drain.specs.Served.{PollsOn}
 use Rattle.q_drain.specs.declared.poll.Served.{Served}
 use Rattle.q_engine.proofs.Stopping.{disk_stopped, host_readable, same_stop, stop_later, stop_passed, stop_readable}
@@ -202,3 +204,13 @@ returns-in_err-opened-clause-readable g c = host_readable g.H.Host.tells c.from_
 
 pub returns-in_err-served-clause-readable : goal.returns-in_err-served-clause-readable
 returns-in_err-served-clause-readable g c = stop_readable g.H.Host.tells c.from_residual-in_err-served.result c.in_err-served.field-0.0 c.from_residual-in_err-served.ensures.1 c.in_err-served.ensures.readable
+
+pub returns-in-Some-clause-left : goal.returns-in-Some-clause-left
+returns-in-Some-clause-left g c =
+    let known = c.args.known in
+    let opened = c.in_ok-opened.opened in
+    let agent = c.open_started.new.agent in
+    let first = left_first known opened (record c.args.agent.now { polled = 0 }) agent c.in_ok-opened.ensures.last.0 c.in_ok-opened.ensures.fits
+    (subst (λ (n : Sessions). OpensUpTo known opened n agent) c.next_sweep.ensures c.in_ok-opened.ensures.opens) in
+    left_then false (nat_lt known opened) c.in-Some.served.busy _ _ _ first
+    (subst (λ (o : Option Served). IfSome o (λ s. LeavesLess (nat_lt known opened) s.busy (work_left opened agent) (work_left s.known c.poll_all.new.agent))) c.in-Some.is c.in_ok-served.ensures.left)
