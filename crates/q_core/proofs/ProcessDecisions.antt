@@ -1,12 +1,18 @@
--- A delivery that is decided is at a transport that there is, which has a process left.
+-- A delivery that is decided is of a row that waits, has a number beyond all others, and is at a
+-- transport that there is, which has a process left.
 use Rattle.q_jobs.specs.Jobs.{behind_jobs}
 use Rattle.q_jobs.specs.declared.job.Job.{Job}
-use Rattle.q_laws.proofs.Members.{in_filtered, least_in}
+use Rattle.q_laws.proofs.Members.{any_from, in_filtered, least_in}
 use Rattle.std.proofs.Common.{◌≡◌, ◌+◌, ◌<◌, ◌≤◌, ◌==◌, arith, Bool, false, filter, None, Option, option_map, refl, Some, subst, suc, sym, true, zero, ℕ}
-use Rattle.std.proofs.lemmas.Bool.{and_parts, eqb-true, ltb-true}
+use Rattle.std.proofs.lemmas.Bool.{and_from, and_parts, eqb-true, ltb-true}
+use Rattle.std.specs.List.{list_any}
 use Rattle.std.specs.Option.{option_or}
 use Rattle.std.specs.Prelude.{◌&&◌, ◌^◌, if◌then◌else◌, nat_lt, option_and_then}
 use Rattle.q_core.proofs.KindLaws.{start_first}
+use Rattle.q_core.proofs.NameLaws.{id_eq-same}
+use Rattle.q_core.specs.Sending.{is_for}
+use Rattle.q_model.proofs.IdLaws.{site_eq-refl}
+use Rattle.q_model.specs.Sites.{site_eq}
 use Rattle.q_core.specs.Choosing.{best_in, choice_in, choices_from, choose_in, current_in, jobs_at, preempt_or}
 use Rattle.q_core.specs.Deciding.{decide_in}
 use Rattle.q_core.specs.Rooms.{HasProcess}
@@ -20,10 +26,15 @@ use Rattle.q_model.specs.Ids.{id_eq}
 use Rattle.q_model.specs.Values.{Site}
 use Rattle.q_pool.specs.declared.slot.Slot.{Slot}
 
--- where it is a start, it is at such a transport
+pub record MayStart (c : Core) (number : ℕ) (id : Id) (site : Site) : Type 0 where
+  pub there : list_any (is_for id site) c.waiting ≡ true
+  pub next : c.starts < number
+  pub process : HasProcess c site.transport
+
+-- where it is a start, it is such a one
 abbrev StartsWithin : Core → Option Decision → Type 0
 StartsWithin c None = Unit {0}
-StartsWithin c (Some (decisions.Start number id site)) = HasProcess c site.transport
+StartsWithin c (Some (decisions.Start number id site)) = MayStart c number id site
 StartsWithin c (Some _) = Unit {0}
 
 or_within : (c : Core) (o q : Option Decision) → StartsWithin c o → StartsWithin c q → StartsWithin c (option_or o q)
@@ -40,7 +51,12 @@ row_within c t id r below h =
 next_within : (c : Core) (t : ℕ) (id : Id) → t < c.transports → (o : Option Row) → next_row_in c t id ≡ o → StartsWithin c (option_map (start_of_row c) o)
 next_within c t id below None e = tt
 next_within c t id below (Some r) e =
-    row_within c t id r below (in_filtered (rows_for c id t) r c.waiting (least_in (sent_before c) r (filter (rows_for c id t) c.waiting) e)).1
+    let waits = in_filtered (rows_for c id t) r c.waiting (least_in (sent_before c) r (filter (rows_for c id t) c.waiting) e) in
+    record {
+      there = any_from (is_for r.id r.site) r c.waiting waits.0 (and_from (id_eq r.id r.id) (site_eq r.site r.site) (id_eq-same r.id) (site_eq-refl r.site));
+      next = omega arith;
+      process = row_within c t id r below waits.1;
+    }
 
 best_within : (c : Core) (t : ℕ) (parent : Job) → t < c.transports → (o : Option Slot) → StartsWithin c (preempt_or c t parent o)
 best_within c t parent below None = next_within c t parent.id below (next_row_in c t parent.id) refl
@@ -60,7 +76,7 @@ if_within c true o a = a
 if_within c false o a = tt
 
 -- the delivery that is decided
-pub decided_process : (c : Core) (number : ℕ) (id : Id) (site : Site) → decide_in c ≡ Some (decisions.Start number id site) → HasProcess c site.transport
-decided_process c number id site e =
+pub decided_start : (c : Core) (number : ℕ) (id : Id) (site : Site) → decide_in c ≡ Some (decisions.Start number id site) → MayStart c number id site
+decided_start c number id site e =
     let first = start_first c (decisions.Start number id site) refl e in
     subst (StartsWithin c) first.2 (if_within c (nat_lt c.starts (2 ^ 48)) (choices_from c 0 c.transports) (choices_within c 0 c.transports (omega arith)))

@@ -1,8 +1,10 @@
 -- A delivery begins: its row goes from those that wait to those in flight.
-use Rattle.std.proofs.Common.{◌≡◌, ℕ, ◌+◌, ◌<◌, ◌^◌, Bool, true, false, cond, List, [], ◌∷◌, ◌++◌, length, map, refl, sym, ap, ◌∙◌, subst, Some, None, inl, inr, position, sum_by, arith, eqb-true, leb-true, ltb-true, add-zero}
+use Rattle.std.proofs.Common.{◌≡◌, ℕ, ◌+◌, ◌<◌, ◌^◌, Bool, true, false, cond, List, [], ◌∷◌, ◌++◌, length, map, refl, sym, ap, ◌∙◌, subst, Some, None, inl, inr, position, sum_by, arith, eq-eqb, eqb-true, leb-true, ltb-true, add-zero}
 use Rattle.std.proofs.lemmas.List.Sums.{sum_by-cons, sum_by_push}
 use Rattle.std.specs.List.{enumerate_from, list_all, remove}
-use Rattle.std.specs.Prelude.{◌&&◌, ◌==◌, find, IsTrue, nat_le, not, slice_get}
+use Rattle.std.specs.Prelude.{◌&&◌, ◌==◌, find, is_some, IsSome, IsTrue, nat_le, not, Option, slice_get}
+use Rattle.std.specs.Option.{option_or}
+use Rattle.std.proofs.lemmas.List.Folds.{find-append}
 use Rattle.q_core.proofs.AccountLaws.{lines_begun}
 use Rattle.q_core.proofs.ChosenLaws.{IsChosen, chosen_row}
 use Rattle.q_core.proofs.DroppedLaws.{drop_first-narrow, is_row-same, is_row-true, list_any-drop_first, sum_by-drop_first}
@@ -65,16 +67,6 @@ row_there p xs entry x there found = elim (position-find p xs) [
       let place : f.0 ≡ entry = cc in
       ap (slice_get xs) (sym place) ∙ f.2.there ∙ sym f.2.found ∙ found
 ]
-
-some_place : {X : Type 0} (p : X → Bool) (xs : List X) (x : X) → find p xs ≡ Some x → position p xs ≡ None → ⊥
-some_place p xs x found none = elim (position-find p xs) [
-  | inl n ↦ let bad : None ≡ Some x = sym n.1 ∙ found in cc
-  | inr f ↦ let bad : Some f.0 ≡ None = sym f.2.place ∙ none in cc
-]
-
-pub chosen_place : {w : World} {c : Core} {l : Ledger} → Agrees w c l → (number : ℕ) (id : Id) (site : Site) (ps : List ℕ) → start_rule w l ≡ Some (entries.Start number id site ps) → position (is_for id site) c.waiting ≡ None → ⊥
-chosen_place {w = w} {c = c} {l = l} a number id site ps rule none =
-    some_place (is_for id site) c.waiting (row_at id site ps) (ap (find (is_for id site)) a.matches.parts.waiting ∙ (chosen_row w l number id site ps rule).first) none
 
 -- the recipients in memory stay
 same_memory : (l : Ledger) (number : ℕ) (id : Id) (site : Site) (ps : List ℕ) → IsChosen l number id site ps → in_memory l ≡ in_memory (after_start l number id site ps)
@@ -172,6 +164,17 @@ sent_law {w = w} {c = c} {u = u} {v = v} {d = d} {l = l} a looked number id site
     tidy_used_law l (λ r. start_used l number id site ps r.site (site_eq site r.site) refl) (start_raw raw number id site ps entry chosen there row sent begun) s
 
 -- the delivery is in flight by its number
+
+or_last : {A : Type 0} (o q : Option A) → IsSome q → IsSome (option_or o q)
+or_last None q h = h
+or_last (Some x) q h = refl
+
+pub last_flies : (fs : List Delivery) (r : Row) (number : ℕ) → IsSome (find (λ (x : Delivery). x.number == number) (fs ++ record { number = number; row = r } ∷ []))
+last_flies fs r number =
+    let p : Delivery → Bool = λ x. x.number == number in
+    let f : Delivery = record { number = number; row = r } in
+    subst (λ o. IsSome o) (sym (find-append p fs (f ∷ [])))
+    (or_last (find p fs) (find p (f ∷ [])) (ap (λ b. is_some (cond b (Some f) None)) (eq-eqb number number refl)))
 
 pub older : (fs : List Delivery) (n number : ℕ) → list_all (λ (f : Delivery). nat_le f.number n) fs ≡ true → number ≡ n + 1 → find (λ (f : Delivery). f.number == number) fs ≡ None
 older [] n number h e = refl

@@ -1,5 +1,5 @@
 -- A delivery that starts is in flight with the positions of the ledger's entry.
-use Rattle.std.proofs.Common.{◌≡◌, ◌+◌, Bool, true, cond, [], ◌∷◌, ◌++◌, Some, None, inl, inr, ◌⊎◌, refl, sym, ap, ◌∙◌, eq-eqb, eqb-true}
+use Rattle.std.proofs.Common.{◌≡◌, ◌+◌, Bool, true, cond, List, [], ◌∷◌, ◌++◌, Some, None, inl, inr, ◌⊎◌, refl, sym, ap, ◌∙◌, eq-eqb, eqb-true}
 use Rattle.std.proofs.lemmas.List.Folds.{find-append}
 use Rattle.std.specs.List.{list_any}
 use Rattle.std.specs.Option.{option_or}
@@ -8,7 +8,7 @@ use Rattle.q_core.proofs.AppliedLaws.{is_plain, may_next, not_looking, not_read}
 use Rattle.q_core.proofs.NameLaws.{and_true_parts}
 use Rattle.q_core.proofs.SentLaws.{older}
 use Rattle.q_core.specs.Agrees.{Agrees}
-use Rattle.q_core.specs.Deciding.{IsApplied, IsLooking, IsStartOf, question_of}
+use Rattle.q_core.specs.Deciding.{BeginsFlight, IsApplied, is_asking, IsLooking, IsStartOf, question_of}
 use Rattle.q_core.specs.Decisions.{IsReadRule}
 use Rattle.q_core.specs.declared.decision.Decision.{Decision}
 use Rattle.q_core.specs.declared.decision.Decision.TheVariants as decisions
@@ -59,3 +59,22 @@ started_law (decisions.Read id from max) a h same = tt
 started_law decisions.LookActive a h same = tt
 started_law decisions.LookIncoming a h same = tt
 started_law (decisions.LookDeferred after until) a h same = tt
+
+-- neither a look nor a read begins one
+pub asking_begins : (fs : List Delivery) (d : Decision) → is_asking d ≡ true → BeginsFlight (Some d) fs
+asking_begins fs (decisions.Log id f) e = cc
+asking_begins fs (decisions.Mark id k) e = cc
+asking_begins fs (decisions.Sync id) e = cc
+asking_begins fs (decisions.Skip id site entry) e = cc
+asking_begins fs (decisions.Defer id due) e = cc
+asking_begins fs (decisions.Back id) e = cc
+asking_begins fs (decisions.Bounce id) e = cc
+asking_begins fs (decisions.Remove id) e = cc
+asking_begins fs (decisions.Corrupt id place) e = cc
+asking_begins fs (decisions.Admit id place) e = cc
+asking_begins fs (decisions.Preempt child parent transport need) e = cc
+asking_begins fs (decisions.Start number id site) e = cc
+asking_begins fs (decisions.Read id from max) e = tt
+asking_begins fs decisions.LookActive e = tt
+asking_begins fs decisions.LookIncoming e = tt
+asking_begins fs (decisions.LookDeferred after until) e = tt

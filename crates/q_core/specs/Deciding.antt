@@ -1,7 +1,8 @@
 -- The next decision, by what the core holds.
 use Rattle.std.specs.Option.{option_or}
-use Rattle.std.specs.Prelude.{◌≡◌, ◌⊎◌, [], Bool, false, true, if◌then◌else◌, List, None, not, Option, option_map, Some, ℕ}
+use Rattle.std.specs.Prelude.{◌≡◌, ◌≤◌, ◌⊎◌, ◌==◌, [], Bool, false, true, find, if◌then◌else◌, IsSome, List, None, not, Option, option_map, Some, ℕ}
 use Rattle.q_model.specs.declared.entry.Entry.{Entry}
+use Rattle.q_model.specs.declared.rows.Delivery.{Delivery}
 use Rattle.q_model.specs.declared.rows.Scan.{Scan}
 use Rattle.q_model.specs.Book.{damaged_of, message_of}
 use Rattle.q_model.specs.Ledger.{Ledger}
@@ -85,6 +86,13 @@ IsStartOf w l (Some (decisions.Start number id site)) c = (positions : List ℕ)
     flight_in c number ≡ Some (record { number = number; row = record { id = id; site = site; positions = positions } })
 IsStartOf w l (Some _) c = Unit {0}
 
+-- a delivery that starts is one of these in flight
+abbrev pub BeginsFlight : Option Decision → List Delivery → Type 0
+BeginsFlight None flights = Unit {0}
+BeginsFlight (Some (decisions.Start number id site)) flights =
+    IsSome (find (λ f. f.number == number) flights)
+BeginsFlight (Some _) flights = Unit {0}
+
 -- a row that is put off is the last one, by its number and its positions
 abbrev pub IsSkipOf : Core → Decision → Core → Type 0
 IsSkipOf old (decisions.Skip id site entry) new = IsSkipNoted old id site entry new
@@ -114,6 +122,14 @@ question_of _ = Nothing
 abbrev pub question_for : Option Decision → Question
 question_for None = Nothing
 question_for (Some d) = question_of d
+
+-- a read asks for one recipient at least
+abbrev pub AsksSome : Question → Type 0
+AsksSome Nothing = Unit {0}
+AsksSome Active = Unit {0}
+AsksSome Incoming = Unit {0}
+AsksSome Deferred = Unit {0}
+AsksSome (Recipients id from max) = 1 ≤ max
 
 -- the core waits for the answer to a look
 abbrev pub is_look : Question → Bool

@@ -1,5 +1,5 @@
 -- What comes from outside, as entries.
-use Rattle.std.specs.Prelude.{◌≡◌, ◌≤◌, List, Option, true, ℕ}
+use Rattle.std.specs.Prelude.{◌≡◌, ◌≤◌, Bool, List, Option, true, ℕ}
 use Rattle.q_model.specs.declared.entry.Entry.{Entry}
 use Rattle.q_model.specs.Ledger.{Ledger}
 use Rattle.q_model.specs.Settings.{World}
@@ -28,3 +28,10 @@ IsInTime (At moment) = moment ≤ 999990000000
 IsInTime (Mail id) = Unit {0}
 IsInTime (Reply number site outcomes) = Unit {0}
 IsInTime (Trigger kind) = Unit {0}
+
+-- a moment came in this life: the event is one, or one came before
+abbrev pub is_timed_by : Heard → Bool → Bool
+is_timed_by (At moment) timed = true
+is_timed_by (Mail id) timed = timed
+is_timed_by (Reply number site outcomes) timed = timed
+is_timed_by (Trigger kind) timed = timed

@@ -1,9 +1,10 @@
 //! The core takes a decision over: it becomes what the ledger is after the decision's entry. What
 //! concerns a message in memory and one that an earlier life left is told apart here.
-ghost use Rattle.std.specs.Prelude.{◌≡◌, IsTrue, Some};
+ghost use Rattle.std.specs.Prelude.{◌≡◌, IsSome, IsTrue, Some};
 ghost use Rattle.q_core.specs.Changes.{is_looked_at};
 ghost use Rattle.q_core.specs.Deciding.{Applies, decide_in};
 ghost use Rattle.q_core.specs.Leaving.{IsSkipNoted};
+ghost use Rattle.q_core.specs.Queries.{flight_in};
 ghost use Rattle.q_model.specs.Lists.{has_none};
 
 use crate::decision::Decision;
@@ -20,7 +21,8 @@ impl Core {
     pub(crate) fn apply_log(&mut self, id: Id, failure: Failure)
         requires seen { IsTrue (is_looked_at self.old) }
         requires decided { decide_in self.old ≡ Some (Decision.Log id failure) }
-        ensures { Applies self.old (Decision.Log id failure) self.new }
+        ensures exact { Applies self.old (Decision.Log id failure) self.new }
+        ensures timed { self.new.timed ≡ self.old.timed }
     {
         self.log(id);
     }
@@ -29,7 +31,8 @@ impl Core {
     pub(crate) fn apply_mark(&mut self, id: Id, position: u32)
         requires seen { IsTrue (is_looked_at self.old) }
         requires decided { decide_in self.old ≡ Some (Decision.Mark id position) }
-        ensures { Applies self.old (Decision.Mark id position) self.new }
+        ensures exact { Applies self.old (Decision.Mark id position) self.new }
+        ensures timed { self.new.timed ≡ self.old.timed }
     {
         if self.has_no_outcomes() {
             self.mark_left();
@@ -41,7 +44,8 @@ impl Core {
     pub(crate) fn apply_sync(&mut self, id: Id)
         requires seen { IsTrue (is_looked_at self.old) }
         requires decided { decide_in self.old ≡ Some (Decision.Sync id) }
-        ensures { Applies self.old (Decision.Sync id) self.new }
+        ensures exact { Applies self.old (Decision.Sync id) self.new }
+        ensures timed { self.new.timed ≡ self.old.timed }
     {
         if self.has_slot(id) {
             self.sync(id);
@@ -55,6 +59,7 @@ impl Core {
         requires decided { decide_in self.old ≡ Some (Decision.Skip id site entry) }
         ensures applied { Applies self.old (Decision.Skip id site entry) self.new }
         ensures noted { IsSkipNoted self.old id site entry self.new }
+        ensures timed { self.new.timed ≡ self.old.timed }
     {
         if !self.has_row_for(id, &site) {
             return;
@@ -65,7 +70,8 @@ impl Core {
     pub(crate) fn apply_defer(&mut self, id: Id, due: Moment)
         requires seen { IsTrue (is_looked_at self.old) }
         requires decided { decide_in self.old ≡ Some (Decision.Defer id due) }
-        ensures { Applies self.old (Decision.Defer id due) self.new }
+        ensures exact { Applies self.old (Decision.Defer id due) self.new }
+        ensures timed { self.new.timed ≡ self.old.timed }
     {
         self.defer(id);
     }
@@ -73,7 +79,8 @@ impl Core {
     pub(crate) fn apply_remove(&mut self, id: Id)
         requires seen { IsTrue (is_looked_at self.old) }
         requires decided { decide_in self.old ≡ Some (Decision.Remove id) }
-        ensures { Applies self.old (Decision.Remove id) self.new }
+        ensures exact { Applies self.old (Decision.Remove id) self.new }
+        ensures timed { self.new.timed ≡ self.old.timed }
     {
         if self.has_slot(id) {
             self.remove(id);
@@ -85,7 +92,8 @@ impl Core {
     pub(crate) fn apply_bounce(&mut self, id: Id)
         requires seen { IsTrue (is_looked_at self.old) }
         requires decided { decide_in self.old ≡ Some (Decision.Bounce id) }
-        ensures { Applies self.old (Decision.Bounce id) self.new }
+        ensures exact { Applies self.old (Decision.Bounce id) self.new }
+        ensures timed { self.new.timed ≡ self.old.timed }
     {
         if self.has_slot(id) {
             self.bounce(id);
@@ -97,7 +105,8 @@ impl Core {
     pub(crate) fn apply_back(&mut self, id: Id)
         requires seen { IsTrue (is_looked_at self.old) }
         requires decided { decide_in self.old ≡ Some (Decision.Back id) }
-        ensures { Applies self.old (Decision.Back id) self.new }
+        ensures exact { Applies self.old (Decision.Back id) self.new }
+        ensures timed { self.new.timed ≡ self.old.timed }
     {
         self.back();
     }
@@ -107,7 +116,8 @@ impl Core {
     pub(crate) fn apply_corrupt(&mut self, id: Id, place: Place)
         requires seen { IsTrue (is_looked_at self.old) }
         requires decided { decide_in self.old ≡ Some (Decision.Corrupt id place) }
-        ensures { Applies self.old (Decision.Corrupt id place) self.new }
+        ensures exact { Applies self.old (Decision.Corrupt id place) self.new }
+        ensures timed { self.new.timed ≡ self.old.timed }
     {
         if self.has_damage(id) {
             self.corrupt_read(id);
@@ -121,7 +131,8 @@ impl Core {
     pub(crate) fn apply_admit(&mut self, id: Id, place: Place)
         requires seen { IsTrue (is_looked_at self.old) }
         requires decided { decide_in self.old ≡ Some (Decision.Admit id place) }
-        ensures { Applies self.old (Decision.Admit id place) self.new }
+        ensures exact { Applies self.old (Decision.Admit id place) self.new }
+        ensures timed { self.new.timed ≡ self.old.timed }
     {
         self.admit();
     }
@@ -129,7 +140,9 @@ impl Core {
     pub(crate) fn apply_start(&mut self, number: u64, id: Id, site: Site)
         requires seen { IsTrue (is_looked_at self.old) }
         requires decided { decide_in self.old ≡ Some (Decision.Start number id site) }
-        ensures { Applies self.old (Decision.Start number id site) self.new }
+        ensures exact { Applies self.old (Decision.Start number id site) self.new }
+        ensures flies { IsSome (flight_in self.new number) }
+        ensures timed { self.new.timed ≡ self.old.timed }
     {
         self.start_delivery(number, id, site);
     }
@@ -138,7 +151,8 @@ impl Core {
         requires seen { IsTrue (is_looked_at self.old) }
         requires decided { decide_in self.old ≡ Some
             (Decision.Preempt child parent transport need) }
-        ensures { Applies self.old (Decision.Preempt child parent transport need) self.new }
+        ensures exact { Applies self.old (Decision.Preempt child parent transport need) self.new }
+        ensures timed { self.new.timed ≡ self.old.timed }
     {
         self.stand_apart(transport);
         self.preempt(child, parent, transport, need);

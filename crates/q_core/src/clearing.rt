@@ -19,8 +19,9 @@ impl Core {
     /// A failure of an earlier life is marked.
     pub(crate) fn mark_left(&mut self)
         requires { IsTrue (is_looked_at self.old) }
-        ensures { self.old.unsettled ≡ [] → ForLedgers self.old
+        ensures exact { self.old.unsettled ≡ [] → ForLedgers self.old
             (λ w l. MarksLeftovers w l self.new) }
+        ensures timed { self.new.timed ≡ self.old.timed }
     {
         self.forget_active();
         self.tidy();
@@ -37,8 +38,9 @@ impl Core {
     /// The marks of a message of an earlier life are synced.
     pub(crate) fn sync_left(&mut self, id: Id)
         requires { IsTrue (is_looked_at self.old) }
-        ensures { is_admitted_in self.old id ≡ false
+        ensures exact { is_admitted_in self.old id ≡ false
             → FollowsRule self.old self.new next (Entry.Sync id) }
+        ensures timed { self.new.timed ≡ self.old.timed }
     {
         self.note_synced(id);
         self.tidy();

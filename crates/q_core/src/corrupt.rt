@@ -35,7 +35,9 @@ impl Core {
     }
 
     /// Such a message goes to corrupt.
-    pub(crate) fn corrupt_read(&mut self, id: Id) {
+    pub(crate) fn corrupt_read(&mut self, id: Id)
+        ensures { self.new.timed ≡ self.old.timed }
+    {
         self.remove_slot(id);
         self.forget_looks();
         self.tidy();
@@ -57,8 +59,9 @@ impl Core {
     /// A damaged file that an earlier life left goes to corrupt.
     pub(crate) fn corrupt_left(&mut self)
         requires { IsTrue (is_looked_at self.old) }
-        ensures { (id : Id) → shows_damaged self.old.active id ≡ true
+        ensures exact { (id : Id) → shows_damaged self.old.active id ≡ true
             → Follows self.old self.new (Entry.Corrupt id) }
+        ensures timed { self.new.timed ≡ self.old.timed }
     {
         self.forget_looks();
         self.tidy();

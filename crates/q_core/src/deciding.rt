@@ -2,7 +2,7 @@
 ghost use Rattle.std.specs.Prelude.{◌≡◌, IsTrue, None, Some, true, [], ◌≤◌};
 ghost use Rattle.q_core.specs.Agrees.{ForLedgers};
 ghost use Rattle.q_core.specs.Changes.{is_looked_at};
-ghost use Rattle.q_core.specs.Deciding.{AsksOnly, IsDecided, decide_in, is_answered, is_look, is_reading, question_for, question_of, IsPlaced, IsSkipOf, IsStartOf, NotesSkip, Applies, AtLook, AtRead};
+ghost use Rattle.q_core.specs.Deciding.{AsksOnly, AsksSome, BeginsFlight, IsDecided, decide_in, is_answered, is_look, is_reading, question_for, question_of, IsPlaced, IsSkipOf, IsStartOf, NotesSkip, Applies, AtLook, AtRead};
 ghost use Rattle.q_core.specs.Looking.{is_unseen, looks_left};
 ghost use Rattle.q_core.specs.Rooms.{AsksWithin};
 
@@ -40,6 +40,8 @@ impl Core {
         requires decided { decide_in self.old ≡ Some decision.now }
         ensures applied { Applies self.old decision.now self.new }
         ensures skipped { IsSkipOf self.old decision.now self.new }
+        ensures flies { BeginsFlight (Some decision.now) self.new.flights }
+        ensures timed { self.new.timed ≡ self.old.timed }
     {
         match *decision {
             Decision::Log { id, failure } => self.apply_log(id, failure),
@@ -121,9 +123,13 @@ impl Core {
         ensures looks { AtLook result (looks_left self.new ≡ looks_left self.old) }
         ensures few { looks_left self.new ≤ 4 }
         ensures reads { AtRead result (IsTrue (is_looked_at self.new)) }
+        ensures some { AsksSome (question_for result) }
         ensures unnamed { AtRead result (self.new.named ≡ []) }
+        ensures flies { BeginsFlight result self.new.flights }
         ensures quiet { result ≡ None → self.old.timed ≡ true → IsTrue (is_looked_at self.new) }
+        ensures timed { self.new.timed ≡ self.old.timed }
     {
+        self.stand_in_range();
         let Some(decision) = self.decide() else {
             return None;
         };

@@ -1,8 +1,9 @@
 //! A delivery starts.
-ghost use Rattle.std.specs.Prelude.{◌≡◌, ◌<◌, IsTrue, List, map, true, ℕ};
+ghost use Rattle.std.specs.Prelude.{◌≡◌, ◌<◌, IsSome, IsTrue, List, map, true, ℕ};
 ghost use Rattle.std.specs.List.{enumerate_from, list_any};
 ghost use Rattle.q_core.specs.Agrees.{FollowsRule};
 ghost use Rattle.q_core.specs.Lists.{AtFirst};
+ghost use Rattle.q_core.specs.Queries.{flight_in};
 ghost use Rattle.q_core.specs.Sending.{started_line, with_start, is_for, IsStarted, IsSent, served_now};
 ghost use Rattle.q_core.specs.Changes.{is_looked_at, with_served};
 ghost use Rattle.q_core.specs.Rooms.{HasProcess};
@@ -64,6 +65,7 @@ impl Core {
             number id site) }
         ensures served { self.new.served ≡ tidied_served self.new.waiting
             (served_now id site number self.old.served) }
+        ensures timed { self.new.timed ≡ self.old.timed }
     {
         self.flights.stand_apart();
         self.waiting.stand_apart();
@@ -90,19 +92,18 @@ impl Core {
         count_start(&mut self.schedule, id, site.transport);
     }
 
-    /// Starts the delivery of this number: of the row of the message that is next for the site.
+    /// Starts the delivery of this number, which is beyond all others: of the row of the message that is
+    /// next for the site.
     pub(crate) fn start_delivery(&mut self, number: u64, id: Id, site: Site)
         requires seen { IsTrue (is_looked_at self.old) }
+        requires there { list_any (is_for id site) self.old.waiting ≡ true }
+        requires next { self.old.starts < number }
         requires process { HasProcess self.old site.transport }
-        ensures { (ps : List ℕ)
+        ensures exact { (ps : List ℕ)
             → FollowsRule self.old self.new start_rule (Entry.Start number id site ps) }
+        ensures flies { IsSome (flight_in self.new number) }
+        ensures timed { self.new.timed ≡ self.old.timed }
     {
-        if !self.has_row_for(id, &site) {
-            return;
-        }
-        if number <= self.starts {
-            return;
-        }
         self.send(number, id, site);
         self.count_start(id, &site);
         self.tidy();

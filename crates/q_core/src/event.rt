@@ -3,7 +3,7 @@ ghost use Rattle.std.specs.Prelude.{◌≡◌, IsTrue, true};
 ghost use Rattle.q_core.specs.Agrees.{ForLedgers, FollowsAllowed};
 ghost use Rattle.q_core.specs.Changes.{is_looked_at};
 ghost use Rattle.q_core.specs.Deciding.{is_answered};
-ghost use Rattle.q_core.specs.Hearing.{Hears, IsHeard, IsInTime};
+ghost use Rattle.q_core.specs.Hearing.{Hears, IsHeard, IsInTime, is_timed_by};
 ghost use Rattle.q_model.specs.declared.entry.Entry.{Entry};
 
 use crate::state::{Core, Question, Seen};
@@ -34,7 +34,8 @@ impl Core {
     fn hear(&mut self, heard: Heard<'_>)
         requires time { IsInTime heard }
         requires seen { IsTrue (is_looked_at self.old) }
-        ensures { (e : Entry) → IsHeard heard.entry e → FollowsAllowed self.old self.new e }
+        ensures exact { (e : Entry) → IsHeard heard.entry e → FollowsAllowed self.old self.new e }
+        ensures timed { self.new.timed ≡ is_timed_by heard.entry self.old.timed }
     {
         match heard {
             Heard::At { moment } => self.hear_at(moment),
@@ -62,6 +63,7 @@ impl Core {
         requires seen { IsTrue (is_looked_at self.old) }
         ensures exact { ForLedgers self.old (λ w l. Hears w l heard.entry self.new) }
         ensures answered { is_answered self.new.question ≡ true }
+        ensures timed { self.new.timed ≡ is_timed_by heard.entry self.old.timed }
     {
         self.hear(heard);
         self.question = Question::Nothing;

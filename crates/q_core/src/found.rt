@@ -33,6 +33,7 @@ impl Core {
         ensures fewer { LeavesFewer self.old self.new }
         ensures damaged { ForRead self.old.question
             (λ id. IsSlotChange self.old self.new id with_damage) }
+        ensures timed { self.new.timed ≡ self.old.timed }
     {
         match self.question {
             Question::Active => self.found_active(found),
@@ -57,6 +58,7 @@ impl Core {
         ensures fewer { LeavesFewer self.old self.new }
         ensures damaged { ForRead self.old.question (λ id. IsDamageNoted self.old self.new id) }
         ensures answered { is_answered self.new.question ≡ true }
+        ensures timed { self.new.timed ≡ self.old.timed }
     {
         self.note_found(found);
         self.question = Question::Nothing;
@@ -72,6 +74,7 @@ impl Core {
             → IsSlotChange self.old self.new id with_damage }
         ensures left { is_admitted_in self.old id ≡ false → self.new ≡ with_damaged id self.old }
         ensures question { self.new.question ≡ self.old.question }
+        ensures timed { self.new.timed ≡ self.old.timed }
     {
         if self.has_slot(id) {
             self.note_damage(id);

@@ -1,5 +1,5 @@
 //! Events without a row: the clock and the triggers (qmgr(8)).
-ghost use Rattle.std.specs.Prelude.{◌≡◌, ◌≤◌, IsTrue};
+ghost use Rattle.std.specs.Prelude.{◌≡◌, ◌≤◌, IsTrue, true};
 ghost use Rattle.q_core.specs.Agrees.{ForLedgers, Matches};
 ghost use Rattle.q_core.specs.Changes.{IsRevived, IsWoken, all_revived, asked_when_due, is_looked_at, revived_by, used_sites, with_sites};
 ghost use Rattle.q_model.specs.Step.{after};
@@ -49,7 +49,8 @@ impl Core {
     pub(crate) fn hear_at(&mut self, moment: Moment)
         requires early { moment ≤ 999990000000 }
         requires seen { IsTrue (is_looked_at self.old) }
-        ensures { ForLedgers self.old (λ w l. Matches w self.new (after w l (Entry.At moment))) }
+        ensures exact { ForLedgers self.old (λ w l. Matches w self.new (after w l (Entry.At moment))) }
+        ensures timed { self.new.timed ≡ true }
     {
         self.wake(moment);
         self.ask_when_due();
@@ -67,8 +68,9 @@ impl Core {
 
     fn hear_scan(&mut self)
         requires { IsTrue (is_looked_at self.old) }
-        ensures { ForLedgers self.old (λ w l. Matches w self.new (after w l
+        ensures exact { ForLedgers self.old (λ w l. Matches w self.new (after w l
             (Entry.Trigger Trigger.D))) }
+        ensures timed { self.new.timed ≡ self.old.timed }
     {
         self.ask_scan();
         self.tidy();
@@ -76,8 +78,9 @@ impl Core {
 
     fn hear_ignore(&mut self)
         requires { IsTrue (is_looked_at self.old) }
-        ensures { ForLedgers self.old (λ w l. Matches w self.new (after w l
+        ensures exact { ForLedgers self.old (λ w l. Matches w self.new (after w l
             (Entry.Trigger Trigger.A))) }
+        ensures timed { self.new.timed ≡ self.old.timed }
     {
         self.ignores = true;
         self.tidy();
@@ -85,8 +88,9 @@ impl Core {
 
     fn hear_revival(&mut self)
         requires { IsTrue (is_looked_at self.old) }
-        ensures { ForLedgers self.old (λ w l. Matches w self.new (after w l
+        ensures exact { ForLedgers self.old (λ w l. Matches w self.new (after w l
             (Entry.Trigger Trigger.F))) }
+        ensures timed { self.new.timed ≡ self.old.timed }
     {
         self.revive_all();
         self.tidy();
@@ -95,7 +99,8 @@ impl Core {
     /// Takes the event of a trigger.
     pub(crate) fn hear_trigger(&mut self, kind: Trigger)
         requires { IsTrue (is_looked_at self.old) }
-        ensures { ForLedgers self.old (λ w l. Matches w self.new (after w l (Entry.Trigger kind))) }
+        ensures exact { ForLedgers self.old (λ w l. Matches w self.new (after w l (Entry.Trigger kind))) }
+        ensures timed { self.new.timed ≡ self.old.timed }
     {
         match kind {
             Trigger::D => self.hear_scan(),

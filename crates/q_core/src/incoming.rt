@@ -22,7 +22,8 @@ impl Core {
     /// The bounce of an idle message is stored.
     pub(crate) fn bounce(&mut self, id: Id)
         requires { IsTrue (is_looked_at self.old) }
-        ensures { is_admitted_in self.old id ≡ true → Follows self.old self.new (Entry.Bounce id) }
+        ensures exact { is_admitted_in self.old id ≡ true → Follows self.old self.new (Entry.Bounce id) }
+        ensures timed { self.new.timed ≡ self.old.timed }
     {
         self.note_bounce(id);
         self.tidy();
@@ -31,8 +32,9 @@ impl Core {
     /// The bounce of a message that an earlier life left is stored.
     pub(crate) fn bounce_left(&mut self)
         requires { IsTrue (is_looked_at self.old) }
-        ensures { (id : Id) → is_admitted_in self.old id ≡ false
+        ensures exact { (id : Id) → is_admitted_in self.old id ≡ false
             → Follows self.old self.new (Entry.Bounce id) }
+        ensures timed { self.new.timed ≡ self.old.timed }
     {
         self.forget_mail();
         self.tidy();
@@ -48,7 +50,8 @@ impl Core {
     /// A message arrives.
     pub(crate) fn arrive(&mut self, id: Id)
         requires { IsTrue (is_looked_at self.old) }
-        ensures { (e : Entry) → IsHeard (Heard.Mail id) e → Follows self.old self.new e }
+        ensures exact { (e : Entry) → IsHeard (Heard.Mail id) e → Follows self.old self.new e }
+        ensures timed { self.new.timed ≡ self.old.timed }
     {
         self.forget_incoming();
         self.tidy();
@@ -57,7 +60,8 @@ impl Core {
     /// A message that an earlier life left goes back.
     pub(crate) fn back(&mut self)
         requires { IsTrue (is_looked_at self.old) }
-        ensures { (id : Id) → Follows self.old self.new (Entry.Back id) }
+        ensures exact { (id : Id) → Follows self.old self.new (Entry.Back id) }
+        ensures timed { self.new.timed ≡ self.old.timed }
     {
         self.forget_mail();
         self.tidy();

@@ -21,7 +21,8 @@ impl Core {
 
     /// The message isn't in memory, and deferred is to be looked at anew.
     fn put_off(&mut self, id: Id)
-        ensures { has_rows_in self.old id ≡ false → IsPutOff self.old self.new id }
+        ensures exact { has_rows_in self.old id ≡ false → IsPutOff self.old self.new id }
+        ensures timed { self.new.timed ≡ self.old.timed }
     {
         if !self.has_rows(id) {
             self.drop_message(id);
@@ -32,7 +33,8 @@ impl Core {
     /// An idle message is deferred.
     pub(crate) fn defer(&mut self, id: Id)
         requires { IsTrue (is_looked_at self.old) }
-        ensures { (due : ℕ) → Follows self.old self.new (Entry.Defer id due) }
+        ensures exact { (due : ℕ) → Follows self.old self.new (Entry.Defer id due) }
+        ensures timed { self.new.timed ≡ self.old.timed }
     {
         self.put_off(id);
         self.tidy();
@@ -40,7 +42,8 @@ impl Core {
 
     /// The message isn't in memory, and incoming is to be looked at anew, where its bounce is.
     pub(crate) fn remove_slot(&mut self, id: Id)
-        ensures { has_rows_in self.old id ≡ false → IsSlotRemoved self.old self.new id }
+        ensures exact { has_rows_in self.old id ≡ false → IsSlotRemoved self.old self.new id }
+        ensures timed { self.new.timed ≡ self.old.timed }
     {
         if !self.has_rows(id) {
             self.drop_message(id);
@@ -51,7 +54,8 @@ impl Core {
     /// An idle message is removed.
     pub(crate) fn remove(&mut self, id: Id)
         requires { IsTrue (is_looked_at self.old) }
-        ensures { is_admitted_in self.old id ≡ true → Follows self.old self.new (Entry.Remove id) }
+        ensures exact { is_admitted_in self.old id ≡ true → Follows self.old self.new (Entry.Remove id) }
+        ensures timed { self.new.timed ≡ self.old.timed }
     {
         self.remove_slot(id);
         self.tidy();
@@ -68,8 +72,9 @@ impl Core {
     /// A message that an earlier life left is removed.
     pub(crate) fn remove_left(&mut self)
         requires { IsTrue (is_looked_at self.old) }
-        ensures { (id : Id) → is_admitted_in self.old id ≡ false
+        ensures exact { (id : Id) → is_admitted_in self.old id ≡ false
             → Follows self.old self.new (Entry.Remove id) }
+        ensures timed { self.new.timed ≡ self.old.timed }
     {
         self.forget_mail();
         self.tidy();

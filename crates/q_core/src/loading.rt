@@ -63,6 +63,7 @@ impl Core {
         ensures fits { result ≡ fit_in self.old id (rows_read self.old id taken.now.items) }
         ensures added { IsTrue result → AreRowsAdded self.old self.new id
             (rows_read self.old id taken.now.items) }
+        ensures timed { self.new.timed ≡ self.old.timed }
     {
         group(&mut self.rows, &mut self.open_rows, id, taken, &self.named);
         let rows = &self.rows;
@@ -127,7 +128,8 @@ impl Core {
     fn load(&mut self, id: Id, to: u32, taken: &Batch)
         requires there { is_admitted_in self.old id ≡ true }
         requires sited { length taken.now.items ≡ length self.old.named }
-        ensures { HasLoaded self.old self.new id to taken.now.items }
+        ensures exact { HasLoaded self.old self.new id to taken.now.items }
+        ensures timed { self.new.timed ≡ self.old.timed }
     {
         if !self.add_rows(id, taken) {
             return;
@@ -141,7 +143,8 @@ impl Core {
     fn apply_read(&mut self, taken: &Batch, to: u32)
         requires seen { IsTrue (is_looked_at self.old) }
         requires sited { length taken.now.items ≡ length self.old.named }
-        ensures { ForLedgers self.old (λ w l. ReadsAs w l self.old taken.now.items to self.new) }
+        ensures exact { ForLedgers self.old (λ w l. ReadsAs w l self.old taken.now.items to self.new) }
+        ensures timed { self.new.timed ≡ self.old.timed }
     {
         let Question::Recipients { id, .. } = self.question else {
             return;
@@ -167,6 +170,7 @@ impl Core {
         ensures exact { ForLedgers self.old
             (λ w l. LoadsAs w l self.old taken.now.items cursor.position self.new) }
         ensures answered { is_answered self.new.question ≡ true }
+        ensures timed { self.new.timed ≡ self.old.timed }
     {
         self.apply_read(taken, cursor.position);
         self.question = Question::Nothing;

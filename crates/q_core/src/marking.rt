@@ -35,8 +35,9 @@ impl Core {
     /// The first outcome's failure is logged.
     pub(crate) fn log(&mut self, id: Id)
         requires seen { IsTrue (is_looked_at self.old) }
-        ensures { (f : Failure) → FollowsRule self.old self.new
+        ensures exact { (f : Failure) → FollowsRule self.old self.new
             (λ w l. settling_rule l) (Entry.Log id f) }
+        ensures timed { self.new.timed ≡ self.old.timed }
     {
         self.note_log(id);
         self.want_mark();
@@ -66,8 +67,9 @@ impl Core {
     pub(crate) fn mark_first(&mut self, id: Id)
         requires some { 0 < length self.old.unsettled }
         requires seen { IsTrue (is_looked_at self.old) }
-        ensures { (at : ℕ) → FollowsRule self.old self.new
+        ensures exact { (at : ℕ) → FollowsRule self.old self.new
             (λ w l. settling_rule l) (Entry.Mark id at) }
+        ensures timed { self.new.timed ≡ self.old.timed }
     {
         self.note_mark(id);
         self.settle_first();

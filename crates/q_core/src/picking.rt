@@ -145,7 +145,8 @@ impl Core {
     /// The damaged file that is next goes to corrupt.
     pub(crate) fn corrupt_picked(&mut self)
         requires { IsTrue (is_looked_at self.old) }
-        ensures { (id : Id) → IsHidden self.old id → Follows self.old self.new (Entry.Corrupt id) }
+        ensures exact { (id : Id) → IsHidden self.old id → Follows self.old self.new (Entry.Corrupt id) }
+        ensures timed { self.new.timed ≡ self.old.timed }
     {
         let found = self.picked();
         let from_deferred = self.picks_deferred();
@@ -166,9 +167,10 @@ impl Core {
 
     /// The message comes last of those in memory, if it isn't among them and they have room.
     fn enter(&mut self, found: Found)
-        ensures { is_admitted_in self.old (found_slot found).id ≡ false
+        ensures exact { is_admitted_in self.old (found_slot found).id ≡ false
             → length self.old.admitted < self.old.params.active_limit
             → IsEntered self.old self.new found }
+        ensures timed { self.new.timed ≡ self.old.timed }
     {
         let slot = found.slot();
         let room = self.params.qmgr_message_active_limit as usize;
@@ -180,8 +182,9 @@ impl Core {
     /// The message that is next comes into memory.
     pub(crate) fn admit(&mut self)
         requires { IsTrue (is_looked_at self.old) }
-        ensures { (id : Id) → is_known self.old.incoming ≡ true
+        ensures exact { (id : Id) → is_known self.old.incoming ≡ true
             → Follows self.old self.new (Entry.Admit id) }
+        ensures timed { self.new.timed ≡ self.old.timed }
     {
         let found = self.picked();
         let from_deferred = self.picks_deferred();

@@ -68,7 +68,8 @@ impl Core {
         requires seen { IsTrue (is_looked_at self.old) }
         requires other { id_eq child parent ≡ false }
         requires parent { has_job self.old.lines transport parent ≡ true }
-        ensures { FollowsRule self.old self.new start_rule (Entry.Preempt child parent transport need) }
+        ensures exact { FollowsRule self.old self.new start_rule (Entry.Preempt child parent transport need) }
+        ensures timed { self.new.timed ≡ self.old.timed }
     {
         let left = self.job_left(parent, transport);
         self.move_job(child, parent, transport, u64::from(need), left);

@@ -45,6 +45,7 @@ impl Core {
     fn add_outcomes(&mut self, number: u64, outcomes: &[Outcome]) -> Option<Site>
         ensures added { AreAdded self.old self.new number outcomes.now result }
         ensures busy { IfSome result (λ site. 1 ≤ busy_in self.new.flights site) }
+        ensures timed { self.new.timed ≡ self.old.timed }
     {
         let Some(delivery) = self.delivery(number) else {
             return None;
@@ -92,6 +93,7 @@ impl Core {
         ensures landed { IsLanded self.old (with_sites self.old.sites self.new) number }
         ensures left { (f : DeliveryOf) → flight_in self.old number ≡ Some f
             → self.new.sites ≡ left_sites self.new self.old.sites f.row.site }
+        ensures timed { self.new.timed ≡ self.old.timed }
     {
         self.flights.stand_apart();
         let Some(delivery) = self.flights.get(number) else {
@@ -107,7 +109,8 @@ impl Core {
     /// Takes the reply of the delivery of this number, with an outcome for each recipient.
     pub(crate) fn hear_reply(&mut self, number: u64, state: SiteState, outcomes: &[Outcome])
         requires seen { IsTrue (is_looked_at self.old) }
-        ensures { FollowsAllowed self.old self.new (Entry.Reply number state outcomes.now) }
+        ensures exact { FollowsAllowed self.old self.new (Entry.Reply number state outcomes.now) }
+        ensures timed { self.new.timed ≡ self.old.timed }
     {
         let Some(site) = self.add_outcomes(number, outcomes) else {
             return;

@@ -55,6 +55,7 @@ impl Core {
         ensures left { AtRowFor self.old id site.now (λ r. self.new.sites
             ≡ left_sites self.new self.old.sites r.site) }
         ensures served { self.new.served ≡ tidied_served self.new.waiting self.old.served }
+        ensures timed { self.new.timed ≡ self.old.timed }
     {
         let fails = self.fails(id, site);
         let before = self.unsettled.len();
@@ -95,6 +96,7 @@ impl Core {
         ensures noted { AtFirst (is_for id site.now) self.old.waiting
             (λ entry. AtPlace self.old.waiting entry
             (λ r. IsLastSkip self.old r.positions self.new)) }
+        ensures timed { self.new.timed ≡ self.old.timed }
     {
         self.unqueue(id, site);
         self.tidy();

@@ -2,6 +2,7 @@
 ghost use Rattle.std.specs.Prelude.{◌≡◌, find};
 ghost use Rattle.std.specs.Option.{option_copied};
 ghost use Rattle.q_core.specs.Held.{is_dead_in, slot_in};
+ghost use Rattle.q_settings.specs.Ranges.{IsInRange};
 
 use crate::clock::Clock;
 use crate::decision::Found;
@@ -115,6 +116,13 @@ impl Core {
             Some(kept) => Some(&kept.slot),
             None => None,
         }
+    }
+
+    /// Its parameters are in their ranges: this does nothing, and is there for proofs that need it.
+    pub(crate) fn stand_in_range(&self)
+        ensures { IsInRange self.now.params }
+    {
+        let _least = self.params.qmgr_message_recipient_minimum;
     }
 
     pub(crate) fn is_dead_site(&self, site: &Site) -> bool

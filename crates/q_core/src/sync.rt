@@ -20,7 +20,8 @@ impl Core {
     pub(crate) fn sync(&mut self, id: Id)
         requires admitted { IsTrue (is_admitted_in self.old id) }
         requires seen { IsTrue (is_looked_at self.old) }
-        ensures { ForLedgers self.old (λ w l. Matches w self.new (after w l (Entry.Sync id))) }
+        ensures exact { ForLedgers self.old (λ w l. Matches w self.new (after w l (Entry.Sync id))) }
+        ensures timed { self.new.timed ≡ self.old.timed }
     {
         self.clear_marks(id);
         self.tidy();

@@ -1,6 +1,7 @@
 -- The load that the core asked for, carried out and told.
-use Rattle.std.proofs.Common.{◌≡◌, ◌∙◌, ◌+◌, ℕ, List, [], ◌∷◌, ◌++◌, map, take, slice_get, Some, refl, sym, ap, subst, inl, append_assoc}
-use Rattle.std.proofs.lemmas.List.{map-append}
+use Rattle.std.proofs.Common.{◌≡◌, ◌∙◌, ◌+◌, ◌<◌, ℕ, List, [], ◌∷◌, ◌++◌, length, map, take, slice_get, Some, true, refl, sym, ap, arith, subst, inl, append_assoc}
+use Rattle.std.proofs.lemmas.Bool.{lt-ltb}
+use Rattle.std.proofs.lemmas.List.{length-map, length-take-le, map-append}
 use Rattle.q_model.specs.declared.entry.Entry.TheVariants as entries
 use Rattle.q_model.specs.declared.id.Id.{Id}
 use Rattle.q_model.specs.Batches.{load_end}
@@ -20,10 +21,13 @@ use Rattle.q_books.specs.HostStands.{KeepsNotes, Takes}
 use Rattle.q_entries.specs.Entries.{DoesEntry, StopsEntry}
 use Rattle.q_entries.proofs.Lines.{changed_does, changed_stops, may_stop}
 use Rattle.q_core.specs.Agrees.{Agrees}
+use Rattle.q_core.specs.Loading.{may_name, may_name_for}
 use Rattle.q_core.specs.declared.state.Core.{Core}
+use Rattle.q_core.specs.declared.state.Question.{Question}
+use Rattle.q_core.specs.declared.state.Question.TheVariants.{Active, Deferred, Incoming, Nothing, Recipients}
 use Rattle.q_places.specs.declared.places.Places.{Places}
 use Rattle.q_engine.specs.KeptPlaces.{ArePlaced}
-use Rattle.q_engine.specs.Loads.{sites_of}
+use Rattle.q_engine.specs.Loads.{AsksFor, sites_of}
 use Rattle.q_engine.specs.Stands.{HasAsked, with_core}
 use Rattle.q_engine.specs.Steps.{WasCarriedOut, WasGivenUp}
 use Rattle.q_engine.specs.declared.engine.Engine.{Engine}
@@ -83,6 +87,22 @@ named_next old so_far core taken i t site is here routed named =
     ap (λ (c : Core). with_core c so_far) named
     ∙ ap (λ (e : Engine). with_core (record e.core.value { named = e.core.value.named ++ site ∷ [] }) e) is
     ∙ ap (λ (ss : List Site). with_core (record old.core.value { named = ss }) old) sites
+
+may_name_more : (q : Question) (n i : ℕ) → AsksFor q n → i < n → may_name_for q i ≡ true
+may_name_more Nothing n i asks h = absurd asks
+may_name_more Active n i asks h = absurd asks
+may_name_more Incoming n i asks h = absurd asks
+may_name_more Deferred n i asks h = absurd asks
+may_name_more (Recipients id from max) n i asks h = lt-ltb i max (omega (arith, asks, h))
+
+-- while fewer were named than were read, one more may be
+pub many_named : (old : Engine) (core : Core) (taken : List Taken) (i : ℕ) → i < length taken → AsksFor old.core.value.question (length taken) → old.core.value.named ≡ []
+    → core ≡ record old.core.value { named = old.core.value.named ++ sites_of old (take i taken) } → may_name core ≡ true
+many_named old core taken i below asks none is =
+    let sites = sites_of old (take i taken) in
+    let named : length core.named ≡ i =
+    ap (λ (c : Core). length c.named) is ∙ ap (λ (ss : List Site). length (ss ++ sites)) none ∙ length-map (take i taken) (λ (t : Taken). (table_of old.table).route t.address) ∙ length-take-le i taken (omega (arith, below)) in
+    ap (λ (c : Core). may_name_for c.question (length core.named)) is ∙ ap (may_name_for old.core.value.question) named ∙ may_name_more old.core.value.question (length taken) i asks below
 
 same_message : (b : Book) (id : Id) (m k : Message) → message_of b id ≡ Some m → message_of b id ≡ Some k → m ≡ k
 same_message b id m k e f = by (sym e ∙ f)

@@ -94,20 +94,6 @@ ok_stop before after made disk tell = record { disk_later = disk; tell_later = t
 pub memory_stop : {T : Type 0} (before after : Faults) → before.disk ≤ after.disk → before.tell ≤ after.tell → StopCause {T = T} before after (Err (stops.Host faults.NoMemory))
 memory_stop before after disk tell = record { disk_later = disk; tell_later = tell; disk = λ is. absurd cc; tell = λ is. absurd cc }
 
--- a call that answers want of memory alone
-pub only_memory : {T : Type 0} (before after : Faults) (r : Result T Stop) → ((stop : Stop) → IsErrOf r stop → stop ≡ stops.Host faults.NoMemory) → before.disk ≤ after.disk → before.tell ≤ after.tell → StopCause before after r
-only_memory before after r only disk tell = record {
-  disk_later = disk;
-  tell_later = tell;
-  disk = λ is. let bad : stops.Host faults.Disk ≡ stops.Host faults.NoMemory = only (stops.Host faults.Disk) is in absurd cc;
-  tell = λ is. let bad : stops.Host faults.Tell ≡ stops.Host faults.NoMemory = only (stops.Host faults.Tell) is in absurd cc;
-}
-
-pub memory_readable : {T : Type 0} (tells : Bool) (r : Result T Stop) → ((stop : Stop) → IsErrOf r stop → stop ≡ stops.Host faults.NoMemory) → FindsReadable tells r
-memory_readable tells r only t area name of =
-    let bad : stops.Unreadable area name ≡ stops.Host faults.NoMemory = only (stops.Unreadable area name) of in
-    absurd cc
-
 pub unreadable_stop : {T : Type 0} (before after : Faults) (spot : Spot) (made : Stop) → made ≡ unreadable spot → before.disk ≤ after.disk → before.tell ≤ after.tell → StopCause {T = T} before after (Err made)
 unreadable_stop before after spot made is disk tell = record { disk_later = disk; tell_later = tell; disk = λ of. absurd cc; tell = λ of. absurd cc }
 

@@ -15,3 +15,4 @@ pub mod Refusals
 pub mod Stands
 pub mod Steps
 pub mod Stops
+pub mod TakenOver

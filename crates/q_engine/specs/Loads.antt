@@ -1,5 +1,5 @@
 -- How recipients that were read come into memory.
-use Rattle.std.specs.Prelude.{◌≡◌, List, map, Some, ℕ}
+use Rattle.std.specs.Prelude.{◌≡◌, ◌≤◌, List, map, Some, ℕ}
 use Rattle.q_model.specs.declared.entry.Entry.TheVariants as entries
 use Rattle.q_model.specs.declared.id.Id.{Id}
 use Rattle.q_model.specs.Ledger.{Ledger}
@@ -10,7 +10,8 @@ use Rattle.q_model.specs.Values.{Site, Taken}
 use Rattle.q_transport.specs.Routing.{table_of}
 use Rattle.q_core.specs.Agrees.{Agrees}
 use Rattle.q_core.specs.declared.state.Core.{Core}
-use Rattle.q_core.specs.declared.state.Question.TheVariants.{Recipients}
+use Rattle.q_core.specs.declared.state.Question.{Question}
+use Rattle.q_core.specs.declared.state.Question.TheVariants.{Active, Deferred, Incoming, Nothing, Recipients}
 use Rattle.q_core.specs.Loading.{ReadsAre}
 use Rattle.q_engine.specs.declared.engine.Engine.{Engine}
 
@@ -25,3 +26,11 @@ AnswersRead w l engine taken to core = (id : Id) → (from max : ℕ)
     → engine.core.value.question ≡ Recipients id from max → next w l ≡ Some (entries.Load id from to)
     → ReadsAre w l (sites_of engine taken) id from to taken
     → Agrees w core (after w l (entries.Load id from to))
+
+-- a read waits for its answer that asks for so many recipients, or more
+abbrev pub AsksFor : Question → ℕ → Type 0
+AsksFor Nothing count = ⊥
+AsksFor Active count = ⊥
+AsksFor Incoming count = ⊥
+AsksFor Deferred count = ⊥
+AsksFor (Recipients id from max) count = count ≤ max

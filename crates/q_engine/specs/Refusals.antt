@@ -78,10 +78,16 @@ ForAgreed engine says = (w : World) → (l : Ledger) → Agrees w engine.core.va
 abbrev pub Flies : Engine → ℕ → Type 0
 Flies engine number = IsSome (flight_in engine.core.value number)
 
--- a message has a serial left, and a reply a delivery in flight
+-- a message is within the limits, and has a serial left
+pub record MayArrive (arrived : ℕ) (to : List (List ℕ)) (content : List ℕ) : Type 0 where
+  pub short : length content ≤ 10240000
+  pub few : length to ≤ 50000
+  pub serial : arrived < 2 ^ 32 - 1
+
+-- a message may arrive, and a reply has a delivery in flight
 abbrev pub IsPossible : Engine → Event → Type 0
 IsPossible engine (events.At t) = Unit {0}
-IsPossible engine (events.Mail sender to content) = engine.arrivals < 2 ^ 32 - 1
+IsPossible engine (events.Mail sender to content) = MayArrive engine.arrivals to content
 IsPossible engine (events.Reply number state os) = Flies engine number
 IsPossible engine (events.Trigger kind) = Unit {0}
 
@@ -89,7 +95,7 @@ IsPossible engine (events.Trigger kind) = Unit {0}
 abbrev pub IsAdmissible : Engine → Event → Type 0
 IsAdmissible engine (events.At t) = Unit {0}
 IsAdmissible engine (events.Mail sender to content) =
-    (engine.core.value.timed ≡ true) × (engine.arrivals < 2 ^ 32 - 1)
+    (engine.core.value.timed ≡ true) × MayArrive engine.arrivals to content
 IsAdmissible engine (events.Reply number state os) =
     (engine.core.value.timed ≡ true) × Flies engine number
 IsAdmissible engine (events.Trigger kind) = engine.core.value.timed ≡ true

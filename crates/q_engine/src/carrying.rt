@@ -1,14 +1,13 @@
 //! How each decision is carried out: the disk first, then its line.
-ghost use Rattle.q_engine.specs.KeptRows.{KeepsRow};
 ghost use Rattle.q_engine.specs.Marks.{mark_of};
 ghost use Rattle.q_engine.specs.Steps.{EachError};
 ghost use Rattle.q_engine.specs.Stops.{EachStop, FindsReadable, StopCause};
 ghost use Rattle.q_engine.specs.KeptPlaces.{IsForgotten, left_by};
+ghost use Rattle.q_engine.specs.TakenOver.{IsTakenOver};
 ghost use Rattle.q_places.specs.Kept.{IsFewer};
 ghost use Rattle.q_host.specs.View.{Told};
-ghost use Rattle.std.specs.Prelude.{◌≡◌, [], false, IsTrue, None, OnOk, true};
-ghost use Rattle.q_core.specs.Changes.{is_looked_at};
-ghost use Rattle.q_core.specs.Deciding.{is_answered, is_look, is_reading, question_of};
+ghost use Rattle.std.specs.Prelude.{◌≡◌, IsTrue, None, OnOk, true};
+ghost use Rattle.q_core.specs.Deciding.{is_answered};
 ghost use Rattle.q_engine.specs.Steps.{CarriesOut, GivesDecisionUp, HasNext};
 ghost use Rattle.q_entries.specs.Causes.{HostCause};
 
@@ -70,16 +69,13 @@ impl Engine {
         decision: &Decision,
     ) -> Result<(), HostError>
         requires decided { IsTrue H.tells → HasNext decision.now self.old (H.view host.old) }
-        requires question { self.old.core.value.question ≡ question_of decision.now }
-        requires no_look { is_look (question_of decision.now) ≡ false }
-        requires reads { is_reading (question_of decision.now) ≡ true
-            → (is_looked_at self.old.core.value ≡ true) × (self.old.core.value.named ≡ []) }
-        requires row { KeepsRow decision.now self.old.core.value }
+        requires taken { IsTakenOver decision.now self.old.core.value }
         requires forgotten { IsForgotten decision.now self.old }
         requires no_mark { mark_of decision.now ≡ None }
         ensures ok { OnOk result (Told H.tells H.view host.old host.new
             (CarriesOut decision.now self.old self.new)) }
         ensures answered { OnOk result (is_answered self.new.core.value.question ≡ true) }
+        ensures timed { OnOk result (self.new.core.value.timed ≡ self.old.core.value.timed) }
         ensures err { EachError result (λ error. Told H.tells H.view host.old host.new
             (GivesDecisionUp decision.now self.old error)) }
         ensures cause { HostCause (H.faults host.old) (H.faults host.new) result }
@@ -117,14 +113,11 @@ impl Engine {
         decision: &Decision,
     ) -> Result<(), Stop>
         requires decided { IsTrue H.tells → HasNext decision.now self.old (H.view host.old) }
-        requires question { self.old.core.value.question ≡ question_of decision.now }
-        requires no_look { is_look (question_of decision.now) ≡ false }
-        requires reads { is_reading (question_of decision.now) ≡ true
-            → (is_looked_at self.old.core.value ≡ true) × (self.old.core.value.named ≡ []) }
-        requires row { KeepsRow decision.now self.old.core.value }
+        requires taken { IsTakenOver decision.now self.old.core.value }
         ensures ok { OnOk result (Told H.tells H.view host.old host.new
             (CarriesOut decision.now self.old self.new)) }
         ensures answered { OnOk result (is_answered self.new.core.value.question ≡ true) }
+        ensures timed { OnOk result (self.new.core.value.timed ≡ self.old.core.value.timed) }
         ensures err { EachStop result (λ error. Told H.tells H.view host.old host.new
             (GivesDecisionUp decision.now self.old error)) }
         ensures readable { FindsReadable H.tells result }

@@ -34,6 +34,7 @@ impl Engine {
         ensures ok { OnOk result (Told H.tells H.view host.old host.new
             (HearsEvent (events.At moment) self.old self.new)) }
         ensures answered { OnOk result (is_answered self.new.core.value.question ≡ true) }
+        ensures timed { OnOk result (self.new.core.value.timed ≡ true) }
         ensures err { EachError result (λ error. Told H.tells H.view host.old host.new
             (StopsHearing (events.At moment) self.old error)) }
         ensures cause { HostCause (H.faults host.old) (H.faults host.new) result }
@@ -55,6 +56,7 @@ impl Engine {
         ensures ok { OnOk result (Told H.tells H.view host.old host.new
             (HearsEvent (events.Trigger kind) self.old self.new)) }
         ensures answered { OnOk result (is_answered self.new.core.value.question ≡ true) }
+        ensures timed { OnOk result (self.new.core.value.timed ≡ true) }
         ensures err { EachError result (λ error. Told H.tells H.view host.old host.new
             (StopsHearing (events.Trigger kind) self.old error)) }
         ensures cause { HostCause (H.faults host.old) (H.faults host.new) result }

@@ -1,7 +1,7 @@
 //! Which events are refused, before anything is done.
-ghost use Rattle.std.specs.Prelude.{◌≡◌, ◌<◌, ◌-◌, ◌^◌, IfNone, IfSome, true};
+ghost use Rattle.std.specs.Prelude.{◌≡◌, IfNone, IfSome, true};
 ghost use Rattle.q_engine.specs.Heard.{is_moment};
-ghost use Rattle.q_engine.specs.Refusals.{Flies, ForAgreed, is_early, is_of_event, IsAdmissible, IsPossible, refused_event, refused_kind, refused_mail, refused_reply, told_count};
+ghost use Rattle.q_engine.specs.Refusals.{Flies, ForAgreed, is_early, is_of_event, IsAdmissible, IsPossible, MayArrive, refused_event, refused_kind, refused_mail, refused_reply, told_count};
 ghost use Rattle.q_model.specs.Deliveries.{flight_of};
 
 use crate::engine::Engine;
@@ -20,7 +20,7 @@ fn counted(count: usize) -> u32
 
 fn mail_refusal(arrived: u32, to: &[Address], content: &[u8]) -> Option<EngineError>
     ensures exact { result ≡ refused_mail arrived to.now content.now }
-    ensures serial { IfNone result (arrived < 2 ^ 32 - 1) }
+    ensures possible { IfNone result (MayArrive arrived to.now content.now) }
     ensures kind { IfSome result (λ error. is_of_event error ≡ true) }
 {
     if content.len() > MOST_MAIL_BYTES as usize {

@@ -1,11 +1,11 @@
 //! Recipients of a message come into memory (postconf(5): qmgr_message_recipient_limit).
-ghost use Rattle.std.specs.Prelude.{◌≡◌, ◌++◌, [], IsTrue, OnOk, true};
+ghost use Rattle.std.specs.Prelude.{◌≡◌, ◌≤◌, ◌++◌, [], IsTrue, length, OnOk, true};
 ghost use Rattle.q_core.specs.Agrees.{ForLedgers};
 ghost use Rattle.q_core.specs.Changes.{is_looked_at};
-ghost use Rattle.q_core.specs.Deciding.{is_answered, is_reading, question_of};
+ghost use Rattle.q_core.specs.Deciding.{is_answered, question_of};
 ghost use Rattle.q_core.specs.declared.decision.Decision.TheVariants as decisions;
 ghost use Rattle.q_engine.specs.Stands.{with_core};
-ghost use Rattle.q_engine.specs.Loads.{AnswersRead, sites_of};
+ghost use Rattle.q_engine.specs.Loads.{AnswersRead, AsksFor, sites_of};
 ghost use Rattle.q_engine.specs.Steps.{CarriesOut, EachError, GivesDecisionUp, HasNext};
 ghost use Rattle.q_entries.specs.Causes.{HostCause};
 ghost use Rattle.q_host.specs.View.{Told};
@@ -16,45 +16,42 @@ use q_books::file_spot;
 use q_core::Found;
 use q_entries::tell;
 use q_host::{Host, HostError};
-use q_model::{Batch, Cursor, Entry, Id, NoMemory, Place};
+use q_model::{Batch, Cursor, Entry, Id, Place};
 use std::alloc::Global;
 
 impl Engine {
-    /// Names the sites of recipients that were read.
-    fn name_sites(&mut self, taken: &Batch) -> Result<(), NoMemory>
-        ensures ok { OnOk result (self.new ≡ record self.old {
+    /// Names the sites of recipients that were read, of which the read asked for so many.
+    fn name_sites(&mut self, taken: &Batch)
+        requires asked { AsksFor self.old.core.value.question (length taken.now.items) }
+        requires named { self.old.core.value.named ≡ [] }
+        ensures { self.new ≡ record self.old {
           core = record self.old.core {
             value = record self.old.core.value {
               named = self.old.core.value.named ++ sites_of self.old taken.now.items;
             };
           };
-        }) }
+        } }
     {
         for i in 0..taken.len() {
-            // A read asks for as many as are taken at least, so that this never comes.
-            if !self.core.may_name() {
-                return Err(NoMemory);
-            }
             let recipient = taken.get(i);
             let site = self.table.route(&recipient.address);
             self.core.sited(&site);
         }
-        Ok(())
     }
 
     /// Takes in recipients whose sites were named, and answers the read.
-    fn take_in(&mut self, taken: &Batch, next: Cursor) -> Result<(), NoMemory>
-        requires reading { is_reading self.old.core.value.question ≡ true }
+    fn take_in(&mut self, taken: &Batch, next: Cursor)
+        requires asked { AsksFor self.old.core.value.question (length taken.now.items) }
         requires looked { is_looked_at self.old.core.value ≡ true }
         requires named { self.old.core.value.named ≡ [] }
-        ensures ok { OnOk result (ForLedgers self.old.core.value (λ w l.
-            AnswersRead w l self.old taken.now.items next.position self.new.core.value)) }
-        ensures rest { OnOk result (self.new ≡ with_core self.new.core.value self.old) }
-        ensures answered { OnOk result (is_answered self.new.core.value.question ≡ true) }
+        ensures exact { ForLedgers self.old.core.value (λ w l.
+            AnswersRead w l self.old taken.now.items next.position self.new.core.value) }
+        ensures rest { self.new ≡ with_core self.new.core.value self.old }
+        ensures answered { is_answered self.new.core.value.question ≡ true }
+        ensures timed { self.new.core.value.timed ≡ self.old.core.value.timed }
     {
-        self.name_sites(taken)?;
+        self.name_sites(taken);
         self.core.loaded(taken, next);
-        Ok(())
     }
 
     /// Reads the next recipients of a message into memory, and tells how far it was read. A message
@@ -71,9 +68,11 @@ impl Engine {
             → HasNext (decisions.Read id from max) self.old (H.view host.old) }
         requires question { self.old.core.value.question ≡ question_of (decisions.Read id from max) }
         requires reads { (is_looked_at self.old.core.value ≡ true) × (self.old.core.value.named ≡ []) }
+        requires some { 1 ≤ max }
         ensures ok { OnOk result (Told H.tells H.view host.old host.new
             (CarriesOut (decisions.Read id from max) self.old self.new)) }
         ensures answered { OnOk result (is_answered self.new.core.value.question ≡ true) }
+        ensures timed { OnOk result (self.new.core.value.timed ≡ self.old.core.value.timed) }
         ensures err { EachError result (λ error. Told H.tells H.view host.old host.new
             (GivesDecisionUp (decisions.Read id from max) self.old error)) }
         ensures cause { HostCause (H.faults host.old) (H.faults host.new) result }
@@ -89,7 +88,7 @@ impl Engine {
             return Ok(());
         };
         let next = reading.progress.next;
-        self.take_in(&reading.taken, next)?;
+        self.take_in(&reading.taken, next);
         self.places
             .keep(alloc, id, reading.progress, &reading.taken);
         let to = next.position;

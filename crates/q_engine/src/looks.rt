@@ -1,13 +1,13 @@
 //! The looks that the core asks for before a decision is known.
 ghost use Rattle.q_host.specs.View.{Told};
-ghost use Rattle.std.specs.Prelude.{◌≡◌, false, IfOk, IfSome, IsTrue, None, OnErr, OnOk, true, []};
+ghost use Rattle.std.specs.Prelude.{◌≡◌, IfOk, IfSome, IsTrue, None, OnErr, OnOk, true};
 ghost use Rattle.q_books.specs.HostStands.{KeepsNotes};
 ghost use Rattle.q_core.specs.Agrees.{Agrees};
-ghost use Rattle.q_core.specs.Changes.{is_looked_at};
-ghost use Rattle.q_core.specs.Deciding.{is_answered, is_look, is_reading, question_for, question_of};
+ghost use Rattle.q_core.specs.Deciding.{is_answered, is_look, question_of};
 ghost use Rattle.q_core.specs.Looking.{LeavesFewer};
-ghost use Rattle.q_engine.specs.KeptRows.{KeepsRow};
 ghost use Rattle.q_engine.specs.Looks.{AnswersLook, FindsNext, IsShown, StaysAtBook};
+ghost use Rattle.q_engine.specs.Stands.{IsReady};
+ghost use Rattle.q_engine.specs.TakenOver.{IsTakenOver};
 ghost use Rattle.q_host.specs.Calls.{Stays};
 ghost use Rattle.q_host.specs.Faults.{DiskCause};
 ghost use Rattle.q_model.specs.FilesStand.{Stands};
@@ -56,6 +56,7 @@ impl Engine {
             (AnswersLook decision.now self.old self.new)) }
         ensures answered { OnOk result (is_answered self.new.core.value.question ≡ true) }
         ensures fewer { OnOk result (LeavesFewer self.old.core.value self.new.core.value) }
+        ensures timed { self.new.core.value.timed ≡ self.old.core.value.timed }
         ensures err { OnErr result (Told H.tells H.view host.old host.new (StaysAtBook self.old)) }
         ensures notes { IsTrue H.tells → KeepsNotes (H.view host.old) (H.view host.new) }
         ensures rest { self.new ≡ record self.old { core = self.new.core } }
@@ -73,17 +74,14 @@ impl Engine {
         alloc: Global,
         host: &mut H,
     ) -> Result<Option<Decision>, HostError>
-        requires { is_answered self.old.core.value.question ≡ true }
+        requires answered { is_answered self.old.core.value.question ≡ true }
+        requires timed { self.old.core.value.timed ≡ true }
         ensures ok { IfOk result (λ d. Told H.tells H.view host.old host.new
             (FindsNext d self.old self.new)) }
         ensures err { OnErr result (Told H.tells H.view host.old host.new (StaysAtBook self.old)) }
-        ensures question { IfOk result (λ d. self.new.core.value.question ≡ question_for d) }
-        ensures no_look { IfOk result (λ d. is_look (question_for d) ≡ false) }
-        ensures reads { IfOk result (λ d. is_reading (question_for d) ≡ true
-            → (is_looked_at self.new.core.value ≡ true) × (self.new.core.value.named ≡ [])) }
-        ensures row { IfOk result (λ d. IfSome d (λ d. KeepsRow d self.new.core.value)) }
-        ensures quiet { IfOk result (λ d. d ≡ None → self.new.core.value.timed ≡ true
-            → is_looked_at self.new.core.value ≡ true) }
+        ensures taken { IfOk result (λ d. IfSome d (λ d. IsTakenOver d self.new.core.value)) }
+        ensures ready { IfOk result (λ d. d ≡ None → IsReady self.new) }
+        ensures timed { self.new.core.value.timed ≡ true }
         ensures notes { IsTrue H.tells → KeepsNotes (H.view host.old) (H.view host.new) }
         ensures rest { self.new ≡ record self.old { core = self.new.core } }
         ensures cause { DiskCause (H.faults host.old) (H.faults host.new) result }

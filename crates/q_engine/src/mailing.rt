@@ -1,9 +1,10 @@
 //! A message comes: it is stored in incoming, and acknowledged by its line (RFC 5321, section 4.5.2).
 ghost use Rattle.q_engine.specs.Steps.{EachError};
 ghost use Rattle.q_host.specs.View.{Told};
-ghost use Rattle.std.specs.Prelude.{◌≡◌, ◌<◌, ◌≤◌, ◌^◌, ◌-◌, IsTrue, length, OnErr, OnOk, true};
+ghost use Rattle.std.specs.Prelude.{◌≡◌, ◌≤◌, IsTrue, length, OnErr, OnOk, true};
 ghost use Rattle.q_core.specs.Deciding.{is_answered};
 ghost use Rattle.q_engine.specs.Heard.{HearsEvent, StopsHearing};
+ghost use Rattle.q_engine.specs.Refusals.{MayArrive};
 ghost use Rattle.q_engine.specs.Stands.{IsReady};
 ghost use Rattle.q_entries.specs.Causes.{HostCause};
 ghost use Rattle.q_host.specs.Faults.{DiskCause};
@@ -19,8 +20,8 @@ use q_host::{Host, HostError};
 use q_model::{Address, Addresses, Bytes, Entry, Head, Id, Moment};
 use std::alloc::Global;
 
-/// Stores a message within the limits. Those are judged by the caller.
-pub(crate) fn store<H: Host>(
+/// Stores a message, which is within the limits.
+fn store<H: Host>(
     alloc: Global,
     host: &mut H,
     id: Id,
@@ -30,6 +31,8 @@ pub(crate) fn store<H: Host>(
 ) -> Result<(), HostError>
     requires arrival { head.now.arrival ≤ 999990000000 }
     requires some { 1 ≤ length to.now }
+    requires few { length to.now ≤ 50000 }
+    requires short { length content.now ≤ 20000000 }
     ensures ok { OnOk result (TakesBy (AddsMessage (H.view host.old).files id head.now to.now content.now)
         H.tells H.view host.old host.new) }
     ensures err { OnErr result (TriesBy (AddsMessage (H.view host.old).files id head.now to.now content.now)
@@ -40,8 +43,8 @@ pub(crate) fn store<H: Host>(
     match q_files::submit(alloc, host, id, head, to, content) {
         Ok(()) => Ok(()),
         Err(FileError::Disk) => Err(HostError::Disk),
-        // What is too large was refused before.
-        Err(_) => Err(HostError::NoMemory),
+        Err(FileError::NoMemory) => Err(HostError::NoMemory),
+        Err(FileError::TooBig | FileError::TooMany) => unreachable!(),
     }
 }
 
@@ -67,10 +70,11 @@ impl Engine {
         requires ready { IsReady self.old }
         requires timed { self.old.core.value.timed ≡ true }
         requires some { 1 ≤ length to }
-        requires serial { self.old.arrivals < 2 ^ 32 - 1 }
+        requires possible { MayArrive self.old.arrivals to content }
         ensures ok { OnOk result (Told H.tells H.view host.old host.new
             (HearsEvent (events.Mail sender to content) self.old self.new)) }
         ensures answered { OnOk result (is_answered self.new.core.value.question ≡ true) }
+        ensures timed { OnOk result (self.new.core.value.timed ≡ true) }
         ensures err { EachError result (λ error. Told H.tells H.view host.old host.new
             (StopsHearing (events.Mail sender to content) self.old error)) }
         ensures cause { HostCause (H.faults host.old) (H.faults host.new) result }

@@ -75,6 +75,7 @@ impl Engine {
         ensures ok { OnOk result (Told H.tells H.view host.old host.new
             (HearsEvent (events.Reply number site outcomes) self.old self.new)) }
         ensures answered { OnOk result (is_answered self.new.core.value.question ≡ true) }
+        ensures timed { OnOk result (self.new.core.value.timed ≡ true) }
         ensures err { EachError result (λ error. Told H.tells H.view host.old host.new
             (StopsHearing (events.Reply number site outcomes) self.old error)) }
         ensures cause { HostCause (H.faults host.old) (H.faults host.new) result }

@@ -131,10 +131,12 @@ fn read_on<H: Host>(
     requires there { IsThere H.tells (H.view host.old) spot }
     requires reading { TellsOf H.tells (H.view host.old) spot
         (λ bytes. HasCursor bytes recipients place) }
+    requires some { 1 ≤ max }
     ensures taken { IfOk result (λ r. (from : ℕ) → TellsOf H.tells (H.view host.old) spot
         (LeavesFrom from place.position)
         → TellsOf H.tells (H.view host.old) spot
         (AreRead from max r.taken.items r.progress.next.position)) }
+    ensures few { IfOk result (λ r. length r.taken.items ≤ max) }
     ensures progress { IfOk result (λ r. TellsOf H.tells (H.view host.old) spot
         (HasProgress r.progress)) }
     ensures no_message { OnNoMessage result (λ _. IsTrue H.tells → ⊥) }
@@ -142,10 +144,6 @@ fn read_on<H: Host>(
     ensures cause { ReadCause (H.faults host.old) (H.faults host.new) result }
 {
     let room = max.min(recipients.saturating_add(1));
-    if room == 0 {
-        // A read asks for one recipient at least where the host tells its files.
-        return Err(MessageError::NoMemory);
-    }
     let mut taken = Batch::new(alloc, room)?;
     let next = read_recipients(host, spot, recipients, place, room, &mut taken)?;
     Ok(Reading {
@@ -163,8 +161,10 @@ fn read_whole<H: Host>(
     max: u32,
 ) -> Result<Reading, MessageError>
     requires there { IsThere H.tells (H.view host.old) spot }
+    requires some { 1 ≤ max }
     ensures taken { IfOk result (λ r. TellsOf H.tells (H.view host.old) spot
         (AreRead from max r.taken.items r.progress.next.position)) }
+    ensures few { IfOk result (λ r. length r.taken.items ≤ max) }
     ensures progress { IfOk result (λ r. TellsOf H.tells (H.view host.old) spot
         (HasProgress r.progress)) }
     ensures no_message { OnNoMessage result (λ _. TellsOf H.tells (H.view host.old) spot
@@ -189,8 +189,10 @@ fn read_known<H: Host>(
 ) -> Result<Reading, MessageError>
     requires there { IsThere H.tells (H.view host.old) spot }
     requires known { TellsOf H.tells (H.view host.old) spot (HasProgress known.now) }
+    requires some { 1 ≤ max }
     ensures taken { IfOk result (λ r. TellsOf H.tells (H.view host.old) spot
         (AreRead from max r.taken.items r.progress.next.position)) }
+    ensures few { IfOk result (λ r. length r.taken.items ≤ max) }
     ensures progress { IfOk result (λ r. TellsOf H.tells (H.view host.old) spot
         (HasProgress r.progress)) }
     ensures no_message { OnNoMessage result (λ _. TellsOf H.tells (H.view host.old) spot
@@ -216,8 +218,10 @@ fn read_next<H: Host>(
     requires there { IsThere H.tells (H.view host.old) spot }
     requires known { IfSome known (λ p. TellsOf H.tells (H.view host.old) spot
         (HasProgress p.now)) }
+    requires some { 1 ≤ max }
     ensures taken { IfOk result (λ r. TellsOf H.tells (H.view host.old) spot
         (AreRead from max r.taken.items r.progress.next.position)) }
+    ensures few { IfOk result (λ r. length r.taken.items ≤ max) }
     ensures progress { IfOk result (λ r. TellsOf H.tells (H.view host.old) spot
         (HasProgress r.progress)) }
     ensures no_message { OnNoMessage result (λ _. TellsOf H.tells (H.view host.old) spot
@@ -245,8 +249,10 @@ pub(crate) fn read_pending<H: Host>(
     requires there { IsThere H.tells (H.view host.old) spot }
     requires known { IfSome known (λ p. TellsOf H.tells (H.view host.old) spot
         (HasProgress p.now)) }
+    requires some { 1 ≤ max }
     ensures taken { IfOk result (λ found. IfSome found (λ r. TellsOf H.tells (H.view host.old) spot
         (AreRead from max r.taken.items r.progress.next.position))) }
+    ensures few { IfOk result (λ found. IfSome found (λ r. length r.taken.items ≤ max)) }
     ensures progress { IfOk result (λ found. IfSome found (λ r. TellsOf H.tells (H.view host.old) spot
         (HasProgress r.progress))) }
     ensures none { IfOk result (λ found. IfNone found (TellsOf H.tells (H.view host.old) spot

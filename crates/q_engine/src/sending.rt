@@ -3,6 +3,7 @@ ghost use Rattle.q_engine.specs.Steps.{EachError};
 ghost use Rattle.q_host.specs.View.{Told};
 ghost use Rattle.std.specs.Prelude.{◌≡◌, IfOk, IsTrue, OnOk};
 ghost use Rattle.q_core.specs.declared.decision.Decision.TheVariants as decisions;
+ghost use Rattle.q_engine.specs.Refusals.{Flies};
 ghost use Rattle.q_engine.specs.Steps.{CarriesOut, GivesDecisionUp, HasNext};
 ghost use Rattle.q_entries.specs.Causes.{HostCause};
 
@@ -31,7 +32,9 @@ impl Engine {
         id: Id,
         site: Site,
     ) -> Result<(), HostError>
-        requires { IsTrue H.tells → HasNext (decisions.Start number id site) self.now (H.view host.old) }
+        requires decided { IsTrue H.tells
+            → HasNext (decisions.Start number id site) self.now (H.view host.old) }
+        requires flies { Flies self.now number }
         ensures ok { OnOk result (Told H.tells H.view host.old host.new
             (CarriesOut (decisions.Start number id site) self.now self.now)) }
         ensures err { EachError result (λ error. Told H.tells H.view host.old host.new
@@ -39,7 +42,7 @@ impl Engine {
         ensures cause { HostCause (H.faults host.old) (H.faults host.new) result }
     {
         let Some(positions) = self.core.entry_positions(number) else {
-            return Err(HostError::NoMemory);
+            unreachable!()
         };
         let positions = copied(alloc, positions)?;
         tell(

@@ -9,12 +9,12 @@ use Rattle.q_core.proofs.TidyLaws.{tidy_law}
 use Rattle.q_core.proofs.StepLaws.{HoldsRaw, raw_law}
 use Rattle.q_core.proofs.state.Core.admit.Goals as goal
 
-pub returns : goal.returns
+pub returns-clause-exact : goal.returns-clause-exact
 unfolding after
-returns c = λ id known w l a may.
+returns-clause-exact c = λ id known w l a may.
     let rows = admit_rows l id in
     let entered = λ (is : c.picked-found.result ≡ picked_in c.args.self.now) (fits : (is_admitted_in c.args.self.now (found_slot (picked_in c.args.self.now)).id ≡ false) × (length c.args.self.now.admitted < c.args.self.now.params.active_limit)).
-    subst (λ f. (is_admitted_in c.args.self.now (found_slot f).id ≡ false → length c.args.self.now.admitted < c.args.self.now.params.active_limit → IsEntered c.args.self.now c.enter.new.self f)) is c.enter.ensures fits.0 fits.1 in
+    subst (λ f. (is_admitted_in c.args.self.now (found_slot f).id ≡ false → length c.args.self.now.admitted < c.args.self.now.params.active_limit → IsEntered c.args.self.now c.enter.new.self f)) is c.enter.ensures.exact fits.0 fits.1 in
     let me = c.args.self.now in
     let passed : c.alternate.new.self ≡ passed_in (from_deferred_in me) (found_name (picked_in me)) c.enter.new.self =
     c.alternate.ensures

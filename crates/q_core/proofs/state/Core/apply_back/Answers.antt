@@ -4,9 +4,9 @@ use Rattle.q_core.specs.declared.decision.Decision.TheVariants as decisions
 use Rattle.q_core.proofs.AppliedLaws.{decided_rule, may_next}
 use Rattle.q_core.proofs.state.Core.apply_back.Goals as goal
 
-pub returns : goal.returns
-returns c = λ w l a.
+pub returns-clause-exact : goal.returns-clause-exact
+returns-clause-exact c = λ w l a.
     let id = c.args.id in
     let rule = decided_rule a (decisions.Back id) refl c.requires.decided in
     let next = rule.2 ∙ ap (λ e. Some e) rule.1 in
-    inl (entries.Back id, refl, next, c.back.ensures id w l a (may_next a (entries.Back id) next).0)
+    inl (entries.Back id, refl, next, c.back.ensures.exact id w l a (may_next a (entries.Back id) next).0)

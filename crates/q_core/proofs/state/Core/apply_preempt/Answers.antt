@@ -11,8 +11,8 @@ preempt-requires-clause-other c = other_child c.args.self.now c.args.child c.arg
 pub preempt-requires-clause-parent : goal.preempt-requires-clause-parent
 preempt-requires-clause-parent c = parent_there c.args.self.now c.args.child c.args.parent c.args.transport c.args.need c.requires.decided
 
-pub returns : goal.returns
-returns c = λ w l a.
+pub returns-clause-exact : goal.returns-clause-exact
+returns-clause-exact c = λ w l a.
     let child = c.args.child in
     let parent = c.args.parent in
     let transport = c.args.transport in
@@ -23,5 +23,5 @@ returns c = λ w l a.
       entries.Preempt child parent transport need,
       refl,
       k.0 ∙ preempts,
-      c.preempt.ensures w l a preempts,
+      c.preempt.ensures.exact w l a preempts,
     )

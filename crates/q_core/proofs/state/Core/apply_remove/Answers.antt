@@ -4,16 +4,16 @@ use Rattle.q_core.specs.declared.decision.Decision.TheVariants as decisions
 use Rattle.q_core.proofs.AppliedLaws.{decided_rule, may_next}
 use Rattle.q_core.proofs.state.Core.apply_remove.Goals as goal
 
-pub returns-then-has_slot : goal.returns-then-has_slot
-returns-then-has_slot c = λ w l a.
+pub returns-then-has_slot-clause-exact : goal.returns-then-has_slot-clause-exact
+returns-then-has_slot-clause-exact c = λ w l a.
     let id = c.args.id in
     let rule = decided_rule a (decisions.Remove id) refl c.requires.decided in
     let next = rule.2 ∙ ap (λ e. Some e) rule.1 in
-    inl (entries.Remove id, refl, next, c.remove.ensures (sym c.has_slot.ensures ∙ c.if-has_slot.true) w l a (may_next a (entries.Remove id) next).0)
+    inl (entries.Remove id, refl, next, c.remove.ensures.exact (sym c.has_slot.ensures ∙ c.if-has_slot.true) w l a (may_next a (entries.Remove id) next).0)
 
-pub returns-else-has_slot : goal.returns-else-has_slot
-returns-else-has_slot c = λ w l a.
+pub returns-else-has_slot-clause-exact : goal.returns-else-has_slot-clause-exact
+returns-else-has_slot-clause-exact c = λ w l a.
     let id = c.args.id in
     let rule = decided_rule a (decisions.Remove id) refl c.requires.decided in
     let next = rule.2 ∙ ap (λ e. Some e) rule.1 in
-    inl (entries.Remove id, refl, next, c.remove_left.ensures id (sym c.has_slot.ensures ∙ c.if-has_slot.false) w l a (may_next a (entries.Remove id) next).0)
+    inl (entries.Remove id, refl, next, c.remove_left.ensures.exact id (sym c.has_slot.ensures ∙ c.if-has_slot.false) w l a (may_next a (entries.Remove id) next).0)

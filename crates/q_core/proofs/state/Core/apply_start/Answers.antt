@@ -2,11 +2,11 @@ use Rattle.std.proofs.Common.{ap, ◌∙◌, inl, refl, Some}
 use Rattle.q_model.specs.declared.entry.Entry.TheVariants as entries
 use Rattle.q_core.specs.declared.decision.Decision.TheVariants as decisions
 use Rattle.q_core.proofs.LastRuleLaws.{next_is_start}
-use Rattle.q_core.proofs.ProcessDecisions.{decided_process}
+use Rattle.q_core.proofs.ProcessDecisions.{decided_start}
 use Rattle.q_core.proofs.state.Core.apply_start.Goals as goal
 
-pub returns : goal.returns
-returns c = λ w l a.
+pub returns-clause-exact : goal.returns-clause-exact
+returns-clause-exact c = λ w l a.
     let number = c.args.number in
     let id = c.args.id in
     let site = c.args.site in
@@ -17,8 +17,14 @@ returns c = λ w l a.
       entries.Start number id site positions,
       (positions, refl),
       k.0 ∙ starts,
-      c.start_delivery.ensures positions w l a starts,
+      c.start_delivery.ensures.exact positions w l a starts,
     )
 
+pub start_delivery-requires-clause-there : goal.start_delivery-requires-clause-there
+start_delivery-requires-clause-there c = (decided_start c.args.self.now c.args.number c.args.id c.args.site c.requires.decided).there
+
+pub start_delivery-requires-clause-next : goal.start_delivery-requires-clause-next
+start_delivery-requires-clause-next c = (decided_start c.args.self.now c.args.number c.args.id c.args.site c.requires.decided).next
+
 pub start_delivery-requires-clause-process : goal.start_delivery-requires-clause-process
-start_delivery-requires-clause-process c = decided_process c.args.self.now c.args.number c.args.id c.args.site c.requires.decided
+start_delivery-requires-clause-process c = (decided_start c.args.self.now c.args.number c.args.id c.args.site c.requires.decided).process

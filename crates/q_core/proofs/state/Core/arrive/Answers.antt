@@ -11,9 +11,9 @@ use Rattle.q_model.specs.Step.{may as may_of}
 use Rattle.q_core.specs.Agrees.{Matches}
 use Rattle.q_core.proofs.state.Core.arrive.Goals as goal
 
-pub returns : goal.returns
+pub returns-clause-exact : goal.returns-clause-exact
 unfolding after
-returns c = λ e k w l a may.
+returns-clause-exact c = λ e k w l a may.
     let id = c.args.id in
     let sender = k.0 in
     let to = k.1 in

@@ -8,9 +8,9 @@ use Rattle.q_core.proofs.TidyLaws.{tidy_law}
 use Rattle.q_core.proofs.StepLaws.{raw_law}
 use Rattle.q_core.proofs.state.Core.bounce.Goals as goal
 
-pub returns : goal.returns
+pub returns-clause-exact : goal.returns-clause-exact
 unfolding after
-returns c = λ adm w l a may.
+returns-clause-exact c = λ adm w l a may.
     let rows = bounce_rows l c.args.id in
     tidy_law l rows.waiting rows.flights
     (note_law (entries.Bounce c.args.id) (record { no_admit = λ id. refl; no_start_of = λ id t. refl; no_charge = λ id t. refl; no_start = refl })

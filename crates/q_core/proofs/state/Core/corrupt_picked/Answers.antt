@@ -12,9 +12,9 @@ use Rattle.q_core.proofs.StepLaws.{HoldsRaw, raw_law}
 use Rattle.q_core.proofs.CorruptNextLaws.{corrupt_picked_law}
 use Rattle.q_core.proofs.state.Core.corrupt_picked.Goals as goal
 
-pub returns : goal.returns
+pub returns-clause-exact : goal.returns-clause-exact
 unfolding after
-returns c = λ id k w l a may.
+returns-clause-exact c = λ id k w l a may.
     let rows = corrupt_rows l id in
     let me = c.args.self.now in
     let blind : Core = record me { active = Unknown; incoming = Unknown; deferred = Unknown } in

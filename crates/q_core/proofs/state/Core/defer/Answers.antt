@@ -8,10 +8,10 @@ use Rattle.q_core.proofs.TidyLaws.{tidy_law}
 use Rattle.q_core.proofs.StepLaws.{raw_law}
 use Rattle.q_core.proofs.state.Core.defer.Goals as goal
 
-pub returns : goal.returns
+pub returns-clause-exact : goal.returns-clause-exact
 unfolding after
-returns c = λ due w l a may.
+returns-clause-exact c = λ due w l a may.
     tidy_law l refl refl
     (note_law (entries.Defer c.args.id due) (record { no_admit = λ id. refl; no_start_of = λ id t. refl; no_charge = λ id t. refl; no_start = refl })
-    (defer_law c.args.id due (raw_law a.matches c.requires) a.consistent may (c.put_off.ensures (deferred_rows a.matches.parts a.consistent c.args.id due may))))
+    (defer_law c.args.id due (raw_law a.matches c.requires) a.consistent may (c.put_off.ensures.exact (deferred_rows a.matches.parts a.consistent c.args.id due may))))
     c.tidy.ensures

@@ -8,4 +8,4 @@ use Rattle.q_model.specs.Step.{after}
 use Rattle.q_core.proofs.state.Core.event.Goals as goal
 
 pub returns-clause-exact : goal.returns-clause-exact
-returns-clause-exact c = λ w l a e k may. heard_law c.args.heard e c.requires.time a k may (question_law Nothing (subst (λ (s : State). Matches w s (after w l e)) (sym c.self.view_is) (c.hear.ensures e k w l a may)))
+returns-clause-exact c = λ w l a e k may. heard_law c.args.heard e c.requires.time a k may (question_law Nothing (subst (λ (s : State). Matches w s (after w l e)) (sym c.self.view_is) (c.hear.ensures.exact e k w l a may)))

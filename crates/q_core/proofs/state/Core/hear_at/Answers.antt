@@ -10,9 +10,9 @@ use Rattle.q_core.specs.Changes.{asked_when_due, revived_by, used_sites, with_si
 use Rattle.q_core.specs.declared.state.Core.{Core}
 use Rattle.q_core.proofs.state.Core.hear_at.Goals as goal
 
-pub returns : goal.returns
+pub returns-clause-exact : goal.returns-clause-exact
 unfolding after
-returns c = λ w l a.
+returns-clause-exact c = λ w l a.
     let st = revived_by c.args.moment c.args.self.now in
     let y = c.wake.new.self in
     let z = c.ask_when_due.new.self in

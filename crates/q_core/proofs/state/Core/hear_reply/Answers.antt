@@ -10,16 +10,16 @@ use Rattle.q_core.specs.Queries.{flight_in}
 use Rattle.q_core.specs.declared.state.Core.{Core}
 use Rattle.q_core.proofs.state.Core.hear_reply.Goals as goal
 
-pub returns-in_default : goal.returns-in_default
-returns-in_default c = λ w l a may.
+pub returns-in_default-clause-exact : goal.returns-in_default-clause-exact
+returns-in_default-clause-exact c = λ w l a may.
     let f = reply_in_flight a c.args.number c.args.state c.args.outcomes.now may in
     let none : AreAdded c.args.self.now c.add_outcomes.new.self c.args.number c.args.outcomes.now None =
     subst (λ (o : Option Site). AreAdded c.args.self.now c.add_outcomes.new.self c.args.number c.args.outcomes.now o) c.in_default.is c.add_outcomes.ensures.added in
     let bad : true ≡ false = sym (flight_has_space a c.args.number f.0 f.1) ∙ none f.0 f.1 in cc
 
-pub returns : goal.returns
+pub returns-clause-exact : goal.returns-clause-exact
 unfolding after
-returns c = λ w l a may.
+returns-clause-exact c = λ w l a may.
     let f = reply_in_flight a c.args.number c.args.state c.args.outcomes.now may in
     let added : AreAdded c.args.self.now c.add_outcomes.new.self c.args.number c.args.outcomes.now (Some c.in-Some.site) =
     subst (λ (o : Option Site). AreAdded c.args.self.now c.add_outcomes.new.self c.args.number c.args.outcomes.now o) c.in-Some.is c.add_outcomes.ensures.added in

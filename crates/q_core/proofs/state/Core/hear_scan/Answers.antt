@@ -8,9 +8,9 @@ use Rattle.q_core.proofs.NoteLaws.{note_law}
 use Rattle.q_core.proofs.TidyLaws.{tidy_law}
 use Rattle.q_core.proofs.state.Core.hear_scan.Goals as goal
 
-pub returns : goal.returns
+pub returns-clause-exact : goal.returns-clause-exact
 unfolding after
-returns c = λ w l a.
+returns-clause-exact c = λ w l a.
     let asked : HoldsRaw w c.ask_scan.new.self (ask_scan l) =
     subst (λ k. HoldsRaw w k (ask_scan l)) (sym c.ask_scan.ensures) (ask_law (raw_law a.matches c.requires)) in
     let rows = ask_rows l in

@@ -12,5 +12,5 @@ use Rattle.q_core.proofs.state.Core.loaded.Goals as goal
 pub returns-clause-exact : goal.returns-clause-exact
 returns-clause-exact c = λ w l a id from max asks next reads.
     let load = entries.Load id from c.args.cursor.position in
-    let k : Matches w _ (after w l load) = subst (λ (s : State). Matches w s (after w l load)) (sym c.self.view_is) (c.apply_read.ensures w l a id from max asks (may_next a load next).0 reads) in
+    let k : Matches w _ (after w l load) = subst (λ (s : State). Matches w s (after w l load)) (sym c.self.view_is) (c.apply_read.ensures.exact w l a id from max asks (may_next a load next).0 reads) in
     whole_law load a (inr next) refl (inner_moment w l load refl a.moment) (question_law Nothing k)

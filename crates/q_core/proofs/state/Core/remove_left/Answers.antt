@@ -9,9 +9,9 @@ use Rattle.q_core.proofs.TidyLaws.{tidy_law}
 use Rattle.q_core.proofs.StepLaws.{HoldsRaw, raw_law}
 use Rattle.q_core.proofs.state.Core.remove_left.Goals as goal
 
-pub returns : goal.returns
+pub returns-clause-exact : goal.returns-clause-exact
 unfolding after
-returns c = λ id gone w l a may.
+returns-clause-exact c = λ id gone w l a may.
     tidy_law l refl refl
     (note_law (entries.Remove id) (record { no_admit = λ id. refl; no_start_of = λ id t. refl; no_charge = λ id t. refl; no_start = refl })
     (subst (λ k. HoldsRaw w k (after_remove l id)) (sym c.forget_mail.ensures) (remove_left_law id (raw_law a.matches c.requires) a.consistent (sym (same_admitted a.matches.parts id) ∙ gone) may)))

@@ -19,9 +19,9 @@ left_first : (l : Ledger) (id : Id) → is_admitted l id ≡ false → Says l (e
 left_first l id gone (inl here) = let bad : true ≡ false = sym here ∙ gone in absurd cc
 left_first l id gone (inr one) = one.3
 
-pub returns : goal.returns
+pub returns-clause-exact : goal.returns-clause-exact
 unfolding after
-returns c = λ apart w l a decided.
+returns-clause-exact c = λ apart w l a decided.
     let entry = entries.Sync c.args.id in
     let gone = sym (same_admitted a.matches.parts c.args.id) ∙ apart in
     let both = next_decided w l entry a.consistent decided in

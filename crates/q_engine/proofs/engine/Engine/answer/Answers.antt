@@ -33,3 +33,6 @@ look-requires g c = ap is_look (sym c.requires.asked) ∙ c.requires.look
 
 pub returns-clause-fewer : goal.returns-clause-fewer
 returns-clause-fewer g c = subst (λ (k : Core). LeavesFewer k c.found.new.self) c.deref_mut.ensures.value c.found.ensures.fewer
+
+pub returns-clause-timed : goal.returns-clause-timed
+returns-clause-timed g c = c.found.ensures.timed ∙ ap (λ (k : Core). k.timed) c.deref_mut.ensures.value

@@ -1,7 +1,8 @@
 use Rattle.std.proofs.Common.{◌∙◌, Some, ap, subst, sym}
 use Rattle.q_books.proofs.Results.{on_ok}
+use Rattle.q_files.proofs.Outcomes.{always_ok}
 use Rattle.q_core.specs.declared.decision.Decision.{Decision}
-use Rattle.q_engine.specs.KeptRows.{KeepsRow}
+use Rattle.q_engine.specs.TakenOver.{IsTakenOver}
 use Rattle.q_engine.specs.Stands.{IsNextEntry}
 use Rattle.q_engine.specs.declared.engine.Engine.{Engine}
 use Rattle.q_engine.proofs.CarriedOut.{next_fewer}
@@ -63,7 +64,13 @@ pub returns-clause-answered : goal.returns-clause-answered
 returns-clause-answered g c = on_ok c.mark.result (λ told.
     let d = c.args.decision.now in
     let same = c.mark.ensures.core ∙ ap (λ (e : Engine). e.core) c.forget_left.ensures.rest in
-    mark_answered d c.in-Some.mark c.mark.new.self.core.value.question (sym c.mark_of.ensures ∙ c.in-Some.is) (ap (λ core. core.value.question) same ∙ c.requires.question)) c.mark.ensures.ok
+    mark_answered d c.in-Some.mark c.mark.new.self.core.value.question (sym c.mark_of.ensures ∙ c.in-Some.is) (ap (λ core. core.value.question) same ∙ c.requires.taken.question)) c.mark.ensures.ok
 
-pub dispatch-requires-clause-row : goal.dispatch-requires-clause-row
-dispatch-requires-clause-row g c = subst (λ (e : Engine). KeepsRow c.args.decision.now e.core.value) (sym c.forget_left.ensures.rest) c.requires.row
+pub dispatch-requires-clause-taken : goal.dispatch-requires-clause-taken
+dispatch-requires-clause-taken g c = subst (λ (e : Engine). IsTakenOver c.args.decision.now e.core.value) (sym c.forget_left.ensures.rest) c.requires.taken
+
+pub returns-in_default-clause-timed : goal.returns-in_default-clause-timed
+returns-in_default-clause-timed g c = c.in_ok-dispatch.ensures.timed ∙ ap (λ (e : Engine). e.core.value.timed) c.forget_left.ensures.rest
+
+pub returns-clause-timed : goal.returns-clause-timed
+returns-clause-timed g c = always_ok c.mark.result (ap (λ core. core.value.timed) (c.mark.ensures.core ∙ ap (λ (e : Engine). e.core) c.forget_left.ensures.rest))

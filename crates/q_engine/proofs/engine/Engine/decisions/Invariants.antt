@@ -12,6 +12,7 @@ invariant-loop g l =
     let faults = g.H.Host.faults in
     record {
       answered : is_answered l.self.core.value.question ≡ true;
+      timed : l.self.core.value.timed ≡ true;
       went : IsTrue g.H.Host.tells → (w : World) (k : Ledger) → EngineStands w l.fn.self (view l.fn.host) k → Went w k l.counter l.self (view l.fn.host) (view l.host);
       disk_later : (faults l.fn.host).disk ≤ (faults l.host).disk;
       tell_later : (faults l.fn.host).tell ≤ (faults l.host).tell;

@@ -1,4 +1,5 @@
-use Rattle.std.proofs.Common.{IsTrue, ap, subst}
+use Rattle.std.proofs.Common.{◌∙◌, IsTrue, Some, ap, subst}
+use Rattle.q_core.specs.Deciding.{AsksSome, BeginsFlight, is_reading, question_of}
 use Rattle.q_core.specs.declared.decision.Decision.{Decision}
 use Rattle.q_engine.specs.KeptRows.{KeepsRow}
 use Rattle.q_engine.specs.KeptPlaces.{left_by}
@@ -46,4 +47,16 @@ pub remove-requires-clause-forgotten : goal.remove-requires-clause-forgotten
 remove-requires-clause-forgotten g c = c.requires.forgotten c.in-Remove.id (ap left_by c.in-Remove.is)
 
 pub skip-requires-clause-row : goal.skip-requires-clause-row
-skip-requires-clause-row g c = subst (λ (d : Decision). KeepsRow d c.args.self.now.core.value) c.in-Skip.is c.requires.row
+skip-requires-clause-row g c = subst (λ (d : Decision). KeepsRow d c.args.self.now.core.value) c.in-Skip.is c.requires.taken.row
+
+pub start-requires-clause-flies : goal.start-requires-clause-flies
+start-requires-clause-flies g c = subst (λ (d : Decision). BeginsFlight (Some d) c.args.self.now.core.value.flights) c.in-Start.is c.requires.taken.flies
+
+pub load-requires-clause-question : goal.load-requires-clause-question
+load-requires-clause-question g c = c.requires.taken.question ∙ ap question_of c.in-Read.is
+
+pub load-requires-clause-reads : goal.load-requires-clause-reads
+load-requires-clause-reads g c = c.requires.taken.reads (ap (λ (d : Decision). is_reading (question_of d)) c.in-Read.is)
+
+pub load-requires-clause-some : goal.load-requires-clause-some
+load-requires-clause-some g c = subst (λ (d : Decision). AsksSome (question_of d)) c.in-Read.is c.requires.taken.some

@@ -24,7 +24,7 @@ returns-in_err-store-clause-err g c error is t w l h =
     let i : Id = mail_id w l engine v h in
     let e = entries.Arrive i c.args.sender c.args.to c.args.content in
     let k = (change w l e).book in
-    let adds = mail_adds w l engine v h c.args.sender c.args.to c.args.content c.now.result (c.now.ensures.ledger w l (lent_agrees w l _ _ c.deref.ensures h.core)) (omega arith) c.requires.serial in
+    let adds = mail_adds w l engine v h c.args.sender c.args.to c.args.content c.now.result (c.now.ensures.ledger w l (lent_agrees w l _ _ c.deref.ensures h.core)) (omega arith) c.requires.possible.serial in
     subst (λ (j : Id). StopsEntry w.table (entries.Arrive j c.args.sender c.args.to c.args.content) l.book (after w l (entries.Arrive j c.args.sender c.args.to c.args.content)).book error v x) (mail_next w l engine v h)
     (stopped w l e engine v h k error x refl (may_stop (table_of engine.table) e l.book k error v x (c.in_err-store.ensures.err t l.book k h.host (adds_as v.files i (record { sender = c.args.sender; arrival = c.now.result }) c.head_of-head.result c.args.to c.args.content c.as_slice.result.now l.book k c.head_of-head.ensures c.as_slice.ensures adds))))
 
@@ -37,7 +37,7 @@ returns-clause-ok g c = on_ok c.tell.result (λ told t w l h.
     let i : Id = mail_id w l engine v h in
     let e = entries.Arrive i c.args.sender c.args.to c.args.content in
     let k = (change w l e).book in
-    let adds = mail_adds w l engine v h c.args.sender c.args.to c.args.content c.now.result (c.now.ensures.ledger w l (lent_agrees w l _ _ c.deref.ensures h.core)) (omega arith) c.requires.serial in
+    let adds = mail_adds w l engine v h c.args.sender c.args.to c.args.content c.now.result (c.now.ensures.ledger w l (lent_agrees w l _ _ c.deref.ensures h.core)) (omega arith) c.requires.possible.serial in
     let takes = c.in_ok-store.ensures.ok t l.book k h.host (adds_as v.files i (record { sender = c.args.sender; arrival = c.now.result }) c.head_of-head.result c.args.to c.args.content c.as_slice.result.now l.book k c.head_of-head.ensures c.as_slice.ensures adds) in
     let core = c.event.ensures.exact w l (lent_agrees w l _ _ c.deref_mut.ensures.value h.core) e (c.args.sender, c.args.to, c.args.content, refl) (mail_allowed w l engine v h c.args.sender c.args.to c.args.content c.requires.timed) in
     let left : Engine = record (with_core c.event.new.self engine) { arrivals = engine.arrivals + 1 } in
@@ -54,7 +54,7 @@ returns-clause-err g c error is t w l h =
     let i : Id = mail_id w l engine v h in
     let e = entries.Arrive i c.args.sender c.args.to c.args.content in
     let k = (change w l e).book in
-    let adds = mail_adds w l engine v h c.args.sender c.args.to c.args.content c.now.result (c.now.ensures.ledger w l (lent_agrees w l _ _ c.deref.ensures h.core)) (omega arith) c.requires.serial in
+    let adds = mail_adds w l engine v h c.args.sender c.args.to c.args.content c.now.result (c.now.ensures.ledger w l (lent_agrees w l _ _ c.deref.ensures h.core)) (omega arith) c.requires.possible.serial in
     let takes = c.in_ok-store.ensures.ok t l.book k h.host (adds_as v.files i (record { sender = c.args.sender; arrival = c.now.result }) c.head_of-head.result c.args.to c.args.content c.as_slice.result.now l.book k c.head_of-head.ensures c.as_slice.ensures adds) in
     subst (λ (j : Id). StopsEntry w.table (entries.Arrive j c.args.sender c.args.to c.args.content) l.book (after w l (entries.Arrive j c.args.sender c.args.to c.args.content)).book error v x) (mail_next w l engine v h)
     (stopped w l e engine v h k error x refl (changed_stops (table_of engine.table) e l.book k v m x takes error (c.tell.ensures.err error is t k takes.stands)))

@@ -1,4 +1,4 @@
-use Rattle.std.proofs.Common.{◌≡◌, ◌∙◌, Option, subst, sym}
+use Rattle.std.proofs.Common.{◌≡◌, ◌≤◌, ◌∙◌, length, Option, subst, sym}
 use Rattle.std.specs.Option.{IfSome}
 use Rattle.std.specs.Prelude.{IfNone, None}
 use Rattle.q_books.proofs.Joining.{reads_keep}
@@ -12,6 +12,8 @@ use Rattle.q_model.specs.QueueFile.{queue_file}
 use Rattle.q_model.specs.declared.entry.Entry.TheVariants as entries
 use Rattle.q_transport.specs.Routing.{table_of}
 use Rattle.q_engine.specs.KeptPlaces.{ArePlaced, HasProgress, IsReadTo}
+use Rattle.q_core.specs.declared.state.Question.{Question}
+use Rattle.q_engine.specs.Loads.{AsksFor}
 use Rattle.q_engine.specs.Pending.{AreRead}
 use Rattle.q_engine.specs.Steps.{WasCarriedOut}
 use Rattle.q_engine.specs.declared.engine.Engine.{Engine}
@@ -26,6 +28,7 @@ use Rattle.q_engine.proofs.engine.Engine.load.Goals as goal
 
 pub read_pending-requires : goal.read_pending-requires
 read_pending-requires g c = record {
+  some = c.requires.some;
   there = λ t.
       let (w, l, n) = c.requires.decided t in
       let a = load_speaks w l c.args.id c.args.from (load_end n.message c.args.from c.args.max) n.stands.core.consistent n.following in
@@ -56,13 +59,6 @@ returns-in_default-clause-ok g c t w l n =
     let none = subst (λ (o : Option Reading). IfNone o (TellsOf g.H.Host.tells v spot (λ bytes. queue_file bytes ≡ None))) c.in_default.is c.in_ok-reading.ensures.none in
     absurd {A = WasCarriedOut w l (with_core c.found.new.self c.args.self.now) v (g.H.Host.view c.read_pending.new.host)} (file_whole (bytes_at v spot) file.0 (file_message a.0) file.1 file.2 (none t))
 
-pub returns-in_err-take_in-clause-err : goal.returns-in_err-take_in-clause-err
-returns-in_err-take_in-clause-err g c error is t w l n =
-    let v = g.H.Host.view c.args.host.now in
-    let x = g.H.Host.view c.read_pending.new.host in
-    let lawful : TellsCrashes v = record { only = g.met.H.Host.only_now c.args.host.now; told = g.met.H.Host.told_stays c.args.host.now } in
-    load_given_up w l c.args.id c.args.from c.args.max c.args.self.now v n error x (reads_keep l.book l.book v x lawful (c.in_ok-reading.ensures.stays t) n.stands.host)
-
 pub returns-clause-ok : goal.returns-clause-ok
 returns-clause-ok g c = on_ok c.tell.result (λ told t w l n.
     let id = c.args.id in
@@ -82,8 +78,8 @@ returns-clause-ok g c = on_ok c.tell.result (λ told t w l n.
     let read = read_of (bytes_at v spot) file.0 (file_message a.0) from max to items file.1 file.2 (taken t) in
     let following = next_load w l id from max engine v n a.0 to a.1.message.there (ends w l id a.0 engine from max to items a.1 read) in
     let reads = reads_are w l id a.0 engine from max to items a.1 read n.stands.table in
-    let agrees = c.in_ok-take_in.ensures.ok w l n.stands.core id from max c.requires.question following reads in
-    let same = c.in_ok-take_in.ensures.rest in
+    let agrees = c.take_in.ensures.exact w l n.stands.core id from max c.requires.question following reads in
+    let same = c.take_in.ensures.rest in
     let progress = subst (λ (o : Option Reading). IfSome o (λ r. TellsOf g.H.Host.tells v spot (HasProgress r.progress))) c.in-Some.is c.in_ok-reading.ensures.progress in
     let upto = read_to c.in-Some.reading.progress a.0 file.0 file.2 (told_of (bytes_at v spot) file.0 (HasProgress c.in-Some.reading.progress) file.1 (progress t)) in
     let before = subst (λ (e : Engine). ArePlaced e.places l.book) (sym same) n.stands.places in
@@ -112,5 +108,11 @@ returns-clause-err g c error is t w l n =
     let read = read_of (bytes_at v spot) file.0 (file_message a.0) from max to items file.1 file.2 (taken t) in
     let following = next_load w l id from max engine v n a.0 to a.1.message.there (ends w l id a.0 engine from max to items a.1 read) in
     let takes = reads_keep l.book l.book v m lawful (c.in_ok-reading.ensures.stays t) n.stands.host in
-    let stops = subst (λ (e : Engine). StopsEntry (table_of e.table) (entries.Load id from to) l.book l.book error m x) c.in_ok-take_in.ensures.rest (c.tell.ensures.err error is t l.book takes.stands) in
+    let stops = subst (λ (e : Engine). StopsEntry (table_of e.table) (entries.Load id from to) l.book l.book error m x) c.take_in.ensures.rest (c.tell.ensures.err error is t l.book takes.stands) in
     load_untold w l id from max engine v n to error m x following takes stops
+
+pub take_in-requires-clause-asked : goal.take_in-requires-clause-asked
+take_in-requires-clause-asked g c =
+    let items = c.in-Some.reading.taken.items in
+    let few = subst (λ (o : Option Reading). IfSome o (λ r. length r.taken.items ≤ c.args.max)) c.in-Some.is c.in_ok-reading.ensures.few in
+    subst (λ (q : Question). AsksFor q (length items)) (sym c.requires.question) few

@@ -1,6 +1,6 @@
 use Rattle.std.proofs.Common.{◌≡◌, ◌∙◌, arith, ap, sym, subst, Option, true}
 use Rattle.q_entries.proofs.Playing.{reads_then}
-use Rattle.q_core.specs.Deciding.{AsksOnly, is_look, NotesSkip, question_for}
+use Rattle.q_core.specs.Deciding.{AsksSome, BeginsFlight, is_answered, is_look, is_reading, NotesSkip, question_for}
 use Rattle.q_core.specs.Looking.{looks_left}
 use Rattle.q_core.specs.declared.decision.Decision.{Decision}
 use Rattle.q_core.specs.declared.state.Core.{Core}
@@ -11,11 +11,20 @@ use Rattle.q_engine.proofs.StoredNotes.{keeps_then}
 use Rattle.q_engine.proofs.Boxed.{lent_agrees}
 use Rattle.q_engine.proofs.engine.Engine.next_entry.Goals as goal
 
-pub returns-in_default-clause-quiet : goal.returns-in_default-clause-quiet
-returns-in_default-clause-quiet g c same timed =
-    let asked = subst (λ (k : Core). AsksOnly k c.next_decision.result c.next_decision.new.self) c.deref_mut.ensures.value c.next_decision.ensures.asked in
-    let unchanged = subst (λ (o : Option Decision). AsksOnly c.loop-decision.self.core.value o c.next_decision.new.self) c.in_default.is asked in
-    c.next_decision.ensures.quiet c.in_default.is (ap (λ (x : Core). x.timed) c.deref_mut.ensures.value ∙ ap (λ (x : Core). x.timed) (sym unchanged) ∙ timed)
+pub returns-in_default-clause-ready : goal.returns-in_default-clause-ready
+returns-in_default-clause-ready g c same = record {
+  answered = ap is_answered (c.next_decision.ensures.question ∙ ap question_for c.in_default.is);
+  looked = c.next_decision.ensures.quiet c.in_default.is (ap (λ (x : Core). x.timed) c.deref_mut.ensures.value ∙ c.loop-decision.invariant.timed);
+}
+
+pub returns-in_default-clause-timed : goal.returns-in_default-clause-timed
+returns-in_default-clause-timed g c = c.next_decision.ensures.timed ∙ ap (λ (x : Core). x.timed) c.deref_mut.ensures.value ∙ c.loop-decision.invariant.timed
+
+pub returns-then-not-is_looking-clause-timed : goal.returns-then-not-is_looking-clause-timed
+returns-then-not-is_looking-clause-timed g c = c.next_decision.ensures.timed ∙ ap (λ (x : Core). x.timed) c.deref_mut.ensures.value ∙ c.loop-decision.invariant.timed
+
+pub returns-in_err-answer-clause-timed : goal.returns-in_err-answer-clause-timed
+returns-in_err-answer-clause-timed g c = c.in_err-answer.ensures.timed ∙ c.next_decision.ensures.timed ∙ ap (λ (x : Core). x.timed) c.deref_mut.ensures.value ∙ c.loop-decision.invariant.timed
 
 pub returns-then-not-is_looking-clause-ok : goal.returns-then-not-is_looking-clause-ok
 returns-then-not-is_looking-clause-ok g c t w l h =
@@ -43,6 +52,7 @@ returns-in_err-answer-clause-err g c = always_err c.from_residual.result (λ t w
 pub loop-decision-preserved : goal.loop-decision-preserved
 loop-decision-preserved g c = record {
   answered = c.in_ok-answer.ensures.answered;
+  timed = c.in_ok-answer.ensures.timed ∙ c.next_decision.ensures.timed ∙ ap (λ (x : Core). x.timed) c.deref_mut.ensures.value ∙ c.loop-decision.invariant.timed;
   rest = c.in_ok-answer.ensures.rest ∙ ap (λ (x : Engine). record x { core = c.answer.new.self.core }) c.loop-decision.invariant.rest;
   stands = λ t w l h.
       let so_far = c.loop-decision.invariant.stands t w l h in
@@ -68,7 +78,17 @@ loop-decision-smaller g c =
     let less = c.in_ok-answer.ensures.fewer (e.unseen at) in
     omega (arith, same, less)
 
-pub returns-then-not-is_looking-clause-row : goal.returns-then-not-is_looking-clause-row
-returns-then-not-is_looking-clause-row g c =
-    let noted = subst (λ (o : Option Decision). NotesSkip c.deref_mut.result.now o c.next_decision.new.self) c.in-Some.is c.next_decision.ensures.skipped in
-    keeps_row c.deref_mut.result.now c.next_decision.new.self c.in-Some.decision noted
+pub returns-then-not-is_looking-clause-taken : goal.returns-then-not-is_looking-clause-taken
+returns-then-not-is_looking-clause-taken g c =
+    let e = c.next_decision.ensures in
+    let d = c.in-Some.decision in
+    let is = c.in-Some.is in
+    let noted = subst (λ (o : Option Decision). NotesSkip c.deref_mut.result.now o c.next_decision.new.self) is e.skipped in
+    record {
+      question = e.question ∙ ap question_for is;
+      no_look = ap is_look (ap question_for (sym is) ∙ sym e.question) ∙ sym (ap (λ (k : Core). is_look k.question) c.deref.ensures) ∙ sym c.is_looking.ensures ∙ c.if-not-is_looking.true;
+      reads = λ reading. let at = ap (λ (o : Option Decision). is_reading (question_for o)) is ∙ reading in (e.reads at, e.unnamed at);
+      some = subst (λ (o : Option Decision). AsksSome (question_for o)) is e.some;
+      flies = subst (λ (o : Option Decision). BeginsFlight o c.next_decision.new.self.flights) is e.flies;
+      row = keeps_row c.deref_mut.result.now c.next_decision.new.self d noted;
+    }

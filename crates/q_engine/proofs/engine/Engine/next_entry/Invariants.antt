@@ -14,6 +14,7 @@ invariant-loop-decision g l =
     let faults = g.H.Host.faults in
     record {
       answered : is_answered l.self.core.value.question ≡ true;
+      timed : l.self.core.value.timed ≡ true;
       rest : l.self ≡ record l.fn.self { core = l.self.core };
       stands : IsTrue g.H.Host.tells → (w : World) (k : Ledger) → EngineStands w l.fn.self (view l.fn.host) k → EngineStands w l.self (view l.host) k × Takes k.book k.book (view l.fn.host) (view l.host);
       notes : IsTrue g.H.Host.tells → KeepsNotes (view l.fn.host) (view l.host);
