@@ -3,19 +3,6 @@ use crate::flaw::Flaw;
 use q_model::{Area, Name, Spot};
 use std::alloc::Global;
 
-pub(crate) const AREAS: [Area; 10] = [
-    Area::Boot,
-    Area::Conf,
-    Area::Tmp,
-    Area::Incoming,
-    Area::Active,
-    Area::Deferred,
-    Area::Hold,
-    Area::Corrupt,
-    Area::Bounce,
-    Area::Defer,
-];
-
 /// The areas of queues.
 pub(crate) const QUEUES: [Area; 5] = [
     Area::Incoming,
@@ -26,7 +13,10 @@ pub(crate) const QUEUES: [Area; 5] = [
 ];
 
 fn area_of(folder: &str) -> Option<Area> {
-    AREAS.iter().copied().find(|area| area.folder() == folder)
+    Area::ALL
+        .iter()
+        .copied()
+        .find(|area| area.folder() == folder)
 }
 
 fn spot_in(text: &str) -> Option<Spot> {

@@ -1,6 +1,5 @@
 //! All that stands on a spool in memory, and all that was told there.
 use crate::flaw::Flaw;
-use crate::places::AREAS;
 use q_host::Host;
 use q_model::{Area, Names, Spot};
 use q_silent_host::SilentHost;
@@ -44,7 +43,7 @@ impl Snapshot {
     /// the host.
     pub(crate) fn of(alloc: Global, host: &mut SilentHost, told: &str) -> Result<Snapshot, Flaw> {
         let mut files = Vec::new(alloc);
-        for area in AREAS {
+        for area in Area::ALL {
             add_files(alloc, &mut files, host, area)?;
         }
         let told = format!(in alloc; "{told}{}", host.told())?;

@@ -2,7 +2,7 @@
 use crate::access::{Access, Syncs};
 use crate::fault::{Call, Fault};
 use crate::kept::Kept;
-use crate::spool::{AREAS, Spool, failed, said};
+use crate::spool::{Spool, failed, said};
 use q_model::{Area, Name, Spot};
 use std::fs::File;
 use std::io::ErrorKind;
@@ -68,7 +68,7 @@ impl<F: Files<File = File> + Clock + Drop> Spool<F> {
 
     // Syncs the folders that changed.
     fn sync_folders(&mut self) -> Result<(), Fault> {
-        for area in AREAS {
+        for area in Area::ALL {
             if self.late.is_changed(area) {
                 self.sync_folder(area)?;
             }

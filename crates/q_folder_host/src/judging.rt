@@ -1,7 +1,7 @@
 //! What keeps a folder from being a spool that may be changed, looked for before anything is.
 use crate::fault::{Call, Fault};
 use crate::locking::LOCK_FILE;
-use crate::spool::{AREAS, Spool, failed};
+use crate::spool::{Spool, failed};
 use q_model::{Area, Name, due_of, id_name, id_of};
 use std::alloc::{AllocError, Global};
 use std::fs::File;
@@ -18,7 +18,9 @@ const DIGITS: usize = 8;
 fn is_of_a_spool(name: &[u8]) -> bool {
     matches!(name, b"" | b"." | b".." | b"lost+found")
         || name == LOCK_FILE.as_bytes()
-        || AREAS.iter().any(|area| area.folder().as_bytes() == name)
+        || Area::ALL
+            .iter()
+            .any(|area| area.folder().as_bytes() == name)
 }
 
 // The least of the names in a listing that no spool has, empty where there is none.
@@ -102,7 +104,7 @@ impl<F: Files<File = File> + Clock + Drop> Spool<F> {
     /// Conf may: an operator writes there.
     pub(crate) fn judge_owners(&self) -> Result<(), Fault> {
         self.judge_owner(self.root.as_str(), "the spool")?;
-        for area in AREAS {
+        for area in Area::ALL {
             if area != Area::Conf {
                 let path = self.folders[area as usize].path.as_str();
                 self.judge_owner(path, area.folder())?;
@@ -151,13 +153,13 @@ impl<F: Files<File = File> + Clock + Drop> Spool<F> {
 
     // The file of all areas whose id has the greatest generation.
     fn newest_of_all(&self) -> Option<Newest> {
-        let newest = AREAS.iter().filter_map(|area| self.newest(*area));
+        let newest = Area::ALL.iter().filter_map(|area| self.newest(*area));
         newest.max_by_key(|newest| newest.generation)
     }
 
     /// Lists all folders, and looks whether boot is behind an id.
     pub(crate) fn judge_boot(&mut self) -> Result<(), Fault> {
-        for area in AREAS {
+        for area in Area::ALL {
             self.list(area)?;
         }
         let boot = self.generation_in_boot();

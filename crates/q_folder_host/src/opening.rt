@@ -1,6 +1,6 @@
 //! Making the folders of a spool ready: to be changed, or to be looked at.
 use crate::fault::Fault;
-use crate::spool::{AREAS, Spool};
+use crate::spool::Spool;
 use crate::system::System;
 use q_model::Area;
 use std::fs::{DirBuilder, File, TryLockError};
@@ -51,7 +51,7 @@ impl<F: Files<File = File> + Clock + Drop> Spool<F> {
 
     // Makes the folders of all areas ready, and the root durable, and says whose the spool is.
     fn open_folders(&mut self, root: &File) -> Result<(), Fault> {
-        for area in AREAS {
+        for area in Area::ALL {
             self.open_folder(area)?;
         }
         self.system.sync(root).map_err(Fault::Root)

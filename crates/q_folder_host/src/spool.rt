@@ -18,20 +18,6 @@ use std::io::ErrorKind;
 use std::rt::Files;
 use std::time::Clock;
 
-/// All areas, in their order.
-pub(crate) const AREAS: [Area; 10] = [
-    Area::Boot,
-    Area::Conf,
-    Area::Tmp,
-    Area::Incoming,
-    Area::Active,
-    Area::Deferred,
-    Area::Hold,
-    Area::Corrupt,
-    Area::Bounce,
-    Area::Defer,
-];
-
 /// The folders of a spool below one root.
 #[derive(Drop)]
 pub(crate) struct Spool<F: Files<File = File> + Clock + Drop> {
