@@ -1,4 +1,6 @@
 //! Messages that stand in incoming, told by their serials alone.
+ghost use Rattle.q_core.specs.Facts.{IsDated};
+
 use q_core::{FileFacts, Found};
 use q_model::{Address, Batch, Hop, Id, Site, Taken};
 
@@ -35,7 +37,9 @@ impl Mail {
     }
 
     /// What a look finds at the message of this serial.
-    pub(crate) fn found(&self, serial: u32) -> Found {
+    pub(crate) fn found(&self, serial: u32) -> Found
+        ensures { IsDated result }
+    {
         let file = FileFacts {
             arrival: 1000,
             null_sender: false,

@@ -1,5 +1,8 @@
 //! A life of a decision core on messages that counters tell of.
-ghost use Rattle.q_core.specs.Hearing.{IsInTime};
+ghost use Rattle.std.specs.List.{list_all};
+ghost use Rattle.std.specs.Prelude.{◌≡◌, IfSome, true};
+ghost use Rattle.q_core.specs.Facts.{IsDated};
+ghost use Rattle.q_core.specs.Hearing.{has_log_code, HasLogCodes, IsInTime};
 
 use crate::files::{Mail, id_of, take_recipient};
 use crate::scenario::Scenario;
@@ -70,7 +73,9 @@ impl Life {
     }
 
     /// The first message in incoming.
-    fn incoming(&self) -> Found {
+    fn incoming(&self) -> Found
+        ensures { IsDated result }
+    {
         if self.admitted < self.came {
             self.mail.found(self.admitted + 1)
         } else {
@@ -79,7 +84,9 @@ impl Life {
     }
 
     /// Answers the look that waits.
-    fn tell(&mut self, found: Found) -> Option<()> {
+    fn tell(&mut self, found: Found) -> Option<()>
+        requires { IsDated found }
+    {
         if !self.core.is_looking() {
             return None;
         }
@@ -168,7 +175,8 @@ impl Life {
 
     /// Takes the event.
     fn take_event(&mut self, heard: Heard<'_>) -> Option<()>
-        requires { IsInTime heard }
+        requires time { IsInTime heard }
+        requires codes { HasLogCodes heard }
     {
         if !self.core.is_answered() || !self.core.is_looked_at() {
             return None;
@@ -179,7 +187,8 @@ impl Life {
 
     /// Takes the event and the decisions that follow.
     fn hear(&mut self, heard: Heard<'_>) -> Option<()>
-        requires { IsInTime heard }
+        requires time { IsInTime heard }
+        requires codes { HasLogCodes heard }
     {
         self.take_event(heard)?;
         self.decide()?.then_some(())
@@ -193,7 +202,9 @@ impl Life {
     }
 
     /// What becomes of the recipients of a delivery.
-    fn outcomes(&self, alloc: Global, number: u64) -> Option<Outcomes> {
+    fn outcomes(&self, alloc: Global, number: u64) -> Option<Outcomes>
+        ensures { IfSome result (λ outcomes. list_all has_log_code outcomes ≡ true) }
+    {
         let recipients = self.core.entry_positions(number)?.len();
         let mut outcomes = Outcomes::new(alloc);
         for _i in 0..recipients {

@@ -1,4 +1,7 @@
 //! What mail there is, and what becomes of it.
+ghost use Rattle.std.specs.Prelude.{◌≡◌, true};
+ghost use Rattle.q_core.specs.Hearing.{has_log_code};
+
 use crate::files::Mail;
 use q_model::{Outcome, SiteState};
 
@@ -76,7 +79,9 @@ impl Scenario {
     }
 
     /// What a delivery says of each recipient.
-    pub(crate) fn outcome(self) -> Outcome {
+    pub(crate) fn outcome(self) -> Outcome
+        ensures { has_log_code result ≡ true }
+    {
         match self {
             Scenario::Dead => Outcome::Later(450),
             _ => Outcome::Ok,

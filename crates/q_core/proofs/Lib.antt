@@ -113,3 +113,5 @@ pub mod ReadRooms
 mod LoadRooms
 mod RowPlaces
 pub mod SyncedLaws
+pub mod CodeLaws
+pub mod DoneLaws

@@ -1,11 +1,14 @@
 -- The next decision, by what the core holds.
 use Rattle.std.specs.Option.{option_or}
-use Rattle.std.specs.Prelude.{◌≡◌, ◌≤◌, ◌⊎◌, ◌==◌, [], Bool, false, true, find, if◌then◌else◌, IsSome, List, None, not, Option, option_map, Some, ℕ}
+use Rattle.std.specs.Prelude.{◌≡◌, ◌<◌, ◌≤◌, ◌⊎◌, ◌^◌, ◌==◌, [], Bool, false, true, find, if◌then◌else◌, IsSome, List, None, not, Option, option_map, Some, ℕ}
 use Rattle.q_model.specs.declared.entry.Entry.{Entry}
 use Rattle.q_model.specs.declared.rows.Delivery.{Delivery}
 use Rattle.q_model.specs.declared.rows.Scan.{Scan}
 use Rattle.q_model.specs.Book.{damaged_of, message_of}
+use Rattle.q_model.specs.FailureLog.{is_log_code}
 use Rattle.q_model.specs.Ledger.{Ledger}
+use Rattle.q_model.specs.declared.rows.Place.{Place}
+use Rattle.q_model.specs.declared.rows.Place.TheVariants as places
 use Rattle.q_core.specs.Queries.{flight_in}
 use Rattle.q_model.specs.declared.entry.Entry.TheVariants as entries
 use Rattle.q_model.specs.Next.{next}
@@ -77,6 +80,28 @@ IsPlaced l None = Unit {0}
 IsPlaced l (Some (decisions.Admit id place)) = option_map (λ m. m.place) (message_of l.book id) ≡ Some place
 IsPlaced l (Some (decisions.Corrupt id place)) = option_map (λ d. d.place) (damaged_of l.book id) ≡ Some place
 IsPlaced l (Some _) = Unit {0}
+
+-- a file is picked from here: incoming, or deferred by a due moment of 12 digits at most
+abbrev pub IsPicked : Place → Type 0
+IsPicked places.Incoming = Unit {0}
+IsPicked places.Active = ⊥
+IsPicked (places.Deferred due) = due < 10 ^ 12
+IsPicked places.Hold = ⊥
+IsPicked places.Corrupt = ⊥
+
+-- a damaged file is found here: there, or in active
+abbrev pub IsFoundDamaged : Place → Type 0
+IsFoundDamaged places.Active = Unit {0}
+IsFoundDamaged place = IsPicked place
+
+-- A log can hold the code of a failure, and a name can tell a due moment and a place.
+abbrev pub CanBeDone : Option Decision → Type 0
+CanBeDone None = Unit {0}
+CanBeDone (Some (decisions.Log id failure)) = is_log_code failure.code ≡ true
+CanBeDone (Some (decisions.Defer id due)) = due < 10 ^ 12
+CanBeDone (Some (decisions.Corrupt id place)) = IsFoundDamaged place
+CanBeDone (Some (decisions.Admit id place)) = IsPicked place
+CanBeDone (Some _) = Unit {0}
 
 -- a delivery that starts is in flight with the positions of the ledger's entry
 abbrev pub IsStartOf : World → Ledger → Option Decision → Core → Type 0

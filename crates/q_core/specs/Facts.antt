@@ -1,5 +1,5 @@
 -- What a look says of a file, and how the file is taken in.
-use Rattle.std.specs.Prelude.{Bool, ◌&&◌, ◌-◌, false, if◌then◌else◌, nat_lt, None, not, Option, Some, true, ℕ}
+use Rattle.std.specs.Prelude.{◌^◌, ◌<◌, Bool, ◌&&◌, ◌-◌, false, if◌then◌else◌, nat_lt, None, not, Option, Some, true, ℕ}
 use Rattle.q_model.specs.declared.id.Id.{Id}
 use Rattle.q_model.specs.declared.rows.Place.{Place}
 use Rattle.q_model.specs.declared.rows.Place.TheVariants as places
@@ -66,3 +66,14 @@ shows_damaged Unknown id = false
 shows_damaged (Known Nothing) id = false
 shows_damaged (Known (Whole found due f)) id = false
 shows_damaged (Known (Damaged found due alone)) id = id_eq found id
+
+-- the due moment of its name has 12 digits at most
+abbrev pub IsDated : Found → Type 0
+IsDated Nothing = Unit {0}
+IsDated (Damaged id due alone) = due < 10 ^ 12
+IsDated (Whole id due f) = due < 10 ^ 12
+
+-- the same of what a look has shown
+abbrev pub IsSeenDated : Seen → Type 0
+IsSeenDated Unknown = Unit {0}
+IsSeenDated (Known found) = IsDated found

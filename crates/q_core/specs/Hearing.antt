@@ -1,5 +1,9 @@
 -- What comes from outside, as entries.
 use Rattle.std.specs.Prelude.{◌≡◌, ◌≤◌, Bool, List, Option, true, ℕ}
+use Rattle.std.specs.List.{list_all}
+use Rattle.q_model.specs.FailureLog.{is_log_code}
+use Rattle.q_model.specs.declared.outcome.Outcome.{Outcome}
+use Rattle.q_model.specs.declared.outcome.Outcome.TheVariants as outcomes
 use Rattle.q_model.specs.declared.entry.Entry.{Entry}
 use Rattle.q_model.specs.Ledger.{Ledger}
 use Rattle.q_model.specs.Settings.{World}
@@ -35,3 +39,16 @@ is_timed_by (At moment) timed = true
 is_timed_by (Mail id) timed = timed
 is_timed_by (Reply number site outcomes) timed = timed
 is_timed_by (Trigger kind) timed = timed
+
+-- the code of an outcome is one that a log can hold
+abbrev pub has_log_code : Outcome → Bool
+has_log_code outcomes.Ok = true
+has_log_code (outcomes.Later code) = is_log_code code
+has_log_code (outcomes.Never code) = is_log_code code
+
+-- so are those of a reply
+abbrev pub HasLogCodes : Heard → Type 0
+HasLogCodes (At moment) = Unit {0}
+HasLogCodes (Mail id) = Unit {0}
+HasLogCodes (Reply number site os) = list_all has_log_code os.now ≡ true
+HasLogCodes (Trigger kind) = Unit {0}

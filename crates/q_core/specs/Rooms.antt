@@ -1,12 +1,17 @@
 -- The room that is made at the beginning suffices.
-use Rattle.std.specs.List.{AllByRecursion}
-use Rattle.std.specs.Prelude.{◌≡◌, ◌<◌, ◌≤◌, ◌+◌, ◌*◌, count_by, length, max, Vec, vec_capacity, ℕ}
+use Rattle.std.specs.List.{AllByRecursion, list_all}
+use Rattle.std.specs.Prelude.{◌≡◌, ◌<◌, ◌≤◌, ◌+◌, ◌*◌, Bool, count_by, length, max, true, Vec, vec_capacity, ℕ}
 use Rattle.std.specs.declared.alloc.Global.{Global}
+use Rattle.q_core.specs.Facts.{IsSeenDated}
 use Rattle.q_core.specs.Starting.{flights_at}
 use Rattle.q_core.specs.declared.state.Core.{Core}
 use Rattle.q_core.specs.declared.state.Question.{Question}
 use Rattle.q_core.specs.declared.state.Question.TheVariants.{Active, Deferred, Incoming, Nothing, Recipients}
+use Rattle.q_core.specs.declared.state.Seen.{Seen}
 use Rattle.q_flights.specs.Flying.{Flying, is_at}
+use Rattle.q_model.specs.FailureLog.{is_log_code}
+use Rattle.q_model.specs.declared.rows.Need.{Need}
+use Rattle.q_model.specs.declared.rows.Need.TheVariants as needs
 use Rattle.q_model.specs.declared.rows.Unsettled.{Unsettled}
 use Rattle.q_model.specs.Settings.{Settings}
 use Rattle.q_model.specs.Values.{Site}
@@ -42,15 +47,26 @@ AsksWithin p Incoming = Unit {0}
 AsksWithin p Deferred = Unit {0}
 AsksWithin p (Recipients id from max) = max ≤ p.recipient_limit
 
--- deliveries have room, the sites of as many recipients as a read may ask for, and the outcomes of
--- as many as may be in memory
-pub record HaveRoom (p : Settings) (transports : ℕ) (flights : Flying) (question : Question)
-    (named : Vec Site Global) (unsettled : Queued Unsettled) : Type 0 where
+-- a failure that is to be logged has a code that a log can hold
+abbrev pub can_be_logged : Need → Bool
+can_be_logged (needs.Log why code) = is_log_code code
+can_be_logged needs.Mark = true
+
+abbrev pub is_loggable : Unsettled → Bool
+is_loggable u = can_be_logged u.need
+
+-- Deliveries have room, the sites of as many recipients as a read may ask for, and the outcomes of as
+-- many as may be in memory. Logs can hold the codes of these, and a name can tell the due moment that
+-- a look at deferred has shown.
+pub record AreWithinBounds (p : Settings) (transports : ℕ) (flights : Flying) (question : Question)
+    (named : Vec Site Global) (unsettled : Queued Unsettled) (deferred : Seen) : Type 0 where
   pub deliveries : AreWithinProcesses p transports flights
   pub asked : AsksWithin p question
   pub names : p.recipient_limit ≤ vec_capacity named
   pub named_few : length named.items ≤ p.recipient_limit
   pub outcomes : unsettled.room ≡ p.recipient_limit
+  pub codes : list_all is_loggable unsettled.items ≡ true
+  pub dated : IsSeenDated deferred
 
 -- as many rows and peers have room as recipients may be in memory, as many sites as can be known, and
 -- in each line a job of each message that may be in memory

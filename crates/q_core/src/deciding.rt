@@ -2,7 +2,7 @@
 ghost use Rattle.std.specs.Prelude.{◌≡◌, IsTrue, None, Some, true, [], ◌≤◌};
 ghost use Rattle.q_core.specs.Agrees.{ForLedgers};
 ghost use Rattle.q_core.specs.Changes.{is_looked_at};
-ghost use Rattle.q_core.specs.Deciding.{AsksOnly, AsksSome, BeginsFlight, IsDecided, decide_in, is_answered, is_look, is_reading, question_for, question_of, IsPlaced, IsSkipOf, IsStartOf, NotesSkip, Applies, AtLook, AtRead};
+ghost use Rattle.q_core.specs.Deciding.{AsksOnly, AsksSome, BeginsFlight, CanBeDone, IsDecided, decide_in, is_answered, is_look, is_reading, question_for, question_of, IsPlaced, IsSkipOf, IsStartOf, NotesSkip, Applies, AtLook, AtRead};
 ghost use Rattle.q_core.specs.Looking.{is_unseen, looks_left};
 ghost use Rattle.q_core.specs.Rooms.{AsksWithin};
 
@@ -124,12 +124,13 @@ impl Core {
         ensures few { looks_left self.new ≤ 4 }
         ensures reads { AtRead result (IsTrue (is_looked_at self.new)) }
         ensures some { AsksSome (question_for result) }
+        ensures lawful { CanBeDone result }
         ensures unnamed { AtRead result (self.new.named ≡ []) }
         ensures flies { BeginsFlight result self.new.flights }
         ensures quiet { result ≡ None → self.old.timed ≡ true → IsTrue (is_looked_at self.new) }
         ensures timed { self.new.timed ≡ self.old.timed }
     {
-        self.stand_in_range();
+        self.stand_within();
         let Some(decision) = self.decide() else {
             return None;
         };

@@ -4,6 +4,7 @@ ghost use Rattle.q_core.specs.Agrees.{Agrees, ForLedgers};
 ghost use Rattle.q_core.specs.Answers.{IsFound, is_fit, ForRead};
 ghost use Rattle.q_core.specs.Changes.{IsDamageNoted, IsSlotChange, with_damaged};
 ghost use Rattle.q_core.specs.Deciding.{is_answered};
+ghost use Rattle.q_core.specs.Facts.{IsDated};
 ghost use Rattle.q_core.specs.Held.{is_admitted_in};
 ghost use Rattle.q_core.specs.Looking.{LeavesFewer};
 ghost use Rattle.q_pool.specs.Slots.{changed_at, with_damage};
@@ -28,6 +29,7 @@ impl Core {
     }
 
     fn note_found(&mut self, found: Found)
+        requires { IsDated found }
         ensures exact { ForLedgers self.old (λ w l. IsFound self.old found l
             → Agrees w self.new l) }
         ensures fewer { LeavesFewer self.old self.new }
@@ -50,9 +52,10 @@ impl Core {
     ///
     /// `Damaged` is the answer to a read too, where a record of the file can't be read: the message
     /// reads no more, and goes to corrupt once it is idle. Any other answer to a read is an error,
-    /// as is an answer where nothing was asked.
+    /// as is an answer where nothing was asked, and one with a due moment of more than 12 digits.
     pub fn found(&mut self, found: Found)
-        requires { is_fit self.old.question found ≡ true }
+        requires fit { is_fit self.old.question found ≡ true }
+        requires dated { IsDated found }
         ensures exact { ForLedgers self.old (λ w l. IsFound self.old found l
             → Agrees w self.new l) }
         ensures fewer { LeavesFewer self.old self.new }

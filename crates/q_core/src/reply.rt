@@ -1,7 +1,9 @@
 //! A delivery in flight ends.
-ghost use Rattle.std.specs.Prelude.{◌≡◌, ◌≤◌, ◌+◌, ◌++◌, ◌==◌, filter, find, IfSome, IsTrue, length, not, Some};
+ghost use Rattle.std.specs.Prelude.{◌≡◌, ◌≤◌, ◌+◌, ◌++◌, ◌==◌, filter, find, IfSome, IsTrue, length, not, Some, true};
 ghost use Rattle.q_core.specs.Agrees.{FollowsAllowed};
 ghost use Rattle.q_core.specs.Changes.{is_looked_at, left_sites, with_sites};
+ghost use Rattle.std.specs.List.{list_all};
+ghost use Rattle.q_core.specs.Hearing.{has_log_code};
 ghost use Rattle.q_core.specs.Needs.{needs_in};
 ghost use Rattle.q_core.specs.Queries.{flight_in};
 ghost use Rattle.q_core.specs.UsedSites.{busy_in};
@@ -43,6 +45,7 @@ impl Core {
     /// Adds what the outcomes of the delivery of this number need, and gives its site. Nothing is
     /// done where they have no space, which is so in no ledger.
     fn add_outcomes(&mut self, number: u64, outcomes: &[Outcome]) -> Option<Site>
+        requires { list_all has_log_code outcomes.now ≡ true }
         ensures added { AreAdded self.old self.new number outcomes.now result }
         ensures busy { IfSome result (λ site. 1 ≤ busy_in self.new.flights site) }
         ensures timed { self.new.timed ≡ self.old.timed }
@@ -108,6 +111,7 @@ impl Core {
 
     /// Takes the reply of the delivery of this number, with an outcome for each recipient.
     pub(crate) fn hear_reply(&mut self, number: u64, state: SiteState, outcomes: &[Outcome])
+        requires codes { list_all has_log_code outcomes.now ≡ true }
         requires seen { IsTrue (is_looked_at self.old) }
         ensures exact { FollowsAllowed self.old self.new (Entry.Reply number state outcomes.now) }
         ensures timed { self.new.timed ≡ self.old.timed }

@@ -1,5 +1,6 @@
 //! Scans of the deferred queue: how they are asked for and end, and what looks have shown.
 ghost use Rattle.std.specs.Prelude.{◌≡◌, Some};
+ghost use Rattle.q_core.specs.Facts.{IsDated};
 ghost use Rattle.q_core.specs.Answers.{AgreesByScan};
 ghost use Rattle.q_core.specs.Agrees.{ForLedgers, Agrees, found_active, found_incoming};
 ghost use Rattle.q_core.specs.Changes.{asked_scan, looked_at, scan_ended};
@@ -88,6 +89,7 @@ impl Core {
     }
 
     fn look_at(&mut self, found: Found)
+        requires { IsDated found }
         ensures { self.new ≡ looked_at self.old found }
     {
         if found.is_nothing() {
@@ -99,6 +101,7 @@ impl Core {
 
     /// What a look at deferred has shown.
     pub(crate) fn found_deferred(&mut self, found: Found)
+        requires { IsDated found }
         ensures change { self.new ≡ looked_at self.old found }
         ensures agrees { ForLedgers self.old (λ w l. AgreesByScan w self.old self.new found l) }
     {

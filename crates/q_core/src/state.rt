@@ -1,7 +1,10 @@
 //! The state of the core.
-ghost use Rattle.std.specs.Prelude.{◌≡◌, find};
+ghost use Rattle.std.specs.List.{list_all};
+ghost use Rattle.std.specs.Prelude.{◌≡◌, ◌≤◌, find, true};
 ghost use Rattle.std.specs.Option.{option_copied};
+ghost use Rattle.q_core.specs.Facts.{IsSeenDated};
 ghost use Rattle.q_core.specs.Held.{is_dead_in, slot_in};
+ghost use Rattle.q_core.specs.Rooms.{is_loggable};
 ghost use Rattle.q_settings.specs.Ranges.{IsInRange};
 
 use crate::clock::Clock;
@@ -86,7 +89,7 @@ impl Model for Core {
 
     ghost view = { state_of };
 
-    ghost use Rattle.q_core.specs.Rooms.{HasRoomForLoads, HasRoomForPositions, HaveRoom};
+    ghost use Rattle.q_core.specs.Rooms.{AreWithinBounds, HasRoomForLoads, HasRoomForPositions};
     ghost use Rattle.q_core.specs.Ties.{AreMessagesTied, AreSitesTied, AreTied, AreTurnsTied, goes_to_dead};
     ghost use Rattle.q_core.specs.Touched.{IsTidyBut};
     ghost use Rattle.q_held.specs.Held.{AreHeldBy, rows_of};
@@ -100,7 +103,7 @@ impl Model for Core {
         × AreTurnsTied a.schedule.peers (rows_of a.waiting.items) a.starts
         × AreHeldBy (goes_to_dead a.sites.items) a.waiting.items
         × AreMessagesTied a.params a.schedule (heads a.admitted.items)
-        × HaveRoom a.params a.transports a.flights a.question a.named a.unsettled
+        × AreWithinBounds a.params a.transports a.flights a.question a.named a.unsettled a.deferred
         × HasRoomForLoads a.params a.transports a.waiting.room a.sites.room a.schedule.room
         a.schedule.line_room
         × HasRoomForPositions a.params a.waiting.most a.flights.most a.skipped a.rows.room
@@ -118,11 +121,15 @@ impl Core {
         }
     }
 
-    /// Its parameters are in their ranges: this does nothing, and is there for proofs that need it.
-    pub(crate) fn stand_in_range(&self)
-        ensures { IsInRange self.now.params }
+    /// What it holds is within bounds: this does nothing, and is there for proofs that need it.
+    pub(crate) fn stand_within(&self)
+        ensures params { IsInRange self.now.params }
+        ensures early { self.now.clock.seconds ≤ 999990000000 }
+        ensures codes { list_all is_loggable self.now.unsettled ≡ true }
+        ensures dated { IsSeenDated self.now.deferred }
     {
         let _least = self.params.qmgr_message_recipient_minimum;
+        let _now = self.clock.seconds;
     }
 
     pub(crate) fn is_dead_site(&self, site: &Site) -> bool

@@ -1,4 +1,6 @@
 //! The rules on a core that begins a life, and what the clock, the triggers and looks lead to.
+ghost use Rattle.q_core.specs.Facts.{IsDated};
+
 use q_core::laws::{n1, n2, n3, n4, n5, n6, n7, n8};
 use q_core::{Core, Decision, FileFacts, Found, Heard};
 use q_model::{Id, LAST_MOMENT, Mode, Moment, Place, Trigger};
@@ -47,7 +49,9 @@ fn shown(decision: Option<Decision>) -> u64 {
 }
 
 /// A message that stands alone in incoming.
-fn message(serial: u32) -> Found {
+fn message(serial: u32) -> Found
+    ensures { IsDated result }
+{
     let id = Id {
         generation: 1,
         serial,
@@ -87,13 +91,14 @@ fn a_fresh_core_only_looks(rt: HostRuntime) {
     }
 }
 
-/// Hears an event, where that is allowed.
+/// Hears an event that is no reply, where that is allowed.
 fn hears(core: &mut Core, heard: Heard<'_>) -> bool {
-    let late = match heard {
+    let unfit = match heard {
         Heard::At { moment } => moment > LAST_MOMENT,
+        Heard::Reply { .. } => true,
         _ => false,
     };
-    if late || !core.is_answered() || !core.is_looked_at() {
+    if unfit || !core.is_answered() || !core.is_looked_at() {
         return false;
     }
     core.event(heard);
@@ -117,7 +122,9 @@ fn decides(core: &mut Core) -> Option<u64> {
 }
 
 /// Answers the look that is wanted next.
-fn finds(core: &mut Core, found: Found) -> bool {
+fn finds(core: &mut Core, found: Found) -> bool
+    requires { IsDated found }
+{
     if decides(core).is_none() || !core.is_looking() {
         return false;
     }

@@ -2,7 +2,7 @@
 ghost use Rattle.std.specs.List.{list_all};
 ghost use Rattle.std.specs.Prelude.{◌≡◌, IfOk, IsTrue, List, true};
 ghost use Rattle.q_drain.specs.Replied.{Replies, reply_event};
-ghost use Rattle.q_engine.specs.Heard.{has_log_code};
+ghost use Rattle.q_core.specs.Hearing.{has_log_code};
 ghost use Rattle.q_engine.specs.Stands.{IsReady};
 ghost use Rattle.q_engine.specs.Steps.{HaltsTurn, StandsForSome};
 ghost use Rattle.q_engine.specs.Stops.{EachStop, FindsReadable, StopCause};

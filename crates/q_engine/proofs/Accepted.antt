@@ -10,7 +10,7 @@ use Rattle.q_model.specs.declared.event.Event.TheVariants as events
 use Rattle.q_model.specs.declared.outcome.Outcome.{Outcome}
 use Rattle.q_model.specs.declared.outcome.SiteState.{SiteState}
 use Rattle.q_model.specs.declared.rows.Delivery.{Delivery}
-use Rattle.q_engine.specs.Heard.{has_log_code}
+use Rattle.q_core.specs.Hearing.{has_log_code}
 use Rattle.q_engine.specs.Refusals.{refused_event, refused_reply}
 use Rattle.q_engine.specs.declared.error.EngineError.{EngineError}
 

@@ -22,7 +22,7 @@ use Rattle.q_books.specs.Notes.{delay_of, delays, delays_at, HasNotes}
 use Rattle.q_core.specs.Agrees.{ForLedgers}
 use Rattle.q_core.specs.declared.state.Core.{Core}
 use Rattle.q_engine.specs.Delays.{AddsDelays, note_of, notes_for, row_note, row_outcomes}
-use Rattle.q_engine.specs.Heard.{has_log_code}
+use Rattle.q_core.specs.Hearing.{has_log_code}
 
 abbrev coded : Note → Bool
 coded n = is_log_code n.code

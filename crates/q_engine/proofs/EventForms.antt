@@ -13,7 +13,8 @@ use Rattle.q_model.specs.Replies.{fits_state}
 use Rattle.q_text.specs.ValueForms.{IsCode, IsOutcomeAt}
 use Rattle.q_text.proofs.OutcomeFits.{outcomes_fit}
 use Rattle.q_events.specs.Forms.{IsInForm as IsListed}
-use Rattle.q_engine.specs.Heard.{has_log_code, IsEventInForm}
+use Rattle.q_core.specs.Hearing.{has_log_code}
+use Rattle.q_engine.specs.Heard.{IsEventInForm}
 
 later_code : (code : ℕ) → IsCode 400 code → is_log_code code ≡ true
 later_code code h = grind (arith, h)

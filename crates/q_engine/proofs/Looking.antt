@@ -8,6 +8,9 @@ use Rattle.q_model.proofs.StandLaws.{true_false}
 use Rattle.q_model.specs.Ledger.{Ledger}
 use Rattle.q_model.specs.Settings.{World}
 use Rattle.q_host.specs.View.{View}
+use Rattle.q_core.specs.Facts.{IsDated}
+use Rattle.q_core.specs.declared.decision.Found.TheVariants as founds
+use Rattle.q_look.specs.Forms.{IsLookedAt}
 use Rattle.q_core.specs.Deciding.{AsksOnly, is_asking, is_look, IsDecided, IsLooking, IsPlaced, IsStartOf, NotesSkip, question_of}
 use Rattle.q_core.specs.Agrees.{Agrees}
 use Rattle.q_core.specs.Decisions.{IsOf, WantsRead}
@@ -150,3 +153,9 @@ shown_answers d c found l asked look shown = subst (λ (q : Question). IsAnswer 
     by (decisions.LookDeferred after until) look shown = (record { place = after; until = until }, look, shown)
     by (decisions.Read id from max) look shown = absurd look
     by _ look shown = absurd look
+
+-- what a look shows has a due moment of 12 digits at most
+pub looked_dated : (found : Found) → IsLookedAt found → IsDated found
+looked_dated founds.Nothing h = tt
+looked_dated (founds.Damaged id due alone) h = h.digits
+looked_dated (founds.Whole id due file) h = h.0.digits

@@ -8,6 +8,7 @@ use Rattle.q_model.specs.declared.id.Id.{Id}
 use Rattle.q_model.specs.declared.rows.Place.{Place}
 use Rattle.q_model.specs.declared.rows.Place.TheVariants as places
 use Rattle.q_model.specs.declared.spot.Area.{Area}
+use Rattle.q_model.specs.declared.spot.Area.TheVariants as areas
 use Rattle.q_model.specs.Book.{Book, Damaged, damaged_of, message_of}
 use Rattle.q_model.specs.Finishing.{is_clean}
 use Rattle.q_model.specs.Ledger.{Ledger}
@@ -15,7 +16,7 @@ use Rattle.q_model.specs.Lists.{has_none}
 use Rattle.q_model.specs.Memory.{has_rows, is_admitted, is_idle, unread_of}
 use Rattle.q_model.specs.Message.{Message, pending}
 use Rattle.q_model.specs.Settings.{World}
-use Rattle.q_model.specs.SpoolFiles.{file_at, IsPlace}
+use Rattle.q_model.specs.SpoolFiles.{area_of, file_at, IsPlace}
 use Rattle.q_model.specs.Step.{change}
 use Rattle.q_model.specs.Times.{due}
 use Rattle.q_model.specs.Values.{Spot}
@@ -27,6 +28,7 @@ use Rattle.q_laws.proofs.Decisions.{next_decided}
 use Rattle.q_laws.proofs.Synced.{admitted_active}
 use Rattle.q_books.specs.HostStands.{Between, HostStands, Takes, Tries}
 use Rattle.q_books.specs.Spots.{spot_of}
+use Rattle.q_core.specs.Deciding.{IsFoundDamaged, IsPicked}
 use Rattle.q_core.specs.declared.decision.Decision.{Decision}
 use Rattle.q_core.specs.declared.decision.Decision.TheVariants as decisions
 use Rattle.q_files.specs.Changes.{MovesMessage, PutsAside}
@@ -128,3 +130,33 @@ pub dropped_only : (w : World) (l : Ledger) (d : Decision) (e : Entry) (engine :
 dropped_only w l d e engine v x error h kept =
     let k = (change w l e).book in
     refused w l d e engine v h k error x refl (kept_tried l.book k v x kept)
+
+-- ---- a name can tell the places from which files are moved
+
+pub picked_place : (place : Place) → IsPicked place → IsPlace place
+picked_place places.Incoming h = tt
+picked_place places.Active h = tt
+picked_place (places.Deferred due) h = h
+picked_place places.Hold h = tt
+picked_place places.Corrupt h = tt
+
+pub damaged_place : (place : Place) → IsFoundDamaged place → IsPlace place
+damaged_place places.Incoming h = tt
+damaged_place places.Active h = tt
+damaged_place (places.Deferred due) h = h
+damaged_place places.Hold h = tt
+damaged_place places.Corrupt h = tt
+
+pub not_active : (place : Place) → IsPicked place → areas.Active ≢ area_of place
+not_active places.Incoming h = λ e. absurd cc
+not_active places.Active h = absurd h
+not_active (places.Deferred due) h = λ e. absurd cc
+not_active places.Hold h = λ e. absurd cc
+not_active places.Corrupt h = λ e. absurd cc
+
+pub not_corrupt : (place : Place) → IsFoundDamaged place → areas.Corrupt ≢ area_of place
+not_corrupt places.Incoming h = λ e. absurd cc
+not_corrupt places.Active h = λ e. absurd cc
+not_corrupt (places.Deferred due) h = λ e. absurd cc
+not_corrupt places.Hold h = λ e. absurd cc
+not_corrupt places.Corrupt h = absurd h

@@ -5,16 +5,14 @@ use Rattle.q_model.specs.declared.entry.Entry.{Entry}
 use Rattle.q_model.specs.declared.event.Event.{Event}
 use Rattle.q_model.specs.declared.event.Event.TheVariants as events
 use Rattle.q_model.specs.declared.event.LifeEvent.TheVariants as life_events
-use Rattle.q_model.specs.declared.outcome.Outcome.{Outcome}
-use Rattle.q_model.specs.declared.outcome.Outcome.TheVariants as outcomes
 use Rattle.q_model.specs.Ledger.{Ledger}
-use Rattle.q_model.specs.FailureLog.{is_log_code}
 use Rattle.q_model.specs.Replies.{fits_state}
 use Rattle.q_model.specs.Run.{entry_of}
 use Rattle.q_model.specs.Settings.{World}
 use Rattle.q_model.specs.Step.{after}
 use Rattle.q_host.specs.declared.error.HostError.{HostError}
 use Rattle.q_host.specs.View.{View}
+use Rattle.q_core.specs.Hearing.{has_log_code}
 use Rattle.q_entries.specs.Entries.{DoesEntry, StopsEntry}
 use Rattle.q_engine.specs.KeptNotes.{StoresNotes}
 use Rattle.q_engine.specs.Looks.{ForStands}
@@ -43,12 +41,6 @@ is_moment (events.At t) = true
 is_moment (events.Mail sender to content) = false
 is_moment (events.Reply number state outcomes) = false
 is_moment (events.Trigger kind) = false
-
--- the code of an outcome is one that a log can hold
-abbrev pub has_log_code : Outcome → Bool
-has_log_code outcomes.Ok = true
-has_log_code (outcomes.Later code) = is_log_code code
-has_log_code (outcomes.Never code) = is_log_code code
 
 -- What is asked of an event: a moment within the clock's range, at least one recipient, and outcomes
 -- that fit the state of the site, with codes of replies.

@@ -1,7 +1,7 @@
 -- What is known of each core that has taken a decision over, whatever was answered to it.
 use Rattle.std.specs.Prelude.{◌≡◌, [], false, Some, true}
 use Rattle.q_core.specs.Changes.{is_looked_at}
-use Rattle.q_core.specs.Deciding.{AsksSome, BeginsFlight, is_look, is_reading, question_of}
+use Rattle.q_core.specs.Deciding.{AsksSome, BeginsFlight, CanBeDone, is_look, is_reading, question_of}
 use Rattle.q_core.specs.declared.decision.Decision.{Decision}
 use Rattle.q_core.specs.declared.state.Core.{Core}
 use Rattle.q_engine.specs.KeptRows.{KeepsRow}
@@ -15,3 +15,4 @@ pub record IsTakenOver (d : Decision) (c : Core) : Type 0 where
   pub some : AsksSome (question_of d)
   pub flies : BeginsFlight (Some d) c.flights
   pub row : KeepsRow d c
+  pub lawful : CanBeDone (Some d)

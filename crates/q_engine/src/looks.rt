@@ -4,6 +4,7 @@ ghost use Rattle.std.specs.Prelude.{◌≡◌, IfOk, IfSome, IsTrue, None, OnErr
 ghost use Rattle.q_books.specs.HostStands.{KeepsNotes};
 ghost use Rattle.q_core.specs.Agrees.{Agrees};
 ghost use Rattle.q_core.specs.Deciding.{is_answered, is_look, question_of};
+ghost use Rattle.q_core.specs.Facts.{IsDated};
 ghost use Rattle.q_core.specs.Looking.{LeavesFewer};
 ghost use Rattle.q_engine.specs.Looks.{AnswersLook, FindsNext, IsShown, StaysAtBook};
 ghost use Rattle.q_engine.specs.Stands.{IsReady};
@@ -30,6 +31,7 @@ fn look<H: Host>(
     requires { is_look (question_of decision.now) ≡ true }
     ensures found { IfOk result (λ found. IsTrue H.tells → (w : World) → (l : Ledger)
         → Agrees w core.now l → Stands (H.view host.old).files l.book → IsShown decision.now found l) }
+    ensures dated { IfOk result IsDated }
     ensures stays { IsTrue H.tells → Stays (H.view host.old) (H.view host.new) }
     ensures cause { DiskCause (H.faults host.old) (H.faults host.new) result }
 {

@@ -1,16 +1,14 @@
 //! Queue files that move from queue to queue (qmgr(8), "mail queues").
 //!
 //! Each is one rename and then its line; a message that comes into memory loses its deferral log
-//! first. A place to which no file can be renamed is never decided where the host tells its files:
-//! it is answered like want of memory.
+//! first. Whatever was answered to the core, a name can tell each place that it decides.
 ghost use Rattle.q_engine.specs.Steps.{EachError};
 ghost use Rattle.q_host.specs.View.{Told};
-ghost use Rattle.std.specs.Prelude.{◌≡◌, ◌≢◌, IsTrue, OnOk, true};
+ghost use Rattle.std.specs.Prelude.{◌<◌, ◌^◌, IsTrue, OnOk};
+ghost use Rattle.q_core.specs.Deciding.{IsFoundDamaged, IsPicked};
 ghost use Rattle.q_core.specs.declared.decision.Decision.TheVariants as decisions;
 ghost use Rattle.q_engine.specs.Steps.{CarriesOut, GivesDecisionUp, HasNext};
 ghost use Rattle.q_entries.specs.Causes.{HostCause};
-ghost use Rattle.q_model.specs.SpoolFiles.{area_of, IsPlace};
-ghost use Rattle.q_model.specs.declared.spot.Area.TheVariants as areas;
 
 use crate::engine::Engine;
 use q_books::file_spot;
@@ -19,33 +17,6 @@ use q_files::{drop_notes, move_to};
 use q_host::{Host, HostError};
 use q_model::{Entry, Id, Moment, Place};
 use std::alloc::Global;
-
-/// How many due moments a file's name can tell: 12 digits.
-const MOMENTS: u64 = 1_000_000_000_000;
-
-/// A file can stand there and be renamed to active.
-fn may_become_active(place: Place) -> bool
-    ensures place { result ≡ true → IsPlace place }
-    ensures other { result ≡ true → areas.Active ≢ area_of place }
-{
-    match place {
-        Place::Active => false,
-        Place::Deferred(due) => due < MOMENTS,
-        _ => true,
-    }
-}
-
-/// A file can stand there and be renamed to corrupt.
-fn may_be_put_aside(place: Place) -> bool
-    ensures place { result ≡ true → IsPlace place }
-    ensures other { result ≡ true → areas.Corrupt ≢ area_of place }
-{
-    match place {
-        Place::Corrupt => false,
-        Place::Deferred(due) => due < MOMENTS,
-        _ => true,
-    }
-}
 
 impl Engine {
     /// A message that an earlier life left in active goes back to incoming.
@@ -73,16 +44,15 @@ impl Engine {
         id: Id,
         due: Moment,
     ) -> Result<(), HostError>
-        requires { IsTrue H.tells → HasNext (decisions.Defer id due) self.now (H.view host.old) }
+        requires decided { IsTrue H.tells
+            → HasNext (decisions.Defer id due) self.now (H.view host.old) }
+        requires due { due < 10 ^ 12 }
         ensures ok { OnOk result (Told H.tells H.view host.old host.new
             (CarriesOut (decisions.Defer id due) self.now self.now)) }
         ensures err { EachError result (λ error. Told H.tells H.view host.old host.new
             (GivesDecisionUp (decisions.Defer id due) self.now error)) }
         ensures cause { HostCause (H.faults host.old) (H.faults host.new) result }
     {
-        if due >= MOMENTS {
-            return Err(HostError::NoMemory);
-        }
         move_to(
             host,
             file_spot(Place::Active, id),
@@ -99,16 +69,15 @@ impl Engine {
         id: Id,
         place: Place,
     ) -> Result<(), HostError>
-        requires { IsTrue H.tells → HasNext (decisions.Corrupt id place) self.now (H.view host.old) }
+        requires decided { IsTrue H.tells
+            → HasNext (decisions.Corrupt id place) self.now (H.view host.old) }
+        requires place { IsFoundDamaged place }
         ensures ok { OnOk result (Told H.tells H.view host.old host.new
             (CarriesOut (decisions.Corrupt id place) self.now self.now)) }
         ensures err { EachError result (λ error. Told H.tells H.view host.old host.new
             (GivesDecisionUp (decisions.Corrupt id place) self.now error)) }
         ensures cause { HostCause (H.faults host.old) (H.faults host.new) result }
     {
-        if !may_be_put_aside(place) {
-            return Err(HostError::NoMemory);
-        }
         move_to(host, file_spot(place, id), file_spot(Place::Corrupt, id))?;
         tell(alloc, host, &self.table, &Entry::Corrupt { id })
     }
@@ -121,16 +90,15 @@ impl Engine {
         id: Id,
         place: Place,
     ) -> Result<(), HostError>
-        requires { IsTrue H.tells → HasNext (decisions.Admit id place) self.now (H.view host.old) }
+        requires decided { IsTrue H.tells
+            → HasNext (decisions.Admit id place) self.now (H.view host.old) }
+        requires place { IsPicked place }
         ensures ok { OnOk result (Told H.tells H.view host.old host.new
             (CarriesOut (decisions.Admit id place) self.now self.now)) }
         ensures err { EachError result (λ error. Told H.tells H.view host.old host.new
             (GivesDecisionUp (decisions.Admit id place) self.now error)) }
         ensures cause { HostCause (H.faults host.old) (H.faults host.new) result }
     {
-        if !may_become_active(place) {
-            return Err(HostError::NoMemory);
-        }
         drop_notes(host, id)?;
         move_to(host, file_spot(place, id), file_spot(Place::Active, id))?;
         tell(alloc, host, &self.table, &Entry::Admit { id })

@@ -19,7 +19,7 @@ use q_model::{Id, NoMemory, Note, Notes, Outcome};
 use std::alloc::Global;
 
 /// Whether a log can hold the code: none, or that of a reply that refuses (RFC 5321, section 4.2).
-pub(crate) fn is_log_code(code: u16) -> bool
+fn is_log_code(code: u16) -> bool
     ensures { result ≡ is_log_code code }
 {
     code == 0 || (400 <= code && code <= 599)

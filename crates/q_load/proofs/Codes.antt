@@ -2,7 +2,7 @@
 use Rattle.std.proofs.Common.{◌≡◌, ◌%◌, ◌∙◌, Bool, ap, false, if◌then◌else◌, refl, suc, true, zero, ℕ}
 use Rattle.std.specs.List.{list_all}
 use Rattle.std.specs.Prelude.{◌&&◌, ◌==◌, replicate}
-use Rattle.q_engine.specs.Heard.{has_log_code}
+use Rattle.q_core.specs.Hearing.{has_log_code}
 use Rattle.q_load.specs.Due.{outcome_of}
 use Rattle.q_model.specs.declared.outcome.Outcome.{Outcome}
 use Rattle.q_model.specs.declared.outcome.Outcome.TheVariants as outcomes

@@ -42,6 +42,8 @@ invariant_of-result c =
         names = u.name_room;
         named_few = rw u.named (omega arith);
         outcomes = ap (λ (q : Queued Unsettled). q.room) e.unsettled;
+        codes = rw outcomes refl;
+        dated = tt;
       },
       record { rows = ap (λ (v : Held). v.room) e.waiting; sites = r.site_room; peers = r.peer_room; jobs = r.line_room },
       record {

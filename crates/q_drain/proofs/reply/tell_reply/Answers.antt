@@ -6,7 +6,7 @@ use Rattle.q_books.specs.HostStands.{TellsCrashes}
 use Rattle.q_drain.proofs.Causes.{engine_ok, engine_passed, engine_readable}
 use Rattle.q_drain.proofs.ReplyTurns.{accepted_may, fault_halts, halts_nothing, none_refused}
 use Rattle.q_drain.specs.Replied.{reply_event}
-use Rattle.q_engine.specs.Heard.{has_log_code}
+use Rattle.q_core.specs.Hearing.{has_log_code}
 use Rattle.q_engine.proofs.Stopping.{told_kinds}
 use Rattle.q_engine.specs.Refusals.{refused_event}
 use Rattle.q_engine.specs.declared.stop.Stop.TheVariants as stops

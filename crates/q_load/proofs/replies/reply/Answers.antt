@@ -1,6 +1,6 @@
 use Rattle.std.proofs.Common.{◌≡◌, List, subst, sym, true}
 use Rattle.std.specs.List.{list_all}
-use Rattle.q_engine.specs.Heard.{has_log_code}
+use Rattle.q_core.specs.Hearing.{has_log_code}
 use Rattle.q_load.specs.Due.{outcome_of}
 use Rattle.q_model.specs.declared.outcome.Outcome.{Outcome}
 use Rattle.q_load.proofs.Codes.{have_codes, outcome_code}

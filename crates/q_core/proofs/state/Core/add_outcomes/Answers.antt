@@ -1,3 +1,6 @@
+use Rattle.q_core.proofs.CodeLaws.{needs_loggable}
+use Rattle.q_core.specs.Rooms.{is_loggable}
+use Rattle.q_laws.proofs.Members.{all_append}
 use Rattle.std.proofs.Common.{◌≡◌, ◌∙◌, ◌++◌, ◌<◌, ◌^◌, ap, arith, length, length-append, List, None, refl, Some, sym, true}
 use Rattle.std.specs.Prelude.{◌==◌, option_map}
 use Rattle.q_flights.specs.Flying.{delivery_shown}
@@ -11,7 +14,7 @@ use Rattle.q_core.specs.Counting.{with_unsettled}
 use Rattle.q_core.specs.Held.{have_space}
 use Rattle.q_core.specs.Leaving.{replied_in}
 use Rattle.q_core.specs.Needs.{needs_in}
-use Rattle.q_core.specs.Queries.{flight_in}
+use Rattle.q_core.specs.Queries.{expired_in, flight_in}
 use Rattle.q_core.specs.State.{State}
 use Rattle.q_core.specs.Ties.{AreNamed}
 use Rattle.q_core.specs.View.{state_of}
@@ -82,6 +85,8 @@ invariant_of-self c =
         names = c.self.invariant.6.names;
         named_few = c.self.invariant.6.named_few;
         outcomes = ap (λ (q : Queued Unsettled). q.room) added ∙ c.self.invariant.6.outcomes;
+        codes = rw items (all_append is_loggable us new c.self.invariant.6.codes (needs_loggable (expired_in c.args.self.now f.row.id) f.row.id f.row.positions c.args.outcomes.now c.requires));
+        dated = c.self.invariant.6.dated;
       },
       c.self.invariant.7,
       c.self.invariant.8,

@@ -66,6 +66,8 @@ invariant_of-self c =
         names = c.self.invariant.6.names;
         named_few = c.self.invariant.6.named_few;
         outcomes = c.self.invariant.6.outcomes;
+        codes = c.self.invariant.6.codes;
+        dated = c.self.invariant.6.dated;
       }),
       rw (ap (λ (x : Dests). x.room) c.land.ensures) c.self.invariant.7,
       rw (ap (λ (v : Flying). v.most) c.remove.ensures.items) c.self.invariant.8,

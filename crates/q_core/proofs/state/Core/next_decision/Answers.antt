@@ -1,5 +1,5 @@
 use Rattle.std.proofs.Common.{◌∙◌, List, Some, sym, ap, subst}
-use Rattle.q_core.specs.Deciding.{BeginsFlight, IsPlaced, question_of}
+use Rattle.q_core.specs.Deciding.{BeginsFlight, CanBeDone, IsPlaced, question_of}
 use Rattle.q_core.specs.Looking.{is_unseen, looks_left}
 use Rattle.q_core.specs.declared.state.Core.{Core}
 use Rattle.q_model.specs.declared.rows.Delivery.{Delivery}
@@ -8,6 +8,7 @@ use Rattle.q_core.proofs.PlacedDecisions.{placed_law}
 use Rattle.q_core.proofs.ReadRooms.{decided_asks, decided_some}
 use Rattle.q_core.proofs.StartedLaws.{asking_begins, started_law}
 use Rattle.q_core.proofs.AskedLaws.{look_unseen}
+use Rattle.q_core.proofs.DoneLaws.{decided_done}
 use Rattle.q_core.proofs.state.Core.next_decision.Goals as goal
 
 pub returns-in_default-clause-exact : goal.returns-in_default-clause-exact
@@ -48,13 +49,23 @@ pub ask-requires : goal.ask-requires
 ask-requires c = decided_asks c.args.self.now c.in-Some.decision (sym c.decide.ensures ∙ c.in-Some.is)
 
 pub returns-then-is_asking-clause-some : goal.returns-then-is_asking-clause-some
-returns-then-is_asking-clause-some c = decided_some c.args.self.now c.in-Some.decision c.stand_in_range.ensures (sym c.decide.ensures ∙ c.in-Some.is)
+returns-then-is_asking-clause-some c = decided_some c.args.self.now c.in-Some.decision c.stand_within.ensures.params (sym c.decide.ensures ∙ c.in-Some.is)
 
 pub returns-clause-some : goal.returns-clause-some
-returns-clause-some c = decided_some c.args.self.now c.in-Some.decision c.stand_in_range.ensures (sym c.decide.ensures ∙ c.in-Some.is)
+returns-clause-some c = decided_some c.args.self.now c.in-Some.decision c.stand_within.ensures.params (sym c.decide.ensures ∙ c.in-Some.is)
 
 pub returns-clause-flies : goal.returns-clause-flies
 returns-clause-flies c = subst (λ (fs : List Delivery). BeginsFlight (Some c.in-Some.decision) fs) (sym (ap (λ (x : Core). x.flights) c.ask-2.ensures.rest)) c.apply.ensures.flies
 
 pub returns-then-is_asking-clause-flies : goal.returns-then-is_asking-clause-flies
 returns-then-is_asking-clause-flies c = asking_begins c.ask.new.self.flights c.in-Some.decision (sym c.is_asking.ensures ∙ c.if-is_asking.true)
+
+pub returns-then-is_asking-clause-lawful : goal.returns-then-is_asking-clause-lawful
+returns-then-is_asking-clause-lawful c =
+    let e = c.stand_within.ensures in
+    subst CanBeDone (sym c.decide.ensures ∙ c.in-Some.is) (decided_done c.args.self.now e.params e.early e.codes e.dated)
+
+pub returns-clause-lawful : goal.returns-clause-lawful
+returns-clause-lawful c =
+    let e = c.stand_within.ensures in
+    subst CanBeDone (sym c.decide.ensures ∙ c.in-Some.is) (decided_done c.args.self.now e.params e.early e.codes e.dated)

@@ -81,6 +81,8 @@ invariant_of-self c =
         names = c.self.invariant.6.names;
         named_few = c.self.invariant.6.named_few;
         outcomes = c.self.invariant.6.outcomes;
+        codes = c.self.invariant.6.codes;
+        dated = c.self.invariant.6.dated;
       }),
       rw (c.take_row.ensures.room, ap (λ (x : Dests). x.room) c.begin.ensures, ap (λ (x : Scheduling). x.room) c.lose.ensures, ap (λ (x : Scheduling). x.line_room) c.lose.ensures, ap (λ (x : Scheduling). x.room) c.start.ensures, ap (λ (x : Scheduling). x.line_room) c.start.ensures) c.self.invariant.7,
       rw (c.take_row.ensures.most, ap (λ (v : Flying). v.most) c.push.ensures) c.self.invariant.8,

@@ -1,3 +1,5 @@
+use Rattle.q_core.proofs.CodeLaws.{rest_all}
+use Rattle.q_core.specs.Rooms.{is_loggable}
 use Rattle.std.proofs.Common.{◌≡◌, ◌∙◌, ◌<◌, [], ◌∷◌, ap, arith, drop, length, List, None, Some, subst, sym}
 use Rattle.std.specs.List.{remove}
 use Rattle.std.specs.Prelude.{slice_get}
@@ -43,6 +45,8 @@ invariant_of-self c =
         names = c.self.invariant.6.names;
         named_few = c.self.invariant.6.named_few;
         outcomes = ap (λ (q : Queued Unsettled). q.room) c.pop.ensures.items ∙ c.self.invariant.6.outcomes;
+        codes = rw left (rest_all is_loggable us c.self.invariant.6.codes);
+        dated = c.self.invariant.6.dated;
       },
       c.self.invariant.7,
       c.self.invariant.8,

@@ -1,3 +1,7 @@
+use Rattle.q_core.proofs.CodeLaws.{put_off_loggable}
+use Rattle.q_core.specs.Leaving.{fails_in}
+use Rattle.q_core.specs.Rooms.{is_loggable}
+use Rattle.q_laws.proofs.Members.{all_append}
 use Rattle.std.proofs.Common.{◌≡◌, ◌∙◌, ◌≤◌, ◌++◌, ◌<◌, ◌^◌, ap, arith, false, filter, length, length-append, List, refl, Some, sym, true, []}
 use Rattle.std.proofs.lemmas.Bool.{and_parts}
 use Rattle.std.specs.List.{list_any, remove}
@@ -130,6 +134,8 @@ invariant_of-self c =
         names = c.self.invariant.6.names;
         named_few = c.self.invariant.6.named_few;
         outcomes = ap (λ (q : Queued Unsettled). q.room) added ∙ c.self.invariant.6.outcomes;
+        codes = rw items (all_append is_loggable a.unsettled.items new c.self.invariant.6.codes (put_off_loggable (fails_in c.args.self.now row) row.id row.positions));
+        dated = c.self.invariant.6.dated;
       },
       rw (c.take_row.ensures.room, ap (λ (x : Dests). x.room) c.leave.ensures, ap (λ (x : Scheduling). x.room) c.lose.ensures, ap (λ (x : Scheduling). x.line_room) c.lose.ensures) c.self.invariant.7,
       rw (c.take_row.ensures.most, c.set.ensures) (room_kept row.positions c.self.invariant.8),

@@ -1,3 +1,4 @@
+use Rattle.q_core.proofs.CodeLaws.{marked_loggable}
 use Rattle.std.proofs.Common.{◌∙◌, ap, refl, sym}
 use Rattle.std.specs.Option.{option_copied}
 use Rattle.q_core.proofs.MarkedFirst.{marked_first, none_marked}
@@ -26,6 +27,8 @@ invariant_of-self c =
         names = c.self.invariant.6.names;
         named_few = c.self.invariant.6.named_few;
         outcomes = ap (λ (q : Queued Unsettled). q.room) c.set_first.ensures ∙ c.self.invariant.6.outcomes;
+        codes = rw items (marked_loggable a.unsettled.items c.self.invariant.6.codes);
+        dated = c.self.invariant.6.dated;
       },
       c.self.invariant.7,
       c.self.invariant.8,

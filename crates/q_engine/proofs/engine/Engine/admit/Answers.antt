@@ -8,14 +8,10 @@ use Rattle.q_model.specs.Values.{Spot}
 use Rattle.q_model.specs.declared.entry.Entry.TheVariants as entries
 use Rattle.q_model.specs.declared.rows.Place.TheVariants as places
 use Rattle.q_model.specs.declared.spot.Area.TheVariants as areas
-use Rattle.q_engine.proofs.CarriedOut.{carried_behind, given_up_behind, refused, untouched}
-use Rattle.q_engine.proofs.Moves.{admit_moves, apart, dropped_only, moved_there}
+use Rattle.q_engine.proofs.CarriedOut.{carried_behind, given_up_behind, refused}
+use Rattle.q_engine.proofs.Moves.{admit_moves, apart, dropped_only, moved_there, not_active, picked_place}
 use Rattle.q_engine.proofs.StoredNotes.{admit_notes, files_keep, keeps_then, no_log_spot, placed_form, placed_found}
 use Rattle.q_engine.proofs.engine.Engine.admit.Goals as goal
-
-pub returns-then-not-may_become_active-clause-err : goal.returns-then-not-may_become_active-clause-err
-returns-then-not-may_become_active-clause-err g c error is t w l n =
-    untouched w l (decisions.Admit c.args.id c.args.place) n.0 c.args.self.now (g.H.Host.view c.args.host.now) n.1 error (record { only = g.met.H.Host.only_now c.args.host.now; told = g.met.H.Host.told_stays c.args.host.now })
 
 pub returns-in_err-drop_notes-clause-err : goal.returns-in_err-drop_notes-clause-err
 returns-in_err-drop_notes-clause-err g c error is t w l n =
@@ -24,7 +20,7 @@ returns-in_err-drop_notes-clause-err g c error is t w l n =
 
 pub move_to-requires-clause-there : goal.move_to-requires-clause-there
 move_to-requires-clause-there g c t =
-    let (w, l, n) = c.requires t in
+    let (w, l, n) = c.requires.decided t in
     let m = admit_moves w l c.args.id c.args.self.now (g.H.Host.view c.args.host.now) c.file_spot.result c.file_spot-2.result c.args.place n c.file_spot.ensures c.file_spot-2.ensures in
     let k = (change w l (entries.Admit c.args.id)).book in
     let kept = c.in_ok-drop_notes.ensures.book t l.book m.decided.host in
@@ -32,7 +28,7 @@ move_to-requires-clause-there g c t =
 
 pub move_to-requires-clause-differ : goal.move_to-requires-clause-differ
 move_to-requires-clause-differ g c t =
-    apart c.file_spot.result c.file_spot-2.result (area_of c.args.place) areas.Active (ap (λ (s : Spot). s.area) c.file_spot.ensures) (ap (λ (s : Spot). s.area) c.file_spot-2.ensures) (c.may_become_active.ensures.other c.if-not-may_become_active.false)
+    apart c.file_spot.result c.file_spot-2.result (area_of c.args.place) areas.Active (ap (λ (s : Spot). s.area) c.file_spot.ensures) (ap (λ (s : Spot). s.area) c.file_spot-2.ensures) (not_active c.args.place c.requires.place)
 
 pub returns-in_err-move_to-clause-err : goal.returns-in_err-move_to-clause-err
 returns-in_err-move_to-clause-err g c error is t w l n =
@@ -66,3 +62,6 @@ returns-clause-err g c error is t w l n =
     let x = g.H.Host.view c.move_to.new.host in
     let takes = kept_takes l.book k v u x kept (c.in_ok-move_to.ensures.ok t l.book k kept.stands m.moves) in
     given_up_behind w l (decisions.Admit c.args.id c.args.place) (entries.Admit c.args.id) c.args.self.now v m.decided k error x (g.H.Host.view c.tell.new.host) refl takes (c.tell.ensures.err error is t k takes.stands)
+
+pub file_spot-requires : goal.file_spot-requires
+file_spot-requires g c = picked_place c.args.place c.requires.place

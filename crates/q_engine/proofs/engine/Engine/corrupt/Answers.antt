@@ -7,25 +7,21 @@ use Rattle.q_model.specs.Values.{Spot}
 use Rattle.q_model.specs.declared.entry.Entry.TheVariants as entries
 use Rattle.q_model.specs.declared.rows.Place.TheVariants as places
 use Rattle.q_model.specs.declared.spot.Area.TheVariants as areas
-use Rattle.q_engine.proofs.CarriedOut.{carried_behind, given_up_behind, refused, untouched}
-use Rattle.q_engine.proofs.Moves.{apart, aside_there, corrupt_moves}
+use Rattle.q_engine.proofs.CarriedOut.{carried_behind, given_up_behind, refused}
+use Rattle.q_engine.proofs.Moves.{apart, aside_there, corrupt_moves, damaged_place, not_corrupt}
 use Rattle.q_engine.proofs.StoredNotes.{no_log_spot, plain_told}
 use Rattle.q_engine.proofs.engine.Engine.corrupt.Goals as goal
 
-pub returns-then-not-may_be_put_aside-clause-err : goal.returns-then-not-may_be_put_aside-clause-err
-returns-then-not-may_be_put_aside-clause-err g c error is t w l n =
-    untouched w l (decisions.Corrupt c.args.id c.args.place) n.0 c.args.self.now (g.H.Host.view c.args.host.now) n.1 error (record { only = g.met.H.Host.only_now c.args.host.now; told = g.met.H.Host.told_stays c.args.host.now })
-
 pub move_to-requires-clause-there : goal.move_to-requires-clause-there
 move_to-requires-clause-there g c t =
-    let (w, l, n) = c.requires t in
+    let (w, l, n) = c.requires.decided t in
     let m = corrupt_moves w l c.args.id c.args.self.now (g.H.Host.view c.args.host.now) c.file_spot.result c.file_spot-2.result c.args.place n c.file_spot.ensures c.file_spot-2.ensures in
     let k = (change w l (entries.Corrupt c.args.id)).book in
     aside_there (g.H.Host.view c.args.host.now) l.book k c.file_spot.result c.file_spot-2.result m.decided.host m.puts
 
 pub move_to-requires-clause-differ : goal.move_to-requires-clause-differ
 move_to-requires-clause-differ g c t =
-    apart c.file_spot.result c.file_spot-2.result (area_of c.args.place) areas.Corrupt (ap (λ (s : Spot). s.area) c.file_spot.ensures) (ap (λ (s : Spot). s.area) c.file_spot-2.ensures) (c.may_be_put_aside.ensures.other c.if-not-may_be_put_aside.false)
+    apart c.file_spot.result c.file_spot-2.result (area_of c.args.place) areas.Corrupt (ap (λ (s : Spot). s.area) c.file_spot.ensures) (ap (λ (s : Spot). s.area) c.file_spot-2.ensures) (not_corrupt c.args.place c.requires.place)
 
 pub returns-in_err-move_to-clause-err : goal.returns-in_err-move_to-clause-err
 returns-in_err-move_to-clause-err g c error is t w l n =
@@ -46,3 +42,6 @@ returns-clause-err g c error is t w l n =
     let k = (change w l (entries.Corrupt c.args.id)).book in
     let takes = c.in_ok-move_to.ensures.aside t l.book k m.decided.host m.puts in
     given_up_behind w l (decisions.Corrupt c.args.id c.args.place) (entries.Corrupt c.args.id) c.args.self.now (g.H.Host.view c.args.host.now) m.decided k error (g.H.Host.view c.move_to.new.host) (g.H.Host.view c.tell.new.host) refl takes (c.tell.ensures.err error is t k takes.stands)
+
+pub file_spot-requires : goal.file_spot-requires
+file_spot-requires g c = damaged_place c.args.place c.requires.place

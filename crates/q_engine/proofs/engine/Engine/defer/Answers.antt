@@ -6,19 +6,15 @@ use Rattle.q_model.specs.Values.{Spot}
 use Rattle.q_model.specs.declared.entry.Entry.TheVariants as entries
 use Rattle.q_model.specs.declared.rows.Place.TheVariants as places
 use Rattle.q_model.specs.declared.spot.Area.TheVariants as areas
-use Rattle.q_engine.proofs.CarriedOut.{carried_behind, given_up_behind, refused, untouched}
+use Rattle.q_engine.proofs.CarriedOut.{carried_behind, given_up_behind, refused}
 use Rattle.q_engine.proofs.Moves.{apart, defer_moves, moved_there}
 use Rattle.q_engine.proofs.StoredNotes.{no_log_spot, plain_told}
 use Rattle.q_engine.proofs.engine.Engine.defer.Goals as goal
 
-pub returns-then-due-ge-MOMENTS-clause-err : goal.returns-then-due-ge-MOMENTS-clause-err
-returns-then-due-ge-MOMENTS-clause-err g c error is t w l n =
-    untouched w l (decisions.Defer c.args.id c.args.due) n.0 c.args.self.now (g.H.Host.view c.args.host.now) n.1 error (record { only = g.met.H.Host.only_now c.args.host.now; told = g.met.H.Host.told_stays c.args.host.now })
-
 pub move_to-requires-clause-there : goal.move_to-requires-clause-there
 move_to-requires-clause-there g c t =
-    let (w, l, n) = c.requires t in
-    let m = defer_moves w l c.args.id c.args.self.now (g.H.Host.view c.args.host.now) c.file_spot.result c.file_spot-2.result c.args.due n c.if-due-ge-MOMENTS.false c.file_spot.ensures c.file_spot-2.ensures in
+    let (w, l, n) = c.requires.decided t in
+    let m = defer_moves w l c.args.id c.args.self.now (g.H.Host.view c.args.host.now) c.file_spot.result c.file_spot-2.result c.args.due n c.requires.due c.file_spot.ensures c.file_spot-2.ensures in
     let k = (change w l (entries.Defer c.args.id c.args.due)).book in
     moved_there (g.H.Host.view c.args.host.now) l.book k c.file_spot.result c.file_spot-2.result m.decided.host m.moves
 
@@ -28,20 +24,20 @@ move_to-requires-clause-differ g c t =
 
 pub returns-in_err-move_to-clause-err : goal.returns-in_err-move_to-clause-err
 returns-in_err-move_to-clause-err g c error is t w l n =
-    let m = defer_moves w l c.args.id c.args.self.now (g.H.Host.view c.args.host.now) c.file_spot.result c.file_spot-2.result c.args.due n c.if-due-ge-MOMENTS.false c.file_spot.ensures c.file_spot-2.ensures in
+    let m = defer_moves w l c.args.id c.args.self.now (g.H.Host.view c.args.host.now) c.file_spot.result c.file_spot-2.result c.args.due n c.requires.due c.file_spot.ensures c.file_spot-2.ensures in
     let k = (change w l (entries.Defer c.args.id c.args.due)).book in
     refused w l (decisions.Defer c.args.id c.args.due) (entries.Defer c.args.id c.args.due) c.args.self.now (g.H.Host.view c.args.host.now) m.decided k error (g.H.Host.view c.move_to.new.host) refl (c.in_err-move_to.ensures.err t l.book k m.decided.host m.moves)
 
 pub returns-clause-ok : goal.returns-clause-ok
 returns-clause-ok g c = on_ok c.tell.result (λ told t w l n.
-    let m = defer_moves w l c.args.id c.args.self.now (g.H.Host.view c.args.host.now) c.file_spot.result c.file_spot-2.result c.args.due n c.if-due-ge-MOMENTS.false c.file_spot.ensures c.file_spot-2.ensures in
+    let m = defer_moves w l c.args.id c.args.self.now (g.H.Host.view c.args.host.now) c.file_spot.result c.file_spot-2.result c.args.due n c.requires.due c.file_spot.ensures c.file_spot-2.ensures in
     let k = (change w l (entries.Defer c.args.id c.args.due)).book in
     let takes = c.in_ok-move_to.ensures.ok t l.book k m.decided.host m.moves in
     carried_behind w l (decisions.Defer c.args.id c.args.due) (entries.Defer c.args.id c.args.due) c.args.self.now (g.H.Host.view c.args.host.now) m.decided k (g.H.Host.view c.move_to.new.host) (g.H.Host.view c.tell.new.host) (record { life = refl; arrive = refl; preempt = refl; stays = λ id. refl }) refl takes (told t k takes.stands) (plain_told w l (entries.Defer c.args.id c.args.due) (g.H.Host.view c.args.host.now) (g.H.Host.view c.move_to.new.host) (g.H.Host.view c.tell.new.host) refl (c.in_ok-move_to.ensures.notes t (no_log_spot c.file_spot.result places.Active c.args.id c.file_spot.ensures) (no_log_spot c.file_spot-2.result (places.Deferred c.args.due) c.args.id c.file_spot-2.ensures)) (c.tell.ensures.files t))) c.tell.ensures.ok
 
 pub returns-clause-err : goal.returns-clause-err
 returns-clause-err g c error is t w l n =
-    let m = defer_moves w l c.args.id c.args.self.now (g.H.Host.view c.args.host.now) c.file_spot.result c.file_spot-2.result c.args.due n c.if-due-ge-MOMENTS.false c.file_spot.ensures c.file_spot-2.ensures in
+    let m = defer_moves w l c.args.id c.args.self.now (g.H.Host.view c.args.host.now) c.file_spot.result c.file_spot-2.result c.args.due n c.requires.due c.file_spot.ensures c.file_spot-2.ensures in
     let k = (change w l (entries.Defer c.args.id c.args.due)).book in
     let takes = c.in_ok-move_to.ensures.ok t l.book k m.decided.host m.moves in
     given_up_behind w l (decisions.Defer c.args.id c.args.due) (entries.Defer c.args.id c.args.due) c.args.self.now (g.H.Host.view c.args.host.now) m.decided k error (g.H.Host.view c.move_to.new.host) (g.H.Host.view c.tell.new.host) refl takes (c.tell.ensures.err error is t k takes.stands)

@@ -1,5 +1,5 @@
 use Rattle.std.proofs.Common.{◌∙◌, IsTrue, Some, ap, subst}
-use Rattle.q_core.specs.Deciding.{AsksSome, BeginsFlight, is_reading, question_of}
+use Rattle.q_core.specs.Deciding.{AsksSome, BeginsFlight, CanBeDone, is_reading, question_of}
 use Rattle.q_core.specs.declared.decision.Decision.{Decision}
 use Rattle.q_engine.specs.KeptRows.{KeepsRow}
 use Rattle.q_engine.specs.KeptPlaces.{left_by}
@@ -60,3 +60,15 @@ load-requires-clause-reads g c = c.requires.taken.reads (ap (λ (d : Decision). 
 
 pub load-requires-clause-some : goal.load-requires-clause-some
 load-requires-clause-some g c = subst (λ (d : Decision). AsksSome (question_of d)) c.in-Read.is c.requires.taken.some
+
+pub log-requires-clause-code : goal.log-requires-clause-code
+log-requires-clause-code g c = subst (λ (d : Decision). CanBeDone (Some d)) c.in-Log.is c.requires.taken.lawful
+
+pub defer-requires-clause-due : goal.defer-requires-clause-due
+defer-requires-clause-due g c = subst (λ (d : Decision). CanBeDone (Some d)) c.in-Defer.is c.requires.taken.lawful
+
+pub corrupt-requires-clause-place : goal.corrupt-requires-clause-place
+corrupt-requires-clause-place g c = subst (λ (d : Decision). CanBeDone (Some d)) c.in-Corrupt.is c.requires.taken.lawful
+
+pub admit-requires-clause-place : goal.admit-requires-clause-place
+admit-requires-clause-place g c = subst (λ (d : Decision). CanBeDone (Some d)) c.in-Admit.is c.requires.taken.lawful

@@ -3,7 +3,8 @@ use Rattle.std.proofs.lemmas.Bool.{and_parts}
 use Rattle.std.specs.List.{list_all}
 use Rattle.q_model.specs.Replies.{fits_state}
 use Rattle.q_model.specs.declared.event.Event.{Event}
-use Rattle.q_engine.specs.Heard.{has_log_code, IsEventInForm}
+use Rattle.q_core.specs.Hearing.{has_log_code}
+use Rattle.q_engine.specs.Heard.{IsEventInForm}
 use Rattle.q_engine.specs.Refusals.{IsAdmissible, refused_event}
 use Rattle.q_engine.proofs.Accepted.{reply_accepted}
 use Rattle.q_engine.proofs.engine.Engine.hear.Goals as goal

@@ -5,18 +5,10 @@ use Rattle.q_model.specs.Step.{change}
 use Rattle.q_model.specs.declared.entry.Entry.TheVariants as entries
 use Rattle.q_model.specs.declared.entry.Entry.{Entry}
 use Rattle.q_engine.specs.Stands.{HasDecided}
-use Rattle.q_engine.proofs.CarriedOut.{carried_behind, given_up_behind, refused, untouched}
+use Rattle.q_engine.proofs.CarriedOut.{carried_behind, given_up_behind, refused}
 use Rattle.q_engine.proofs.OutcomeArms.{log_changes}
 use Rattle.q_engine.proofs.StoredNotes.{plain_told}
 use Rattle.q_engine.proofs.engine.Engine.log.Goals as goal
-
-pub returns-then-not-is_log_code-clause-err : goal.returns-then-not-is_log_code-clause-err
-returns-then-not-is_log_code-clause-err g c error is t w l n =
-    let d = decisions.Log c.args.id c.args.failure in
-    let e = entries.Log c.args.id c.args.failure in
-    let v = g.H.Host.view c.args.host.now in
-    let h = subst (λ (x : Entry). HasDecided w l d x c.args.self.now v) n.1.of n.1 in
-    untouched w l d e c.args.self.now v h error (record { only = g.met.H.Host.only_now c.args.host.now; told = g.met.H.Host.told_stays c.args.host.now })
 
 pub returns-in_err-store_failure-clause-err : goal.returns-in_err-store_failure-clause-err
 returns-in_err-store_failure-clause-err g c error is t w l n =

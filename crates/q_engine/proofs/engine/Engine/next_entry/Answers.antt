@@ -1,6 +1,6 @@
 use Rattle.std.proofs.Common.{◌≡◌, ◌∙◌, arith, ap, sym, subst, Option, true}
 use Rattle.q_entries.proofs.Playing.{reads_then}
-use Rattle.q_core.specs.Deciding.{AsksSome, BeginsFlight, is_answered, is_look, is_reading, NotesSkip, question_for}
+use Rattle.q_core.specs.Deciding.{AsksSome, BeginsFlight, CanBeDone, is_answered, is_look, is_reading, NotesSkip, question_for}
 use Rattle.q_core.specs.Looking.{looks_left}
 use Rattle.q_core.specs.declared.decision.Decision.{Decision}
 use Rattle.q_core.specs.declared.state.Core.{Core}
@@ -91,4 +91,5 @@ returns-then-not-is_looking-clause-taken g c =
       some = subst (λ (o : Option Decision). AsksSome (question_for o)) is e.some;
       flies = subst (λ (o : Option Decision). BeginsFlight o c.next_decision.new.self.flights) is e.flies;
       row = keeps_row c.deref_mut.result.now c.next_decision.new.self d noted;
+      lawful = subst CanBeDone is e.lawful;
     }
