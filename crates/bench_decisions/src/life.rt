@@ -1,13 +1,13 @@
 //! A life of a decision core on messages that counters tell of.
 ghost use Rattle.std.specs.List.{list_all};
-ghost use Rattle.std.specs.Prelude.{◌≡◌, IfSome, true};
+ghost use Rattle.std.specs.Prelude.{◌≡◌, IfOk, IfSome, true};
 ghost use Rattle.q_core.specs.Facts.{IsDated};
 ghost use Rattle.q_core.specs.Hearing.{has_log_code, HasLogCodes, IsInTime};
 
 use crate::files::{Mail, id_of, take_recipient};
 use crate::scenario::Scenario;
 use q_core::{Core, Decision, Found, Heard};
-use q_model::{Batch, Cursor, Id, Mode, Outcomes};
+use q_model::{Batch, Cursor, Id, Mode, NoMemory, Outcome, Outcomes};
 use q_params::read_params;
 use std::alloc::Global;
 
@@ -43,6 +43,18 @@ fn empty_core(alloc: Global) -> Option<Box<Core>> {
     let params = read_params(LIMITS).ok()?;
     let core = Core::new(alloc, params, 1, Mode::Deliver).ok()?;
     boxed(alloc, core)
+}
+
+/// The same outcome for so many recipients.
+fn all_alike(alloc: Global, outcome: Outcome, recipients: usize) -> Result<Outcomes, NoMemory>
+    requires { has_log_code outcome ≡ true }
+    ensures { IfOk result (λ outcomes. list_all has_log_code outcomes ≡ true) }
+{
+    let mut outcomes = Outcomes::new(alloc);
+    for _ in 0..recipients {
+        outcomes.push(outcome)?;
+    }
+    Ok(outcomes)
 }
 
 impl Life {
@@ -206,11 +218,10 @@ impl Life {
         ensures { IfSome result (λ outcomes. list_all has_log_code outcomes ≡ true) }
     {
         let recipients = self.core.entry_positions(number)?.len();
-        let mut outcomes = Outcomes::new(alloc);
-        for _i in 0..recipients {
-            outcomes.push(self.scenario.outcome()).ok()?;
+        match all_alike(alloc, self.scenario.outcome(), recipients) {
+            Ok(outcomes) => Some(outcomes),
+            Err(_) => None,
         }
-        Some(outcomes)
     }
 
     /// The delivery with the least number ends, where one is in flight. The decisions that follow
