@@ -6,7 +6,7 @@ use Rattle.std.proofs.lemmas.List.{append-nil}
 use Rattle.std.specs.Prelude.{◌||◌}
 use Rattle.q_agent.specs.Sessions.{OpenSession}
 use Rattle.q_books.specs.HostStands.{TellsCrashes}
-use Rattle.q_drain.proofs.Rooming.{room_more, room_quiet}
+use Rattle.q_drain.proofs.Rooming.{room_at, room_front, room_more}
 use Rattle.q_drain.proofs.Cutting.{cases_front, cut_turn, front_replies}
 use Rattle.q_drain.proofs.Ending.{cases_deliver}
 use Rattle.q_drain.proofs.Moments.{begun_behind}
@@ -21,6 +21,7 @@ use Rattle.q_drain.specs.Faults.{stop_of}
 use Rattle.q_drain.specs.GivenUp.{GivesUp}
 use Rattle.q_drain.specs.Heard.{Heard, IsBetween, IsFirst}
 use Rattle.q_drain.specs.Opened.{IsServing}
+use Rattle.q_drain.specs.Rooms.{HadRoom}
 use Rattle.q_drain.specs.Standing.{Outside}
 use Rattle.q_drain.specs.Stories.{Story}
 use Rattle.q_drain.specs.Told.{Begun, ended, moment_after}
@@ -44,6 +45,7 @@ use Rattle.q_model.specs.declared.event.Event.TheVariants as events
 use Rattle.q_model.specs.declared.event.LifeEvent.TheVariants.{Heard as IsHeardEvent}
 use Rattle.q_model.specs.declared.rows.Delivery.{Delivery}
 use Rattle.q_model.specs.Ledger.{Ledger}
+use Rattle.q_model.specs.Past.{is_living}
 use Rattle.q_model.specs.Run.{decisions, turn}
 use Rattle.q_model.specs.Settings.{World}
 use Rattle.q_model.specs.Step.{after, after_all}
@@ -79,17 +81,17 @@ heard_same w l a old new hops u engine early fs os s t now lawful some adds says
 abbrev pub IsNew : Bool → Story → ℕ → Type 0
 IsNew first s t = (first ≡ true) ⊎ (moment_after 0 s.told < t)
 
-course_on : (w : World) (l : Ledger) (s : Story) (first : Bool) (t : ℕ) → IsFirst first s → IsNew first s t → IsOnCourse w l s → (IsOnCourse w l (with_moment w l s t)) × ((after_all w l s.told).now ≤ t)
-course_on w l s true t f late c =
+course_on : (w : World) (l : Ledger) (s : Story) (first : Bool) (t : ℕ) → IsFirst first s → IsNew first s t → IsOnCourse w l s → is_living (after_all w l s.told) ≡ true → (IsOnCourse w l (with_moment w l s t)) × ((after_all w l s.told).now ≤ t)
+course_on w l s true t f late c living =
     let start : moment_after 0 s.told ≡ 0 = ap (moment_after 0) f.1 in
     let clock = c.now in
     let least : (after_all w l s.told).now ≤ t = omega (arith, clock, start) in
-    (course_first w l s t c f.0 f.1 least, least)
-course_on w l s false t f (inl first) c = cc
-course_on w l s false t f (inr late) c =
+    (course_first w l s t c living f.0 f.1 least, least)
+course_on w l s false t f (inl first) c living = cc
+course_on w l s false t f (inr late) c living =
     let clock = c.now in
     let least : (after_all w l s.told).now ≤ t = omega (arith, clock, late) in
-    (course_later w l s t c f (lt-ltb (moment_after 0 s.told) t late) least, least)
+    (course_later w l s t c living f (lt-ltb (moment_after 0 s.told) t late) least, least)
 
 -- it is past what the engine says
 pub past_now : (w : World) (l : Ledger) (a z : Outside) (u : HostView) (engine : Engine) (early : List Begun) (fs : List Delivery) (os : List OpenSession) (s : Story) (now t : ℕ) → ForAgreed engine (λ w l. now ≡ l.now) → IsBetween w l a z u engine early fs os s → now < t → moment_after 0 s.told < t
@@ -105,7 +107,7 @@ heard_at w l a old new hops u x engine next early fs os s first t f adds late b 
     let k : Ledger = after_all w l s.told in
     let z : Outside = record { clock = old; hops = hops } in
     let h = b.2 in
-    let c = course_on w l s first t f late h.driving.course in
+    let c = course_on w l s first t f late h.driving.course h.stands.core.living in
     let least = c.1 in
     let more = length-append s.moments (t ∷ []) in
     record {
@@ -124,20 +126,21 @@ pub heard_part : (w : World) (l : Ledger) (a : Outside) (old new : Option (List 
 heard_part w l a old new hops u x engine early fs os s first t error f adds late b halts =
     let k : Ledger = after_all w l s.told in
     let h = b.2 in
-    let c = course_on w l s first t f late h.driving.course in
+    let c = course_on w l s first t f late h.driving.course h.stands.core.living in
     let least = c.1 in
     let es : List Entry = turn w k (IsHeardEvent (events.At t)) in
     let is : es ≡ at_entries w k t = at_turn w k t (omega (arith, least)) in
     let r : Story = record s { told = s.told ++ halts.done; moments = s.moments ++ t ∷ [] } in
     let parts : at_entries w k t ≡ halts.done ++ halts.rest = sym is ∙ halts.all in
+    let heard : HadRoom w k (at_entries w k t) = room_at w k t h.stands.core.living least in
     let quiet : ended halts.done ≡ [] = front_replies (at_entries w k t) halts.done halts.rest parts (no_replies (decisions w (after w k (entries.At t))) (decisions_inside w (after w k (entries.At t)))) in
     let more = length-append s.moments (t ∷ []) in
     let names = ap length (at_names_turn w k t least) in
-    gives_up_part w l a (record { clock = new; hops = hops }) u x error s r es (subst (λ (xs : List Entry). IsOwnRun w l (s.told ++ xs)) (sym is) c.0.run) (omega (arith, names)) halts refl
+    gives_up_part w l a (record { clock = new; hops = hops }) u x error s r es (subst (λ (xs : List Entry). IsOwnRun w l (s.told ++ xs)) (sym is) c.0.run) (room_more w l s.told es h.driving.course.room (subst (HadRoom w k) (sym is) heard)) (omega (arith, names)) halts refl
     (record {
       given = given_more a.clock old new t s r refl adds h.given;
       cut = cut_turn s r early (at_entries w k t) halts.done halts.rest parts c.0.clocked refl refl refl h.driving.connected;
-      room = room_more w l s.told halts.done h.driving.course.room (room_quiet w k halts.done quiet);
+      room = room_more w l s.told halts.done h.driving.course.room (room_front w k halts.done halts.rest (subst (HadRoom w k) parts heard));
       records = λ now told.
           let d = h.records now told in (
             d.before,

@@ -25,7 +25,6 @@ use Rattle.q_engine.specs.Stands.{EngineStands}
 use Rattle.q_engine.specs.declared.engine.Engine.{Engine}
 use Rattle.q_host.specs.View.{View as HostView}
 use Rattle.q_laws.proofs.Members.{IsIn, find_in}
-use Rattle.q_laws.specs.Traces.{IsEntryOf}
 use Rattle.q_link.specs.Records.{Closed, HopsView}
 use Rattle.q_model.specs.declared.entry.Entry.TheVariants as entries
 use Rattle.q_model.specs.declared.outcome.Outcome.{Outcome}
@@ -74,9 +73,9 @@ same_side polled number n late (inr high) = lt-leb n number high ∙ sym (lt-leb
 -- ---- the reply
 
 -- a reply is allowed that has an outcome for each recipient of a delivery in flight
-reply_allowed : (w : World) (k : Ledger) (number : ℕ) (site : SiteState) (outcomes : List Outcome) → is_living k ≡ true → may_reply k number site outcomes ≡ true → IsEntryOf w k (entries.Reply number site outcomes)
+pub reply_allowed : (w : World) (k : Ledger) (number : ℕ) (site : SiteState) (outcomes : List Outcome) → is_living k ≡ true → may_reply k number site outcomes ≡ true → allowed w k (entries.Reply number site outcomes) ≡ true
 unfolding allowed
-reply_allowed w k number site outcomes living may = inl (ap (λ (b : Bool). (b || false) && may_reply k number site outcomes) living ∙ may)
+reply_allowed w k number site outcomes living may = ap (λ (b : Bool). (b || false) && may_reply k number site outcomes) living ∙ may
 
 -- what was recorded with the reply, and that the drain goes on so
 pub record GoesOnBehind (w : World) (l : Ledger) (a z : Outside) (x : HostView) (hops : HopsView) (engine : Engine) (early : List Begun) (fs : List Delivery) (os : List OpenSession) (s : Story) (o : OpenSession) (r : Report) : Type 0 where

@@ -147,6 +147,7 @@ module _ (w : World) (l : Ledger) (a z y : Outside) (u v x : HostView) (engine :
         heard = g.heard;
         entries_due = (d.story).told ++ g.entries_due;
         due = g.due;
+        fits = g.fits;
         halts = h.0;
         story = g.story;
         told = g.told ∙ sym h.1;

@@ -3,9 +3,11 @@ use native.Mathlib.Omega.{arith}
 use Rattle.std.proofs.Common.{◌≡◌, ◌≤◌, ◌⊎◌, inl, ℕ, List, [], ◌++◌, length, length-append, take, refl, sym, ap, ◌∙◌, subst, append-nil, append_assoc}
 use Rattle.std.proofs.lemmas.Grind.{flat_map-append}
 use Rattle.q_books.specs.HostStands.{HostStands, Takes, TellsCrashes}
+use Rattle.q_drain.proofs.Rooming.{told_allowed}
 use Rattle.q_drain.specs.Drains.{IsOwnRun}
 use Rattle.q_drain.specs.GivenUp.{GivesUp}
 use Rattle.q_drain.specs.Opened.{GaveUp}
+use Rattle.q_drain.specs.Rooms.{HadRoom}
 use Rattle.q_drain.specs.Standing.{Outside}
 use Rattle.q_drain.specs.Stories.{Story}
 use Rattle.q_drain.specs.Told.{event_of, events_of}
@@ -67,9 +69,9 @@ halts_after w k es fs all m error u v x parts is p q =
 -- ---- what is due
 
 -- of a run of more entries some were told
-pub gives_up_part : (w : World) (l : Ledger) (a z : Outside) (u v : HostView) (error : HostError) (s r : Story) (es : List Entry) → IsOwnRun w l (s.told ++ es) → length (events_of es) ≤ 1
+pub gives_up_part : (w : World) (l : Ledger) (a z : Outside) (u v : HostView) (error : HostError) (s r : Story) (es : List Entry) → IsOwnRun w l (s.told ++ es) → HadRoom w l (s.told ++ es) → length (events_of es) ≤ 1
     → (h : HaltsRun w (after_all w l s.told) es error u v) → r.told ≡ s.told ++ h.done → GaveUp w l a z r → GivesUp w l a z u v error s
-gives_up_part w l a z u v error s r es own few h told gave =
+gives_up_part w l a z u v error s r es own room few h told gave =
     let parts = ap (λ (xs : List Entry). length (events_of xs)) h.all in
     let split = ap length (events_added h.done h.rest) in
     let sum = length-append (events_of h.done) (events_of h.rest) in
@@ -77,6 +79,7 @@ gives_up_part w l a z u v error s r es own few h told gave =
       heard = events_of (s.told ++ es);
       entries_due = es;
       due = own;
+      fits = told_allowed w l (s.told ++ es) own room;
       halts = h;
       story = r;
       told = told;
@@ -96,6 +99,7 @@ gives_up_whole w l a z u v error s r es own p told gave = record {
   heard = events_of (s.told ++ es);
   entries_due = es;
   due = own;
+  fits = told_allowed w l (s.told ++ es) own (subst (HadRoom w l) told gave.room);
   halts = record {
     done = es;
     rest = [];
@@ -131,6 +135,7 @@ gives_up_later w l a z u v x error s r es told p g =
     record {
       heard = g.heard;
       entries_due = es ++ g.entries_due;
+      fits = g.fits;
       due = sym (append_assoc s.told es g.entries_due) ∙ ap (λ (xs : List Entry). xs ++ g.entries_due) (sym told) ∙ g.due;
       halts = h.0;
       story = g.story;

@@ -1,6 +1,6 @@
 -- A drain through the next poll of its agent, and what follows it.
 use native.Mathlib.Omega.{arith}
-use Rattle.q_drain.proofs.Rooming.{room_front}
+use Rattle.q_drain.proofs.Rooming.{room_front, room_more, room_reply}
 use Rattle.q_drain.specs.Rooms.{HadRoom, MayBeginMore}
 use Rattle.std.proofs.Common.{◌≡◌, ◌≤◌, ◌+◌, inl, inr, ℕ, Bool, true, false, List, [], ◌∷◌, ◌++◌, length, length-append, Option, Some, None, refl, sym, ap, ◌∙◌, subst, append-nil, ◌<◌}
 use Rattle.std.specs.List.{AllByRecursion}
@@ -13,7 +13,7 @@ use Rattle.q_agent.specs.declared.report.Report.{Report}
 use Rattle.q_books.proofs.Joining.{reads_keep}
 use Rattle.q_books.specs.HostStands.{Takes, TellsCrashes}
 use Rattle.q_drain.proofs.Adding.{begun_added, ended_added}
-use Rattle.q_drain.proofs.Concluding.{GoesOnBehind, concludes_under_way}
+use Rattle.q_drain.proofs.Concluding.{GoesOnBehind, concludes_under_way, reply_allowed}
 use Rattle.q_drain.proofs.GivingUp.{gives_up_looking, gives_up_part, gives_up_whole, halts_after, none_after, plays_between, plays_looked}
 use Rattle.q_drain.proofs.Moments.{begun_behind}
 use Rattle.q_drain.proofs.Naming.{reply_names_turn, reply_turn}
@@ -26,14 +26,14 @@ use Rattle.q_drain.proofs.Requested.{gives_up}
 use Rattle.q_drain.proofs.Serving.{looked_under_way, polled_under_way}
 use Rattle.q_drain.proofs.Sessions.{open_files}
 use Rattle.q_drain.proofs.Silent.{decisions_inside, no_replies}
-use Rattle.q_drain.proofs.Turning.{course_reply, reply_entries, run_reply, room_reply}
+use Rattle.q_drain.proofs.Turning.{course_reply, reply_entries, run_reply}
 use Rattle.q_drain.proofs.Waiting.{done, sweeps_busy, sweeps_more}
 use Rattle.q_drain.specs.Drains.{Delivers, IsOwnRun}
 use Rattle.q_drain.specs.Flights.{without_flight}
 use Rattle.q_drain.specs.GivenUp.{GivesUp}
 use Rattle.q_drain.specs.Opened.{FailsToOpenAll, GaveUp, IsServing, Looks, MayOpenAll, OpensAll}
 use Rattle.q_drain.specs.Polling.{IsPolling, KeepsSome}
-use Rattle.q_drain.specs.Replied.{HasReplied, Replies, reply_event}
+use Rattle.q_drain.specs.Replied.{entries_replied, HaltsReply, HasReplied, Replies, reply_event}
 use Rattle.q_drain.specs.Reported.{GivesUpReport, HearsReport}
 use Rattle.q_drain.specs.Served.{FilledUp, ServedOn}
 use Rattle.q_drain.specs.Standing.{IsUnderWay, Outside, counts_of}
@@ -46,9 +46,8 @@ use Rattle.q_engine.proofs.StoredNotes.{stores_none}
 use Rattle.q_engine.specs.KeptNotes.{AddsAllNotes}
 use Rattle.q_engine.specs.Refusals.{ForAgreed}
 use Rattle.q_engine.specs.Stands.{EngineStands}
-use Rattle.q_engine.specs.Steps.{HaltsTurn}
 use Rattle.q_engine.specs.declared.engine.Engine.{Engine}
-use Rattle.q_entries.specs.Runs.{PlaysRun}
+use Rattle.q_entries.specs.Runs.{HaltsRun, PlaysRun}
 use Rattle.q_host.specs.Calls.{Stays}
 use Rattle.q_host.specs.View.{View as HostView}
 use Rattle.q_host.specs.declared.error.HostError.{HostError}
@@ -263,15 +262,41 @@ module _ (w : World) (l : Ledger) (a : Outside) (clock : Option (List ℕ)) (u v
   -- where more deliveries may begin
   module _ (few : MayBeginMore k) where
     -- its reply was given up
-    pub reply_fails : (x : HostView) (error : HostError) → HaltsTurn (reply_event r) engine error v x → GivesUp w l a y u x error s
-    reply_fails x error halts =
-        let es : List Entry = turn w k (Heard (reply_event r)) in
-        let q = halts w k stands_still in
-        let h = halts_after w k [] es es k error u v x refl (sym (none_after w k)) (plays_looked w k u v e.lawful e.serving.under_way.stands.host takes) q in
+    reply_halts : (x : HostView) (error : HostError) → may_reply k r.number r.site r.outcomes ≡ true → HaltsRun w k (turn w k (Heard (reply_event r))) error v x → GivesUp w l a y u x error s
+    reply_halts x error may q =
+        let turn_es : List Entry = turn w k (Heard (reply_event r)) in
+        let course = e.serving.under_way.driving.course in
+        let living = e.serving.under_way.stands.core.living in
+        let fits = reply_allowed w k o.number r.site r.outcomes living (ap (λ n. may_reply k n r.site r.outcomes) (sym e.report.number) ∙ may) in
+        let heard : HadRoom w k es = room_reply w k o.number r.site r.outcomes fits few in
+        let h = halts_after w k [] turn_es turn_es k error u v x refl (sym (none_after w k)) (plays_looked w k u v e.lawful e.serving.under_way.stands.host takes) q in
         let parts = sym turn_is ∙ (h.0).all in
-        let g = gone (h.0).done (h.0).rest parts (room_front w k (h.0).done (h.0).rest (subst (HadRoom w k) parts (room_reply w k o.number r.site r.outcomes few))) in
+        let g = gone (h.0).done (h.0).rest parts (room_front w k (h.0).done (h.0).rest (subst (HadRoom w k) parts heard)) in
         let names = ap length (reply_names_turn w k r.number r.site r.outcomes) in
-        gives_up_part w l a y u x error s g.story es (subst (λ (xs : List Entry). IsOwnRun w l (s.told ++ xs)) (sym turn_is) own) (omega (arith, names)) h.0 g.told g.gave_up
+        gives_up_part w l a y u x error s g.story turn_es (subst (λ (xs : List Entry). IsOwnRun w l (s.told ++ xs)) (sym turn_is) own)
+        (room_more w l s.told turn_es course.room (subst (HadRoom w k) (sym turn_is) heard)) (omega (arith, names)) h.0 g.told g.gave_up
+
+    no_parts : (done rest : List Entry) → [] ≡ done ++ rest → done ≡ []
+    no_parts [] rest is = refl
+    no_parts (f ∷ done) rest is = absurd cc
+
+    -- nothing of it was told
+    reply_halts_first : (x : HostView) (error : HostError) → HaltsRun w k [] error v x → GivesUp w l a y u x error s
+    reply_halts_first x error q =
+        let course = e.serving.under_way.driving.course in
+        let h = halts_after w k [] [] [] k error u v x refl (sym (none_after w k)) (plays_looked w k u v e.lawful e.serving.under_way.stands.host takes) q in
+        let g = gone [] es refl tt in
+        let none : (h.0).done ≡ [] = no_parts (h.0).done (h.0).rest (h.0).all in
+        let same = sym (append-nil s.told) in
+        gives_up_part w l a y u x error s g.story [] (subst (IsOwnRun w l) same course.run) (subst (HadRoom w l) same course.room) (omega arith) h.0
+        (g.told ∙ ap (λ (xs : List Entry). s.told ++ xs) (sym none)) g.gave_up
+
+    pub reply_fails : (x : HostView) (error : HostError) → HaltsReply r engine error v x → GivesUp w l a y u x error s
+    reply_fails x error halts = by (may_reply k r.number r.site r.outcomes) refl (halts w k stands_still)
+      where
+        by : (b : Bool) → may_reply k r.number r.site r.outcomes ≡ b → HaltsRun w k (entries_replied w k r) error v x → GivesUp w l a y u x error s
+        by true may q = reply_halts x error may (subst (λ (b : Bool). HaltsRun w k (if b then turn w k (Heard (reply_event r)) else []) error v x) may q)
+        by false may q = reply_halts_first x error (subst (λ (b : Bool). HaltsRun w k (if b then turn w k (Heard (reply_event r)) else []) error v x) may q)
 
     -- its reply was told
     module _ (x : HostView) (new : Engine) (mid : Sessions) (made : mid ≡ after_end o agent) (replies : Replies r engine new v x) where
@@ -332,7 +357,7 @@ module _ (w : World) (l : Ledger) (a : Outside) (clock : Option (List ℕ)) (u v
     pub report_fails : {H : Type 0} (view : H → HostView) (before b : H) → view before ≡ v → (mid : Sessions) (made : mid ≡ after_end o agent) (after_hops : HopsView) (known : ℕ) (error : HostError) → length early ≡ known
         → GivesUpReport view r engine error before b next after_hops mid known → GivesUp w l a (record { clock = clock; hops = after_hops }) u (view b) error s
     report_fails view before b at mid made after_hops known error is (inl (halts, same)) =
-        subst (λ (x : HopsView). GivesUp w l a (record { clock = clock; hops = x }) u (view b) error s) (sym same) (reply_fails (view b) error (subst (λ (x : HostView). HaltsTurn (reply_event r) engine error x (view b)) at halts))
+        subst (λ (x : HopsView). GivesUp w l a (record { clock = clock; hops = x }) u (view b) error s) (sym same) (reply_fails (view b) error (subst (λ (x : HostView). HaltsReply r engine error x (view b)) at halts))
     report_fails view before b at mid made after_hops known error is (inr f) =
         opening_fails (view f.between) f.next mid made (subst (λ (x : HostView). Replies r engine f.next x (view f.between)) at f.replied) (view b) after_hops known error is f.fails
 

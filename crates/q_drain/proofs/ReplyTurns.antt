@@ -4,9 +4,11 @@ use Rattle.std.specs.List.{list_all}
 use Rattle.std.specs.Option.{option_map_or}
 use Rattle.std.specs.Prelude.{◌&&◌, ◌==◌, ◌||◌, replicate}
 use Rattle.q_agent.specs.NextPoll.{Counts}
+use Rattle.q_agent.specs.declared.report.Report.{Report}
 use Rattle.q_books.specs.HostStands.{HostStands, TellsCrashes}
 use Rattle.q_drain.proofs.ClockTurns.{host_fault}
 use Rattle.q_drain.specs.Faults.{stop_of}
+use Rattle.q_drain.specs.Replied.{entries_replied, reply_event}
 use Rattle.q_engine.specs.Refusals.{is_early, is_of_event, is_of_host, refusal_of, refused_event, refused_reply, told_count}
 use Rattle.q_engine.specs.declared.error.EngineError.{EngineError}
 use Rattle.q_engine.specs.declared.error.EngineError.TheVariants as errors
@@ -17,6 +19,7 @@ use Rattle.q_host.specs.View.{View as HostView}
 use Rattle.q_host.specs.declared.error.HostError.{HostError}
 use Rattle.q_model.specs.declared.entry.Entry.{Entry}
 use Rattle.q_model.specs.declared.event.Event.TheVariants as events
+use Rattle.q_model.specs.declared.event.LifeEvent.TheVariants.{Heard}
 use Rattle.q_model.specs.declared.outcome.Outcome.{Outcome}
 use Rattle.q_model.specs.declared.outcome.Outcome.TheVariants as outcomes
 use Rattle.q_model.specs.declared.outcome.SiteState.{SiteState}
@@ -25,6 +28,7 @@ use Rattle.q_model.specs.declared.rows.Delivery.{Delivery}
 use Rattle.q_model.specs.Deliveries.{flight_of}
 use Rattle.q_model.specs.Ledger.{Ledger}
 use Rattle.q_model.specs.Replies.{fits_state, is_later, may_reply}
+use Rattle.q_model.specs.Run.{turn}
 use Rattle.q_model.specs.Settings.{World}
 
 -- ---- what a report says
@@ -60,6 +64,14 @@ accepted_may l number site os fits none = early (is_early l.timed (events.Reply 
     early true h = cc
     early false h = found (flight_of l number) refl h
 
+-- one that may not come is refused
+pub refused_unless : (l : Ledger) (number : ℕ) (site : SiteState) (os : List Outcome) → fits_state site os ≡ true → may_reply l number site os ≡ false → (why : EngineError) × (refused_event l (events.Reply number site os) ≡ Some why)
+refused_unless l number site os fits no = on (refused_event l (events.Reply number site os)) refl
+  where
+    on : (o : Option EngineError) → refused_event l (events.Reply number site os) ≡ o → (why : EngineError) × (refused_event l (events.Reply number site os) ≡ Some why)
+    on (Some why) is = (why, is)
+    on None is = let bad : true ≡ false = sym (accepted_may l number site os fits is) ∙ no in absurd cc
+
 -- ---- a refusal
 
 -- nothing was done
@@ -75,3 +87,15 @@ fault_halts w l es u x why error lawful host kinds halts untouched same = on (is
     on true c of_host of_event h = halts error (host_fault why error of_host same)
     on false true of_host of_event h = subst (λ (v : HostView). HaltsRun w l es error u v) (sym (untouched of_event)) (halts_nothing w l es error u lawful host)
     on false false of_host of_event h = cc
+
+-- some first part of the turn of one that may come was told, and nothing of another one
+pub halts_reply : (w : World) (l : Ledger) (r : Report) (error : HostError) (u x : HostView) → (may_reply l r.number r.site r.outcomes ≡ true → HaltsRun w l (turn w l (Heard (reply_event r))) error u x)
+    → (may_reply l r.number r.site r.outcomes ≡ false → HaltsRun w l [] error u x) → HaltsRun w l (entries_replied w l r) error u x
+halts_reply w l r error u x some none = on (may_reply l r.number r.site r.outcomes) some none
+  where
+    es : List Entry
+    es = turn w l (Heard (reply_event r))
+
+    on : (b : Bool) → (b ≡ true → HaltsRun w l es error u x) → (b ≡ false → HaltsRun w l [] error u x) → HaltsRun w l (if b then es else []) error u x
+    on true some none = some refl
+    on false some none = none refl

@@ -38,7 +38,6 @@ use Rattle.q_drain.specs.Works.{Counts as Progress, IsLinkOf, IsSessionOf, IsWor
 use Rattle.q_host.specs.View.{View as HostView}
 use Rattle.q_laws.proofs.Members.{IsIn}
 use Rattle.q_laws.specs.Consistency.{IsConsistent}
-use Rattle.q_laws.specs.Traces.{IsEntryOf}
 use Rattle.q_link.specs.Records.{Closed, HopsView, ToldHops}
 use Rattle.q_link.specs.Routes.{has_route}
 use Rattle.q_link.specs.Views.{Told}
@@ -53,7 +52,7 @@ use Rattle.q_model.specs.Message.{Message}
 use Rattle.q_model.specs.Past.{starts}
 use Rattle.q_model.specs.Run.{decisions}
 use Rattle.q_model.specs.Settings.{World}
-use Rattle.q_model.specs.Step.{after, after_all}
+use Rattle.q_model.specs.Step.{after, after_all, allowed}
 use Rattle.q_session.specs.Mails.{StandsAt}
 
 -- ---- one session less
@@ -113,17 +112,17 @@ after_reply w l s number site outcomes records = record s { told = s.told ++ rep
 pub drives_reply : (w : World) (l : Ledger) (Tells : Begun → Told → Type 0) (early : List Begun) (fs : List Delivery) (os : List OpenSession) (s : Story) (o : OpenSession) (site : SiteState) (outcomes : List Outcome) (records : List Closed)
     → Driving w l Tells early [] fs os s → IsIn o os
     → IsConsistent w (after_all w l s.told)
-    → IsEntryOf w (after_all w l s.told) (entries.Reply o.number site outcomes)
+    → allowed w (after_all w l s.told) (entries.Reply o.number site outcomes) ≡ true
     → MayBeginMore (after_all w l s.told)
     → Driving w l Tells early (begun_behind w l s (entries.Reply o.number site outcomes) (moment_after 0 s.told)) (without_flight o.number fs) (without o.number os) (after_reply w l s o.number site outcomes records)
-drives_reply w l Tells early fs os s o site outcomes records d there c entry few =
+drives_reply w l Tells early fs os s o site outcomes records d there c fits few =
     let k : Ledger = after_all w l s.told in
     let e : Entry = entries.Reply o.number site outcomes in
     let ds : List Entry = decisions w (after w k e) in
     let m : ℕ = moment_after 0 s.told in
     let r : Story = after_reply w l s o.number site outcomes records in
     let inside = decisions_inside w (after w k e) in
-    let turn : IsTurn w k e ds = (entry, decisions_are w (after w k e)) in
+    let turn : IsTurn w k e ds = (inl fits, decisions_are w (after w k e)) in
     let last : ended (e ∷ ds) ≡ record { number = o.number; site = site; outcomes = outcomes } ∷ [] = ap (λ (xs : List Ended). record { number = o.number; site = site; outcomes = outcomes } ∷ xs) (no_replies ds inside) in
     let replies = ap length (ended_added s.told (e ∷ ds)) in
     let sum = length-append (ended s.told) (ended (e ∷ ds)) in
@@ -133,7 +132,7 @@ drives_reply w l Tells early fs os s o site outcomes records d there c entry few
     let before = d.course.starts in
     let counted = d.opened.counted in
     let less = one_less o os d.opened.rises there in
-    let course = course_reply w l s o.number site outcomes d.course few in
+    let course = course_reply w l s o.number site outcomes d.course fits few in
     let gs : List Delivery = without_flight o.number fs in
     let ps : List OpenSession = without o.number os in
     record {

@@ -1,7 +1,7 @@
 -- The turn of an event is told: what was told stays the run of its events, and what begins waits to be opened.
 use Rattle.q_drain.specs.Sweeps.{IsClocked}
-use Rattle.q_drain.specs.Rooms.{HadRoom, MayBeginMore}
-use Rattle.q_drain.proofs.Rooming.{room_more, room_quiet}
+use Rattle.q_drain.specs.Rooms.{MayBeginMore}
+use Rattle.q_drain.proofs.Rooming.{room_at, room_more, room_reply}
 use Rattle.std.proofs.Common.{◌≡◌, ◌≢◌, ◌≤◌, ◌+◌, ℕ, true, false, List, [], ◌∷◌, ◌++◌, length, length-append, Some, refl, sym, ap, ◌∙◌, subst}
 use native.Mathlib.Omega.{arith}
 use Rattle.std.proofs.lemmas.List.{append-nil}
@@ -36,10 +36,10 @@ use Rattle.q_model.specs.declared.rows.Delivery.{Delivery}
 use Rattle.q_model.specs.Book.{Book, message_of}
 use Rattle.q_model.specs.Ledger.{Ledger}
 use Rattle.q_model.specs.Message.{Message}
-use Rattle.q_model.specs.Past.{is_life, starts}
+use Rattle.q_model.specs.Past.{is_life, is_living, starts}
 use Rattle.q_model.specs.Run.{decisions}
 use Rattle.q_model.specs.Settings.{World}
-use Rattle.q_model.specs.Step.{after, after_all}
+use Rattle.q_model.specs.Step.{after, after_all, allowed}
 
 -- ---- the entries of a turn
 
@@ -78,28 +78,28 @@ at_clocked : (w : World) (k : Ledger) (moments : List ℕ) (told : List Entry) (
 at_clocked w k [] told t clocked some late = absurd (some refl)
 at_clocked w k (u ∷ ts) told t clocked some late = later_clocked u ts told t (decisions w (after w k (entries.At t))) clocked late (decisions_inside w (after w k (entries.At t)))
 
-course_by : (w : World) (l : Ledger) (s : Story) (t : ℕ) → IsOnCourse w l s → (after_all w l s.told).now ≤ t → IsClockedBy (s.moments ++ t ∷ []) (s.told ++ at_entries w (after_all w l s.told) t) → IsOnCourse w l (with_moment w l s t)
-course_by w l s t c late clocked =
+course_by : (w : World) (l : Ledger) (s : Story) (t : ℕ) → IsOnCourse w l s → is_living (after_all w l s.told) ≡ true → (after_all w l s.told).now ≤ t → IsClockedBy (s.moments ++ t ∷ []) (s.told ++ at_entries w (after_all w l s.told) t) → IsOnCourse w l (with_moment w l s t)
+course_by w l s t c living late clocked =
     let k : Ledger = after_all w l s.told in
     let es : List Entry = at_entries w k t in
     let ds = decisions_inside w (after w k (entries.At t)) in
     record {
-      room = room_more w l s.told es c.room (room_quiet w k es (no_replies (decisions w (after w k (entries.At t))) ds));
+      room = room_more w l s.told es c.room (room_at w k t living late);
       run = subst (λ xs. IsOwnRun w l (s.told ++ xs)) (at_turn w k t (omega (arith, late))) (run_longer w l s.told (events.At t) c.run (at_names_turn w k t late));
       clocked = clocked;
       now = longer_now w l s.told es (at_timed w k (moment_after 0 s.told) t);
       starts = longer_starts w l s.told es c.starts (turn_starts w k (moment_after 0 s.told) (entries.At t) (decisions w (after w k (entries.At t))) refl ds);
     }
 
-pub course_later : (w : World) (l : Ledger) (s : Story) (t : ℕ) → IsOnCourse w l s → s.moments ≢ [] → nat_lt (moment_after 0 s.told) t ≡ true → (after_all w l s.told).now ≤ t → IsOnCourse w l (with_moment w l s t)
-course_later w l s t c some late least = course_by w l s t c least (at_clocked w (after_all w l s.told) s.moments s.told t c.clocked some late)
+pub course_later : (w : World) (l : Ledger) (s : Story) (t : ℕ) → IsOnCourse w l s → is_living (after_all w l s.told) ≡ true → s.moments ≢ [] → nat_lt (moment_after 0 s.told) t ≡ true → (after_all w l s.told).now ≤ t → IsOnCourse w l (with_moment w l s t)
+course_later w l s t c living some late least = course_by w l s t c living least (at_clocked w (after_all w l s.told) s.moments s.told t c.clocked some late)
 
 -- the first of a call is told
-pub course_first : (w : World) (l : Ledger) (s : Story) (t : ℕ) → IsOnCourse w l s → s.moments ≡ [] → s.told ≡ [] → (after_all w l s.told).now ≤ t → IsOnCourse w l (with_moment w l s t)
-course_first w l s t c none silent least =
+pub course_first : (w : World) (l : Ledger) (s : Story) (t : ℕ) → IsOnCourse w l s → is_living (after_all w l s.told) ≡ true → s.moments ≡ [] → s.told ≡ [] → (after_all w l s.told).now ≤ t → IsOnCourse w l (with_moment w l s t)
+course_first w l s t c living none silent least =
     let k : Ledger = after_all w l s.told in
     let first : IsClockedBy (t ∷ []) (at_entries w k t) = first_clocked t (decisions w (after w k (entries.At t))) (decisions_inside w (after w k (entries.At t))) in
-    course_by w l s t c least (subst (λ told. IsClockedBy (s.moments ++ t ∷ []) (told ++ at_entries w k t)) (sym silent) (subst (λ moments. IsClockedBy (moments ++ t ∷ []) (at_entries w k t)) (sym none) first))
+    course_by w l s t c living least (subst (λ told. IsClockedBy (s.moments ++ t ∷ []) (told ++ at_entries w k t)) (sym silent) (subst (λ moments. IsClockedBy (moments ++ t ∷ []) (at_entries w k t)) (sym none) first))
 
 -- one that isn't past those before it isn't told
 pub course_same : (w : World) (l : Ledger) (s : Story) (t : ℕ) → IsOnCourse w l s → s.moments ≢ [] → nat_lt (moment_after 0 s.told) t ≡ false → IsOnCourse w l (record s { moments = s.moments ++ t ∷ [] })
@@ -126,20 +126,14 @@ clocked_reply w l s number site outcomes clocked =
     let k : Ledger = after_all w l s.told in
     none_clocked s.moments s.told (reply_entries w k number site outcomes) clocked (no_moments (decisions w (after w k (entries.Reply number site outcomes))) (decisions_inside w (after w k (entries.Reply number site outcomes))))
 
--- heard where fewer deliveries have begun than may
-pub room_reply : (w : World) (k : Ledger) (number : ℕ) (site : SiteState) (outcomes : List Outcome) → MayBeginMore k → HadRoom w k (reply_entries w k number site outcomes)
-room_reply w k number site outcomes few =
-    let e : Entry = entries.Reply number site outcomes in
-    (λ some. few, room_quiet w (after w k e) (decisions w (after w k e)) (no_replies (decisions w (after w k e)) (decisions_inside w (after w k e))))
-
-pub course_reply : (w : World) (l : Ledger) (s : Story) (number : ℕ) (site : SiteState) (outcomes : List Outcome) → IsOnCourse w l s → MayBeginMore (after_all w l s.told) → IsOnCourse w l (with_reply w l s number site outcomes)
-course_reply w l s number site outcomes c few =
+pub course_reply : (w : World) (l : Ledger) (s : Story) (number : ℕ) (site : SiteState) (outcomes : List Outcome) → IsOnCourse w l s → allowed w (after_all w l s.told) (entries.Reply number site outcomes) ≡ true → MayBeginMore (after_all w l s.told) → IsOnCourse w l (with_reply w l s number site outcomes)
+course_reply w l s number site outcomes c fits few =
     let k : Ledger = after_all w l s.told in
     let es : List Entry = reply_entries w k number site outcomes in
     let ds = decisions_inside w (after w k (entries.Reply number site outcomes)) in
     record {
       run = run_reply w l s number site outcomes c.run;
-      room = room_more w l s.told es c.room (room_reply w k number site outcomes few);
+      room = room_more w l s.told es c.room (room_reply w k number site outcomes fits few);
       clocked = clocked_reply w l s number site outcomes c.clocked;
       now = longer_now w l s.told es (subst (λ t. (after_all w k es).now ≡ moment_after t es) c.now (reply_timed w k number site outcomes));
       starts = longer_starts w l s.told es c.starts (turn_starts w k (moment_after 0 s.told) (entries.Reply number site outcomes) (decisions w (after w k (entries.Reply number site outcomes))) refl ds);

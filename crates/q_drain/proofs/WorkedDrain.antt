@@ -21,7 +21,7 @@ use Rattle.q_model.specs.Message.{Message}
 use Rattle.q_model.specs.Next.{next}
 use Rattle.q_model.specs.Run.{run, turn, decisions, decide}
 use Rattle.q_model.specs.Settings.{World, defaults}
-use Rattle.q_model.specs.Step.{after, after_all}
+use Rattle.q_model.specs.Step.{after, after_all, allowed}
 use Rattle.q_model.specs.Values.{Site}
 use Rattle.q_link.specs.Records.{Closed}
 use Rattle.q_link.specs.Routes.{has_route}
@@ -32,7 +32,7 @@ use Rattle.q_smtp.specs.Dialogue.{Settled, dialogue, after_ehlo, after_helo, aft
 use Rattle.q_drain.specs.Cases.{Case, IsPlace, exchange}
 use Rattle.q_drain.specs.Causes.{has_failed, IsDelivery, IsLink, IsPatient, IsReply, IsSent}
 use Rattle.q_drain.specs.Drains.{Delivers, IsQuiet, IsWhole}
-use Rattle.q_drain.proofs.Rooming.{room_more, room_quiet}
+use Rattle.q_drain.proofs.Rooming.{room_more, room_none}
 use Rattle.q_drain.specs.Rooms.{HadRoom}
 use Rattle.q_drain.specs.Stories.{Story}
 use Rattle.q_drain.specs.Sweeps.{IsRested}
@@ -126,16 +126,16 @@ story = record {
   rests = 66;
 }
 
--- each reply came where one or two deliveries had begun
+-- each event was allowed, and each reply came where one or two deliveries had begun
 had_room : HadRoom world begun_life story.told
-unfolding after after_all digits hex
+unfolding allowed after after_all digits hex
 had_room =
     let first : Ledger = after_all world begun_life to_start in
     let second : Ledger = after_all world first from_reply in
-    room_more world begun_life to_start (from_reply ++ from_bounce) (room_quiet world begun_life to_start refl)
+    room_more world begun_life to_start (from_reply ++ from_bounce) ((λ out. refl, λ some. absurd (some refl)), room_none world (after world begun_life (entries.At 2000)) (drop 1 to_start) refl)
     (room_more world first from_reply from_bounce
-    (λ some. lit< tt, room_quiet world (after world first (entries.Reply 1 Up said)) (drop 1 from_reply) refl)
-    (λ some. lit< tt, room_quiet world (after world second (entries.Reply 2 Down (outcomes.Later 0 ∷ []))) (drop 1 from_bounce) refl))
+    ((λ out. refl, λ some. lit< tt), room_none world (after world first (entries.Reply 1 Up said)) (drop 1 from_reply) refl)
+    ((λ out. refl, λ some. lit< tt), room_none world (after world second (entries.Reply 2 Down (outcomes.Later 0 ∷ []))) (drop 1 from_bounce) refl))
 
 whole_is : IsWhole world begun_life story
 unfolding run turn decisions decide after after_all next digits hex

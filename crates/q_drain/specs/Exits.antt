@@ -13,6 +13,7 @@ use Rattle.q_engine.specs.declared.engine.Engine.{Engine}
 use Rattle.q_entries.specs.Runs.{HaltsRun, PlaysRun}
 use Rattle.q_host.specs.View.{View as HostView}
 use Rattle.q_host.specs.declared.error.HostError.{HostError}
+use Rattle.q_laws.specs.Traces.{AreAllowed}
 use Rattle.q_link.specs.Records.{ToldHops}
 use Rattle.q_model.specs.declared.entry.Entry.{Entry}
 use Rattle.q_model.specs.declared.event.Event.{Event}
@@ -56,12 +57,14 @@ pub record EndsUnfinished (w : World) (l : Ledger) (o : Outsides) (u v : HostVie
   pub flies : (after_all w l ends.story.told).flights ≢ []
   pub rests_given : ends.story.rests ≡ rests
 
--- It was given up: these events were heard, the last perhaps in part, and some first entries of their
--- run were told. No line names an event that wasn't told whole, and there is one such at most.
+-- It was given up: these events were heard, each allowed, the last perhaps in part, and some first
+-- entries of their run were told. No line names an event that wasn't told whole, and there is one such
+-- at most.
 pub record EndsEarly (w : World) (l : Ledger) (o : Outsides) (u v : HostView) (error : HostError) : Type 0 where
   pub heard : List Event
   pub entries_due : List Entry
   pub due : entries_due ≡ run w l (map Heard heard)
+  pub fits : AreAllowed w l (map Heard heard)
   pub halts : HaltsRun w l entries_due error u v
   pub story : Story
   pub told : story.told ≡ halts.done

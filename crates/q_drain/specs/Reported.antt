@@ -3,9 +3,8 @@ use Rattle.std.specs.Prelude.{◌≡◌, ◌⊎◌, List, Option, ℕ}
 use Rattle.q_agent.specs.Sessions.{Sessions}
 use Rattle.q_agent.specs.declared.report.Report.{Report}
 use Rattle.q_drain.specs.Opened.{FailsToOpenAll, MayOpenAll, OpensAll}
-use Rattle.q_drain.specs.Replied.{Replies, reply_event}
+use Rattle.q_drain.specs.Replied.{HaltsReply, Replies}
 use Rattle.q_drain.specs.declared.poll.Served.{Served}
-use Rattle.q_engine.specs.Steps.{HaltsTurn}
 use Rattle.q_engine.specs.declared.engine.Engine.{Engine}
 use Rattle.q_host.specs.View.{View as HostView}
 use Rattle.q_host.specs.declared.error.HostError.{HostError}
@@ -35,5 +34,5 @@ module _ {H : Type 0} (view : H → HostView) where
   -- or the reply was given up
   abbrev pub GivesUpReport : Report → Engine → HostError → H → H → HopsView → HopsView → Sessions → ℕ → Type 0
   GivesUpReport r engine error before after hops_old hops_new old known =
-      (HaltsTurn (reply_event r) engine error (view before) (view after) × (hops_new ≡ hops_old))
+      (HaltsReply r engine error (view before) (view after) × (hops_new ≡ hops_old))
       ⊎ FailsBehind r engine before after hops_old hops_new old known

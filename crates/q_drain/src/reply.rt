@@ -1,10 +1,10 @@
 //! The reply of a delivery that is over.
 ghost use Rattle.std.specs.List.{list_all};
 ghost use Rattle.std.specs.Prelude.{◌≡◌, IfOk, IsTrue, List, true};
-ghost use Rattle.q_drain.specs.Replied.{Replies, reply_event};
+ghost use Rattle.q_drain.specs.Replied.{HaltsReply, Replies};
 ghost use Rattle.q_core.specs.Hearing.{has_log_code};
 ghost use Rattle.q_engine.specs.Stands.{IsReady};
-ghost use Rattle.q_engine.specs.Steps.{HaltsTurn, StandsForSome};
+ghost use Rattle.q_engine.specs.Steps.{StandsForSome};
 ghost use Rattle.q_engine.specs.Stops.{EachStop, FindsReadable, StopCause};
 ghost use Rattle.q_host.specs.View.{Told};
 ghost use Rattle.q_model.specs.FailureLog.{is_log_code};
@@ -56,7 +56,7 @@ pub(crate) fn tell_reply<H: Host>(
         (Replies report engine next)) }
     ensures ready { IfOk result (λ next. IsReady next) }
     ensures err { EachStop result (λ error. Told H.tells H.view host.old host.new
-        (HaltsTurn (reply_event report) engine error)) }
+        (HaltsReply report engine error)) }
     ensures readable { FindsReadable H.tells result }
     ensures cause { StopCause (H.faults host.old) (H.faults host.new) result }
 {

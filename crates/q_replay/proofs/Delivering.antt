@@ -7,11 +7,13 @@ use Rattle.std.specs.Prelude.{Err}
 use Rattle.q_books.specs.HostStands.{HostStands, TellsCrashes}
 use Rattle.q_drain.proofs.Ending.{cases_deliver, drives_cut}
 use Rattle.q_drain.proofs.GivingUp.{events_added, halts_after}
+use Rattle.q_drain.proofs.Rooming.{told_allowed}
 use Rattle.q_drain.proofs.Starting.{cases_nothing, drives_nothing, nothing}
 use Rattle.q_drain.specs.Drained.{DrainEnds, IsDrainError}
 use Rattle.q_drain.specs.Drains.{IsCut, IsOwnRun, IsWhole}
 use Rattle.q_drain.specs.Exits.{EndsEarly, EndsFull, EndsQuiet, EndsUnfinished, EndsWhole, IsAtStart}
 use Rattle.q_drain.specs.Opened.{GaveUp}
+use Rattle.q_drain.specs.Rooms.{HadRoom}
 use Rattle.q_drain.specs.Standing.{Outside}
 use Rattle.q_drain.specs.Stories.{Story}
 use Rattle.q_drain.specs.Told.{Begun, begun, events_of, heard_of, moments_of}
@@ -30,6 +32,7 @@ use Rattle.q_host.specs.View.{View}
 use Rattle.q_host.specs.declared.error.HostError.{HostError}
 use Rattle.q_host.specs.declared.error.HostError.TheVariants as faults
 use Rattle.q_laws.proofs.Tidied.{tidy_scan_is}
+use Rattle.q_laws.specs.Traces.{AreAllowed}
 use Rattle.q_link.specs.Views.{Told}
 use Rattle.q_model.proofs.RunLaws.{after_all-append}
 use Rattle.q_model.specs.Book.{Book}
@@ -44,6 +47,7 @@ use Rattle.q_model.specs.declared.event.Event.{Event}
 use Rattle.q_model.specs.declared.event.LifeEvent.{LifeEvent}
 use Rattle.q_model.specs.declared.event.LifeEvent.TheVariants.{Begin, Finish, Heard}
 use Rattle.q_model.specs.declared.event.Mode.TheVariants.{Deliver}
+use Rattle.q_replay.proofs.AllowedItems.{allowed_front, allowed_more, item_allowed, list_allowed}
 use Rattle.q_replay.proofs.Modes.{begun_timed, untimed_quiet}
 use Rattle.q_replay.proofs.Readings.{entries_more, entries_none, goes_on, ledger_more, ledger_none, ledger_on, refused_item, taken_item}
 use Rattle.q_replay.proofs.RunNotes.{notes_then}
@@ -165,9 +169,20 @@ whole_cut w l s h =
 
 -- ---- its sweeps, and its end
 
-module _ (w : World) (b : Book) (o : Outsides) (u v : View) (first : IsTold w Deliver b (Begin ∷ []) u v) where
+module _ (w : World) (b : Book) (o : Outsides) (u v : View) (first : IsTold w Deliver b (Begin ∷ []) u v) (begins : AreAllowed w (opening Deliver b) (Begin ∷ [])) where
   abbrev l : Ledger
   l = begun_on w b
+
+  begun_same : l ≡ after_all w (opening Deliver b) (turn w (opening Deliver b) Begin)
+  unfolding run
+  begun_same = ap (after_all w (opening Deliver b)) (append-nil (turn w (opening Deliver b) Begin))
+
+  -- the items of a life that heard what was allowed
+  life_allowed : (heard : List LifeEvent) → AreAllowed w l heard → AreAllowed w (opening Deliver b) (Begin ∷ heard)
+  life_allowed heard fits = (begins.0, subst (λ (k : Ledger). AreAllowed w k heard) begun_same fits)
+
+  story_allowed : (story : Story) → IsOwnRun w l story.told → HadRoom w l story.told → AreAllowed w (opening Deliver b) (life_told story)
+  story_allowed story own room = life_allowed (heard_of story.told) (told_allowed w l story.told own room)
 
   told_entries : (story : Story) → IsOwnRun w l story.told → entries_on w Deliver b (life_told story) ≡ entries_on w Deliver b (Begin ∷ []) ++ story.told
   told_entries story own = all_entries w b (Begin ∷ []) (heard_of story.told) ∙ ap (λ (xs : List Entry). entries_on w Deliver b (Begin ∷ []) ++ xs) (sym own)
@@ -183,6 +198,7 @@ module _ (w : World) (b : Book) (o : Outsides) (u v : View) (first : IsTold w De
   pub leaves_some : (x : View) (rests : ℕ) → EndsUnfinished w l o v x rests → LeavesSome w b o rests u x
   leaves_some x rests e = record {
     story = (e.ends).story;
+    fits = story_allowed (e.ends).story ((e.ends).whole).told ((e.ends).whole).room;
     told = told_sweeps x e.ends;
     is = record { whole = (e.ends).whole; given = (e.ends).given; delivered = (e.ends).delivered };
     flies = e.flies;
@@ -192,6 +208,7 @@ module _ (w : World) (b : Book) (o : Outsides) (u v : View) (first : IsTold w De
   pub has_no_number : (x : View) → EndsFull w l o v x → HasNoNumber w b o u x
   has_no_number x e = record {
     story = e.story;
+    fits = story_allowed e.story e.own (e.gave_up).room;
     plays = subst (λ (xs : List Entry). PlaysRun w (opening Deliver b) xs u x) (sym (told_entries e.story e.own))
         (plays_then w (opening Deliver b) (entries_on w Deliver b (Begin ∷ [])) (e.story).told u v x first.plays e.plays);
     full = e.full;
@@ -211,6 +228,7 @@ module _ (w : World) (b : Book) (o : Outsides) (u v : View) (first : IsTold w De
       record {
         story = e.story;
         items = life_of e.heard;
+        fits = life_allowed (map Heard e.heard) e.fits;
         halts = h.0;
         before = es;
         behind = [];
@@ -270,10 +288,15 @@ module _ (w : World) (b : Book) (o : Outsides) (u v : View) (first : IsTold w De
     pub stands_quiet : EngineStands w engine x k
     stands_quiet = subst (EngineStands w engine x) (sym (ledger_told story (e.ends).whole.told)) e.stands
 
+    all_allowed : AreAllowed w (opening Deliver b) (life_told story ++ Finish ∷ [])
+    all_allowed = allowed_more w (opening Deliver b) (life_told story) Finish (story_allowed story ((e.ends).whole).told ((e.ends).whole).room)
+        (item_allowed w k End stands_quiet.core.living tt refl)
+
     -- it ended
     pub delivers_all : (y : View) → TookItem w k End None x y → DeliversAll w b o u y
     delivers_all y took = record {
       story = story;
+      fits = all_allowed;
       told = told_more w Deliver b (life_told story) Finish u x y (told_sweeps x e.ends) took.plays took.notes;
       is = record { whole = (e.ends).whole; given = (e.ends).given; delivered = (e.ends).delivered };
       quiet = e.quiet;
@@ -289,6 +312,7 @@ module _ (w : World) (b : Book) (o : Outsides) (u v : View) (first : IsTold w De
         record {
           story = story;
           items = life_told story ++ Finish ∷ [];
+          fits = all_allowed;
           halts = h.0;
           before = before;
           behind = q.done;
@@ -317,6 +341,7 @@ pub stops_before : (w : World) (b : Book) (u x : View) (a : Outside) (fault : Ho
 stops_before w b u x a fault halts = record {
   story = nothing;
   items = [];
+  fits = tt;
   halts = halts;
   before = halts.done;
   behind = [];
@@ -374,6 +399,7 @@ module _ (w : World) (b : Book) (u x : View) (lawful : TellsCrashes u) (host : H
   halted_first a fault (items, (more, is), halts) = record {
     story = nothing;
     items = items;
+    fits = allowed_front w (opening Deliver b) items more (subst (AreAllowed w (opening Deliver b)) is (list_allowed w Deliver b (bad 1) tt));
     halts = halts;
     before = halts.done;
     behind = [];

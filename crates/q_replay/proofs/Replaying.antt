@@ -8,6 +8,7 @@ use Rattle.q_engine.specs.Stands.{EngineStands}
 use Rattle.q_engine.specs.declared.engine.Engine.{Engine}
 use Rattle.q_entries.specs.Runs.{PlaysRun}
 use Rattle.q_events.specs.EventList.{bad, first_item, found, past_limit}
+use Rattle.q_events.specs.Forms.{IsItemInForm}
 use Rattle.q_events.specs.Readings.{GivesItem, is_list_end, reading}
 use Rattle.q_events.specs.States.{EventsState, text_left, unread_list}
 use Rattle.q_events.specs.TextLines.{lines_from}
@@ -35,6 +36,7 @@ use Rattle.q_replay.specs.RunEnds.{IsFrontOf, IsTold, RunEnds}
 use Rattle.q_replay.specs.Takings.{list_error, MayBegin, NotTaken, TookItem}
 use Rattle.q_replay.specs.declared.error.ReplayError.{ReplayError}
 use Rattle.q_replay.specs.declared.error.ReplayError.TheVariants as errors
+use Rattle.q_replay.proofs.AnyLists.{IsListed, listed_begins, listed_on}
 use Rattle.q_replay.proofs.Listings.{Lines}
 use Rattle.q_replay.proofs.Modes.{run_mode}
 use Rattle.q_replay.proofs.Readings.{IsReading, ledger_more, ledger_none, ledger_on, reading_at, reading_begins, reading_breaks, reading_first, reading_front, reading_lacks, reading_passes_limit, reading_takes}
@@ -59,6 +61,7 @@ pub record Went (w : World) (b : Book) (text left : Option (List ℕ)) (events :
   pub told : IsTold w Deliver b items u v
   pub stands : EngineStands w engine v (ledger_on w Deliver b items)
   pub reading : ReadSo w b text left events items
+  pub listed : IsListed w b items
 
 -- an item is given of what is left
 abbrev pub ItemGiven : EventsState → Option (List ℕ) → EventsState → Option (List ℕ) → ListItem → Type 0
@@ -104,6 +107,7 @@ module _ (w : World) (b : Book) (u : View) (lawful : TellsCrashes u) (h : HostSt
         told = first_told x took.plays took.notes;
         stands = subst (EngineStands w engine x) (sym (ledger_more w Deliver b [] Begin ∙ ap (λ (l : Ledger). after_all w l (turn w l Begin)) (ledger_none w Deliver b))) took.stands;
         reading = begun_reading text took.accepted;
+        listed = listed_begins w b took.accepted;
       })
 
   -- it never begins
@@ -133,12 +137,13 @@ module _ (w : World) (b : Book) (left : Option (List ℕ)) (events : EventsState
       let (front, on) = reading_takes w b bytes lines items events.budget rest events.lines r item events'.lines events'.budget others more (sym (first rest) ∙ found_it) accepted in
       (lines ++ front, others, next, on)
 
-  pub went_on : (text left' : Option (List ℕ)) (events' : EventsState) (next : Engine) (x : View) (item : ListItem) (went : Went w b text left events engine u v) → ItemGiven events left events' left' item → is_list_end item ≡ false → TookItem w (ledger_on w Deliver b went.items) item (Some next) v x → Went w b text left' events' next u x
-  went_on text left' events' next x item went given more took = record {
+  pub went_on : (text left' : Option (List ℕ)) (events' : EventsState) (next : Engine) (x : View) (item : ListItem) (form : IsItemInForm item) (went : Went w b text left events engine u v) → ItemGiven events left events' left' item → is_list_end item ≡ false → TookItem w (ledger_on w Deliver b went.items) item (Some next) v x → Went w b text left' events' next u x
+  went_on text left' events' next x item form went given more took = record {
     items = went.items ++ event_of item ∷ [];
     told = told_more w Deliver b went.items (event_of item) u v x went.told took.plays took.notes;
     stands = subst (EngineStands w next x) (sym (ledger_more w Deliver b went.items (event_of item))) took.stands;
     reading = taken_reading text left' events' went.items item given more took.accepted went.reading;
+    listed = listed_on w b went.items went.listed item events'.lines form more took.accepted;
   }
 
   -- ---- how it ends

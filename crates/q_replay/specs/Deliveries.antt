@@ -9,6 +9,7 @@ use Rattle.q_drain.specs.Told.{events_of}
 use Rattle.q_drain.specs.Swept.{Outsides}
 use Rattle.q_drain.specs.Sweeps.{AllConnected, IsClocked}
 use Rattle.q_entries.specs.Runs.{PlaysRun}
+use Rattle.q_laws.specs.Traces.{AreAllowed}
 use Rattle.q_model.specs.declared.limits.Bound.TheVariants.{Deliveries, Generation}
 use Rattle.q_host.specs.View.{View}
 use Rattle.q_host.specs.declared.error.HostError.{HostError}
@@ -49,9 +50,10 @@ pub record IsStoryOf (w : World) (b : Book) (o : Outsides) (s : Story) : Type 0 
   pub given : HasGiven o.before.clock o.behind.clock s
   pub delivered : AsPromised w (begun_on w b) o s
 
--- No delivery is in flight, and the life has ended.
+-- No delivery is in flight, and the life has ended. Its items were allowed.
 pub record DeliversAll (w : World) (b : Book) (o : Outsides) (u v : View) : Type 0 where
   pub story : Story
+  pub fits : AreAllowed w (opening Deliver b) (life_told story ++ Finish ∷ [])
   pub told : IsTold w Deliver b (life_told story ++ Finish ∷ []) u v
   pub is : IsStoryOf w b o story
   pub quiet : IsQuiet w (begun_on w b) story
@@ -59,6 +61,7 @@ pub record DeliversAll (w : World) (b : Book) (o : Outsides) (u v : View) : Type
 -- So many rests were given, and another is needed.
 pub record LeavesSome (w : World) (b : Book) (o : Outsides) (rests : ℕ) (u v : View) : Type 0 where
   pub story : Story
+  pub fits : AreAllowed w (opening Deliver b) (life_told story)
   pub told : IsTold w Deliver b (life_told story) u v
   pub is : IsStoryOf w b o story
   pub flies : (after_all w (begun_on w b) story.told).flights ≢ []
@@ -69,6 +72,7 @@ pub record LeavesSome (w : World) (b : Book) (o : Outsides) (rests : ℕ) (u v :
 pub record StopsDelivering (w : World) (b : Book) (o : Outsides) (fault : HostError) (u v : View) : Type 0 where
   pub story : Story
   pub items : List LifeEvent
+  pub fits : AreAllowed w (opening Deliver b) items
   pub halts : IsToldInPart w Deliver b items fault u v
   pub before : List Entry
   pub behind : List Entry
@@ -83,6 +87,7 @@ pub record StopsDelivering (w : World) (b : Book) (o : Outsides) (fault : HostEr
 -- reply isn't told.
 pub record HasNoNumber (w : World) (b : Book) (o : Outsides) (u v : View) : Type 0 where
   pub story : Story
+  pub fits : AreAllowed w (opening Deliver b) (life_told story)
   pub plays : PlaysRun w (opening Deliver b) (entries_on w Deliver b (life_told story)) u v
   pub full : 2 ^ 48 ≤ starts (after_all w (begun_on w b) story.told)
   pub clocked : IsClocked story

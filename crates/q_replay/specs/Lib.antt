@@ -1,8 +1,11 @@
 pub mod DamagedSpools
 pub mod Listings
 pub mod Reading
+pub mod LivesLeft
 pub mod ReplayEnds
 pub mod RunEnds
+pub mod AnyLists
+pub mod Spools
 pub mod Submissions
 pub mod Takings
 pub mod Deliveries

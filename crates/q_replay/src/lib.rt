@@ -13,9 +13,11 @@ mod deliveries;
 mod error;
 mod letters;
 mod lists;
+mod promises;
 mod taking;
 
 pub use deliveries::{Delivered, deliver};
 pub use error::ReplayError;
 pub use letters::{Letter, submit};
 pub use lists::replay;
+pub use promises::promises_hold;

@@ -4,6 +4,7 @@ ghost use Rattle.q_events.specs.Forms.{IsItemInForm};
 ghost use Rattle.q_host.specs.View.{Told};
 ghost use Rattle.q_model.specs.FaultCounts.{Rose};
 ghost use Rattle.q_settings.specs.Ranges.{IsInRange};
+ghost use Rattle.q_replay.specs.AnyLists.{TakesList};
 ghost use Rattle.q_replay.specs.DamagedSpools.{FindsDamage, NamesOnlyDamage};
 ghost use Rattle.q_replay.specs.ReplayEnds.{ForOrderly, IsFitSpool, ReplayEnds};
 ghost use Rattle.q_replay.specs.Takings.{is_unreadable, ReplayCause};
@@ -43,6 +44,9 @@ pub fn replay<H: Host, S: Source>(
     // How far it went, by the text of the source, for each orderly book for which the host stood.
     ensures ends { Told H.tells H.view host.old host.new (λ v x. ForOrderly params table v (λ w b.
         IfSome (S.left source.old) (λ bytes. ReplayEnds w b bytes (S.left source.new) v x result))) }
+    // The same of every source: the items are those of some list in the form of the grammar.
+    ensures lists { Told H.tells H.view host.old host.new (λ v x. ForOrderly params table v (λ w b.
+        TakesList w b v x result)) }
     // A spool that shows a damage is found so, and nothing is changed; only a damage is called one.
     ensures damaged { Told H.tells H.view host.old host.new (λ u v. FindsDamage u v result) }
     ensures only_damaged { IsTrue H.tells → NamesOnlyDamage (H.view host.new) result }

@@ -52,6 +52,7 @@ module _ (w : World) (b : Book) (o : Outsides) (u m v : View) (lawful : TellsCra
       record {
         story = d.story;
         items = d.items;
+        fits = d.fits;
         halts = q.0;
         before = d.before;
         behind = d.behind;
@@ -66,6 +67,7 @@ module _ (w : World) (b : Book) (o : Outsides) (u m v : View) (lawful : TellsCra
   full_behind : HasNoNumber w b o m v → HasNoNumber w b o u v
   full_behind d = record {
     story = d.story;
+    fits = d.fits;
     plays = plays_then w (opening Deliver b) [] (entries_on w Deliver b (life_told d.story)) u m v (looked_first w Deliver b u m lawful stays h)
         (subst (λ (l : Ledger). PlaysRun w l (entries_on w Deliver b (life_told d.story)) m v) (sym (none_after w (opening Deliver b))) d.plays);
     full = d.full;
@@ -77,12 +79,14 @@ module _ (w : World) (b : Book) (o : Outsides) (u m v : View) (lawful : TellsCra
   pub delivery_behind : (r : Result Delivered ReplayError) → DeliveryEnds w b o m v r → DeliveryEnds w b o u v r
   delivery_behind (Ok deliveries.All) d = record {
     story = d.story;
+    fits = d.fits;
     told = told_behind w Deliver b u m lawful stays h v _ d.told;
     is = d.is;
     quiet = d.quiet;
   }
   delivery_behind (Ok (deliveries.Unfinished rests)) d = record {
     story = d.story;
+    fits = d.fits;
     told = told_behind w Deliver b u m lawful stays h v _ d.told;
     is = d.is;
     flies = d.flies;

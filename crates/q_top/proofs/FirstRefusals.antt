@@ -17,6 +17,8 @@ use Rattle.q_model.specs.SpoolFiles.{Files}
 use Rattle.q_model.specs.declared.event.Mode.TheVariants.{Deliver, Intake}
 use Rattle.q_model.specs.declared.spot.Area.{Area}
 use Rattle.q_replay.specs.DamagedSpools.{FindsDamage as FindsEach, NamesOnlyDamage, RefusesDamage}
+use Rattle.q_replay.specs.AnyLists.{read_list, TakesList}
+use Rattle.q_replay.specs.Listings.{bad}
 use Rattle.q_replay.specs.Reading.{read_text}
 use Rattle.q_replay.specs.ReplayEnds.{ForOrderly, ReplayEnds}
 use Rattle.q_replay.specs.RunEnds.{RunEnds}
@@ -28,11 +30,11 @@ use Rattle.q_restart.specs.Damages.{IsDamage}
 use Rattle.q_host.proofs.Stays.{stays_on}
 use Rattle.q_transport.specs.Routing.{table_of}
 use Rattle.q_top.specs.Courses.{Texts}
-use Rattle.q_top.specs.Lives.{EndsReplay, EndsSubmission, FindsDamage, IsGivenUp, RefusesFirst, Replays, SubmitsAt}
+use Rattle.q_top.specs.Lives.{EndsList, EndsReplay, EndsSubmission, FindsDamage, IsGivenUp, RefusesFirst, Replays, SubmitsAt}
 use Rattle.q_top.specs.Statuses.{conf_status, input_of, status_of}
 use Rattle.q_top.specs.declared.status.Status.{Status}
 use Rattle.q_top.specs.declared.status.Status.TheVariants as status
-use Rattle.q_top.proofs.RunsBehind.{halts_first, replay_behind, run_behind, still_stands}
+use Rattle.q_top.proofs.RunsBehind.{halts_first, list_behind, replay_behind, run_behind, still_stands}
 
 -- ---- the files of conf can't be gone by
 
@@ -69,8 +71,22 @@ module _ (u m : View) (lawful : TellsCrashes u) (stays : Stays u m) where
     }
 
     pub unread_replay : (texts : Texts) (error : ConfError) → texts.after ≡ texts.before → IsConfFault tells (conf_of u.files) error → Replays texts u m (conf_status error)
-    unread_replay texts error same fault = record { refused = unread_first error fault; unread = λ file line is. same; run = by error fault }
+    unread_replay texts error same fault = record { refused = unread_first error fault; unread = λ file line is. same; run = by error fault; lists = by_list error fault }
       where
+        by_list : (error : ConfError) → IsConfFault tells (conf_of u.files) error → (w : World) → conf_of u.files ≡ goes_by w → (b : Book) → HostStands u b → is_orderly b ≡ true
+            → EndsList w b u m (conf_status error)
+        by_list conf_errors.Disk fault w is b h orderly = record {
+          result = Err errors.Disk;
+          says = refl;
+          takes = record { said = bad 0; form = tt; ends = halts_first w Deliver b u m lawful stays h (read_list w b (bad 0)) faults.Disk };
+        }
+        by_list conf_errors.NoMemory fault w is b h orderly = record {
+          result = Err errors.NoMemory;
+          says = refl;
+          takes = record { said = bad 0; form = tt; ends = halts_first w Deliver b u m lawful stays h (read_list w b (bad 0)) faults.NoMemory };
+        }
+        by_list (conf_errors.BadLine f n) fault w is b h orderly = absurd (says_both (conf_of u.files) w f n is (fault t))
+
         by : (error : ConfError) → IsConfFault tells (conf_of u.files) error → (w : World) → conf_of u.files ≡ goes_by w → (b : Book) → HostStands u b → is_orderly b ≡ true
             → IfSome texts.before (λ bytes. EndsReplay w b bytes texts.after u m (conf_status error))
         by conf_errors.Disk fault w is b h orderly = for_each _ (λ bytes. record { result = Err errors.Disk; says = refl; ends = halts_first w Deliver b u m lawful stays h (read_text w b bytes) faults.Disk }) texts.before
@@ -134,13 +150,20 @@ module _ (conf : Conf) (u m v : View) (lawful : TellsCrashes u) (stays : Stays u
       only_damage = λ area name is. only area name (named_damage r area name is);
     }
 
-    pub replayed : (texts : Texts) → ForOrderly conf.params conf.table m (λ w b. IfSome texts.before (λ bytes. ReplayEnds w b bytes texts.after m v r)) → Replays texts u v (status_of r)
-    replayed texts ends = record {
+    pub replayed : (texts : Texts) → ForOrderly conf.params conf.table m (λ w b. IfSome texts.before (λ bytes. ReplayEnds w b bytes texts.after m v r)) → ForOrderly conf.params conf.table m (λ w b. TakesList w b m v r) → Replays texts u v (status_of r)
+    replayed texts ends lists = record {
       refused = run_first;
       unread = λ file line is. absurd (says_both (conf_of u.files) (world_of conf) file line goes is);
       run = λ w is b h orderly.
           let same = same_world w (world_of conf) (sym is ∙ goes) in
           all_behind w b h texts.before (ends b (still_stands u m lawful stays b h) orderly w (settings_of w conf same) (table_by w conf same));
+      lists = λ w is b h orderly.
+          let same = same_world w (world_of conf) (sym is ∙ goes) in
+          record {
+            result = r;
+            says = refl;
+            takes = list_behind w b u m lawful stays h v r (lists b (still_stands u m lawful stays b h) orderly w (settings_of w conf same) (table_by w conf same));
+          };
     }
       where
         all_behind : (w : World) (b : Book) → HostStands u b → (t : Option (List ℕ)) → IfSome t (λ bytes. ReplayEnds w b bytes texts.after m v r) → IfSome t (λ bytes. EndsReplay w b bytes texts.after u v (status_of r))

@@ -5,3 +5,5 @@ pub mod RunsBehind
 pub mod Submissions
 pub mod Told
 pub mod Drains
+pub mod Serving
+pub mod Called

@@ -17,6 +17,7 @@ use Rattle.q_model.specs.declared.entry.Entry.{Entry}
 use Rattle.q_model.specs.declared.event.LifeEvent.{LifeEvent}
 use Rattle.q_model.specs.declared.event.Mode.{Mode}
 use Rattle.q_model.specs.declared.event.Mode.TheVariants.{Deliver}
+use Rattle.q_replay.specs.AnyLists.{ListEnds, read_list, TakesList}
 use Rattle.q_replay.specs.Reading.{items_in, read_text, TakenItems}
 use Rattle.q_model.specs.SpoolFiles.{Files}
 use Rattle.q_replay.specs.ReplayEnds.{IsFitSpool, ReplayEnds}
@@ -88,3 +89,20 @@ module _ (w : World) (b : Book) (u m : View) (lawful : TellsCrashes u) (stays : 
   replay_behind v (Err (errors.Limit bound)) r = run_behind w Deliver b u m lawful stays h v (read_text w b bytes) (Err (errors.Limit bound)) r
   replay_behind v (Err (errors.Damaged area name)) r = run_behind w Deliver b u m lawful stays h v (read_text w b bytes) (Err (errors.Damaged area name)) r
   replay_behind v (Err (errors.Unreadable area name)) r = absurd r
+
+pub list_behind : (w : World) (b : Book) (u m : View) → TellsCrashes u → Stays u m → HostStands u b → (v : View) (r : Result (Unit {0}) ReplayError) → TakesList w b m v r → TakesList w b u v r
+list_behind w b u m lawful stays h v r takes = record { said = takes.said; form = takes.form; ends = by r takes.ends }
+  where
+    same : (r : Result (Unit {0}) ReplayError) → RunEnds w Deliver b (read_list w b takes.said) m v r → RunEnds w Deliver b (read_list w b takes.said) u v r
+    same r e = run_behind w Deliver b u m lawful stays h v (read_list w b takes.said) r e
+
+    by : (r : Result (Unit {0}) ReplayError) → ListEnds w b takes.said m v r → ListEnds w b takes.said u v r
+    by (Err errors.Source) (items, line, is, told) = (items, line, is, told_behind w Deliver b u m lawful stays h v items told)
+    by (Ok done) e = same (Ok done) e
+    by (Err errors.Disk) e = same (Err errors.Disk) e
+    by (Err errors.Tell) e = same (Err errors.Tell) e
+    by (Err errors.NoMemory) e = same (Err errors.NoMemory) e
+    by (Err (errors.BadEvent line)) e = same (Err (errors.BadEvent line)) e
+    by (Err (errors.Limit bound)) e = same (Err (errors.Limit bound)) e
+    by (Err (errors.Damaged area name)) e = same (Err (errors.Damaged area name)) e
+    by (Err (errors.Unreadable area name)) e = absurd e

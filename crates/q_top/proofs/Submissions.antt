@@ -18,6 +18,7 @@ module _ (sender : Option (List ℕ)) (to : List (List ℕ)) (texts : Texts) (mo
   no_content u errors.TooLong none = record {
     long = both texts.before (λ bytes long. record { names = inl refl; stays = stays_here u });
     run = too_long texts.before none;
+    some = inl (record { names = inl refl; stays = stays_here u });
   }
     where
       both : (t : Option (List ℕ)) → ((bytes : List ℕ) → most_content < length bytes → RefusesContent u u (content_status errors.TooLong)) → IfSome t (λ bytes. most_content < length bytes → RefusesContent u u (content_status errors.TooLong))
@@ -28,7 +29,7 @@ module _ (sender : Option (List ℕ)) (to : List (List ℕ)) (texts : Texts) (mo
           → IfSome t (λ bytes. length bytes ≤ most_content → HasNoContent u u (content_status errors.TooLong) ⊎ SubmitsNow (letter_of sender to bytes) moments u u (content_status errors.TooLong))
       too_long None long = tt
       too_long (Some bytes) long = λ few. absurd (omega (arith, long, few))
-  no_content u errors.Source none = record { long = any_long texts.before; run = any_run texts.before }
+  no_content u errors.Source none = record { long = any_long texts.before; run = any_run texts.before; some = inl (record { names = inr (inl refl); stays = stays_here u }) }
     where
       any_long : (t : Option (List ℕ)) → IfSome t (λ bytes. most_content < length bytes → RefusesContent u u (content_status errors.Source))
       any_long None = tt
@@ -37,7 +38,7 @@ module _ (sender : Option (List ℕ)) (to : List (List ℕ)) (texts : Texts) (mo
       any_run : (t : Option (List ℕ)) → IfSome t (λ bytes. length bytes ≤ most_content → HasNoContent u u (content_status errors.Source) ⊎ SubmitsNow (letter_of sender to bytes) moments u u (content_status errors.Source))
       any_run None = tt
       any_run (Some bytes) = λ few. inl (record { names = inl refl; stays = stays_here u })
-  no_content u errors.NoMemory none = record { long = any_long texts.before; run = any_run texts.before }
+  no_content u errors.NoMemory none = record { long = any_long texts.before; run = any_run texts.before; some = inl (record { names = inr (inr refl); stays = stays_here u }) }
     where
       any_long : (t : Option (List ℕ)) → IfSome t (λ bytes. most_content < length bytes → RefusesContent u u (content_status errors.NoMemory))
       any_long None = tt
@@ -50,7 +51,11 @@ module _ (sender : Option (List ℕ)) (to : List (List ℕ)) (texts : Texts) (mo
   -- there is one
   pub with_content : (content : List ℕ) (moment : ℕ) (u v : View) (s : Status) → HasRead texts.before content → AddsMoment moments.before moments.after moment
       → SubmitsAt moment (letter_of sender to content) u v s → Submits sender to texts moments u v s
-  with_content content moment u v s read given submits = record { long = not_long texts.before read.all; run = run_it texts.before read.all }
+  with_content content moment u v s read given submits = record {
+    long = not_long texts.before read.all;
+    run = run_it texts.before read.all;
+    some = inr (record { content = content; few = read.few; all = read.all; submits = record { moment = moment; given = given; submits = submits } });
+  }
     where
       not_long : (t : Option (List ℕ)) → IfSome t (λ bytes. content ≡ bytes) → IfSome t (λ bytes. most_content < length bytes → RefusesContent u v s)
       not_long None is = tt

@@ -10,6 +10,7 @@ use Rattle.q_model.specs.Settings.{World}
 use Rattle.q_model.specs.declared.event.Mode.TheVariants.{Intake}
 use Rattle.q_model.specs.declared.spot.Area.{Area}
 use Rattle.q_drain.specs.Swept.{Outsides}
+use Rattle.q_replay.specs.AnyLists.{TakesList}
 use Rattle.q_replay.specs.Deliveries.{DeliveryEnds}
 use Rattle.q_replay.specs.ReplayEnds.{ReplayEnds}
 use Rattle.q_replay.specs.RunEnds.{RunEnds}
@@ -59,14 +60,21 @@ pub record EndsReplay (w : World) (b : Book) (bytes : List ℕ) (left : Option (
   pub says : s ≡ status_of result
   pub ends : ReplayEnds w b bytes left u v result
 
+-- the status says how far the items of some list in form were taken on a book
+pub record EndsList (w : World) (b : Book) (u v : View) (s : Status) : Type 0 where
+  pub result : Result (Unit {0}) ReplayError
+  pub says : s ≡ status_of result
+  pub takes : TakesList w b u v result
+
 -- `replay`: by conf and the spool it is refused, or the lives of the text are run. Behind a faulty
--- line of conf nothing of the text is taken.
+-- line of conf nothing of the text is taken. Whatever the source tells, they are the lives of some list.
 pub record Replays (texts : Texts) (u v : View) (s : Status) : Type 0 where
   pub refused : RefusesFirst u v s
   pub unread : (file : ConfFile) (line : ℕ) → conf_of u.files ≡ at_fault file line
       → texts.after ≡ texts.before
   pub run : ForBooks u (λ w b. IfSome texts.before (λ bytes.
       EndsReplay w b bytes texts.after u v s))
+  pub lists : ForBooks u (λ w b. EndsList w b u v s)
 
 -- ---- drain
 
@@ -115,10 +123,19 @@ pub record SubmitsNow (letter : Letter) (moments : Moments) (u v : View) (s : St
 abbrev pub letter_of : Option (List ℕ) → List (List ℕ) → List ℕ → Letter
 letter_of sender to content = record { sender = sender; to = to; content = content }
 
+-- A content was read, which is all that the source had, where it tells, and the message is submitted.
+pub record SubmitsSome (sender : Option (List ℕ)) (to : List (List ℕ)) (texts : Texts) (moments : Moments)
+    (u v : View) (s : Status) : Type 0 where
+  pub content : List ℕ
+  pub few : length content ≤ most_content
+  pub all : IfSome texts.before (λ bytes. content ≡ bytes)
+  pub submits : SubmitsNow (letter_of sender to content) moments u v s
+
 -- `submit`: the content is all that the source has. It is refused by its length or can't be read,
--- or the message is submitted.
+-- or the message is submitted. So it is with some content whatever the source tells.
 pub record Submits (sender : Option (List ℕ)) (to : List (List ℕ)) (texts : Texts) (moments : Moments)
     (u v : View) (s : Status) : Type 0 where
   pub long : IfSome texts.before (λ bytes. most_content < length bytes → RefusesContent u v s)
   pub run : IfSome texts.before (λ bytes. length bytes ≤ most_content
       → HasNoContent u v s ⊎ SubmitsNow (letter_of sender to bytes) moments u v s)
+  pub some : RefusesContent u v s ⊎ SubmitsSome sender to texts moments u v s

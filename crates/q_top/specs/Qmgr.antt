@@ -3,6 +3,7 @@ use Rattle.std.specs.Prelude.{◌≡◌, ◌⊎◌, Bool, false, List, map, Stri
 use Rattle.q_events.specs.Forms.{IsMailInForm}
 use Rattle.q_host.specs.Calls.{Stays}
 use Rattle.q_host.specs.View.{View}
+use Rattle.q_replay.specs.Spools.{Serves}
 use Rattle.q_shape.specs.Buckets.{IsShape}
 use Rattle.q_top.specs.Courses.{Connections, Moments, Texts, outsides}
 use Rattle.q_top.specs.Lives.{DrainsSpool, Replays, Submits}
@@ -69,12 +70,22 @@ Does (requests.Qshape request) texts moments connections s u v = TellsAges reque
 Does requests.Queue texts moments connections s u v = Lists u v s
 Does (requests.Load mails) texts moments connections s u v = TellsLoad mails u v s
 
+-- the commands that run a life, or many; the others only look
+abbrev pub runs_lives : Request → Bool
+runs_lives requests.Replay = true
+runs_lives (requests.Submit sender to) = true
+runs_lives (requests.Drain rests) = true
+runs_lives (requests.Qshape request) = false
+runs_lives requests.Queue = false
+runs_lives (requests.Load mails) = false
+
 -- the command that the words ask for was carried out
 pub record CarriesOut (words : List (List ℕ)) (texts : Texts) (moments : Moments) (connections : Connections) (s : Status) (u v : View)
     : Type 0 where
   pub request : Request
   pub asked : IsRequest words request
   pub done : Does request texts moments connections s u v
+  pub serves : Serves (runs_lives request) u v
 
 -- it was, or memory ran out before the words were read
 abbrev pub MayCarryOut : List (List ℕ) → Texts → Moments → Connections → Status → View → View → Type 0

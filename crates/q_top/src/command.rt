@@ -2,10 +2,11 @@
 ghost use Rattle.std.specs.Prelude.{◌≡◌, ◌≢◌, IsTrue, false, true, ℕ};
 ghost use Rattle.q_host.specs.View.{Told};
 ghost use Rattle.q_replay.specs.ReplayEnds.{IsFitSpool};
+ghost use Rattle.q_replay.specs.Spools.{Serves};
 ghost use Rattle.q_top.specs.Causes.{HasHostCause, HasSourceCause};
 ghost use Rattle.q_top.specs.Courses.{Connections, Moments, Texts};
 ghost use Rattle.q_drain.specs.Drained.{CountsRests};
-ghost use Rattle.q_top.specs.Qmgr.{asks_clock, Does, HasForm, IsDrainOf, LeavesAlone, MayCarryOut, RefusesWords, takes_input, texts_of, uses_connections, words_status};
+ghost use Rattle.q_top.specs.Qmgr.{asks_clock, Does, HasForm, IsDrainOf, LeavesAlone, MayCarryOut, RefusesWords, runs_lives, takes_input, texts_of, uses_connections, words_status};
 ghost use Rattle.q_top.specs.Statuses.{is_unreadable};
 ghost use Rattle.q_words.specs.declared.request.Request.TheVariants.{Drain};
 ghost use Rattle.q_words.specs.Requests.{IsRequest};
@@ -48,6 +49,7 @@ fn carry_out<L: Link, H: Host, S: Source, C: Clock, N: Hops<Link = L>>(
         (record { before = S.left source.old; after = S.left source.new })
         (record { before = C.given clock.old; after = C.given clock.new })
         (record { before = N.view hops.old; after = N.view hops.new }) result) }
+    ensures serves { Told H.tells H.view host.old host.new (Serves (runs_lives request)) }
     ensures readable { IsTrue H.tells → is_unreadable result ≡ false }
     ensures host { HasHostCause (H.faults host.old) (H.faults host.new) result }
     ensures source { HasSourceCause (S.faults source.old) (S.faults source.new) result }

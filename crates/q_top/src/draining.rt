@@ -1,8 +1,9 @@
 //! `drain`: a life that delivers by SMTP.
-ghost use Rattle.std.specs.Prelude.{◌≡◌, ◌≢◌, IsTrue, ℕ, false};
+ghost use Rattle.std.specs.Prelude.{◌≡◌, ◌≢◌, IsTrue, ℕ, false, true};
 ghost use Rattle.q_host.specs.View.{Told};
 ghost use Rattle.q_drain.specs.Drained.{CountsRests};
 ghost use Rattle.q_replay.specs.ReplayEnds.{IsFitSpool};
+ghost use Rattle.q_replay.specs.Spools.{Serves};
 ghost use Rattle.q_top.specs.Statuses.{is_unreadable};
 ghost use Rattle.q_top.specs.Causes.{HasHostCause};
 ghost use Rattle.q_top.specs.Lives.{DrainsSpool};
@@ -28,6 +29,7 @@ pub(crate) fn drain_spool<L: Link, H: Host, C: Clock, N: Hops<Link = L>>(
       before = record { clock = C.given clock.old; hops = N.view hops.old };
       behind = record { clock = C.given clock.new; hops = N.view hops.new };
     }) u v result) }
+    ensures serves { Told H.tells H.view host.old host.new (Serves true) }
     ensures readable { IsTrue H.tells → is_unreadable result ≡ false }
     ensures host { HasHostCause (H.faults host.old) (H.faults host.new) result }
     ensures no_source { result ≢ Status.Source }

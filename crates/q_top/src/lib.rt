@@ -10,11 +10,13 @@ mod command;
 mod content;
 mod draining;
 mod loading;
+mod promises;
 mod replaying;
 mod status;
 mod submitting;
 mod telling;
 
 pub use command::qmgr;
+pub use promises::whatever_is_called;
 pub use q_model::Bound;
 pub use status::{InputFile, Status};

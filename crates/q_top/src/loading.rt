@@ -1,6 +1,7 @@
 //! `load`: a generated load, on a host in memory of its own.
 ghost use Rattle.q_host.specs.View.{Told};
 ghost use Rattle.q_telling.specs.Telling.{TellingCause};
+ghost use Rattle.q_replay.specs.Spools.{Serves};
 ghost use Rattle.q_top.specs.Causes.{HasHostCause};
 ghost use Rattle.q_top.specs.Statuses.{is_unreadable};
 ghost use Rattle.q_top.specs.Tellings.{IsLoadText, MayTellSummary, TellsLoad, TellsSummary};
@@ -34,6 +35,7 @@ fn tell_summary<H: Host>(alloc: Global, host: &mut H, mails: u32) -> Result<(), 
 /// Tells the summary of a load of so many mails. Nothing else is done to the host.
 pub(crate) fn tell_load<H: Host>(alloc: Global, host: &mut H, mails: u32) -> Status
     ensures tells { Told H.tells H.view host.old host.new (λ u v. TellsLoad mails u v result) }
+    ensures serves { Told H.tells H.view host.old host.new (Serves false) }
     ensures readable { is_unreadable result ≡ false }
     ensures host { HasHostCause (H.faults host.old) (H.faults host.new) result }
     ensures no_source { result ≢ Status.Source }

@@ -1,7 +1,8 @@
 //! `replay`: the lives of an event list.
-ghost use Rattle.std.specs.Prelude.{◌≢◌, IsTrue, ℕ, ◌≡◌, false};
+ghost use Rattle.std.specs.Prelude.{◌≢◌, IsTrue, ℕ, ◌≡◌, false, true};
 ghost use Rattle.q_host.specs.View.{Told};
 ghost use Rattle.q_replay.specs.ReplayEnds.{IsFitSpool};
+ghost use Rattle.q_replay.specs.Spools.{Serves};
 ghost use Rattle.q_top.specs.Statuses.{is_unreadable};
 ghost use Rattle.q_top.specs.Causes.{HasHostCause, HasSourceCause};
 ghost use Rattle.q_top.specs.Courses.{Texts};
@@ -19,6 +20,7 @@ pub(crate) fn replay_list<H: Host, S: Source>(alloc: Global, source: &mut S, hos
     requires spool { IsTrue H.tells → IsFitSpool (H.view host.old) }
     ensures replays { Told H.tells H.view host.old host.new (λ u v. Replays
         (record { before = S.left source.old; after = S.left source.new }) u v result) }
+    ensures serves { Told H.tells H.view host.old host.new (Serves true) }
     ensures readable { IsTrue H.tells → is_unreadable result ≡ false }
     ensures host { HasHostCause (H.faults host.old) (H.faults host.new) result }
     ensures source { HasSourceCause (S.faults source.old) (S.faults source.new) result }

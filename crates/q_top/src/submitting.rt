@@ -1,8 +1,9 @@
 //! `submit`: an intake life that takes one message.
-ghost use Rattle.std.specs.Prelude.{◌≡◌, ◌≢◌, ◌≤◌, IsTrue, ℕ, false};
+ghost use Rattle.std.specs.Prelude.{◌≡◌, ◌≢◌, ◌≤◌, IsTrue, ℕ, false, true};
 ghost use Rattle.q_events.specs.Forms.{IsMailInForm};
 ghost use Rattle.q_host.specs.View.{Told};
 ghost use Rattle.q_replay.specs.ReplayEnds.{IsFitSpool};
+ghost use Rattle.q_replay.specs.Spools.{Serves};
 ghost use Rattle.q_stream.specs.Clocks.{last_moment};
 ghost use Rattle.q_top.specs.Causes.{HasHostCause, HasSourceCause};
 ghost use Rattle.q_top.specs.Statuses.{content_status, is_unreadable};
@@ -40,6 +41,7 @@ fn submit_letter<H: Host>(alloc: Global, host: &mut H, moment: Moment, letter: L
     requires spool { IsTrue H.tells → IsFitSpool (H.view host.old) }
     ensures submits { Told H.tells H.view host.old host.new (λ u v.
         SubmitsAt moment letter u v result) }
+    ensures serves { Told H.tells H.view host.old host.new (Serves true) }
     ensures readable { IsTrue H.tells → is_unreadable result ≡ false }
     ensures host { HasHostCause (H.faults host.old) (H.faults host.new) result }
     ensures no_source { result ≢ Status.Source }
@@ -66,6 +68,7 @@ pub(crate) fn submit_content<H: Host, S: Source, C: Clock>(
     ensures submits { Told H.tells H.view host.old host.new (λ u v. Submits sender to
         (record { before = S.left source.old; after = S.left source.new })
         (record { before = C.given clock.old; after = C.given clock.new }) u v result) }
+    ensures serves { Told H.tells H.view host.old host.new (Serves true) }
     ensures readable { IsTrue H.tells → is_unreadable result ≡ false }
     ensures host { HasHostCause (H.faults host.old) (H.faults host.new) result }
     ensures source { HasSourceCause (S.faults source.old) (S.faults source.new) result }

@@ -1,6 +1,7 @@
 //! `queue` and `qshape`: what the queues hold.
 ghost use Rattle.q_host.specs.View.{Told};
 ghost use Rattle.q_shape.specs.Buckets.{IsShape};
+ghost use Rattle.q_replay.specs.Spools.{Serves};
 ghost use Rattle.q_top.specs.Causes.{HasHostCause};
 ghost use Rattle.q_top.specs.Statuses.{is_unreadable};
 ghost use Rattle.q_top.specs.Courses.{Moments};
@@ -18,6 +19,7 @@ use std::alloc::Global;
 /// Tells the listing of the queues.
 pub(crate) fn list_queues<H: Host>(alloc: Global, host: &mut H) -> Status
     ensures lists { Told H.tells H.view host.old host.new (λ u v. Lists u v result) }
+    ensures serves { Told H.tells H.view host.old host.new (Serves false) }
     ensures readable { is_unreadable result ≡ false }
     ensures host { HasHostCause (H.faults host.old) (H.faults host.new) result }
     ensures no_source { result ≢ Status.Source }
@@ -37,6 +39,7 @@ pub(crate) fn table_ages<H: Host, C: Clock>(
     requires { IsShape request.now.shape }
     ensures tells { Told H.tells H.view host.old host.new (λ u v. TellsAges request.now
         (record { before = C.given clock.old; after = C.given clock.new }) u v result) }
+    ensures serves { Told H.tells H.view host.old host.new (Serves false) }
     ensures readable { is_unreadable result ≡ false }
     ensures host { HasHostCause (H.faults host.old) (H.faults host.new) result }
     ensures no_source { result ≢ Status.Source }

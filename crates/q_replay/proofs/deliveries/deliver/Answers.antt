@@ -10,6 +10,7 @@ use Rattle.q_engine.specs.declared.error.EngineError.{EngineError}
 use Rattle.q_events.specs.declared.list_item.ListItem.TheVariants.{End}
 use Rattle.q_model.specs.Ledger.{opening}
 use Rattle.q_model.specs.declared.event.Mode.TheVariants.{Deliver}
+use Rattle.q_replay.proofs.AllowedItems.{first_allowed}
 use Rattle.q_replay.proofs.DamagedSpools.{only_passed, refused_passed, untaken_only}
 use Rattle.q_replay.proofs.Delivering.{at_start, begun_stands, begun_told, delivers_all, drain_failed, leaves_some, never_delivers, never_ended, stands_quiet}
 use Rattle.q_replay.proofs.Readings.{ledger_on}
@@ -62,13 +63,14 @@ returns-in_ok-end-in-Ok-Quiet-clause-ends g c t b h orderly w settings table_is 
     let given : IsGivenTo c.args.params c.args.table w b u = record { host = h; orderly = orderly; settings = settings; table_is = table_is } in
     let took = c.in_ok-begun.ensures.ok t w (opening Deliver b) (may_begin c.args.params c.args.table Deliver w b u given) in
     let first = begun_told w b c.in_ok-begun.begun u v lawful h took in
+    let begins = first_allowed w Deliver b took.accepted in
     let stands = begun_stands w b c.in_ok-begun.begun u v lawful h took in
     let ends : Drains c.in_ok-begun.begun o (Ok (Quiet c.in-Ok-Quiet.engine)) v x =
     subst (λ (d : Drained). Drains c.in_ok-begun.begun o (Ok d) v x) c.in-Ok-Quiet.field-0-is
     (subst (λ (r : Result Drained EngineError). Drains c.in_ok-begun.begun o r v x) c.in-Ok-Quiet.is (c.drain.ensures.ends t)) in
     let e = ends w (begun_on w b) stands (at_start w b) in
-    delivers_all w b o u v first x c.in-Ok-Quiet.engine e (g.H.Host.view c.end.new.host)
-    (c.in_ok-end-in-Ok-Quiet.ensures.ok t w (ledger_on w Deliver b (life_told e.ends.story)) (stands_quiet w b o u v first x c.in-Ok-Quiet.engine e))
+    delivers_all w b o u v first begins x c.in-Ok-Quiet.engine e (g.H.Host.view c.end.new.host)
+    (c.in_ok-end-in-Ok-Quiet.ensures.ok t w (ledger_on w Deliver b (life_told e.ends.story)) (stands_quiet w b o u v first begins x c.in-Ok-Quiet.engine e))
 
 pub returns-in_err-end-in-Ok-Quiet-clause-ends : goal.returns-in_err-end-in-Ok-Quiet-clause-ends
 returns-in_err-end-in-Ok-Quiet-clause-ends g c t b h orderly w settings table_is =
@@ -83,6 +85,7 @@ returns-in_err-end-in-Ok-Quiet-clause-ends g c t b h orderly w settings table_is
     let given : IsGivenTo c.args.params c.args.table w b u = record { host = h; orderly = orderly; settings = settings; table_is = table_is } in
     let took = c.in_ok-begun.ensures.ok t w (opening Deliver b) (may_begin c.args.params c.args.table Deliver w b u given) in
     let first = begun_told w b c.in_ok-begun.begun u v lawful h took in
+    let begins = first_allowed w Deliver b took.accepted in
     let stands = begun_stands w b c.in_ok-begun.begun u v lawful h took in
     let ends : Drains c.in_ok-begun.begun o (Ok (Quiet c.in-Ok-Quiet.engine)) v x =
     subst (λ (d : Drained). Drains c.in_ok-begun.begun o (Ok d) v x) c.in-Ok-Quiet.field-0-is
@@ -92,7 +95,7 @@ returns-in_err-end-in-Ok-Quiet-clause-ends g c t b h orderly w settings table_is
     let error = c.in_err-end-in-Ok-Quiet.field-0.0 in
     let r = c.from_residual-in_err-end-in-Ok-Quiet in
     passed_as r.result error (DeliveryEnds w b o u y) r.ensures.1
-    (never_ended w b o u v first x c.in-Ok-Quiet.engine e y error (c.in_err-end-in-Ok-Quiet.ensures.err t w (ledger_on w Deliver b (life_told e.ends.story)) (stands_quiet w b o u v first x c.in-Ok-Quiet.engine e)))
+    (never_ended w b o u v first begins x c.in-Ok-Quiet.engine e y error (c.in_err-end-in-Ok-Quiet.ensures.err t w (ledger_on w Deliver b (life_told e.ends.story)) (stands_quiet w b o u v first begins x c.in-Ok-Quiet.engine e)))
 
 pub returns-in_err-end-in-Ok-Quiet-clause-damaged : goal.returns-in_err-end-in-Ok-Quiet-clause-damaged
 returns-in_err-end-in-Ok-Quiet-clause-damaged g c t area name damage = absurd (c.in_ok-begun.ensures.undamaged t area name damage)
@@ -110,6 +113,7 @@ returns-in_err-end-in-Ok-Quiet-clause-only_damaged g c t =
     let (w, b, given) = some_given c.args.params c.args.table u (c.requires.spool t) (c.in_ok-begun.ensures.undamaged t) in
     let took = c.in_ok-begun.ensures.ok t w (opening Deliver b) (may_begin c.args.params c.args.table Deliver w b u given) in
     let first = begun_told w b c.in_ok-begun.begun u v lawful given.host took in
+    let begins = first_allowed w Deliver b took.accepted in
     let stands = begun_stands w b c.in_ok-begun.begun u v lawful given.host took in
     let ends : Drains c.in_ok-begun.begun o (Ok (Quiet c.in-Ok-Quiet.engine)) v x =
     subst (λ (d : Drained). Drains c.in_ok-begun.begun o (Ok d) v x) c.in-Ok-Quiet.field-0-is
@@ -120,7 +124,7 @@ returns-in_err-end-in-Ok-Quiet-clause-only_damaged g c t =
     let r = c.from_residual-in_err-end-in-Ok-Quiet in
     let k = ledger_on w Deliver b (life_told e.ends.story) in
     only_passed {S = Unit {0}} y r.result error r.ensures.1
-    (untaken_only {T = Unit {0}} w k End 0 error x y (c.in_err-end-in-Ok-Quiet.ensures.err t w k (stands_quiet w b o u v first x c.in-Ok-Quiet.engine e)))
+    (untaken_only {T = Unit {0}} w k End 0 error x y (c.in_err-end-in-Ok-Quiet.ensures.err t w k (stands_quiet w b o u v first begins x c.in-Ok-Quiet.engine e)))
 
 pub returns-in-Ok-Unfinished-clause-ends : goal.returns-in-Ok-Unfinished-clause-ends
 returns-in-Ok-Unfinished-clause-ends g c t b h orderly w settings table_is =
@@ -135,11 +139,12 @@ returns-in-Ok-Unfinished-clause-ends g c t b h orderly w settings table_is =
     let given : IsGivenTo c.args.params c.args.table w b u = record { host = h; orderly = orderly; settings = settings; table_is = table_is } in
     let took = c.in_ok-begun.ensures.ok t w (opening Deliver b) (may_begin c.args.params c.args.table Deliver w b u given) in
     let first = begun_told w b c.in_ok-begun.begun u v lawful h took in
+    let begins = first_allowed w Deliver b took.accepted in
     let stands = begun_stands w b c.in_ok-begun.begun u v lawful h took in
     let ends : Drains c.in_ok-begun.begun o (Ok (Unfinished c.in-Ok-Unfinished.rests)) v x =
     subst (λ (d : Drained). Drains c.in_ok-begun.begun o (Ok d) v x) c.in-Ok-Unfinished.field-0-is
     (subst (λ (r : Result Drained EngineError). Drains c.in_ok-begun.begun o r v x) c.in-Ok-Unfinished.is (c.drain.ensures.ends t)) in
-    leaves_some w b o u v first x c.in-Ok-Unfinished.rests (ends w (begun_on w b) stands (at_start w b))
+    leaves_some w b o u v first begins x c.in-Ok-Unfinished.rests (ends w (begun_on w b) stands (at_start w b))
 
 pub returns-in-Err-clause-ends : goal.returns-in-Err-clause-ends
 returns-in-Err-clause-ends g c t b h orderly w settings table_is =
@@ -154,10 +159,11 @@ returns-in-Err-clause-ends g c t b h orderly w settings table_is =
     let given : IsGivenTo c.args.params c.args.table w b u = record { host = h; orderly = orderly; settings = settings; table_is = table_is } in
     let took = c.in_ok-begun.ensures.ok t w (opening Deliver b) (may_begin c.args.params c.args.table Deliver w b u given) in
     let first = begun_told w b c.in_ok-begun.begun u v lawful h took in
+    let begins = first_allowed w Deliver b took.accepted in
     let stands = begun_stands w b c.in_ok-begun.begun u v lawful h took in
     let ends : Drains c.in_ok-begun.begun o (Err c.in-Err.error) v x = subst (λ (r : Result Drained EngineError). Drains c.in_ok-begun.begun o r v x) c.in-Err.is (c.drain.ensures.ends t) in
     let kind = subst (λ (r : Result Drained EngineError). IfErr r IsDrainError) c.in-Err.is c.drain.ensures.kinds in
-    rw c.replay_error.ensures.exact (drain_failed w b o u v first x c.in-Err.error kind (ends w (begun_on w b) stands (at_start w b)))
+    rw c.replay_error.ensures.exact (drain_failed w b o u v first begins x c.in-Err.error kind (ends w (begun_on w b) stands (at_start w b)))
 
 pub returns-in-Err-clause-damaged : goal.returns-in-Err-clause-damaged
 returns-in-Err-clause-damaged g c t area name damage = absurd (c.in_ok-begun.ensures.undamaged t area name damage)

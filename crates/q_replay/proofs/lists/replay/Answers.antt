@@ -11,6 +11,8 @@ use Rattle.q_replay.specs.ReplayEnds.{ReplayEnds}
 use Rattle.q_replay.specs.Takings.{NotTaken, ReplayCause, TookItem, is_unreadable}
 use Rattle.q_replay.specs.declared.error.ReplayError.{ReplayError}
 use Rattle.q_replay.specs.declared.error.ReplayError.TheVariants as errors
+use Rattle.q_replay.specs.AnyLists.{TakesList}
+use Rattle.q_replay.proofs.AnyLists.{has_bound, list_done, list_unbegun, list_unread, list_untaken}
 use Rattle.q_replay.proofs.Readings.{ledger_on}
 use Rattle.q_replay.proofs.Replaying.{delivers, ends_done, ends_unbegun, ends_unread, ends_untaken, for_each, for_text, IsGivenTo, may_begin, passed_as, same_new, some_given, went_begins, went_on}
 use Rattle.q_replay.proofs.Submitting.{cause_on, own_error, rose_later}
@@ -56,7 +58,7 @@ loop-item-preserved g c =
           let took : TookItem w l item (Some c.in-Some.next) (view old.host) (view c.take.new.host) =
           subst (λ (o : Option Engine). TookItem w l item o (view old.host) (view c.take.new.host)) c.in-Some.is (c.in_ok-next.ensures.ok t w l went.stands given.settings (delivers w b went.items)) in
           went_on w b (text_left old.events.buffered (left old.source)) old.events old.invariant.going old.engine (view c.args.host.now) (view old.host) (left c.args.source.now)
-          (text_left c.read_event.new.self.buffered (left c.read_event.new.source)) c.read_event.new.self c.in-Some.next (view c.take.new.host) item went c.in-Ok-read_event.ensures.exact more took;
+          (text_left c.read_event.new.self.buffered (left c.read_event.new.source)) c.read_event.new.self c.in-Some.next (view c.take.new.host) item c.in-Ok-read_event.ensures.form went c.in-Ok-read_event.ensures.exact more took;
       some = old.invariant.some;
       whole = old.invariant.whole;
       ready = rw c.in-Some.is at c.in_ok-next.ensures.ready;
@@ -75,6 +77,52 @@ returns-in_err-engine-clause-ends g c t b h orderly w settings table_is =
     let lawful : TellsCrashes u = record { only = g.met.H.Host.only_now c.args.host.now; told = g.met.H.Host.told_stays c.args.host.now } in
     for_each _ (λ bytes. passed_as c.from_residual.result c.in_err-engine.field-0.0 (ReplayEnds w b bytes left u x) c.from_residual.ensures.1
     (ends_unbegun w b u lawful h bytes left x c.in_err-engine.field-0.0 (c.in_err-engine.ensures.err t w (opening Deliver b) (may_begin c.args.params c.args.table Deliver w b u given)))) left
+
+pub returns-in_err-engine-clause-lists : goal.returns-in_err-engine-clause-lists
+returns-in_err-engine-clause-lists g c t b h orderly w settings table_is =
+    let u = g.H.Host.view c.args.host.now in
+    let x = g.H.Host.view c.begin_life.new.host in
+    let given : IsGivenTo c.args.params c.args.table w b u = record { host = h; orderly = orderly; settings = settings; table_is = table_is } in
+    let lawful : TellsCrashes u = record { only = g.met.H.Host.only_now c.args.host.now; told = g.met.H.Host.told_stays c.args.host.now } in
+    passed_as c.from_residual.result c.in_err-engine.field-0.0 (TakesList w b u x) c.from_residual.ensures.1
+    (list_unbegun w b u x lawful h c.in_err-engine.field-0.0 (c.in_err-engine.ensures.err t w (opening Deliver b) (may_begin c.args.params c.args.table Deliver w b u given)))
+
+pub returns-in-Err-clause-lists : goal.returns-in-Err-clause-lists
+returns-in-Err-clause-lists g c t b h orderly w settings table_is =
+    let old = c.loop-item in
+    let view = g.H.Host.view in
+    let u = view c.args.host.now in
+    let given : IsGivenTo c.args.params c.args.table w b u = record { host = h; orderly = orderly; settings = settings; table_is = table_is } in
+    let went = old.invariant.went t w b given in
+    let bound = has_bound old.events (text_left old.events.buffered (g.S.Source.left old.source)) c.read_event.new.self (text_left c.read_event.new.self.buffered (g.S.Source.left c.read_event.new.source)) (g.S.Source.left c.read_event.new.source) c.in-Err.error c.in-Err.ensures.exact in
+    rw c.list_error.ensures.exact (list_unread w b went.items went.listed u (view old.host) went.told c.in-Err.error bound)
+
+pub returns-in_err-next-clause-lists : goal.returns-in_err-next-clause-lists
+returns-in_err-next-clause-lists g c t b h orderly w settings table_is =
+    let old = c.loop-item in
+    let view = g.H.Host.view in
+    let u = view c.args.host.now in
+    let given : IsGivenTo c.args.params c.args.table w b u = record { host = h; orderly = orderly; settings = settings; table_is = table_is } in
+    let went = old.invariant.went t w b given in
+    let l = ledger_on w Deliver b went.items in
+    let error = c.in_err-next.field-0.0 in
+    let up : NotTaken w l c.in-Ok-read_event.item c.lines.result error (view old.host) (view c.take.new.host) = c.in_err-next.ensures.err t w l went.stands given.settings (delivers w b went.items) in
+    passed_as c.from_residual-in_err-next.result error (TakesList w b u (view c.take.new.host)) c.from_residual-in_err-next.ensures.1
+    (list_untaken w b went.items went.listed u (view old.host) (view c.take.new.host) went.told c.in-Ok-read_event.item c.lines.result error c.in-Ok-read_event.ensures.form up)
+
+pub returns-in-None-clause-lists : goal.returns-in-None-clause-lists
+returns-in-None-clause-lists g c t b h orderly w settings table_is =
+    let old = c.loop-item in
+    let view = g.H.Host.view in
+    let u = view c.args.host.now in
+    let item = c.in-Ok-read_event.item in
+    let given : IsGivenTo c.args.params c.args.table w b u = record { host = h; orderly = orderly; settings = settings; table_is = table_is } in
+    let went = old.invariant.went t w b given in
+    let l = ledger_on w Deliver b went.items in
+    let last : is_list_end item ≡ true = sym c.in_ok-next.ensures.ended ∙ ap is_none c.in-None.is in
+    let took : TookItem w l item None (view old.host) (view c.take.new.host) =
+    subst (λ (o : Option Engine). TookItem w l item o (view old.host) (view c.take.new.host)) c.in-None.is (c.in_ok-next.ensures.ok t w l went.stands given.settings (delivers w b went.items)) in
+    list_done w b went.items went.listed u (view old.host) (view c.take.new.host) went.told item 0 tt c.in-Ok-read_event.ensures.form last took
 
 pub returns-in-Err-clause-ends : goal.returns-in-Err-clause-ends
 returns-in-Err-clause-ends g c t b h orderly w settings table_is =

@@ -1,6 +1,7 @@
 use Rattle.q_books.specs.HostStands.{TellsCrashes}
 use Rattle.q_top.proofs.Drains.{drained, never_of_source, unread_drain}
 use Rattle.q_top.proofs.RunsBehind.{still_fit}
+use Rattle.q_top.proofs.Serving.{drain_serves, still_serves}
 use Rattle.q_top.proofs.Readable.{conf_readable, delivered_readable}
 use Rattle.q_top.proofs.draining.drain_spool.Goals as goal
 
@@ -34,3 +35,19 @@ returns-in-Ok-clause-readable g c t = rw c.delivery_status.ensures.exact (delive
 
 pub returns-in-Err-clause-readable : goal.returns-in-Err-clause-readable
 returns-in-Err-clause-readable g c t = rw c.conf_status.ensures.exact (conf_readable c.in-Err.error)
+
+pub returns-in-Ok-clause-serves : goal.returns-in-Ok-clause-serves
+returns-in-Ok-clause-serves g c t =
+    let u = g.H.Host.view c.args.host.now in
+    let lawful : TellsCrashes u = record { only = g.met.H.Host.only_now c.args.host.now; told = g.met.H.Host.told_stays c.args.host.now } in
+    drain_serves c.in-Ok.conf u (g.H.Host.view c.read_conf.new.host) (g.H.Host.view c.deliver.new.host) lawful (c.read_conf.ensures.stays t) c.in-Ok.ensures.range
+    (record {
+      before = record { clock = g.C.Clock.given c.args.clock.now; hops = g.N.Hops.view c.args.hops.now };
+      behind = record { clock = g.C.Clock.given c.deliver.new.clock; hops = g.N.Hops.view c.deliver.new.hops };
+    }) c.deliver.result (c.deliver.ensures.ends t)
+
+pub returns-in-Err-clause-serves : goal.returns-in-Err-clause-serves
+returns-in-Err-clause-serves g c t =
+    let u = g.H.Host.view c.args.host.now in
+    let lawful : TellsCrashes u = record { only = g.met.H.Host.only_now c.args.host.now; told = g.met.H.Host.told_stays c.args.host.now } in
+    still_serves u (g.H.Host.view c.read_conf.new.host) lawful (c.read_conf.ensures.stays t)

@@ -1,3 +1,6 @@
+use Rattle.q_books.specs.HostStands.{TellsCrashes}
+use Rattle.q_host.proofs.Stays.{stays_here}
+use Rattle.q_top.proofs.Serving.{still_serves}
 use Rattle.q_top.proofs.Submissions.{no_content, with_content}
 use Rattle.q_top.proofs.Readable.{content_readable}
 use Rattle.q_top.proofs.submitting.submit_content.Goals as goal
@@ -21,3 +24,12 @@ returns-in-Ok-clause-readable g c t = c.submit_letter.ensures.readable t
 
 pub returns-in-Err-clause-readable : goal.returns-in-Err-clause-readable
 returns-in-Err-clause-readable g c t = rw c.content_status.ensures.exact (content_readable c.in-Err.error)
+
+pub returns-in-Ok-clause-serves : goal.returns-in-Ok-clause-serves
+returns-in-Ok-clause-serves g c t = c.submit_letter.ensures.serves t
+
+pub returns-in-Err-clause-serves : goal.returns-in-Err-clause-serves
+returns-in-Err-clause-serves g c t =
+    let u = g.H.Host.view c.args.host.now in
+    let lawful : TellsCrashes u = record { only = g.met.H.Host.only_now c.args.host.now; told = g.met.H.Host.told_stays c.args.host.now } in
+    still_serves u u lawful (stays_here u)

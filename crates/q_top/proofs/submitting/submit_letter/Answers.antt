@@ -1,6 +1,7 @@
 use Rattle.q_books.specs.HostStands.{TellsCrashes}
 use Rattle.q_top.proofs.FirstRefusals.{never_source, submitted_so, unread_submission}
 use Rattle.q_top.proofs.RunsBehind.{still_fit}
+use Rattle.q_top.proofs.Serving.{still_serves, submission_serves}
 use Rattle.q_top.proofs.Readable.{conf_readable, ended_readable}
 use Rattle.q_top.proofs.submitting.submit_letter.Goals as goal
 
@@ -31,3 +32,15 @@ returns-in-Ok-clause-readable g c t = rw c.status_of.ensures.exact (ended_readab
 
 pub returns-in-Err-clause-readable : goal.returns-in-Err-clause-readable
 returns-in-Err-clause-readable g c t = rw c.conf_status.ensures.exact (conf_readable c.in-Err.error)
+
+pub returns-in-Ok-clause-serves : goal.returns-in-Ok-clause-serves
+returns-in-Ok-clause-serves g c t =
+    let u = g.H.Host.view c.args.host.now in
+    let lawful : TellsCrashes u = record { only = g.met.H.Host.only_now c.args.host.now; told = g.met.H.Host.told_stays c.args.host.now } in
+    submission_serves c.in-Ok.conf u (g.H.Host.view c.read_conf.new.host) (g.H.Host.view c.submit.new.host) lawful (c.read_conf.ensures.stays t) c.in-Ok.ensures.range c.submit.result c.args.moment c.args.letter c.requires.moment c.requires.form (c.submit.ensures.ends t)
+
+pub returns-in-Err-clause-serves : goal.returns-in-Err-clause-serves
+returns-in-Err-clause-serves g c t =
+    let u = g.H.Host.view c.args.host.now in
+    let lawful : TellsCrashes u = record { only = g.met.H.Host.only_now c.args.host.now; told = g.met.H.Host.told_stays c.args.host.now } in
+    still_serves u (g.H.Host.view c.read_conf.new.host) lawful (c.read_conf.ensures.stays t)
