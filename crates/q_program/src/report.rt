@@ -60,6 +60,18 @@ fn next_due(rt: HostRuntime, host: &mut Host<'_>) -> Option<Moment> {
     Some(due_of(*names.as_slice().first()?)?.0)
 }
 
+/// Says how many connections weren't begun, since no more files may be open.
+fn warn_of_descriptors(rt: HostRuntime, crowded_out: u64) {
+    if crowded_out > 0 {
+        say(
+            rt,
+            format_args!(
+                "warning: {crowded_out} connections failed, since no more files may be open: raise ulimit -n"
+            ),
+        );
+    }
+}
+
 /// Says what a drain came to, and what of the table it couldn't reach.
 fn say_drained(rt: HostRuntime, host: &mut Host<'_>, status: Status, sums: Sums) {
     let is_over = matches!(status, Status::Done | Status::Unfinished { .. });
@@ -83,7 +95,9 @@ pub(crate) fn report(
     host: &mut Host<'_>,
     status: Status,
     heard: &Heard,
+    crowded_out: u64,
 ) {
+    warn_of_descriptors(rt, crowded_out);
     if let Some(user) = host.user() {
         say(
             rt,

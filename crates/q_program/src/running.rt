@@ -90,7 +90,15 @@ fn run(rt: HostRuntime, options: Options, folder: &str, words: &[String]) -> u8 
         &mut hops,
     );
     let status = flushed(&mut host, status);
-    report(rt, words, &request, &mut host, status, &heard);
+    report(
+        rt,
+        words,
+        &request,
+        &mut host,
+        status,
+        &heard,
+        hops.crowded_out(),
+    );
     status.number()
 }
 

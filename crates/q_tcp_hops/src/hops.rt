@@ -3,6 +3,7 @@ ghost use Rattle.std.specs.Prelude.{◌≡◌, IfOk};
 ghost use Rattle.q_tcp_hops.specs.TcpLinks.{fresh, no_calls};
 
 use crate::TcpLink;
+use crate::descriptors::most_links;
 use crate::readiness::Readiness;
 use mio::event::Events;
 use mio::net::TcpStream;
@@ -33,6 +34,9 @@ pub struct TcpHops<N: Net + Drop> {
     events: Events,
     // of each link that isn't closed, under its token
     links: Slab<Rc<Readiness>>,
+    most_links: usize,
+    // how many connections weren't begun, since so many links are open
+    crowded_out: u64,
     connect_faults: u64,
     rests: u64,
     link_faults: u64,
@@ -66,6 +70,8 @@ impl<N: Net + Drop> TcpHops<N> {
             poll,
             events,
             links: Slab::new(alloc),
+            most_links: most_links(),
+            crowded_out: 0,
             connect_faults: 0,
             rests: 0,
             link_faults: 0,
@@ -101,6 +107,12 @@ impl<N: Net + Drop> TcpHops<N> {
         }
     }
 
+    /// How many connections weren't begun, since no more files may be open in the process
+    /// (getrlimit(2)): those to their hops count as failed.
+    pub fn crowded_out(&self) -> u64 {
+        self.crowded_out
+    }
+
     // Notes which links the last poll found ready.
     fn note_ready(&self) {
         for event in self.events.iter() {
@@ -122,10 +134,17 @@ impl<N: Net + Drop> Hops for TcpHops<N> {
         let Some(address) = address_of(hop) else {
             return Err(NoLink::NoRoute);
         };
-        match self.open(alloc, SocketAddr::V4(address)) {
-            Ok(link) => Ok(link),
-            Err(error) if error.kind() == ErrorKind::OutOfMemory => Err(NoLink::NoMemory),
-            Err(_) => {
+        // the descriptors that are left are kept for the spool
+        let opened = if self.links.len() < self.most_links {
+            Some(self.open(alloc, SocketAddr::V4(address)))
+        } else {
+            self.crowded_out = self.crowded_out.saturating_add(1);
+            None
+        };
+        match opened {
+            Some(Ok(link)) => Ok(link),
+            Some(Err(error)) if error.kind() == ErrorKind::OutOfMemory => Err(NoLink::NoMemory),
+            _ => {
                 self.connect_faults = self.connect_faults.saturating_add(1);
                 Err(NoLink::Failed)
             }

@@ -7,11 +7,15 @@
 //! when a link is ready, and that a closed connection is given back, rests on the system and on
 //! `mio`. So these links and hops tell nothing of what came and went.
 //!
+//! As many connections are open at once as descriptors may be, less some that are kept for the spool; one
+//! beyond counts as failed (`crowded_out`).
+//!
 //! A connect only begins: that a hop refuses is told by the first read or write, as a failure of
 //! its link. It is an error to read into an empty buffer, to write no bytes, and to rest for a link
 //! that doesn't wait.
 #![tactic(auto)]
 
+mod descriptors;
 mod hops;
 mod link;
 mod link_wait;
