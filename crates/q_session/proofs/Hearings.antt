@@ -1,17 +1,18 @@
 -- A delivery that waits for a reply follows its link.
-use Rattle.std.proofs.Common.{◌≡◌, ◌≢◌, ℕ, ◌≤◌, Bool, true, if◌then◌else◌, List, [], ◌∷◌, ◌++◌, IsTrue, refl, sym, ap, ◌∙◌, arith, append_assoc, inl, inr, ◌⊎◌}
+use Rattle.std.proofs.Common.{◌≡◌, ◌≢◌, ℕ, ◌≤◌, Bool, true, false, if◌then◌else◌, List, [], ◌∷◌, ◌++◌, IsTrue, refl, sym, ap, ◌∙◌, arith, append_assoc, inl, inr, ◌⊎◌}
 use Rattle.std.proofs.lemmas.List.{append-nil}
 use Rattle.q_link.specs.Reads.{Rose}
 use Rattle.q_link.specs.Views.{ForRead, ForWrite, NoWait, Told, View}
 use Rattle.q_smtp.specs.Dialogue.{Broken, Exchange, Open, Transaction, after_content, after_data, after_ehlo, after_helo, after_mail, after_rcpt, dialogue, ends, says}
 use Rattle.q_smtp.specs.Replies.{Part, codes_from, reply_codes}
+use Rattle.q_session.proofs.Inboxes.{no_codes}
 use Rattle.q_session.proofs.Sendings.{tells_more}
 use Rattle.q_session.specs.Course.{rest_by, rest_of}
 use Rattle.q_session.specs.Deliveries.{Follows, Hearing, IsAllSent}
 use Rattle.q_session.specs.Mails.{Mail, exchange_of, transaction_of}
 use Rattle.q_session.specs.Outgoing.{pending}
 use Rattle.q_session.specs.Sending.{to_send, unsent}
-use Rattle.q_session.specs.Steps.{Acts, Awaits, Becomes, BeginsWith, EndsBy, IsLost, SendsDue, Steps, waits_of}
+use Rattle.q_session.specs.Steps.{Acts, Awaits, Becomes, BeginsWith, EndsBy, IsBeforeQuit, IsLost, IsSendingLost, IsShort, SendsDue, Steps, waits_of}
 use Rattle.q_session.specs.Traffic.{Answers, GoesOn, Hears, Received, Receives, Tells}
 use Rattle.q_session.specs.declared.delivery.Delivery.{Delivery}
 use Rattle.q_session.specs.declared.dialogue.Awaited.{Awaited}
@@ -45,10 +46,6 @@ rest_broken e (Answer MailCommand) to = refl
 rest_broken e (Answer (Rcpt place)) to = refl
 rest_broken e (Answer Data) to = refl
 rest_broken e Verdict to = refl
-
-no_codes : (p : Part) → codes_from p [] ≡ []
-unfolding codes_from
-no_codes p = refl
 
 -- ---- all that is due was sent
 
@@ -134,6 +131,14 @@ broken_reply {mail = mail} {d = d} {after = after} inbox f r =
     ap (λ (x : Exchange). x.ending) (exchange_after f r ∙ ap (λ (cs : List ℕ). says f.due (rest_of e d.dialogue cs)) zero
     ∙ ap (λ (x : Exchange). says f.due x) (rest_broken e d.dialogue.awaited d.dialogue.answers.items))
 
+-- the link was lost before the reply
+open_reply : {tells : Bool} {mail : Mail} {d : Delivery} {before after : Told} (inbox : Inbox) (f : Follows tells mail d before) (r : Received d.inbox heard.Lost inbox before after)
+    → (exchange_of mail d.to after.received).ending ≡ Open
+open_reply {mail = mail} {d = d} {after = after} inbox f r =
+    let e : Transaction = transaction_of mail d.to in
+    ap (λ (x : Exchange). x.ending) (exchange_after f r ∙ ap (λ (cs : List ℕ). says f.due (rest_of e d.dialogue cs)) (r.hears f.part f.holds)
+    ∙ ap (λ (x : Exchange). says f.due x) (rest_none e d.dialogue.awaited d.dialogue.answers.items))
+
 -- ---- what waiting for a reply comes to
 
 abbrev Anything : Mail → Type 0
@@ -177,12 +182,13 @@ steps_lost tells d inbox v w all link got = record {
   answers = received_answers d.inbox inbox v w got (λ b t r. r.answers);
   becomes = λ mail is serves t told.
       let g = got t told in
-      (inr (why link.1), front_after (serves g.0 g.1) all g.2);
+      let f = serves g.0 g.1 in
+      (inr (inl (inl (open_reply inbox f g.2), why link.1)), front_after f all g.2);
 }
   where
-    why : ((w.ended ≡ true) ⊎ (Rose v.faults w.faults × (w.ended ≡ v.ended))) → (w.ended ≡ true) ⊎ (Rose v.faults w.faults ⊎ (IsTrue tells → ⊥))
+    why : ((w.ended ≡ true) ⊎ (Rose v.faults w.faults × (w.ended ≡ v.ended))) → (w.ended ≡ true) ⊎ Rose v.faults w.faults
     why (inl ended) = inl ended
-    why (inr rose) = inr (inl rose.0)
+    why (inr rose) = inr rose.0
 
 -- a reply was heard, and acted on
 pub steps_code : (tells : Bool) (d new : Delivery) (inbox : Inbox) (code : ℕ) (v w : View) (s : Step) → IsAllSent d → Receives (heard.Code code) v w → Tells (Received d.inbox (heard.Code code) inbox) v w
@@ -227,13 +233,13 @@ rose_before h (inr last) = inr last
 pub becomes_before : (tells : Bool) (mail : Mail) (d : Delivery) (u v w : View) (t : Told) (s : Step) → u.faults ≤ v.faults → Becomes tells mail d v w t s → Becomes tells mail d u w t s
 becomes_before tells mail d u v w t Onward h b = b
 becomes_before tells mail d u v w t Waits h b = b
-becomes_before tells mail d u v w t Lost h b = (lost (exchange_of mail d.to t.received) b.0, b.1)
+becomes_before tells mail d u v w t Lost h b = (lost (exchange_of mail d.to t.received) t.sent b.0, b.1)
   where
-    lost : (x : Exchange) → IsLost tells x v w → IsLost tells x u w
-    lost x (inl broken) = inl broken
-    lost x (inr (inl ended)) = inr (inl ended)
-    lost x (inr (inr (inl rose))) = inr (inr (inl (rose_before h rose)))
-    lost x (inr (inr (inr none))) = inr (inr (inr none))
+    lost : (x : Exchange) (sent : List ℕ) → IsLost tells x sent v w → IsLost tells x sent u w
+    lost x sent (inl broken) = inl broken
+    lost x sent (inr (inl (early, inl ended))) = inr (inl (early, inl ended))
+    lost x sent (inr (inl (early, inr rose))) = inr (inl (early, inr (rose_before h rose)))
+    lost x sent (inr (inr none)) = inr (inr none)
 becomes_before tells mail d u v w t (Settles last) h b = b
 
 pub ends_before : (u v w : View) (s : Step) → v.ended ≡ u.ended → EndsBy s v w → EndsBy s u w
@@ -273,10 +279,13 @@ pub sent_front : {tells : Bool} {mail : Mail} {d : Delivery} {t : Told} (f : Fol
 sent_front {mail = mail} {d = d} f is =
     ((pending d.outbox ++ unsent mail.content d.content) ++ (rest_of (transaction_of mail d.to) d.dialogue (codes_from f.part d.inbox.unused.items)).due, due_is f is)
 
-awaits_write : {tells : Bool} {mail : Mail} {d : Delivery} {t : Told} (v : View) → Follows tells mail d t → pending d.outbox ≢ [] → v.wait ≡ ForWrite → Awaits tells (exchange_of mail d.to t.received) t v
-awaits_write {mail = mail} {d = d} {t = t} v f some waits =
+short_of : {tells : Bool} {mail : Mail} {d : Delivery} {t : Told} → Follows tells mail d t → pending d.outbox ≢ [] → IsTrue tells → IsShort (exchange_of mail d.to t.received).due t.sent
+short_of {mail = mail} {d = d} {t = t} f some is =
     let rest : Exchange = rest_of (transaction_of mail d.to) d.dialogue (codes_from f.part d.inbox.unused.items) in
-    inl (waits, λ is. ((pending d.outbox ++ unsent mail.content d.content) ++ rest.due, due_is f is, λ none. some (front_none (pending d.outbox) (unsent mail.content d.content) rest.due none)))
+    ((pending d.outbox ++ unsent mail.content d.content) ++ rest.due, due_is f is, λ none. some (front_none (pending d.outbox) (unsent mail.content d.content) rest.due none))
+
+awaits_write : {tells : Bool} {mail : Mail} {d : Delivery} {t : Told} (v : View) → Follows tells mail d t → pending d.outbox ≢ [] → v.wait ≡ ForWrite → Awaits tells (exchange_of mail d.to t.received) t v
+awaits_write v f some waits = inl (waits, short_of f some)
 
 not_nowrite : (w : View) → w.wait ≡ ForWrite → w.wait ≢ NoWait
 not_nowrite w is none = cc
@@ -296,5 +305,11 @@ steps_unsendable tells given old d u v link sends = record {
   faults = link.faults;
   ended = tt;
   answers = sends.answers;
-  becomes = λ mail is serves t told. (inr (inr (sends.lost refl mail is serves t told)), sent_front (sends.serves mail is serves t told));
+  becomes = λ mail is serves t told. let f = sends.serves mail is serves t told in (inr (why tells mail t f (sends.lost refl mail is serves t told)), sent_front f);
 }
+  where
+    why : (tells : Bool) (mail : Mail) (t : Told) → Follows tells mail d t → IsSendingLost tells d u v
+        → (IsBeforeQuit (exchange_of mail d.to t.received) t.sent × ((v.ended ≡ true) ⊎ Rose u.faults v.faults)) ⊎ (IsTrue tells → ⊥)
+    why false mail t f lost = inr (λ is. cc)
+    why true mail t f (inl (rose, some)) = inl (inr (short_of f some refl), inr rose)
+    why true mail t f (inr none) = inr none

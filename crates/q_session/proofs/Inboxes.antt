@@ -123,9 +123,19 @@ hears_not_yet old new none before after r = record {
       (g.0, none, λ more. ap (λ (xs : List ℕ). codes_from p (xs ++ more)) (r.cut ∙ append-nil r.fed) ∙ g.2 more, g.1);
 }
 
+pub no_codes : (p : Part) → codes_from p [] ≡ []
+unfolding codes_from
+no_codes p = refl
+
 -- the link ended or failed
-pub hears_lost : (old new : Inbox) (hand : List ℕ) (before after : Told) → Reading old new.replies hand before after → Received old Lost new before after
-hears_lost old new hand before after r = record { bytes = r.bytes; received = r.received; sent = r.sent; answers = r.answers; hears = λ p h. tt }
+pub hears_lost : (old new : Inbox) (before after : Told) → Reading old new.replies [] before after → Received old Lost new before after
+hears_lost old new before after r = record {
+  bytes = r.bytes;
+  received = r.received;
+  sent = r.sent;
+  answers = r.answers;
+  hears = λ p h. let g = r.goes p h in ap (λ (xs : List ℕ). codes_from p xs) r.cut ∙ g.2 [] ∙ no_codes g.0;
+}
 
 -- what is said of all that came, at one call behind it
 pub tells_next : (P Q : Told → Told → Type 0) (u v : View) → ((before after : Told) → P before after → Q before after) → Tells P u v → Tells Q u v

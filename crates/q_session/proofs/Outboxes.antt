@@ -1,7 +1,7 @@
 -- Bytes between two places of a buffer, as they are sent.
-use Rattle.std.proofs.Common.{◌≡◌, ℕ, ◌+◌, ◌-◌, ◌<◌, ◌≤◌, ◌≢◌, List, [], length, take, drop, sym, ap, ◌∙◌, arith, subst, length-take, length-drop}
+use Rattle.std.proofs.Common.{◌≡◌, ℕ, ◌+◌, ◌-◌, ◌<◌, ◌≤◌, ◌≢◌, List, [], length, take, drop, sym, ap, ◌∙◌, arith, subst, inl, inr, length-take, length-drop}
 use Rattle.std.proofs.lemmas.List.{drop-drop, drop-take}
-use Rattle.q_link.specs.Reads.{Leaves, with_not_yet, with_sent}
+use Rattle.q_link.specs.Reads.{Fails, Leaves, Rose, with_not_yet, with_sent}
 use Rattle.q_link.specs.Views.{ForWrite, NoWait, View}
 use Rattle.q_session.specs.Traffic.{Gave, GoesOn, Sends, Tells}
 use Rattle.q_session.specs.declared.outbox.Sent.TheVariants as sent
@@ -39,3 +39,13 @@ pub gives_no_more : (bytes : List ℕ) (from to : ℕ) (u v w : View) → from <
     → Leaves ForWrite with_not_yet v w → Sends sent.NotYet (drop from (take to bytes)) u w
 gives_no_more bytes from to u v w some within goes leaves =
     (goes_then u v w goes (goes_by_leaving ForWrite with_not_yet v w leaves), leaves.wait, window_left from to bytes some within)
+
+-- a rise, from an earlier count
+pub rose_since : {u v w : ℕ} → u ≤ v → Rose v w → Rose u w
+rose_since h (inl more) = inl (omega (arith, h, more))
+rose_since h (inr last) = inr last
+
+-- the link failed, with a window left
+pub gives_failed : (bytes : List ℕ) (from to : ℕ) (u v w : View) → from < to → to ≤ length bytes → GoesOn u v → Fails v w → Sends sent.Lost (drop from (take to bytes)) u w
+gives_failed bytes from to u v w some within goes fails =
+    (goes_then u v w goes (record { faults = fails.faults.0; ended = fails.ended }), rose_since goes.faults fails.faults.1, window_left from to bytes some within)

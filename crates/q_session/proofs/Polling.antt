@@ -76,7 +76,7 @@ pub over_down : {tells : Bool} {given : Mail → Type 0} {old d : Delivery} {bef
     → (t : Told) → v.told ≡ Some t → IsOver tells Down moment mail new t before v
 over_down {tells = tells} {d = d} {before = before} {v = v} new moment s keeps mail is serves t told =
     let b = s.becomes mail is serves t told in
-    subst (λ (to : List (List ℕ)). ((new.opened + 600 ≤ moment) ⊎ IsLost tells (exchange_of mail to t.received) before v) × (IsTrue tells → BeginsWith (exchange_of mail to t.received).due t.sent))
+    subst (λ (to : List (List ℕ)). ((new.opened + 600 ≤ moment) ⊎ IsLost tells (exchange_of mail to t.received) t.sent before v) × (IsTrue tells → BeginsWith (exchange_of mail to t.received).due t.sent))
     (sym keeps.to) (inr b.0, b.1)
 
 -- the time is over

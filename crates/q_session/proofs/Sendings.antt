@@ -1,5 +1,5 @@
 -- A delivery that sends what is due follows its link.
-use Rattle.std.proofs.Common.{◌≡◌, ℕ, Bool, true, false, if◌then◌else◌, List, [], ◌++◌, drop, IsTrue, Result, Ok, refl, sym, ap, ◌∙◌, arith, subst, append_assoc, inl, inr}
+use Rattle.std.proofs.Common.{◌≡◌, ◌≢◌, ℕ, Bool, true, false, if◌then◌else◌, List, [], ◌++◌, drop, IsTrue, Result, Ok, refl, sym, ap, ◌∙◌, arith, subst, append_assoc, inl, inr}
 use Rattle.q_link.specs.Reads.{Rose}
 use Rattle.q_link.specs.Views.{Told, View}
 use Rattle.q_smtp.specs.ContentLines.{sent_content}
@@ -111,7 +111,7 @@ sends_due {tells = tells} {given = given} {old = old} {d = d} {before = before} 
   comes = by is sends idle;
   answers = tells_more (waits_of_sent is) before v w s.answers (gave_answers v w gave);
   serves = λ mail given_it serves. serves_flushed v w o gave (s.serves mail given_it serves);
-  lost = λ lost mail given_it serves t told. inl (rose is sends lost);
+  lost = λ lost mail given_it serves t told. inl (rose is sends lost, some is sends lost);
 }
   where
     by : (is : Sent) → Sends is (pending o) v w → (is ≡ sent.All → d.content.idle ≡ true) → Comes tells (record d { outbox = o }) before w is
@@ -127,6 +127,11 @@ sends_due {tells = tells} {given = given} {old = old} {d = d} {before = before} 
         further : Rose v.faults w.faults → Rose before.faults w.faults
         further (inl more) = inl (omega (arith, s.link.faults, more))
         further (inr last) = inr last
+
+    some : (is : Sent) → Sends is (pending o) v w → is ≡ sent.Lost → pending o ≢ []
+    some sent.All h e = cc
+    some sent.NotYet h e = h.2
+    some sent.Lost h e = h.2
 
 -- ---- the next piece of the content is put into the outbox
 

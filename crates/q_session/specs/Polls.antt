@@ -43,12 +43,12 @@ Counts (Over Down) d = d.outcomes ≡ put_off (length d.to)
 abbrev pub TakesLeave : Exchange → Told → Type 0
 TakesLeave x t = (k : ℕ) × (t.sent ≡ x.due ++ take k quit_line)
 
--- Up: the replies are a whole list that says these outcomes. Down: the time is over, or the delivery is lost.
+-- Up: the replies are a whole list that says these outcomes, whatever came of QUIT. Down: the time is over, or the delivery is lost.
 abbrev pub IsOver : Bool → SiteState → ℕ → Mail → Delivery → Told → View → View → Type 0
 IsOver tells Up moment mail d t old new = Says (length d.to) (reply_codes t.received) d.outcomes
     × (IsTrue tells → TakesLeave (exchange_of mail d.to t.received) t)
 IsOver tells Down moment mail d t old new =
-    ((d.opened + 600 ≤ moment) ⊎ IsLost tells (exchange_of mail d.to t.received) old new)
+    ((d.opened + 600 ≤ moment) ⊎ IsLost tells (exchange_of mail d.to t.received) t.sent old new)
     × (IsTrue tells → BeginsWith (exchange_of mail d.to t.received).due t.sent)
 
 -- a session that begins

@@ -29,10 +29,15 @@ Awaits tells x t v =
     ((v.wait ≡ ForWrite) × (IsTrue tells → IsShort x.due t.sent))
     ⊎ ((v.wait ≡ ForRead) × (x.ending ≡ Open) × (IsTrue tells → x.due ≡ t.sent))
 
--- Why a delivery can't go on: the bytes say so, the link ended or failed, or the host doesn't tell its files.
-abbrev pub IsLost : Bool → Exchange → View → View → Type 0
-IsLost tells x before v =
-    (x.ending ≡ Broken) ⊎ ((v.ended ≡ true) ⊎ (Rose before.faults v.faults ⊎ (IsTrue tells → ⊥)))
+-- QUIT isn't due yet: another reply is awaited, or something that is due before it is unsent.
+abbrev pub IsBeforeQuit : Exchange → List ℕ → Type 0
+IsBeforeQuit x sent = (x.ending ≡ Open) ⊎ IsShort x.due sent
+
+-- Why a delivery can't go on: the bytes say so, the link ended or failed before QUIT, or the host doesn't tell its files.
+abbrev pub IsLost : Bool → Exchange → List ℕ → View → View → Type 0
+IsLost tells x sent before v =
+    (x.ending ≡ Broken)
+    ⊎ ((IsBeforeQuit x sent × ((v.ended ≡ true) ⊎ Rose before.faults v.faults)) ⊎ (IsTrue tells → ⊥))
 
 -- each recipient has its outcome, and all that was due was sent
 abbrev pub IsSettled : Bool → Exchange → List Outcome → Told → Type 0
@@ -42,7 +47,7 @@ IsSettled tells x outcomes t = (x.ending ≡ Settled outcomes) × (IsTrue tells 
 abbrev pub Becomes : Bool → Mail → Delivery → View → View → Told → Step → Type 0
 Becomes tells mail d before v t Onward = Follows tells mail d t
 Becomes tells mail d before v t Waits = Follows tells mail d t × Awaits tells (exchange_of mail d.to t.received) t v
-Becomes tells mail d before v t Lost = IsLost tells (exchange_of mail d.to t.received) before v
+Becomes tells mail d before v t Lost = IsLost tells (exchange_of mail d.to t.received) t.sent before v
     × (IsTrue tells → BeginsWith (exchange_of mail d.to t.received).due t.sent)
 Becomes tells mail d before v t (Settles last) =
     IsSettled tells (exchange_of mail d.to t.received) (map (outcome_by last) d.dialogue.answers.items) t
@@ -85,9 +90,10 @@ pub record Steps (tells : Bool) (given : Mail → Type 0) (old d : Delivery) (be
   pub becomes : (mail : Mail) → given mail → Serves tells mail old before
       → (t : Told) → v.told ≡ Some t → Becomes tells mail d before v t s
 
--- sending was lost by a fault of the link, or on a host that doesn't tell its files
-abbrev pub IsSendingLost : Bool → View → View → Type 0
-IsSendingLost tells before v = Rose before.faults v.faults ⊎ (IsTrue tells → ⊥)
+-- sending was lost by a fault of the link, with something unsent, or on a host that doesn't tell its files
+abbrev pub IsSendingLost : Bool → Delivery → View → View → Type 0
+IsSendingLost tells d before v =
+    (Rose before.faults v.faults × (pending d.outbox ≢ [])) ⊎ (IsTrue tells → ⊥)
 
 -- what sending comes to
 abbrev pub Comes : Bool → Delivery → View → View → Sent → Type 0
@@ -101,7 +107,7 @@ pub record SendsDue (tells : Bool) (given : Mail → Type 0) (old d : Delivery) 
   pub answers : Tells (Answers (waits_of_sent s)) before v
   pub serves : (mail : Mail) → given mail → Serves tells mail old before → Serves tells mail d v
   pub lost : s ≡ sent.Lost → (mail : Mail) → given mail → Serves tells mail old before
-      → (t : Told) → v.told ≡ Some t → IsSendingLost tells before v
+      → (t : Told) → v.told ≡ Some t → IsSendingLost tells d before v
 
 -- it is the same delivery, which has come further
 pub record IsSame (old d : Delivery) : Type 0 where

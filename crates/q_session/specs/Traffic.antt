@@ -46,14 +46,14 @@ Receives NotYet old new = GoesOn old new × (new.wait ≡ ForRead)
 Receives NoReply old new = GoesOn old new
 Receives Lost old new = (old.faults ≤ new.faults) × ((new.ended ≡ true) ⊎ (Rose old.faults new.faults × (new.ended ≡ old.ended)))
 
--- What was heard of the bytes that came, behind those that weren't used before: a reply ends within them, they go on with one, or they are no reply.
+-- What was heard of the bytes that came, behind those that weren't used before: a reply ends within them, they go on with one, they are no reply, or no reply ended before the link was lost.
 abbrev pub Hears : Part → List ℕ → Heard → Inbox → Type 0
 Hears p bytes (Code code) new = (used : List ℕ) × (bytes ≡ used ++ new.unused.items)
     × ((more : List ℕ) → codes_from p (used ++ more) ≡ code ∷ codes_from nothing_yet more) × Holds nothing_yet new.replies
 Hears p bytes NotYet new = (q : Part) × (new.unused.items ≡ [])
     × ((more : List ℕ) → codes_from p (bytes ++ more) ≡ codes_from q more) × Holds q new.replies
 Hears p bytes NoReply new = (more : List ℕ) → codes_from p (bytes ++ more) ≡ 0 ∷ []
-Hears p bytes Lost new = Unit {0}
+Hears p bytes Lost new = codes_from p bytes ≡ []
 
 -- these bytes came
 pub record Received (old : Inbox) (heard : Heard) (new : Inbox) (before after : Told) : Type 0 where
@@ -67,7 +67,7 @@ pub record Received (old : Inbox) (heard : Heard) (new : Inbox) (before after : 
 abbrev pub Sends : Sent → List ℕ → View → View → Type 0
 Sends sent.All left old new = GoesOn old new × (left ≡ [])
 Sends sent.NotYet left old new = GoesOn old new × (new.wait ≡ ForWrite) × (left ≢ [])
-Sends sent.Lost left old new = GoesOn old new × Rose old.faults new.faults
+Sends sent.Lost left old new = GoesOn old new × Rose old.faults new.faults × (left ≢ [])
 
 -- the front of some bytes was sent, and these are left
 pub record Gave (whole left : List ℕ) (more : ℕ) (before after : Told) : Type 0 where

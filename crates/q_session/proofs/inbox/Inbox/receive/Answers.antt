@@ -81,4 +81,4 @@ returns-in-End-clause-got g c =
     let fed = tells_next (Reading old kept hand) (Reading old new.replies []) (view c.args.link.now) (view c.loop-code.link)
     (reads_fed old kept hand new c.in-More.ensures.feeds) c.loop-code.invariant.reading in
     hears_then old new.replies Lost new same (view c.args.link.now) (view c.loop-code.link) (view c.read.new.self) fed
-    (lost_adds (view c.loop-code.link) (view c.read.new.self) c.read.result c.read.new.buf c.in-End.is c.read.ensures.reads) (hears_lost old new [])
+    (lost_adds (view c.loop-code.link) (view c.read.new.self) c.read.result c.read.new.buf c.in-End.is c.read.ensures.reads) (hears_lost old new)

@@ -1,6 +1,6 @@
 use Rattle.std.proofs.Common.{arith}
 use Rattle.q_session.specs.Outgoing.{pending}
-use Rattle.q_session.proofs.Outboxes.{gives_no_more, gives_on}
+use Rattle.q_session.proofs.Outboxes.{gives_failed, gives_no_more, gives_on}
 use Rattle.q_session.proofs.outbox.Outbox.flush.Goals as goal
 
 pub loop-self-preserved : goal.loop-self-preserved
@@ -17,3 +17,10 @@ returns-in-NotYet-clause-link g c =
     let view = g.L.Link.view in
     gives_no_more now.bytes now.from now.to (view c.args.link.now) (view c.loop-self.link) (view c.write.new.self)
     c.loop-self-test.true (omega (arith, c.loop-self.invariant.size, c.loop-self.invariant.within)) c.loop-self.invariant.link c.in-NotYet.ensures.writes
+
+pub returns-in-Failed-clause-link : goal.returns-in-Failed-clause-link
+returns-in-Failed-clause-link g c =
+    let now = c.loop-self.self-inside in
+    let view = g.L.Link.view in
+    gives_failed now.bytes now.from now.to (view c.args.link.now) (view c.loop-self.link) (view c.write.new.self)
+    c.loop-self-test.true (omega (arith, c.loop-self.invariant.size, c.loop-self.invariant.within)) c.loop-self.invariant.link c.in-Failed.ensures.writes
