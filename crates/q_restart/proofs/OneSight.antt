@@ -1,5 +1,5 @@
 -- Files show one thing alone: the names of boot and the walk of the queues are determined.
-use Rattle.std.proofs.Common.{◌≡◌, List, Option, None, Some, sym, ap, subst, ◌∙◌, ℕ}
+use Rattle.std.proofs.Common.{◌≡◌, arith, inl, inr, List, Option, None, Some, refl, sym, ap, subst, ◌∙◌, ◌+◌, ℕ}
 use Rattle.std.specs.Cmp.Lexicographic.{nat_list_cmp_total, slice_cmp}
 use Rattle.std.specs.Ordering.{nat_cmp}
 use Rattle.std.specs.Prelude.{Err, IsErrAnd, Ok, Result}
@@ -10,9 +10,9 @@ use Rattle.q_restart.specs.declared.error.OpenError.{OpenError}
 use Rattle.q_restart.specs.declared.error.OpenError.TheVariants as errors
 use Rattle.q_restart.specs.declared.opening.Spool.{Spool}
 use Rattle.q_restart.specs.declared.standing.Standing.{Standing}
-use Rattle.q_restart.specs.Damages.{damage_of, IsDamage, IsIntact, SpoolShows}
+use Rattle.q_restart.specs.Damages.{CannotBegin, damage_of, IsDamage, IsIntact, IsNextGeneration, SpoolShows}
 use Rattle.q_restart.specs.Generations.{boot_generation}
-use Rattle.q_restart.specs.Judgements.{IsRefused}
+use Rattle.q_restart.specs.Judgements.{IsAllowed, IsRefused}
 use Rattle.q_restart.specs.Openings.{IsAccepted}
 use Rattle.q_restart.specs.Walks.{AreAllNames, IsWalk, standing_cmp}
 use Rattle.q_restart.proofs.Lists.{sorted_same}
@@ -55,3 +55,14 @@ accepted-spent (Err errors.Spent) e is accepted = sym is
 
 pub spent-undamaged : (f : Files) (boot : List (List ℕ)) (walk : List Standing) (area : Area) (name : List ℕ) → SpoolShows f boot walk → (e : OpenError) → e ≡ errors.Spent → IsRefused boot walk e → IsDamage f area name → ⊥
 spent-undamaged f boot walk area name shows e is refused h = sound-undamaged f boot walk area name shows (subst (IsRefused boot walk) is refused).0 h
+
+-- a spool on which a life can begin isn't one on which none can
+pub next-begins : (f : Files) (generation : ℕ) → IsNextGeneration f generation → CannotBegin f → ⊥
+next-begins f generation next (inl (area, name, damage)) = sound-undamaged f next.whole.boot next.whole.walk area name next.whole.shows next.whole.sound damage
+next-begins f generation next (inr spent) =
+    let last = one-generation f next.last _ next.whole spent in
+    omega (arith, last, next.next, next.fits)
+
+pub allowed-begins : (f : Files) (boot : List (List ℕ)) (walk : List Standing) (generation : ℕ) → SpoolShows f boot walk → IsAllowed boot walk generation → CannotBegin f → ⊥
+allowed-begins f boot walk generation shows allowed cannot =
+    next-begins f (generation + 1) (record { last = generation; whole = record { boot = boot; walk = walk; shows = shows; sound = allowed.sound; last = allowed.last }; next = refl; fits = allowed.fits }) cannot

@@ -1,6 +1,6 @@
 -- The three damages that keep a spool from being opened, and what one is named by.
 use Rattle.std.specs.Option.{option_map, option_map_or, option_or}
-use Rattle.std.specs.Prelude.{◌≡◌, ◌++◌, ◌+◌, ◌^◌, ◌-◌, ◌<◌, ◌&&◌, [], Bool, false, find, if◌then◌else◌, is_none, is_some, List, None, not, Option, slice_get, Some, ℕ, ◌∷◌}
+use Rattle.std.specs.Prelude.{◌≡◌, ◌++◌, ◌+◌, ◌^◌, ◌-◌, ◌<◌, ◌⊎◌, ◌&&◌, [], Bool, false, find, if◌then◌else◌, is_none, is_some, List, None, not, Option, slice_get, Some, ℕ, ◌∷◌}
 use Rattle.q_model.specs.declared.spot.Area.{Area}
 use Rattle.q_model.specs.declared.spot.Area.TheVariants as areas
 use Rattle.q_model.specs.Ids.{cause_of}
@@ -71,6 +71,10 @@ pub record IsIntact (f : Files) (generation : ℕ) : Type 0 where
 -- every generation was used
 abbrev pub IsSpent : Files → Type 0
 IsSpent f = IsIntact f (2 ^ 32 - 1)
+
+-- no life can begin: a damage shows, or every generation was used
+abbrev pub CannotBegin : Files → Type 0
+CannotBegin f = ((area : Area) × (name : List ℕ) × IsDamage f area name) ⊎ IsSpent f
 
 -- another generation can begin, and it is this
 pub record IsNextGeneration (f : Files) (generation : ℕ) : Type 0 where

@@ -9,13 +9,14 @@ use Rattle.q_model.specs.Lives.{firm_failures}
 use Rattle.q_model.specs.Orderly.{is_orderly}
 use Rattle.q_model.specs.declared.spot.Area.{Area}
 use Rattle.q_model.specs.SpoolFiles.{Files}
+use Rattle.q_host.specs.Calls.{Stays}
 use Rattle.q_host.specs.Faults.{Faults}
 use Rattle.q_host.specs.View.{View}
 use Rattle.q_books.specs.HostStands.{HostStands, OwnLogs, Takes, Tries}
 use Rattle.q_restart.specs.declared.error.OpenError.{OpenError}
 use Rattle.q_restart.specs.declared.error.OpenError.TheVariants as errors
 use Rattle.q_restart.specs.declared.opening.Spool.{Spool}
-use Rattle.q_restart.specs.Damages.{IsDamage}
+use Rattle.q_restart.specs.Damages.{CannotBegin, IsDamage}
 use Rattle.q_restart.specs.Clearings.{IsEmpty}
 
 -- the book with which a life begins: one generation more, and what was read is sure
@@ -43,6 +44,10 @@ OpensUnder generation v w = (b : Book) → HostStands v b → Opens b generation
 -- whatever book it stood for, it stands for that one or the one with which a life begins
 abbrev pub TriesToBegin : View → View → Type 0
 TriesToBegin v w = (b : Book) → HostStands v b → Tries b (begun b) v w
+
+-- Where no life can begin, nothing was told or changed.
+abbrev pub LeavesUnbegun : View → View → Type 0
+LeavesUnbegun v w = CannotBegin v.files → Stays v w
 
 -- the answers that say something of the spool: it is damaged, or every generation was used
 abbrev pub IsRefusal : Result Spool OpenError → Type 0

@@ -3,7 +3,7 @@ ghost use Rattle.std.specs.Prelude.{IfOk, IsErrOf, IsTrue};
 ghost use Rattle.q_host.specs.Calls.{Stays};
 ghost use Rattle.q_host.specs.View.{Told};
 ghost use Rattle.q_restart.specs.Damages.{IsNextGeneration, IsSpent, IsUndamaged};
-ghost use Rattle.q_restart.specs.Openings.{AcceptsOrderly, IsAccepted, IsRefusal, NamesDamage, OpenCause, OpensUnder, TriesToBegin};
+ghost use Rattle.q_restart.specs.Openings.{AcceptsOrderly, IsAccepted, IsRefusal, LeavesUnbegun, NamesDamage, OpenCause, OpensUnder, TriesToBegin};
 
 use crate::clearing::clear;
 use crate::error::OpenError;
@@ -50,6 +50,9 @@ pub fn open_spool<H: Host>(alloc: Global, host: &mut H) -> Result<Spool, OpenErr
     ensures spent { IsTrue H.tells → IsErrOf result OpenError.Spent
         → IsSpent (H.view host.old).files }
     ensures untouched { IsRefusal result → Told H.tells H.view host.old host.new Stays }
+
+    // A spool on which no life can begin is only looked at, whatever the answer.
+    ensures unbegun { Told H.tells H.view host.old host.new LeavesUnbegun }
 
     // An orderly book is never refused but at the last generation.
     ensures orderly { IsTrue H.tells → AcceptsOrderly (H.view host.old) result }

@@ -12,7 +12,7 @@ use Rattle.q_restart.proofs.Begun.{begun-opens, begun-tries, cleared-tries}
 use Rattle.q_restart.proofs.Opened.{boot-same}
 use Rattle.q_restart.proofs.Seen.{boot-file, boot-is, no_boot, sees}
 use Rattle.q_restart.proofs.SoundBooks.{none-refused}
-use Rattle.q_restart.proofs.OneSight.{accepted-spent, sound-undamaged, spent-undamaged}
+use Rattle.q_restart.proofs.OneSight.{accepted-spent, allowed-begins, sound-undamaged, spent-undamaged}
 use Rattle.q_restart.proofs.opening.open_spool.Goals as goal
 
 pub raise-requires-clause-there : goal.raise-requires-clause-there
@@ -96,3 +96,18 @@ pub returns-clause-undamaged : goal.returns-clause-undamaged
 returns-clause-undamaged g c t accepted area name damage =
     let sight = c.in_ok-sight.sight in
     sound-undamaged (g.H.Host.view c.args.host.now).files sight.boot.items sight.walk.items area name (c.in_ok-sight.ensures.shows t) c.in_ok-generation.ensures.ok.sound damage
+
+pub returns-in_err-clear-clause-unbegun : goal.returns-in_err-clear-clause-unbegun
+returns-in_err-clear-clause-unbegun g c t cannot =
+    let sight = c.in_ok-sight.sight in
+    absurd (allowed-begins (g.H.Host.view c.args.host.now).files sight.boot.items sight.walk.items c.in_ok-generation.generation (c.in_ok-sight.ensures.shows t) c.in_ok-generation.ensures.ok cannot)
+
+pub returns-in_err-raise-clause-unbegun : goal.returns-in_err-raise-clause-unbegun
+returns-in_err-raise-clause-unbegun g c t cannot =
+    let sight = c.in_ok-sight.sight in
+    absurd (allowed-begins (g.H.Host.view c.args.host.now).files sight.boot.items sight.walk.items c.in_ok-generation.generation (c.in_ok-sight.ensures.shows t) c.in_ok-generation.ensures.ok cannot)
+
+pub returns-clause-unbegun : goal.returns-clause-unbegun
+returns-clause-unbegun g c t cannot =
+    let sight = c.in_ok-sight.sight in
+    absurd (allowed-begins (g.H.Host.view c.args.host.now).files sight.boot.items sight.walk.items c.in_ok-generation.generation (c.in_ok-sight.ensures.shows t) c.in_ok-generation.ensures.ok cannot)
