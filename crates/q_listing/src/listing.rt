@@ -5,7 +5,7 @@ ghost use Rattle.q_listing.specs.Listings.{found_line, lines_in, listing, recipi
 ghost use Rattle.q_model.specs.Book.{Book};
 ghost use Rattle.q_model.specs.FilesStand.{Stands};
 ghost use Rattle.q_model.specs.Message.{Message, pending};
-ghost use Rattle.q_telling.specs.Telling.{TellingCause, TellsFront, TellsMore};
+ghost use Rattle.q_telling.specs.Telling.{OnlyTells, TellingCause, TellsFront, TellsMore};
 ghost use Rattle.q_walk.specs.Counted.{counted};
 ghost use Rattle.q_walk.specs.Walks.{IsAhead, IsFound};
 
@@ -43,6 +43,7 @@ fn tell_head<H: Host>(alloc: Global, host: &mut H, found: &Found) -> Result<(), 
         (TellsMore (found_line found.now))) }
     ensures front { OnErr result (Told H.tells H.view host.old host.new
         (TellsFront (found_line found.now))) }
+    ensures only { Told H.tells H.view host.old host.new OnlyTells }
     ensures cause { TellingCause (H.faults host.old) (H.faults host.new) result }
 {
     let mut text = Vec::new(alloc);
@@ -70,6 +71,7 @@ fn tell_message<H: Host>(alloc: Global, host: &mut H, found: &Found) -> Result<u
     ensures front { OnErr result (IsTrue H.tells → (m : Message)
         → IsFound (H.view host.old).files m found.now
         → TellsFront (lines_in (H.view host.old).files m) (H.view host.old) (H.view host.new)) }
+    ensures only { Told H.tells H.view host.old host.new OnlyTells }
     ensures cause { TellingCause (H.faults host.old) (H.faults host.new) result }
 {
     tell_head(alloc, host, found)?;
@@ -87,6 +89,7 @@ fn tell_messages<H: Host>(alloc: Global, host: &mut H, walk: &mut Walk) -> Resul
         → Stands (H.view host.old).files b → IsAhead (H.view host.old).files b walk.old ms
         → TellsFront (flat_map (lines_in (H.view host.old).files) ms)
         (H.view host.old) (H.view host.new)) }
+    ensures only { Told H.tells H.view host.old host.new OnlyTells }
     ensures cause { TellingCause (H.faults host.old) (H.faults host.new) result }
 {
     let mut totals = Totals {
@@ -108,6 +111,7 @@ fn tell_total<H: Host>(alloc: Global, host: &mut H, totals: Totals) -> Result<()
         (TellsMore (total_line totals.messages totals.recipients))) }
     ensures front { OnErr result (Told H.tells H.view host.old host.new
         (TellsFront (total_line totals.messages totals.recipients))) }
+    ensures only { Told H.tells H.view host.old host.new OnlyTells }
     ensures cause { TellingCause (H.faults host.old) (H.faults host.new) result }
 {
     let mut text = Vec::new(alloc);
@@ -125,6 +129,7 @@ pub fn tell_listing<H: Host>(alloc: Global, host: &mut H) -> Result<(), HostErro
         → TellsMore (listing (H.view host.old).files b) (H.view host.old) (H.view host.new)) }
     ensures front { OnErr result (IsTrue H.tells → (b : Book) → Stands (H.view host.old).files b
         → TellsFront (listing (H.view host.old).files b) (H.view host.old) (H.view host.new)) }
+    ensures only { Told H.tells H.view host.old host.new OnlyTells }
     ensures cause { TellingCause (H.faults host.old) (H.faults host.new) result }
 {
     let queues = Queues {

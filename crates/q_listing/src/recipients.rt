@@ -10,7 +10,7 @@ ghost use Rattle.q_message.specs.FileHeads.{IsHead};
 ghost use Rattle.q_message.specs.Told.{IsThere, TellsOf};
 ghost use Rattle.q_model.specs.Message.{Message, pending};
 ghost use Rattle.q_pending.specs.Readings.{IsFileOfMessage, IsPendingAhead, IsReading, pending_left};
-ghost use Rattle.q_telling.specs.Telling.{TellingCause, TellsFront, TellsMore};
+ghost use Rattle.q_telling.specs.Telling.{OnlyTells, TellingCause, TellsFront, TellsMore};
 ghost use Rattle.q_walk.specs.Walks.{IsFound};
 
 use crate::codes::{Codes, code_of, codes_of};
@@ -34,6 +34,7 @@ fn tell_recipient<H: Host>(
         (coded_line (get nat_cmp codes.now taken.now.position) taken.now.address))) }
     ensures front { OnErr result (Told H.tells H.view host.old host.new (TellsFront
         (coded_line (get nat_cmp codes.now taken.now.position) taken.now.address))) }
+    ensures only { Told H.tells H.view host.old host.new OnlyTells }
     ensures cause { TellingCause (H.faults host.old) (H.faults host.new) result }
 {
     let code = code_of(codes, taken.position);
@@ -59,6 +60,7 @@ fn tell_each<H: Host>(
         → IsPendingAhead (H.view host.old).files m reader.old positions
         → TellsFront (lines_by (get nat_cmp codes.now) m positions)
         (H.view host.old) (H.view host.new)) }
+    ensures only { Told H.tells H.view host.old host.new OnlyTells }
     ensures cause { TellingCause (H.faults host.old) (H.faults host.new) result }
 {
     let mut count = 0;
@@ -131,6 +133,7 @@ pub(crate) fn tell_recipients<H: Host>(
         → IsFound (H.view host.old).files m found.now → TellsFront
         (recipient_lines (notes_in (H.view host.old).files m.id) m)
         (H.view host.old) (H.view host.new)) }
+    ensures only { Told H.tells H.view host.old host.new OnlyTells }
     ensures cause { TellingCause (H.faults host.old) (H.faults host.new) result }
 {
     let codes = codes_of(alloc, host, found.id)?;

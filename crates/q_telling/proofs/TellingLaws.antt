@@ -1,10 +1,10 @@
 -- Texts that were told one behind another.
-use Rattle.std.proofs.Common.{◌∙◌, List, [], ◌++◌, ℕ, ap, append_assoc, append-nil, length, refl, subst, sym, take, take_all, drop, arith}
+use Rattle.std.proofs.Common.{◌∙◌, Bool, Err, IsTrue, List, Ok, OnErr, OnOk, Result, [], ◌++◌, ℕ, ap, append_assoc, append-nil, length, refl, subst, sym, take, take_all, drop, arith}
 use Rattle.std.proofs.lemmas.List.{take-append-drop}
 use Rattle.q_host.specs.Calls.{Stays, Tells}
 use Rattle.q_host.specs.View.{Remains, View}
 use Rattle.q_host.proofs.Moments.{leaves_by, leaves_on}
-use Rattle.q_telling.specs.Telling.{LeavesFiles, TellsFront, TellsMore}
+use Rattle.q_telling.specs.Telling.{LeavesFiles, OnlyTells, TellsFront, TellsMore}
 
 -- the law of a host: what a crash may have left since now, it may leave now
 abbrev pub OnlyNow : View → Type 0
@@ -77,3 +77,17 @@ front_more a b u v p = record {
   whole = ap (λ (t : List ℕ). t ++ b) p.whole ∙ append_assoc p.part p.rest b;
   told = p.told;
 }
+
+-- ---- whatever is told
+
+pub only_none : (u v : View) → OnlyNow u → Stays u v → OnlyTells u v
+only_none u v only p = record { text = []; told = tells_none u v only p }
+
+pub only_on : (u v x : View) → OnlyTells u v → OnlyTells v x → OnlyTells u x
+only_on u v x p q = record { text = p.text ++ q.text; told = tells_on p.text q.text u v x p.told q.told }
+
+-- a text was told, or some first part of it
+pub only_some : {T E : Type 0} (tells : Bool) (text : List ℕ) (u v : View) (r : Result T E) → OnOk r (IsTrue tells → TellsMore text u v) → OnErr r (IsTrue tells → TellsFront text u v)
+    → IsTrue tells → OnlyTells u v
+only_some tells text u v (Ok done) all part t = record { text = text; told = all t }
+only_some tells text u v (Err e) all part t = let p = part t in record { text = p.part; told = p.told }

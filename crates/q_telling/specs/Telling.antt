@@ -24,6 +24,11 @@ pub record TellsFront (text : List ℕ) (u v : View) : Type 0 where
   pub whole : text ≡ part ++ rest
   pub told : TellsMore part u v
 
+-- Some bytes more were told, perhaps none, and no file changed, whenever a crash comes.
+pub record OnlyTells (u v : View) : Type 0 where
+  pub text : List ℕ
+  pub told : TellsMore text u v
+
 -- no count of faults fell, and each fault comes only where its count rose
 pub record TellingCause {T : Type 0} (before after : Faults) (result : Result T HostError) : Type 0 where
   pub disk_later : before.disk ≤ after.disk

@@ -1,3 +1,4 @@
+use Rattle.q_telling.proofs.TellingLaws.{only_on}
 use Rattle.std.proofs.lemmas.Result.{IfOk-weaker, on_err_weaker}
 use Rattle.q_listing.proofs.MessageLaws.{found_behind, head_stops, message_stops, message_told}
 use Rattle.q_listing.proofs.ToldLaws.{err_has}
@@ -28,3 +29,7 @@ returns-clause-front g c =
     on_err_weaker c.tell_recipients.result (λ part t m is.
     let head = c.in_ok-tell_head.ensures.told t in
     message_stops m found u v w is head (part t m (found_behind m found u v w is head))) c.tell_recipients.ensures.front
+
+pub returns-clause-only : goal.returns-clause-only
+returns-clause-only g c t =
+    only_on (g.H.Host.view c.args.host.now) (g.H.Host.view c.tell_head.new.host) (g.H.Host.view c.tell_recipients.new.host) (c.tell_head.ensures.only t) (c.tell_recipients.ensures.only t)

@@ -1,8 +1,9 @@
+use Rattle.q_host.proofs.Stays.{stays_here}
 use Rattle.std.specs.Prelude.{IfSome}
 use Rattle.std.proofs.Common.{◌<◌, arith, refl, subst, sym, Option}
 use Rattle.q_model.specs.FilesStand.{Stands}
 use Rattle.q_model.specs.SpoolFiles.{Files}
-use Rattle.q_telling.proofs.TellingLaws.{tells_none}
+use Rattle.q_telling.proofs.TellingLaws.{only_none, only_on, tells_none}
 use Rattle.q_walk.specs.declared.walk.Found.{Found}
 use Rattle.q_walk.specs.Walks.{GivesNext, IsAhead, walk_left}
 use Rattle.q_listing.specs.Listings.{lines_in}
@@ -16,6 +17,7 @@ loop-found-init g c =
     let u = g.H.Host.view host in
     record {
       told = λ t b ms stands ahead. told_begins (lines_in u.files) ms (IsAhead u.files b c.args.walk.now) (AreCounted 0 0) u (g.met.H.Host.only_now host) ahead (refl, refl);
+      only = λ t. only_none u u (g.met.H.Host.only_now host) (stays_here u);
       disk_later = omega arith;
       tell_later = omega arith;
     }
@@ -72,9 +74,33 @@ loop-found-preserved g c =
           (tells_none v w (g.met.H.Host.only_now loop.host) (c.in_ok-found.ensures.stays t)) z c.in-Some.found
           (λ xs h. subst (λ (o : Option Found). GivesNext v.files b c.next.new.self xs o) c.in-Some.is (c.in_ok-found.ensures.next t b xs still h))
           c.in_ok-recipients.recipients c.with-totals.result.messages c.with-totals.result.recipients c.with-totals.ensures.messages c.with-totals.ensures.recipients (λ m is. c.in_ok-recipients.ensures.told t m is);
+      only = λ t. only_on u v z (loop.invariant.only t) (only_on v w z (only_none v w (g.met.H.Host.only_now loop.host) (c.in_ok-found.ensures.stays t)) (c.in_ok-recipients.ensures.only t));
       disk_later = omega (arith, loop.invariant.disk_later, c.in_ok-found.ensures.cause.disk_later, c.in_ok-recipients.ensures.cause.disk_later);
       tell_later = omega (arith, loop.invariant.tell_later, c.in_ok-found.ensures.cause.tell_later, c.in_ok-recipients.ensures.cause.tell_later);
     }
 
 pub loop-found-smaller : goal.loop-found-smaller
 loop-found-smaller g c = subst (λ (o : Option Found). IfSome o (λ _. walk_left c.next.new.self < walk_left c.loop-found.walk)) c.in-Some.is c.in_ok-found.ensures.fewer
+
+pub returns-in_err-found-clause-only : goal.returns-in_err-found-clause-only
+returns-in_err-found-clause-only g c t =
+    let loop = c.loop-found in
+    let v = g.H.Host.view loop.host in
+    let w = g.H.Host.view c.next.new.host in
+    only_on (g.H.Host.view c.args.host.now) v w (loop.invariant.only t) (only_none v w (g.met.H.Host.only_now loop.host) (c.in_err-found.ensures.stays t))
+
+pub returns-in_default-clause-only : goal.returns-in_default-clause-only
+returns-in_default-clause-only g c t =
+    let loop = c.loop-found in
+    let v = g.H.Host.view loop.host in
+    let w = g.H.Host.view c.next.new.host in
+    only_on (g.H.Host.view c.args.host.now) v w (loop.invariant.only t) (only_none v w (g.met.H.Host.only_now loop.host) (c.in_ok-found.ensures.stays t))
+
+pub returns-in_err-recipients-clause-only : goal.returns-in_err-recipients-clause-only
+returns-in_err-recipients-clause-only g c t =
+    let loop = c.loop-found in
+    let v = g.H.Host.view loop.host in
+    let w = g.H.Host.view c.next.new.host in
+    let z = g.H.Host.view c.tell_message.new.host in
+    only_on (g.H.Host.view c.args.host.now) v z (loop.invariant.only t)
+    (only_on v w z (only_none v w (g.met.H.Host.only_now loop.host) (c.in_ok-found.ensures.stays t)) (c.in_err-recipients.ensures.only t))

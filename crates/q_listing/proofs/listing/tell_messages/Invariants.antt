@@ -2,6 +2,7 @@ use Rattle.std.proofs.Common.{◌≤◌, IsTrue, List}
 use Rattle.q_model.specs.Book.{Book}
 use Rattle.q_model.specs.FilesStand.{Stands}
 use Rattle.q_model.specs.Message.{Message}
+use Rattle.q_telling.specs.Telling.{OnlyTells}
 use Rattle.q_walk.specs.Walks.{IsAhead, walk_left}
 use Rattle.q_listing.proofs.MessageLaws.{AreToldTo}
 use Rattle.q_listing.proofs.listing.tell_messages.Given as goal
@@ -13,6 +14,7 @@ invariant-loop-found g l =
     record {
       told : IsTrue g.H.Host.tells → (b : Book) → (ms : List Message) → Stands (view l.fn.host).files b → IsAhead (view l.fn.host).files b l.fn.walk ms
           → AreToldTo (view l.fn.host).files b ms l.walk l.totals.messages l.totals.recipients (view l.fn.host) (view l.host);
+      only : IsTrue g.H.Host.tells → OnlyTells (view l.fn.host) (view l.host);
       disk_later : (faults l.fn.host).disk ≤ (faults l.host).disk;
       tell_later : (faults l.fn.host).tell ≤ (faults l.host).tell;
     }

@@ -1,3 +1,4 @@
+use Rattle.q_host.proofs.Stays.{stays_here}
 use Rattle.std.specs.Prelude.{IfSome}
 use Rattle.std.proofs.Common.{◌<◌, arith, refl, subst, sym, Option, ◌∙◌}
 use Rattle.std.specs.BTreeMap.{get}
@@ -5,7 +6,7 @@ use Rattle.std.specs.Ordering.{nat_cmp}
 use Rattle.q_model.specs.SpoolFiles.{Files}
 use Rattle.q_model.specs.Values.{Taken}
 use Rattle.q_pending.specs.Readings.{GivesPending, IsPendingAhead, IsReading, pending_left}
-use Rattle.q_telling.proofs.TellingLaws.{tells_none}
+use Rattle.q_telling.proofs.TellingLaws.{only_none, only_on, tells_none}
 use Rattle.q_listing.specs.Listings.{line_by}
 use Rattle.q_listing.proofs.RecipientLaws.{Counts, recipients_end, recipients_more, recipients_stop}
 use Rattle.q_listing.proofs.ToldLaws.{err_has, told_begins, told_waits}
@@ -20,6 +21,7 @@ loop-taken-init g c =
       files = λ t. refl;
       reading = c.requires.reading;
       told = λ t m positions ahead. told_begins (line_by (get nat_cmp c.args.codes.now) m) positions (IsPendingAhead u.files m c.args.reader.now) (Counts 0) u (g.met.H.Host.only_now host) ahead refl;
+      only = λ t. only_none u u (g.met.H.Host.only_now host) (stays_here u);
       disk_later = omega arith;
       tell_later = omega arith;
     }
@@ -74,6 +76,7 @@ loop-taken-preserved g c =
           (tells_none v w (g.met.H.Host.only_now loop.host) (c.in_ok-taken.ensures.stays t)) z c.in-Some.taken
           (λ ps h. subst (λ (o : Option Taken). GivesPending v.files m c.next.new.self ps o) c.in-Some.is (c.in_ok-taken.ensures.next t m ps h))
           (c.in_ok-tell_recipient.ensures.told t);
+      only = λ t. only_on u v z (loop.invariant.only t) (only_on v w z (only_none v w (g.met.H.Host.only_now loop.host) (c.in_ok-taken.ensures.stays t)) (c.in_ok-tell_recipient.ensures.only t));
       disk_later = omega (arith, loop.invariant.disk_later, c.in_ok-taken.ensures.cause.disk_later, c.in_ok-tell_recipient.ensures.cause.disk_later);
       tell_later = omega (arith, loop.invariant.tell_later, c.in_ok-taken.ensures.cause.tell_later, c.in_ok-tell_recipient.ensures.cause.tell_later);
     }
@@ -85,3 +88,26 @@ pub overflow_add-count : goal.overflow_add-count
 overflow_add-count g c =
     let fewer = subst (λ (o : Option Taken). IfSome o (λ _. pending_left c.next.new.self < pending_left c.loop-taken.reader)) c.in-Some.is c.in_ok-taken.ensures.fewer in
     omega (arith, c.loop-taken.invariant.few, fewer, c.requires.few)
+
+pub returns-in_err-taken-clause-only : goal.returns-in_err-taken-clause-only
+returns-in_err-taken-clause-only g c t =
+    let loop = c.loop-taken in
+    let v = g.H.Host.view loop.host in
+    let w = g.H.Host.view c.next.new.host in
+    only_on (g.H.Host.view c.args.host.now) v w (loop.invariant.only t) (only_none v w (g.met.H.Host.only_now loop.host) (c.in_err-taken.ensures.stays t))
+
+pub returns-in_default-clause-only : goal.returns-in_default-clause-only
+returns-in_default-clause-only g c t =
+    let loop = c.loop-taken in
+    let v = g.H.Host.view loop.host in
+    let w = g.H.Host.view c.next.new.host in
+    only_on (g.H.Host.view c.args.host.now) v w (loop.invariant.only t) (only_none v w (g.met.H.Host.only_now loop.host) (c.in_ok-taken.ensures.stays t))
+
+pub returns-in_err-tell_recipient-clause-only : goal.returns-in_err-tell_recipient-clause-only
+returns-in_err-tell_recipient-clause-only g c t =
+    let loop = c.loop-taken in
+    let v = g.H.Host.view loop.host in
+    let w = g.H.Host.view c.next.new.host in
+    let z = g.H.Host.view c.tell_recipient.new.host in
+    only_on (g.H.Host.view c.args.host.now) v z (loop.invariant.only t)
+    (only_on v w z (only_none v w (g.met.H.Host.only_now loop.host) (c.in_ok-taken.ensures.stays t)) (c.in_err-tell_recipient.ensures.only t))

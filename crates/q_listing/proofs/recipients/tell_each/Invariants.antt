@@ -3,6 +3,7 @@ use Rattle.std.specs.BTreeMap.{get}
 use Rattle.std.specs.Ordering.{nat_cmp}
 use Rattle.q_model.specs.Message.{Message}
 use Rattle.q_pending.specs.Readings.{IsPendingAhead, IsReading, pending_left}
+use Rattle.q_telling.specs.Telling.{OnlyTells}
 use Rattle.q_listing.proofs.RecipientLaws.{AreToldTo}
 use Rattle.q_listing.proofs.recipients.tell_each.Given as goal
 
@@ -16,6 +17,7 @@ invariant-loop-taken g l =
       reading : IsTrue g.H.Host.tells → IsReading (view l.host).files l.reader;
       told : IsTrue g.H.Host.tells → (m : Message) → (positions : List ℕ) → IsPendingAhead (view l.fn.host).files m l.fn.reader positions
           → AreToldTo (get nat_cmp l.codes) (view l.fn.host).files m positions l.reader l.count (view l.fn.host) (view l.host);
+      only : IsTrue g.H.Host.tells → OnlyTells (view l.fn.host) (view l.host);
       disk_later : (faults l.fn.host).disk ≤ (faults l.host).disk;
       tell_later : (faults l.fn.host).tell ≤ (faults l.host).tell;
     }

@@ -5,7 +5,7 @@ use Rattle.std.specs.Ordering.{nat_cmp}
 use Rattle.q_host.proofs.Stays.{stays_on}
 use Rattle.q_model.specs.declared.id.Id.{Id}
 use Rattle.q_model.specs.Message.{pending}
-use Rattle.q_telling.proofs.TellingLaws.{front_none, tells_none}
+use Rattle.q_telling.proofs.TellingLaws.{front_none, only_none, only_on, tells_none}
 use Rattle.q_listing.specs.Listings.{last_code, notes_in, recipient_lines}
 use Rattle.q_listing.proofs.RecipientLaws.{found_still, reader_ahead, reader_missing, recipients_front, recipients_told}
 use Rattle.q_listing.proofs.ToldLaws.{err_has}
@@ -58,3 +58,29 @@ returns-clause-told g c t m is =
     let v = g.H.Host.view c.codes_of.new.host in
     let there = found_still u.files v.files m c.args.found.now (c.in_ok-codes.ensures.stays t).files is in
     absurd (reader_missing v.files m c.in_ok-reader.field-0 c.in-None.is (c.in_ok-reader.ensures.ahead t m there))
+
+pub returns-in_err-codes-clause-only : goal.returns-in_err-codes-clause-only
+returns-in_err-codes-clause-only g c t =
+    only_none (g.H.Host.view c.args.host.now) (g.H.Host.view c.codes_of.new.host) (g.met.H.Host.only_now c.args.host.now) (c.in_err-codes.ensures.stays t)
+
+pub returns-in_err-reader-clause-only : goal.returns-in_err-reader-clause-only
+returns-in_err-reader-clause-only g c t =
+    let u = g.H.Host.view c.args.host.now in
+    let v = g.H.Host.view c.codes_of.new.host in
+    let w = g.H.Host.view c.reader_of.new.host in
+    only_none u w (g.met.H.Host.only_now c.args.host.now) (stays_on u v w (c.in_ok-codes.ensures.stays t) (c.in_err-reader.ensures.stays t))
+
+pub returns-clause-only : goal.returns-clause-only
+returns-clause-only g c t =
+    let u = g.H.Host.view c.args.host.now in
+    let v = g.H.Host.view c.codes_of.new.host in
+    let w = g.H.Host.view c.reader_of.new.host in
+    only_none u w (g.met.H.Host.only_now c.args.host.now) (stays_on u v w (c.in_ok-codes.ensures.stays t) (c.in_ok-reader.ensures.stays t))
+
+pub returns-in-Some-clause-only : goal.returns-in-Some-clause-only
+returns-in-Some-clause-only g c t =
+    let u = g.H.Host.view c.args.host.now in
+    let v = g.H.Host.view c.codes_of.new.host in
+    let w = g.H.Host.view c.reader_of.new.host in
+    only_on u w (g.H.Host.view c.tell_each.new.host)
+    (only_none u w (g.met.H.Host.only_now c.args.host.now) (stays_on u v w (c.in_ok-codes.ensures.stays t) (c.in_ok-reader.ensures.stays t))) (c.tell_each.ensures.only t)
