@@ -9,7 +9,7 @@ ghost use Rattle.q_model.specs.Book.{Book};
 ghost use Rattle.q_model.specs.FilesStand.{Stands};
 ghost use Rattle.q_shape.specs.Buckets.{IsShape};
 ghost use Rattle.q_shape.specs.Tables.{IsTable};
-ghost use Rattle.q_telling.specs.Telling.{TellingCause};
+ghost use Rattle.q_telling.specs.Telling.{OnlyTells, TellingCause};
 
 use crate::counting::count_message;
 use q_host::{Host, HostError};
@@ -73,6 +73,7 @@ pub fn tell_ages<H: Host>(
         → TellsTable now request.now b (H.view host.old) (H.view host.new)) }
     ensures front { OnErr result (IsTrue H.tells → (b : Book) → Stands (H.view host.old).files b
         → MayTellTable now request.now b (H.view host.old) (H.view host.new)) }
+    ensures only { Told H.tells H.view host.old host.new OnlyTells }
     ensures cause { TellingCause (H.faults host.old) (H.faults host.new) result }
 {
     let text = match table_text(alloc, host, now, request) {
