@@ -20,5 +20,6 @@ mod writing;
 pub use error::MessageError;
 pub use head::read_head;
 pub use names::read_names;
+pub use q_model::{Batch, Cursor, FileHead, Head, Taken};
 pub use recipients::read_recipients;
 pub use writing::write_message;
