@@ -180,3 +180,50 @@ pub fn begin<H: Host>(
         Err(error) => Err(opening_refusal(error)),
     }
 }
+
+impl Engine {
+    /// `begin`, among the calls of an engine.
+    pub fn begin<H: Host>(
+        alloc: Global,
+        host: &mut H,
+        params: Params,
+        table: Table,
+        mode: Mode,
+    ) -> Result<Engine, EngineError>
+        requires { IsInRange params }
+        // Of each book for which the host stands: the life begins on it, and its first line is
+        // told.
+        ensures ok { IfOk result (λ engine. IsTrue H.tells
+            → BeginsLife params table mode engine (H.view host.old) (H.view host.new)) }
+        ensures ready { IfOk result (λ engine. IsReady engine) }
+
+        // By a fault or for want of memory it may have gone some way.
+        ensures err { (error : Refusal) → IsErrOf result (refusal_of error) → IsTrue H.tells
+            → StopsBeginning table mode error (H.view host.old) (H.view host.new) }
+
+        // The spool is opened, found damaged or found spent where it is so.
+        ensures opened { IfOk result (λ engine. IsTrue H.tells
+            → IsNextGeneration (H.view host.old).files engine.generation) }
+        ensures damaged { IsTrue H.tells → (area : Areas) → (name : List ℕ)
+            → IsErrOf result (errors.Damaged area name)
+            → IsDamage (H.view host.old).files area name }
+        ensures limit { (bound : Bounds) → IsErrOf result (errors.Limit bound)
+            → bound ≡ bounds.Generation }
+        ensures spent { (bound : Bounds) → IsErrOf result (errors.Limit bound) → IsTrue H.tells
+            → IsSpent (H.view host.old).files }
+        ensures untouched { (error : EngineRefusal) → IsErrOf result error
+            → is_of_spool error ≡ true → Told H.tells H.view host.old host.new Stays }
+
+        // No other refusal comes, so none of an event.
+        ensures kinds { (error : EngineRefusal) → IsErrOf result error
+            → (is_of_host error || is_of_spool error) ≡ true }
+
+        // An orderly book is never refused but at the last generation.
+        ensures orderly { IsTrue H.tells → (b : Book) → HostStands (H.view host.old) b
+            → is_orderly b ≡ true → b.generation < 2 ^ 32 - 1
+            → (error : EngineRefusal) → IsErrOf result error → is_of_spool error ≡ false }
+        ensures cause { EngineCause (H.faults host.old) (H.faults host.new) result }
+    {
+        begin(alloc, host, params, table, mode)
+    }
+}
