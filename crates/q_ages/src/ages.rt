@@ -5,6 +5,7 @@ ghost use Rattle.q_ages.specs.Counting.{counted};
 ghost use Rattle.q_ages.specs.Tables.{MayTellTable, TellsTable};
 ghost use Rattle.q_host.specs.Calls.{Stays};
 ghost use Rattle.q_host.specs.Faults.{DiskCause};
+ghost use Rattle.q_host.specs.View.{Told};
 ghost use Rattle.q_model.specs.Book.{Book};
 ghost use Rattle.q_model.specs.FilesStand.{Stands};
 ghost use Rattle.q_shape.specs.Buckets.{IsShape};
