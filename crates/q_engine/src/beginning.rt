@@ -23,6 +23,7 @@ ghost use Rattle.q_model.specs.declared.spot.Area.{Area as Areas};
 ghost use Rattle.q_places.specs.Kept.{kept_file};
 ghost use Rattle.q_settings.specs.Ranges.{IsInRange};
 ghost use Rattle.q_restart.specs.Damages.{IsDamage, IsNextGeneration, IsSpent};
+ghost use Rattle.q_restart.specs.Openings.{LeavesUnbegun};
 ghost use Rattle.q_transport.specs.Routing.{table_of};
 
 use crate::engine::Engine;
@@ -134,8 +135,9 @@ fn tell_life<H: Host>(
 
 /// Opens a spool, and begins a life on it: each entry that follows is one of `step` or `finish`.
 ///
-/// `Damaged` and `Limit` of Generation come where the spool can't be opened, and then nothing is
-/// done. After every other error the spool is the one before or the one of the new life.
+/// `Damaged` and `Limit` of Generation come where the spool can't be opened, and there nothing is
+/// done, by a fault or for want of memory neither. After every other error the spool is the one
+/// before or the one of the new life.
 pub fn begin<H: Host>(
     alloc: Global,
     host: &mut H,
@@ -164,6 +166,9 @@ pub fn begin<H: Host>(
         → IsSpent (H.view host.old).files }
     ensures untouched { (error : EngineRefusal) → IsErrOf result error → is_of_spool error ≡ true
         → Told H.tells H.view host.old host.new Stays }
+
+    // A spool on which no life can begin is only looked at, whatever the answer.
+    ensures unbegun { Told H.tells H.view host.old host.new LeavesUnbegun }
 
     // No other refusal comes, so none of an event.
     ensures kinds { (error : EngineRefusal) → IsErrOf result error

@@ -1,5 +1,6 @@
 use Rattle.std.proofs.Common.{◌≡◌, true, false}
 use Rattle.q_entries.proofs.Lines.{may_stop}
+use Rattle.q_restart.proofs.OneSight.{next-begins}
 use Rattle.q_restart.specs.Openings.{begun}
 use Rattle.q_transport.specs.Routing.{table_of}
 use Rattle.q_engine.specs.Beginnings.{first_entry}
@@ -51,3 +52,7 @@ returns-in-Err-clause-spent g c bound is t =
 pub returns-in-Err-clause-untouched : goal.returns-in-Err-clause-untouched
 returns-in-Err-clause-untouched g c error is of t =
     c.open_spool.ensures.untouched (found_refused c.in-Err.error c.opening_refusal.result error c.open_spool.result c.in-Err.is c.opening_refusal.ensures.exact is of) t
+
+pub returns-in-Ok-clause-unbegun : goal.returns-in-Ok-clause-unbegun
+returns-in-Ok-clause-unbegun g c t cannot =
+    absurd (next-begins (g.H.Host.view c.args.host.now).files c.in-Ok.spool.generation (c.in-Ok.ensures.opened t) cannot)
