@@ -50,12 +50,12 @@ rose_some old new (inr h) = omega (arith, h)
 
 -- why it is down, by the record
 by_record : (c : Case) (opened : ℕ) (old new : View) (t : Told) (hops : ToldHops) → opened ≡ c.start.moment
-    → (opened + 600 ≤ c.moment) ⊎ IsLost true (exchange c (closed new t hops)) old new → IsDown c (closed new t hops)
-by_record c opened old new t hops is (inl late) = inr (inr (inr (subst (λ n. n + 600 ≤ c.moment) is late)))
+    → (opened + 600 ≤ c.moment) ⊎ IsLost true (exchange c (closed new t hops)) t.sent old new → IsDown c (closed new t hops)
+by_record c opened old new t hops is (inl late) = inr (inr (subst (λ n. n + 600 ≤ c.moment) is late))
 by_record c opened old new t hops is (inr (inl broken)) = inl broken
-by_record c opened old new t hops is (inr (inr (inl h))) = inr (inl h)
-by_record c opened old new t hops is (inr (inr (inr (inl h)))) = inr (inr (inl (rose_some old.faults new.faults h)))
-by_record c opened old new t hops is (inr (inr (inr (inr h)))) = absurd (h refl)
+by_record c opened old new t hops is (inr (inr (inl (early, inl h)))) = inr (inl (early, inl h))
+by_record c opened old new t hops is (inr (inr (inl (early, inr h)))) = inr (inl (early, inr (rose_some old.faults new.faults h)))
+by_record c opened old new t hops is (inr (inr (inr h))) = absurd (h refl)
 
 up_down : Up ≡ Down → ⊥
 up_down e = cc
@@ -89,7 +89,7 @@ is_said Down c d old new t hops site link is down h =
     let r : Closed = closed new t hops in
     let same : exchange_of (mail_of c.message) d.to t.received ≡ exchange c r = same_exchange c d.to r is.to in
     let front : BeginsWith (exchange c r).due t.sent = subst (λ (x : Exchange). BeginsWith x.due t.sent) same (h.1 refl) in
-    let lost : (d.opened + 600 ≤ c.moment) ⊎ IsLost true (exchange c r) old new = subst (λ (x : Exchange). (d.opened + 600 ≤ c.moment) ⊎ IsLost true x old new) same h.0 in
+    let lost : (d.opened + 600 ≤ c.moment) ⊎ IsLost true (exchange c r) t.sent old new = subst (λ (x : Exchange). (d.opened + 600 ≤ c.moment) ⊎ IsLost true x t.sent old new) same h.0 in
     record {
       reply = record { up = λ x. absurd (up_down (sym x ∙ site)); down = λ x. down refl };
       cause = λ x. subst (λ (o : Option Closed). IfSome o (IsDown c)) (sym link) (by_record c d.opened old new t hops is.opened lost);

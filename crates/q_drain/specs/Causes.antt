@@ -7,7 +7,7 @@ use Rattle.q_link.specs.Records.{Closed}
 use Rattle.q_link.specs.Routes.{has_route}
 use Rattle.q_smtp.specs.Codes.{put_off}
 use Rattle.q_smtp.specs.Dialogue.{Broken, Settled, quit_line}
-use Rattle.q_session.specs.Steps.{BeginsWith}
+use Rattle.q_session.specs.Steps.{BeginsWith, IsBeforeQuit}
 use Rattle.q_drain.specs.Cases.{Case, exchange}
 use Rattle.q_drain.specs.Stories.{Story}
 use Rattle.q_drain.specs.Told.{begun}
@@ -22,10 +22,11 @@ pub record IsReply (c : Case) : Type 0 where
 abbrev pub IsLate : Case → Type 0
 IsLate c = c.start.moment + 600 ≤ c.moment
 
--- The bytes say that it is down, or the link ended or failed, or the time was over.
+-- The bytes say that it is down, or the link ended or failed before QUIT, or the time was over.
 abbrev pub IsDown : Case → Closed → Type 0
 IsDown c r =
-    ((exchange c r).ending ≡ Broken) ⊎ ((r.ended ≡ true) ⊎ ((0 < r.faults) ⊎ IsLate c))
+    ((exchange c r).ending ≡ Broken)
+    ⊎ ((IsBeforeQuit (exchange c r) r.sent × ((r.ended ≡ true) ⊎ (0 < r.faults))) ⊎ IsLate c)
 
 -- a site with a link is down for such a cause alone
 abbrev pub HasCause : Case → Type 0
