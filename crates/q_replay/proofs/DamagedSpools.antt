@@ -1,5 +1,5 @@
 -- A spool that shows a damage is found so, whatever would be done on it.
-use Rattle.std.proofs.Common.{◌≡◌, ap, false, List, refl, subst, sym, true, ◌∙◌, ℕ}
+use Rattle.std.proofs.Common.{◌≡◌, ap, false, inl, List, refl, subst, sym, true, ◌∙◌, ℕ}
 use Rattle.std.specs.Prelude.{◌||◌, Err, IsErrOf, Ok, Result}
 use Rattle.std.specs.Result.{IsErrAnd}
 use Rattle.q_engine.specs.Beginnings.{is_of_spool}
@@ -26,6 +26,7 @@ use Rattle.q_replay.specs.declared.error.ReplayError.{ReplayError}
 use Rattle.q_replay.specs.declared.error.ReplayError.TheVariants as errors
 use Rattle.q_restart.specs.Damages.{IsDamage, IsSpent}
 use Rattle.q_restart.proofs.OneSight.{one-damage, sound-undamaged}
+use Rattle.q_restart.specs.Openings.{LeavesUnbegun}
 
 -- what the refusal of a beginning says
 pub record Unbegun (error : EngineError) (v x : View) : Type 0 where
@@ -33,13 +34,14 @@ pub record Unbegun (error : EngineError) (v x : View) : Type 0 where
   pub damage : (area : Area) (name : List ℕ) → error ≡ engine_errors.Damaged area name → IsDamage v.files area name
   pub spent : (bound : Bound) → error ≡ engine_errors.Limit bound → IsSpent v.files
   pub untouched : is_of_spool error ≡ true → Stays v x
+  pub unbegun : LeavesUnbegun v x
 
 module _ (v x : View) (line : ℕ) (area : Area) (name : List ℕ) (damage : IsDamage v.files area name) where
   -- a damage that shows is the one that is named
-  pub begun_damaged : (error : EngineError) → Unbegun error v x → NamesDamage area name v x (replay_error line error)
-  begun_damaged engine_errors.Disk u = tt
-  begun_damaged engine_errors.Tell u = tt
-  begun_damaged engine_errors.NoMemory u = tt
+  pub begun_damaged : (error : EngineError) → Unbegun error v x → NamesDamage area name (replay_error line error) × Stays v x
+  begun_damaged engine_errors.Disk u = (tt, u.unbegun (inl (area, name, damage)))
+  begun_damaged engine_errors.Tell u = (tt, u.unbegun (inl (area, name, damage)))
+  begun_damaged engine_errors.NoMemory u = (tt, u.unbegun (inl (area, name, damage)))
   begun_damaged (engine_errors.Unknown number) u = let bad : false ≡ true = u.kinds in absurd cc
   begun_damaged (engine_errors.WrongCount number want got) u = let bad : false ≡ true = u.kinds in absurd cc
   begun_damaged engine_errors.Untimed u = let bad : false ≡ true = u.kinds in absurd cc
@@ -47,11 +49,11 @@ module _ (v x : View) (line : ℕ) (area : Area) (name : List ℕ) (damage : IsD
   begun_damaged (engine_errors.Limit bound) u =
       let spent = u.spent bound refl in absurd (sound-undamaged v.files spent.boot spent.walk area name spent.shows spent.sound damage)
   begun_damaged (engine_errors.Damaged a n) u =
-      let one = one-damage v.files a area n name (u.damage a n refl) damage in (one.0, one.1, u.untouched refl)
+      let one = one-damage v.files a area n name (u.damage a n refl) damage in (one, u.untouched refl)
 
-pub refused_passed : {T : Type 0} (v x : View) (area : Area) (name : List ℕ) (r : Result T ReplayError) (inner : ReplayError) → IsErrAnd r (λ e. e ≡ inner) → NamesDamage area name v x inner → RefusesDamage area name v x r
+pub refused_passed : {T : Type 0} (v x : View) (area : Area) (name : List ℕ) (r : Result T ReplayError) (inner : ReplayError) → IsErrAnd r (λ e. e ≡ inner) → NamesDamage area name inner × Stays v x → RefusesDamage area name v x r
 refused_passed v x area name (Ok done) inner is p = absurd is
-refused_passed v x area name (Err e) inner is p = subst (NamesDamage area name v x) (sym is) p
+refused_passed v x area name (Err e) inner is p = (subst (NamesDamage area name) (sym is) p.0, p.1)
 
 -- only a damage that shows is named
 named_only : (v x : View) (line : ℕ) (error : EngineError) → Unbegun error v x → (area : Area) (name : List ℕ) → errors.Damaged area name ≡ replay_error line error → IsDamage x.files area name

@@ -7,21 +7,21 @@ use Rattle.q_replay.specs.declared.error.ReplayError.{ReplayError}
 use Rattle.q_replay.specs.declared.error.ReplayError.TheVariants as errors
 use Rattle.q_restart.specs.Damages.{IsDamage}
 
--- this damage is named, and nothing was told or changed; or the host failed, or memory ran out
-abbrev pub NamesDamage : Area → List ℕ → View → View → ReplayError → Type 0
-NamesDamage area name u v (errors.Damaged a n) = (a ≡ area) × (n ≡ name) × Stays u v
-NamesDamage area name u v errors.Disk = Unit {0}
-NamesDamage area name u v errors.Tell = Unit {0}
-NamesDamage area name u v errors.NoMemory = Unit {0}
-NamesDamage area name u v errors.Source = ⊥
-NamesDamage area name u v (errors.BadEvent line) = ⊥
-NamesDamage area name u v (errors.Limit bound) = ⊥
-NamesDamage area name u v (errors.Unreadable a n) = ⊥
+-- this damage is named, or the host failed, or memory ran out
+abbrev pub NamesDamage : Area → List ℕ → ReplayError → Type 0
+NamesDamage area name (errors.Damaged a n) = (a ≡ area) × (n ≡ name)
+NamesDamage area name errors.Disk = Unit {0}
+NamesDamage area name errors.Tell = Unit {0}
+NamesDamage area name errors.NoMemory = Unit {0}
+NamesDamage area name errors.Source = ⊥
+NamesDamage area name (errors.BadEvent line) = ⊥
+NamesDamage area name (errors.Limit bound) = ⊥
+NamesDamage area name (errors.Unreadable a n) = ⊥
 
--- a life doesn't begin where a damage shows
+-- Where a damage shows, a life doesn't begin, and whatever is answered, nothing was told or changed.
 abbrev pub RefusesDamage : {T : Type 0} → Area → List ℕ → View → View → Result T ReplayError → Type 0
 RefusesDamage area name u v (Ok done) = ⊥
-RefusesDamage area name u v (Err error) = NamesDamage area name u v error
+RefusesDamage area name u v (Err error) = NamesDamage area name error × Stays u v
 
 -- of each damage that shows
 abbrev pub FindsDamage : {T : Type 0} → View → View → Result T ReplayError → Type 0

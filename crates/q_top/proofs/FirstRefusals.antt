@@ -56,7 +56,7 @@ module _ (u m : View) (lawful : TellsCrashes u) (stays : Stays u m) where
   first_given_up : (s : Status) → IsGivenUp s → ((area : Area) (name : List ℕ) → s ≡ status.Damaged area name → ⊥) → RefusesFirst u m s
   first_given_up s up other = record {
     conf = λ file line is. record { names = inr up; stays = stays };
-    damage = λ w is area name damage. inr up;
+    damage = λ w is area name damage. record { names = inr up; stays = stays };
     only_damage = λ area name is. absurd (other area name is);
   }
 
@@ -118,15 +118,17 @@ table_by w conf is = ap (λ (k : World). k.table) is
 module _ (conf : Conf) (u m v : View) (lawful : TellsCrashes u) (stays : Stays u m) (goes : conf_of u.files ≡ goes_by (world_of conf)) where
   found_here : (r : Result (Unit {0}) ReplayError) (area : Area) (name : List ℕ) → RefusesDamage area name m v r → FindsDamage area name u v (status_of r)
   found_here (Ok done) area name h = absurd h
-  found_here (Err errors.Disk) area name h = inr (inl refl)
-  found_here (Err errors.Tell) area name h = inr (inr (inl refl))
-  found_here (Err errors.NoMemory) area name h = inr (inr (inr refl))
-  found_here (Err errors.Source) area name h = absurd h
-  found_here (Err (errors.Unreadable a n)) area name h = absurd h
-  found_here (Err (errors.BadEvent line)) area name h = absurd h
-  found_here (Err (errors.Limit bound)) area name h = absurd h
-  found_here (Err (errors.Damaged a n)) area name h =
-      inl (ap (λ x. status.Damaged x n) h.0 ∙ ap (λ y. status.Damaged area y) h.1, stays_on u m v stays h.2)
+  found_here (Err errors.Disk) area name h = record { names = inr (inl refl); stays = stays_on u m v stays h.1 }
+  found_here (Err errors.Tell) area name h = record { names = inr (inr (inl refl)); stays = stays_on u m v stays h.1 }
+  found_here (Err errors.NoMemory) area name h = record { names = inr (inr (inr refl)); stays = stays_on u m v stays h.1 }
+  found_here (Err errors.Source) area name h = absurd h.0
+  found_here (Err (errors.Unreadable a n)) area name h = absurd h.0
+  found_here (Err (errors.BadEvent line)) area name h = absurd h.0
+  found_here (Err (errors.Limit bound)) area name h = absurd h.0
+  found_here (Err (errors.Damaged a n)) area name h = record {
+    names = inl (ap (λ x. status.Damaged x n) h.0.0 ∙ ap (λ y. status.Damaged area y) h.0.1);
+    stays = stays_on u m v stays h.1;
+  }
 
   named_damage : (r : Result (Unit {0}) ReplayError) (area : Area) (name : List ℕ) → status_of r ≡ status.Damaged area name → IsErrOf r (errors.Damaged area name)
   named_damage (Ok done) area name is = absurd cc

@@ -1,5 +1,5 @@
 -- No status names an unreadable file where none is unreadable.
-use Rattle.std.proofs.Common.{◌≡◌, false, refl}
+use Rattle.std.proofs.Common.{◌≡◌, ◌∙◌, false, refl, sym, true}
 use Rattle.std.specs.Prelude.{Err, IfErr, Ok, Result}
 use Rattle.q_conf.specs.declared.error.ConfError.{ConfError}
 use Rattle.q_conf.specs.declared.error.ConfError.TheVariants as conf_errors
@@ -11,9 +11,10 @@ use Rattle.q_replay.specs.declared.deliveries.Delivered.TheVariants as deliverie
 use Rattle.q_replay.specs.declared.error.ReplayError.{ReplayError}
 use Rattle.q_replay.specs.declared.error.ReplayError.TheVariants as errors
 use Rattle.q_top.specs.Qmgr.{words_status}
-use Rattle.q_top.specs.Statuses.{conf_status, content_status, delivery_status, is_unreadable, replay_status, status_of, telling_status}
+use Rattle.q_top.specs.Statuses.{conf_status, content_status, delivery_status, is_of_lives, is_unreadable, replay_status, status_of, telling_status}
 use Rattle.q_top.specs.declared.content.ContentError.{ContentError}
 use Rattle.q_top.specs.declared.content.ContentError.TheVariants as content_errors
+use Rattle.q_top.specs.declared.status.Status.{Status}
 use Rattle.q_words.specs.declared.error.WordsError.{WordsError}
 use Rattle.q_words.specs.declared.error.WordsError.TheVariants as words_errors
 
@@ -58,3 +59,20 @@ words_readable words_errors.NoCommand = refl
 words_readable (words_errors.Refused why) = refl
 words_readable words_errors.NoAddress = refl
 words_readable words_errors.NoQueue = refl
+
+-- what only tells names no fault of lives
+pub told_no_lives : (told : Result (Unit {0}) HostError) → is_of_lives (telling_status told) ≡ false
+told_no_lives (Ok done) = refl
+told_no_lives (Err faults.Disk) = refl
+told_no_lives (Err faults.Tell) = refl
+told_no_lives (Err faults.NoMemory) = refl
+
+pub words_no_lives : (error : WordsError) → is_of_lives (words_status error) ≡ false
+words_no_lives words_errors.NoMemory = refl
+words_no_lives words_errors.NoCommand = refl
+words_no_lives (words_errors.Refused why) = refl
+words_no_lives words_errors.NoAddress = refl
+words_no_lives words_errors.NoQueue = refl
+
+pub no_lives_of : {P : Type 0} (s : Status) → is_of_lives s ≡ false → is_of_lives s ≡ true → P
+no_lives_of s none some = absurd (let bad : false ≡ true = sym none ∙ some in cc)

@@ -25,6 +25,10 @@ pub on_err_of : {T E : Type 0} {P Q : Type 0} (r : Result T E) → (P → Q) →
 on_err_of (Ok x) f p = tt
 on_err_of (Err e) f p = f p
 
+pub when_ok : {T E P : Type 0} (r : Result T E) → P → OnOk r P
+when_ok (Ok x) p = p
+when_ok (Err e) p = tt
+
 pub when_err : {T E P : Type 0} (r : Result T E) → P → OnErr r P
 when_err (Ok x) p = tt
 when_err (Err e) p = p

@@ -37,9 +37,11 @@ pub record RefusesConf (file : ConfFile) (line : ℕ) (u v : View) (s : Status) 
   pub names : (s ≡ status.BadInput (input_of file) line) ⊎ IsGivenUp s
   pub stays : Stays u v
 
--- a damaged spool is found so, and nothing was told or changed
-abbrev pub FindsDamage : Area → List ℕ → View → View → Status → Type 0
-FindsDamage area name u v s = ((s ≡ status.Damaged area name) × Stays u v) ⊎ IsGivenUp s
+-- A damaged spool is found so, unless the host failed or memory ran out, and whatever the status says,
+-- nothing was told or changed.
+pub record FindsDamage (area : Area) (name : List ℕ) (u v : View) (s : Status) : Type 0 where
+  pub names : (s ≡ status.Damaged area name) ⊎ IsGivenUp s
+  pub stays : Stays u v
 
 -- What refuses a command before its first life: a faulty line of conf, or else a damage; and only such
 -- a damage is called one.

@@ -61,6 +61,13 @@ abbrev pub uses_connections : Request → Bool
 uses_connections (requests.Drain rests) = true
 uses_connections request = false
 
+-- it runs lives
+abbrev pub runs_lives : Request → Bool
+runs_lives requests.Replay = true
+runs_lives (requests.Submit sender to) = true
+runs_lives (requests.Drain rests) = true
+runs_lives request = false
+
 -- how the command ends that is asked for
 abbrev pub Does : Request → Texts → Moments → Connections → Status → View → View → Type 0
 Does requests.Replay texts moments connections s u v = Replays texts u v s
@@ -95,6 +102,10 @@ MayCarryOut words texts moments connections s u v =
 -- the words ask for a drain with so many rests
 abbrev pub IsDrainOf : List (List ℕ) → ℕ → Type 0
 IsDrainOf words rests = IsRequest words (requests.Drain rests)
+
+-- the words ask for a command that runs lives
+abbrev pub AsksForLives : List (List ℕ) → Type 0
+AsksForLives words = (request : Request) × IsRequest words request × (runs_lives request ≡ true)
 
 -- of the source, the clock and the connections those stay as they were that the command has no use for
 pub record UsesNoMore (words : List (List ℕ)) {S C N : Type 0} (x x' : S) (c c' : C) (n n' : N)

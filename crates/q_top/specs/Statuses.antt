@@ -37,6 +37,14 @@ abbrev pub is_unreadable : Status → Bool
 is_unreadable (Unreadable area name) = true
 is_unreadable _ = false
 
+-- the input, the spool, one of its files or a limit is at fault
+abbrev pub is_of_lives : Status → Bool
+is_of_lives (BadInput file line) = true
+is_of_lives (Damaged area name) = true
+is_of_lives (Limit bound) = true
+is_of_lives (Unreadable area name) = true
+is_of_lives _ = false
+
 -- how a command ends whose lives ended so
 abbrev pub replay_status : ReplayError → Status
 replay_status errors.Disk = Disk

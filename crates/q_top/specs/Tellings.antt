@@ -9,7 +9,7 @@ use Rattle.q_load.specs.declared.summary.Summary.{Summary}
 use Rattle.q_model.specs.Book.{Book}
 use Rattle.q_model.specs.FilesStand.{Stands}
 use Rattle.q_stream.specs.Clocks.{AddsMoment}
-use Rattle.q_telling.specs.Telling.{TellsFront, TellsMore}
+use Rattle.q_telling.specs.Telling.{OnlyTells, TellsFront, TellsMore}
 use Rattle.q_top.specs.Courses.{Moments}
 use Rattle.q_top.specs.Lives.{IsGivenUp}
 use Rattle.q_top.specs.declared.status.Status.{Status}
@@ -20,20 +20,27 @@ use Rattle.q_shape.specs.declared.request.TableRequest.{TableRequest}
 abbrev pub EndsTelling : Type 0 → Type 0 → Status → Type 0
 EndsTelling all part s = ((s ≡ Done) × all) ⊎ (IsGivenUp s × part)
 
--- `queue`: the listing of the book is told, and no file is changed.
-abbrev pub Lists : View → View → Status → Type 0
-Lists u v s = (b : Book) → Stands u.files b
-    → EndsTelling (TellsMore (listing u.files b) u v) (TellsFront (listing u.files b) u v) s
+-- Whatever the files say: some bytes are told, and no file is changed, whenever a crash comes.
+abbrev pub EndsLooking : View → View → Status → Type 0
+EndsLooking u v s = EndsTelling (OnlyTells u v) (OnlyTells u v) s
+
+-- `queue`: no file is changed, and of a book that the files stand for the listing is told.
+pub record Lists (u v : View) (s : Status) : Type 0 where
+  pub whatever : EndsLooking u v s
+  pub listed : (b : Book) → Stands u.files b
+      → EndsTelling (TellsMore (listing u.files b) u v) (TellsFront (listing u.files b) u v) s
 
 -- the table of ages at this moment is told
 abbrev pub EndsTable : ℕ → TableRequest → Book → View → View → Status → Type 0
 EndsTable now request b u v s =
     EndsTelling (TellsTable now request b u v) (MayTellTable now request b u v) s
 
--- `qshape`: the table of ages at the clock's one moment is told, and no file is changed.
-abbrev pub TellsAges : TableRequest → Moments → View → View → Status → Type 0
-TellsAges request moments u v s = (b : Book) → Stands u.files b
-    → (now : ℕ) × AddsMoment moments.before moments.after now × EndsTable now request b u v s
+-- `qshape`: no file is changed, and of a book that the files stand for the table of ages at the clock's
+-- one moment is told.
+pub record TellsAges (request : TableRequest) (moments : Moments) (u v : View) (s : Status) : Type 0 where
+  pub whatever : EndsLooking u v s
+  pub table : (b : Book) → Stands u.files b
+      → (now : ℕ) × AddsMoment moments.before moments.after now × EndsTable now request b u v s
 
 -- the text of the summary of a load of so many mails
 pub record IsLoadText (mails : ℕ) (text : List ℕ) : Type 0 where

@@ -6,8 +6,8 @@ ghost use Rattle.q_replay.specs.Spools.{Serves};
 ghost use Rattle.q_top.specs.Causes.{HasHostCause, HasSourceCause};
 ghost use Rattle.q_top.specs.Courses.{Connections, Moments, Texts};
 ghost use Rattle.q_drain.specs.Drained.{CountsRests};
-ghost use Rattle.q_top.specs.Qmgr.{asks_clock, Does, HasForm, IsDrainOf, LeavesAlone, MayCarryOut, RefusesWords, runs_lives, takes_input, texts_of, uses_connections, words_status};
-ghost use Rattle.q_top.specs.Statuses.{is_unreadable};
+ghost use Rattle.q_top.specs.Qmgr.{asks_clock, AsksForLives, Does, HasForm, IsDrainOf, LeavesAlone, MayCarryOut, RefusesWords, runs_lives, takes_input, texts_of, uses_connections, words_status};
+ghost use Rattle.q_top.specs.Statuses.{is_of_lives, is_unreadable};
 ghost use Rattle.q_words.specs.declared.request.Request.TheVariants.{Drain};
 ghost use Rattle.q_words.specs.Requests.{IsRequest};
 ghost use Rattle.q_words.specs.Usages.{is_usage};
@@ -56,6 +56,7 @@ fn carry_out<L: Link, H: Host, S: Source, C: Clock, N: Hops<Link = L>>(
     ensures source_stays { takes_input request ≡ false → source.new ≡ source.old }
     ensures clock_stays { asks_clock request ≡ false → clock.new ≡ clock.old }
     ensures connections_stay { uses_connections request ≡ false → hops.new ≡ hops.old }
+    ensures lives { is_of_lives result ≡ true → runs_lives request ≡ true }
     ensures no_usage { result ≢ Status.Usage }
     ensures unfinished { (n : ℕ) → result ≡ Status.Unfinished n → (request ≡ Drain n)
         × CountsRests (N.view hops.old) (N.view hops.new) n }
@@ -120,6 +121,8 @@ pub fn qmgr<L: Link, H: Host, S: Source, C: Clock, N: Hops<Link = L>>(
     // Only a drain is left unfinished, and only where all rests were given that its words say.
     ensures unfinished { (n : ℕ) → result ≡ Status.Unfinished n → IsDrainOf (texts_of words.now) n
         × CountsRests (N.view hops.old) (N.view hops.new) n }
+    // The input, the spool, one of its files and limits are at fault for commands alone that run lives.
+    ensures lives { is_of_lives result ≡ true → AsksForLives (texts_of words.now) }
     // Where the host tells its files, each queue file can be read.
     ensures readable { IsTrue H.tells → is_unreadable result ≡ false }
     // A fault comes only where its count rose.

@@ -3,7 +3,7 @@ ghost use Rattle.q_host.specs.View.{Told};
 ghost use Rattle.q_shape.specs.Buckets.{IsShape};
 ghost use Rattle.q_replay.specs.Spools.{Serves};
 ghost use Rattle.q_top.specs.Causes.{HasHostCause};
-ghost use Rattle.q_top.specs.Statuses.{is_unreadable};
+ghost use Rattle.q_top.specs.Statuses.{is_of_lives, is_unreadable};
 ghost use Rattle.q_top.specs.Courses.{Moments};
 ghost use Rattle.q_top.specs.Tellings.{Lists, TellsAges};
 ghost use Rattle.std.specs.Prelude.{◌≢◌, ℕ, ◌≡◌, false};
@@ -21,6 +21,7 @@ pub(crate) fn list_queues<H: Host>(alloc: Global, host: &mut H) -> Status
     ensures lists { Told H.tells H.view host.old host.new (λ u v. Lists u v result) }
     ensures serves { Told H.tells H.view host.old host.new (Serves false) }
     ensures readable { is_unreadable result ≡ false }
+    ensures no_lives { is_of_lives result ≡ false }
     ensures host { HasHostCause (H.faults host.old) (H.faults host.new) result }
     ensures no_source { result ≢ Status.Source }
     ensures no_usage { result ≢ Status.Usage }
@@ -41,6 +42,7 @@ pub(crate) fn table_ages<H: Host, C: Clock>(
         (record { before = C.given clock.old; after = C.given clock.new }) u v result) }
     ensures serves { Told H.tells H.view host.old host.new (Serves false) }
     ensures readable { is_unreadable result ≡ false }
+    ensures no_lives { is_of_lives result ≡ false }
     ensures host { HasHostCause (H.faults host.old) (H.faults host.new) result }
     ensures no_source { result ≢ Status.Source }
     ensures no_usage { result ≢ Status.Usage }

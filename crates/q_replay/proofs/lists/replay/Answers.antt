@@ -1,3 +1,4 @@
+use Rattle.q_host.proofs.Stays.{stays_here}
 use Rattle.std.proofs.Common.{◌≡◌, ◌∙◌, ap, arith, false, None, Option, Some, subst, sym, true}
 use Rattle.std.specs.Prelude.{Err, is_none, Result, IfErr}
 use Rattle.q_books.specs.HostStands.{TellsCrashes}
@@ -182,6 +183,9 @@ returns-in-Err-clause-cause g c =
       disk = λ is. absurd (c.list_error.ensures.no_disk (own_error c.list_error.result errors.Disk is));
       tell = λ is. absurd (c.list_error.ensures.no_tell (own_error c.list_error.result errors.Tell is));
     }
+
+pub returns-in_default-clause-damaged : goal.returns-in_default-clause-damaged
+returns-in_default-clause-damaged g c t area name damage = (tt, stays_here (g.H.Host.view c.args.host.now))
 
 pub returns-in_err-engine-clause-damaged : goal.returns-in_err-engine-clause-damaged
 returns-in_err-engine-clause-damaged g c t area name damage =

@@ -52,6 +52,7 @@ returns-in-Err-clause-damaged g c t area name damage =
       damage = λ a n is. c.in-Err.ensures.damaged t a n (error_is error (engine_errors.Damaged a n) is);
       spent = λ bound is. c.in-Err.ensures.spent bound (error_is error (engine_errors.Limit bound) is) t;
       untouched = λ of. c.in-Err.ensures.untouched error refl of t;
+      unbegun = c.in-Err.ensures.unbegun t;
     } in
     rw c.replay_error.ensures.exact (begun_damaged v x c.args.line area name damage error u)
 
@@ -65,6 +66,7 @@ returns-in-Err-clause-only_damaged g c t =
       damage = λ a n is. c.in-Err.ensures.damaged t a n (error_is error (engine_errors.Damaged a n) is);
       spent = λ bound is. c.in-Err.ensures.spent bound (error_is error (engine_errors.Limit bound) is) t;
       untouched = λ of. c.in-Err.ensures.untouched error refl of t;
+      unbegun = c.in-Err.ensures.unbegun t;
     } in
     rw c.replay_error.ensures.exact (begun_only v x c.args.line error u)
 

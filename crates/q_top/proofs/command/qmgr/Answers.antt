@@ -1,9 +1,9 @@
 use Rattle.std.proofs.Common.{inl, inr, refl, subst}
 use Rattle.q_top.proofs.Asked.{asked_form}
-use Rattle.q_top.specs.Qmgr.{texts_of}
+use Rattle.q_top.specs.Qmgr.{texts_of, words_status}
 use Rattle.q_words.specs.declared.request.Request.{Request}
 use Rattle.q_words.specs.Requests.{IsRequest}
-use Rattle.q_top.proofs.Readable.{words_readable}
+use Rattle.q_top.proofs.Readable.{words_readable, no_lives_of, words_no_lives}
 use Rattle.q_top.proofs.command.qmgr.Goals as goal
 
 pub carry_out-requires-clause-form : goal.carry_out-requires-clause-form
@@ -29,3 +29,9 @@ returns-in-Ok-clause-alone g c usage = inr (record {
 
 pub returns-in-Err-clause-alone : goal.returns-in-Err-clause-alone
 returns-in-Err-clause-alone g c usage = inl (refl, refl, refl)
+
+pub returns-in-Ok-clause-lives : goal.returns-in-Ok-clause-lives
+returns-in-Ok-clause-lives g c of = (c.in-Ok.request, c.in-Ok.ensures.1, c.carry_out.ensures.lives of)
+
+pub returns-in-Err-clause-lives : goal.returns-in-Err-clause-lives
+returns-in-Err-clause-lives g c = rw c.words_status.ensures (no_lives_of (words_status c.in-Err.error) (words_no_lives c.in-Err.error))
