@@ -1,5 +1,5 @@
 -- What a poll of a session comes to.
-use Rattle.std.proofs.Common.{◌≡◌, ℕ, ◌+◌, ◌<◌, ◌≤◌, Bool, Option, Some, None, Result, Ok, Err, refl, sym, ap, ◌∙◌, ⊎_elim, length, List}
+use Rattle.std.proofs.Common.{◌≡◌, ℕ, ◌+◌, ◌<◌, ◌≤◌, Bool, Option, Some, None, Result, Ok, Err, refl, sym, ap, subst, ◌∙◌, ⊎_elim, length, List}
 use Rattle.std.proofs.lemmas.Bool.{cases_lt}
 use Rattle.std.specs.Prelude.{IfOk}
 use Rattle.q_host.specs.View.{View as HostView}
@@ -7,6 +7,8 @@ use Rattle.q_host.specs.declared.error.HostError.{HostError}
 use Rattle.q_link.specs.Views.{Told}
 use Rattle.q_model.specs.declared.outcome.SiteState.{SiteState}
 use Rattle.q_model.specs.declared.outcome.SiteState.TheVariants.{Down, Up}
+use Rattle.q_session.proofs.CodeLaws.{put_off_coded}
+use Rattle.q_session.specs.Codes.{HasCodes, HaveReplyCodes}
 use Rattle.q_session.specs.Deliveries.{Serves}
 use Rattle.q_session.specs.Mails.{Mail, StandsAt, exchange_of}
 use Rattle.q_session.specs.Polls.{Counts, IsOver, Keeps, Passes}
@@ -26,6 +28,7 @@ pub record Polls (tells : Bool) (host : HostView) (now : ℕ) (w v : Work) (r : 
   pub in_time : r ≡ Ok Working → now < w.session.opened + 600
   pub keeps : Keeps w.session v.session
   pub counts : IfOk r (λ (p : Polled). Counts p v.session)
+  pub codes : IfOk r (λ (p : Polled). HasCodes p v.session)
   pub passes : IfOk r (λ (p : Polled). Passes p w.link v.link)
   pub faults : w.link.faults ≤ v.link.faults
   pub serves : r ≡ Ok Working → (mail : Mail) → StandsAt tells host w.session.content.spot mail → Serves tells mail w.session w.link → Serves tells mail v.session v.link
@@ -53,6 +56,7 @@ polls_work tells host now w v (Ok Working) p = record {
     comes = λ mail stands serves. (p.serves refl mail stands serves, p.awaits refl mail stands serves);
   };
   counts = p.counts;
+  codes = p.codes;
 }
 polls_work tells host now w v (Ok (Over site)) p = record {
   polled = record {
@@ -63,6 +67,7 @@ polls_work tells host now w v (Ok (Over site)) p = record {
     comes = λ mail stands serves. p.over site refl mail stands serves;
   };
   counts = p.counts;
+  codes = p.codes;
 }
 
 -- ---- the report of a session that is over
@@ -80,11 +85,12 @@ pub report_by : (tells : Bool) (host : HostView) (now number n : ℕ) (old new :
     → IsReportOf tells host now (record { number = number; recipients = n; work = w }) (record { number = number; site = site; outcomes = outcomes }) old new
 report_by tells host now number n old new None None site outcomes sound polls done =
     let down : site ≡ Down = cc in
-    record { number = refl; counts = put_off_down site n outcomes down done.0; ends = (down, done.1) }
+    record { number = refl; counts = put_off_down site n outcomes down done.0; codes = put_off_coded n outcomes done.0; ends = (down, done.1) }
 report_by tells host now number n old new None (Some v) site outcomes sound polls done = absurd polls
 report_by tells host now number n old new (Some w) None site outcomes sound polls done = absurd polls
 report_by tells host now number n old new (Some w) (Some v) site outcomes sound polls done = record {
   number = refl;
   counts = counted site n w v outcomes sound.addresses polls.polled.keeps polls.counts done.0;
+  codes = subst HaveReplyCodes (sym done.0) polls.codes;
   ends = record { last = v; polled = polls.polled; outcomes_are = sym done.0; closes = done.1 };
 }

@@ -7,6 +7,7 @@ use Rattle.q_model.specs.declared.outcome.Outcome.{Outcome}
 use Rattle.q_model.specs.declared.outcome.SiteState.{SiteState}
 use Rattle.q_model.specs.declared.outcome.SiteState.TheVariants.{Down, Up}
 use Rattle.q_smtp.specs.Codes.{put_off}
+use Rattle.q_session.specs.Codes.{HaveReplyCodes}
 use Rattle.q_session.specs.Deliveries.{Serves}
 use Rattle.q_session.specs.Mails.{Mail, StandsAt, exchange_of}
 use Rattle.q_session.specs.Polls.{IsOver, Keeps, Passes}
@@ -74,4 +75,5 @@ Counts Down n outcomes = outcomes ≡ put_off n
 pub record IsReportOf (tells : Bool) (host : HostView) (now : ℕ) (o : OpenSession) (r : Report) (old new : HopsView) : Type 0 where
   pub number : r.number ≡ o.number
   pub counts : Counts r.site o.recipients r.outcomes
+  pub codes : HaveReplyCodes r.outcomes
   pub ends : Ends tells host now o.work r.site r.outcomes old new

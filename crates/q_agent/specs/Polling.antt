@@ -6,6 +6,7 @@ use Rattle.q_link.specs.Records.{Closes, HopsView}
 use Rattle.q_model.specs.declared.outcome.Outcome.{Outcome}
 use Rattle.q_model.specs.declared.outcome.SiteState.TheVariants.{Down}
 use Rattle.q_smtp.specs.Codes.{put_off}
+use Rattle.q_session.specs.Codes.{HasCodes}
 use Rattle.q_session.specs.Polls.{Counts}
 use Rattle.q_session.specs.declared.polled.Polled.{Polled}
 use Rattle.q_session.specs.declared.polled.Polled.TheVariants.{Over, Working}
@@ -13,10 +14,11 @@ use Rattle.q_agent.specs.Sessions.{OpenSession, Work}
 use Rattle.q_agent.specs.NextPoll.{IsPolled, IsReportOf, IsWorking}
 use Rattle.q_agent.specs.declared.report.Report.{Report}
 
--- a session was polled, and has its outcomes where it is over
+-- a session was polled, and has its outcomes where it is over, with codes of replies
 pub record PollsWork (tells : Bool) (host : HostView) (now : ℕ) (p : Polled) (old new : Work) : Type 0 where
   pub polled : IsPolled tells host now p old new
   pub counts : Counts p new.session
+  pub codes : HasCodes p new.session
 
 -- without a link it is over
 abbrev pub PollsOnce : Bool → HostView → ℕ → Polled → Option Work → Option Work → Type 0

@@ -6,6 +6,7 @@ use Rattle.q_smtp.specs.Codes.{outcome_by}
 use Rattle.q_smtp.specs.ContentLines.{sent_content}
 use Rattle.q_smtp.specs.Dialogue.{Broken, Exchange, Settled, Transaction, ends, says}
 use Rattle.q_smtp.specs.Replies.{codes_from, nothing_yet}
+use Rattle.q_session.specs.Codes.{AreAnswers}
 use Rattle.q_session.specs.Course.{Goes, IsPlace, IsReady, Stands, command_line, rest_of}
 use Rattle.q_session.specs.Deliveries.{Follows, Hearing, IsAllSent, IsSound}
 use Rattle.q_session.specs.Mails.{Mail, exchange_of, transaction_of}
@@ -108,10 +109,11 @@ abbrev pub some_to : List (List ℕ) → Transaction
 some_to to = record { sender = None; to = to; content = [] }
 
 pub sound_said : (d : Delivery) (o : Outgoing) (command : Command) (new : Dialogue) → IsSound d → IsAllSent d → Stands (next.Say command) new → new.recipients ≡ d.dialogue.recipients
-    → IsSound (record d { dialogue = new; outbox = o })
-sound_said d o command new s all stands same = record {
+    → AreAnswers new.answers.items → IsSound (record d { dialogue = new; outbox = o })
+sound_said d o command new s all stands same codes = record {
   course = stands.0;
   recipients = same ∙ s.recipients;
+  codes = codes;
   capacity = s.capacity;
   few = s.few;
   room = s.room;
@@ -123,10 +125,11 @@ sound_said d o command new s all stands same = record {
     not_busy f t = absurd (true≢false (sym t ∙ f))
 
 pub sound_content : (d : Delivery) (new : Dialogue) → IsSound d → Stands next.SendContent new → new.recipients ≡ d.dialogue.recipients
-    → IsSound (record d { dialogue = new; content = record d.content { idle = false } })
-sound_content d new s stands same = record {
+    → AreAnswers new.answers.items → IsSound (record d { dialogue = new; content = record d.content { idle = false } })
+sound_content d new s stands same codes = record {
   course = stands.0;
   recipients = same ∙ s.recipients;
+  codes = codes;
   capacity = s.capacity;
   few = s.few;
   room = s.room;

@@ -1,5 +1,6 @@
 pub mod Acting
 pub mod Beginnings
+pub mod CodeLaws
 pub mod Commands
 pub mod ContentFills
 pub mod ContentPlaces

@@ -77,6 +77,7 @@ sound_flushed : (d : Delivery) (o : Outgoing) → IsSound d → IsSound (record 
 sound_flushed d o s = record {
   course = s.course;
   recipients = s.recipients;
+  codes = s.codes;
   capacity = s.capacity;
   few = s.few;
   room = s.room;
@@ -168,6 +169,7 @@ sending_filled {old = old} {d = d} o c s none busy spot fills = record {
   sound = record {
     course = s.sound.course;
     recipients = s.sound.recipients;
+    codes = s.sound.codes;
     capacity = s.sound.capacity;
     few = s.sound.few;
     room = s.sound.room;

@@ -5,6 +5,7 @@ use Rattle.q_reply.specs.Progress.{Holds}
 use Rattle.q_smtp.specs.ContentLines.{sent_content}
 use Rattle.q_smtp.specs.Dialogue.{dialogue, says}
 use Rattle.q_smtp.specs.Replies.{Part, codes_from, nothing_yet, reply_codes}
+use Rattle.q_session.specs.Codes.{AreAnswers}
 use Rattle.q_session.specs.Course.{IsCourse, IsReady, rest_of}
 use Rattle.q_session.specs.Mails.{Mail, transaction_of}
 use Rattle.q_session.specs.Outgoing.{pending}
@@ -49,6 +50,7 @@ Serves tells mail d v = (t : Told) → v.told ≡ Some t → Follows tells mail 
 pub record IsSound (d : Delivery) : Type 0 where
   pub course : IsCourse d.dialogue
   pub recipients : d.dialogue.recipients ≡ length d.to
+  pub codes : AreAnswers d.dialogue.answers.items
   pub capacity : d.inbox.unused.capacity ≡ 512
   pub few : length d.inbox.unused.items ≤ 512
   pub room : length d.to ≤ vec_capacity d.room

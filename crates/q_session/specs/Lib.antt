@@ -1,3 +1,4 @@
+pub mod Codes
 pub mod Course
 pub mod Deliveries
 pub mod Mails

@@ -6,6 +6,7 @@ ghost use Rattle.q_link.specs.Views.{View as LinkView};
 ghost use Rattle.q_model.specs.declared.outcome.SiteState.{SiteState as State};
 ghost use Rattle.q_smtp.specs.Codes.{outcome_by, put_off};
 ghost use Rattle.q_smtp.specs.Dialogue.{quit_line};
+ghost use Rattle.q_session.specs.Codes.{HasCodes};
 ghost use Rattle.q_session.specs.Deliveries.{IsSound, Serves};
 ghost use Rattle.q_session.specs.Mails.{IsHeadOf, Mail, StandsAt};
 ghost use Rattle.q_session.specs.Polls.{Counts, Ends, IsAwaiting, IsNew, IsUnused, Keeps, OfMails, Passes, SendsOnce};
@@ -97,6 +98,7 @@ impl Delivery {
         ensures fails { OnErr result (self.new.over ≡ false) }
         ensures keeps { Keeps self.old self.new }
         ensures counts { IfOk result (λ p. Counts p self.new) }
+        ensures codes { IfOk result (λ p. HasCodes p self.new) }
         ensures passes { IfOk result (λ p. Passes p (L.view link.old) (L.view link.new)) }
         ensures faults { (L.view link.old).faults ≤ (L.view link.new).faults }
         ensures ended { (L.view link.new).ended ≡ true → result ≡ Ok (Polled.Over State.Down) }

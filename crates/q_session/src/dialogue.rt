@@ -3,6 +3,7 @@ ghost use Rattle.std.specs.Prelude.{◌≡◌, ◌≤◌, ◌<◌, ◌+◌, ◌-
 ghost use Rattle.std.specs.List.{list_any};
 ghost use Rattle.q_smtp.specs.Codes.{is_done, is_later, is_never, is_refusal, is_answer, outcome_of, outcome_by};
 ghost use Rattle.q_smtp.specs.Dialogue.{Transaction};
+ghost use Rattle.q_session.specs.Codes.{AreAnswers, IsLast};
 ghost use Rattle.q_session.specs.Course.{AtMost, IsCourse, IsFewer, Goes, Named, Begins};
 
 use q_model::{NoMemory, Outcome};
@@ -121,10 +122,13 @@ impl Dialogue {
 
     /// Takes the code of the reply that was awaited.
     pub(crate) fn hear(&mut self, code: u16) -> Next
-        requires { IsCourse self.old }
+        requires course { IsCourse self.old }
+        requires codes { AreAnswers self.old.answers.items }
         ensures goes { (e : Transaction) → length e.to ≡ self.old.recipients
             → Goes e self.old code result self.new }
         ensures fewer { IsFewer result self.old self.new }
+        ensures codes { AreAnswers self.new.answers.items }
+        ensures last { IsLast result }
     {
         match self.awaited {
             Awaited::Greeting => self.hear_greeting(code),
@@ -147,10 +151,13 @@ impl Dialogue {
 
     fn hear_greeting(&mut self, code: u16) -> Next
         requires course { IsCourse self.old }
+        requires codes { AreAnswers self.old.answers.items }
         requires awaited { self.old.awaited ≡ Awaited.Greeting }
         ensures goes { (e : Transaction) → length e.to ≡ self.old.recipients
             → Goes e self.old code result self.new }
         ensures fewer { IsFewer result self.old self.new }
+        ensures codes { AreAnswers self.new.answers.items }
+        ensures last { IsLast result }
     {
         if code == 220 {
             return self.say(Command::Ehlo);
@@ -160,10 +167,13 @@ impl Dialogue {
 
     fn hear_ehlo(&mut self, code: u16) -> Next
         requires course { IsCourse self.old }
+        requires codes { AreAnswers self.old.answers.items }
         requires awaited { self.old.awaited ≡ Awaited.Answer Command.Ehlo }
         ensures goes { (e : Transaction) → length e.to ≡ self.old.recipients
             → Goes e self.old code result self.new }
         ensures fewer { IsFewer result self.old self.new }
+        ensures codes { AreAnswers self.new.answers.items }
+        ensures last { IsLast result }
     {
         if is_done(code) {
             return self.say(Command::Mail);
@@ -176,10 +186,13 @@ impl Dialogue {
 
     fn hear_helo(&mut self, code: u16) -> Next
         requires course { IsCourse self.old }
+        requires codes { AreAnswers self.old.answers.items }
         requires awaited { self.old.awaited ≡ Awaited.Answer Command.Helo }
         ensures goes { (e : Transaction) → length e.to ≡ self.old.recipients
             → Goes e self.old code result self.new }
         ensures fewer { IsFewer result self.old self.new }
+        ensures codes { AreAnswers self.new.answers.items }
+        ensures last { IsLast result }
     {
         if is_done(code) {
             return self.say(Command::Mail);
@@ -189,10 +202,13 @@ impl Dialogue {
 
     fn hear_mail(&mut self, code: u16) -> Next
         requires course { IsCourse self.old }
+        requires codes { AreAnswers self.old.answers.items }
         requires awaited { self.old.awaited ≡ Awaited.Answer Command.Mail }
         ensures goes { (e : Transaction) → length e.to ≡ self.old.recipients
             → Goes e self.old code result self.new }
         ensures fewer { IsFewer result self.old self.new }
+        ensures codes { AreAnswers self.new.answers.items }
+        ensures last { IsLast result }
     {
         if is_done(code) {
             return self.name_recipient();
@@ -208,10 +224,13 @@ impl Dialogue {
 
     fn hear_rcpt(&mut self, code: u16) -> Next
         requires course { IsCourse self.old }
+        requires codes { AreAnswers self.old.answers.items }
         requires awaited { self.old.awaited ≡ Awaited.Answer (Command.Rcpt (vec_len self.old.answers)) }
         ensures goes { (e : Transaction) → length e.to ≡ self.old.recipients
             → Goes e self.old code result self.new }
         ensures fewer { IsFewer result self.old self.new }
+        ensures codes { AreAnswers self.new.answers.items }
+        ensures last { IsLast result }
     {
         if !is_answer(code) {
             return Next::Broken;
@@ -225,10 +244,13 @@ impl Dialogue {
     fn name_recipient(&mut self) -> Next
         requires few { vec_len self.old.answers ≤ self.old.recipients }
         requires room { self.old.recipients ≤ vec_capacity self.old.answers }
+        requires codes { AreAnswers self.old.answers.items }
         ensures named { (e : Transaction) → length e.to ≡ self.old.recipients
             → Named e self.old result self.new }
         // One for each recipient that isn't named yet, and those to DATA and to the content.
         ensures left { AtMost (self.old.recipients - vec_len self.old.answers + 2) result self.new }
+        ensures codes { AreAnswers self.new.answers.items }
+        ensures last { IsLast result }
     {
         let place = self.answers.len();
         if place < self.recipients {
@@ -242,10 +264,13 @@ impl Dialogue {
 
     fn hear_data(&mut self, code: u16) -> Next
         requires course { IsCourse self.old }
+        requires codes { AreAnswers self.old.answers.items }
         requires awaited { self.old.awaited ≡ Awaited.Answer Command.Data }
         ensures goes { (e : Transaction) → length e.to ≡ self.old.recipients
             → Goes e self.old code result self.new }
         ensures fewer { IsFewer result self.old self.new }
+        ensures codes { AreAnswers self.new.answers.items }
+        ensures last { IsLast result }
     {
         if code == 354 {
             self.awaited = Awaited::Verdict;
@@ -259,10 +284,13 @@ impl Dialogue {
 
     fn hear_verdict(&mut self, code: u16) -> Next
         requires course { IsCourse self.old }
+        requires codes { AreAnswers self.old.answers.items }
         requires awaited { self.old.awaited ≡ Awaited.Verdict }
         ensures goes { (e : Transaction) → length e.to ≡ self.old.recipients
             → Goes e self.old code result self.new }
         ensures fewer { IsFewer result self.old self.new }
+        ensures codes { AreAnswers self.new.answers.items }
+        ensures last { IsLast result }
     {
         if !is_answer(code) {
             return Next::Broken;

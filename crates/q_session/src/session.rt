@@ -4,6 +4,7 @@ ghost use Rattle.q_host.specs.Calls.{Stays};
 ghost use Rattle.q_host.specs.Faults.{DiskCause};
 ghost use Rattle.q_link.specs.Views.{View as LinkView};
 ghost use Rattle.q_model.specs.declared.outcome.SiteState.{SiteState as State};
+ghost use Rattle.q_session.specs.Codes.{HasCodes};
 ghost use Rattle.q_session.specs.Deliveries.{Serves};
 ghost use Rattle.q_session.specs.Mails.{IsHeadOf, Mail, StandsAt};
 ghost use Rattle.q_session.specs.Polls.{Counts, Ends, IsAwaiting, IsNew, IsUnused, Keeps, OfMails, Passes};
@@ -73,6 +74,7 @@ impl Session {
         ensures fails { OnErr result (self.new.over ≡ false) }
         ensures keeps { Keeps self.old self.new }
         ensures counts { IfOk result (λ p. Counts p self.new) }
+        ensures codes { IfOk result (λ p. HasCodes p self.new) }
         ensures passes { IfOk result (λ p. Passes p (L.view link.old) (L.view link.new)) }
         ensures faults { (L.view link.old).faults ≤ (L.view link.new).faults }
         ensures ended { (L.view link.new).ended ≡ true → result ≡ Ok (Polled.Over State.Down) }

@@ -3,6 +3,7 @@ ghost use Rattle.std.specs.Prelude.{◌≡◌, ◌≤◌, ◌<◌, ℕ, [], Bool
 ghost use Rattle.q_host.specs.Calls.{Stays};
 ghost use Rattle.q_host.specs.Faults.{DiskCause};
 ghost use Rattle.q_link.specs.Views.{Told};
+ghost use Rattle.q_session.specs.Codes.{AreSettled};
 ghost use Rattle.q_session.specs.Course.{command_line, replies_left};
 ghost use Rattle.q_session.specs.Deliveries.{Hearing, IsAllSent, IsSound, Serves};
 ghost use Rattle.q_session.specs.Mails.{Mail, StandsAt};
@@ -46,6 +47,8 @@ impl Delivery {
             → replies_left self.new.dialogue < replies_left self.old.dialogue }
         ensures settled { (last : ℕ) → result ≡ Ok (Step.Settles last)
             → length self.new.dialogue.answers.items ≡ length self.new.to }
+        ensures codes { (last : ℕ) → result ≡ Ok (Step.Settles last)
+            → AreSettled last self.new.dialogue.answers.items }
         ensures steps { IfOk result (Steps H.tells
             (StandsAt H.tells (H.view host.old) self.old.content.spot)
             self.old self.new (L.view link.old) (L.view link.new)) }
@@ -72,6 +75,8 @@ impl Delivery {
             → replies_left self.new.dialogue < replies_left self.old.dialogue }
         ensures settled { (last : ℕ) → result ≡ Step.Settles last
             → length self.new.dialogue.answers.items ≡ length self.new.to }
+        ensures codes { (last : ℕ) → result ≡ Step.Settles last
+            → AreSettled last self.new.dialogue.answers.items }
         ensures steps { (tells : Bool) → Steps tells (λ mail. Unit {0}) self.old self.new
             (L.view link.old) (L.view link.new) result }
     {
@@ -94,6 +99,8 @@ impl Delivery {
             → replies_left self.new.dialogue < replies_left self.old.dialogue }
         ensures settled { (last : ℕ) → result ≡ Step.Settles last
             → length self.new.dialogue.answers.items ≡ length self.new.to }
+        ensures codes { (last : ℕ) → result ≡ Step.Settles last
+            → AreSettled last self.new.dialogue.answers.items }
         ensures never { result ≡ Step.Waits → ⊥ }
         ensures acts { (tells : Bool) (mail : Mail) (t : Told) → Hearing tells mail self.old code t
             → Acts tells mail self.new t result }

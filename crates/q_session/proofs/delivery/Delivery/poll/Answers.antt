@@ -1,6 +1,9 @@
-use Rattle.std.proofs.Common.{arith, subst}
+use Rattle.std.proofs.Common.{Ok, ap, arith, length, subst, sym}
 use Rattle.q_model.specs.declared.outcome.SiteState.{SiteState}
 use Rattle.q_model.specs.declared.outcome.SiteState.TheVariants.{Down, Up}
+use Rattle.q_session.proofs.CodeLaws.{put_off_coded, settled_coded}
+use Rattle.q_session.specs.Codes.{HasCodes}
+use Rattle.q_session.specs.declared.polled.Polled.{Polled}
 use Rattle.q_session.proofs.Polling.{along_step, awaits_along, over_down, over_late, over_up, same_on, same_site, steps_along}
 use Rattle.q_host.proofs.Stays.{stays_on}
 use Rattle.q_session.proofs.Standing.{stands_still}
@@ -88,3 +91,17 @@ returns-then-saturating_sub-ge-PATIENCE-clause-over g c =
     let v = g.L.Link.view c.args.link.now in
     λ site e mail is serves t told. subst (λ (s : SiteState). IsOver g.H.Host.tells s c.args.now mail new t v v) (same_site c.give_up.result Down site c.give_up.ensures.down e)
     (over_late c.args.self.now new c.args.now v c.give_up.ensures.keeps (omega (arith, c.if-saturating_sub-ge-PATIENCE.true, c.saturating_sub.ensures)) mail serves t told)
+
+pub returns-then-saturating_sub-ge-PATIENCE-clause-codes : goal.returns-then-saturating_sub-ge-PATIENCE-clause-codes
+returns-then-saturating_sub-ge-PATIENCE-clause-codes g c =
+    subst (λ (p : Polled). HasCodes p c.give_up.new.self) (sym c.give_up.ensures.down) (put_off_coded (length c.args.self.now.to) c.give_up.new.self.outcomes c.give_up.ensures.outcomes)
+
+pub returns-in-Lost-clause-codes : goal.returns-in-Lost-clause-codes
+returns-in-Lost-clause-codes g c =
+    subst (λ (p : Polled). HasCodes p c.give_up-in-Lost.new.self) (sym c.give_up-in-Lost.ensures.down) (put_off_coded (length c.step.new.self.to) c.give_up-in-Lost.new.self.outcomes c.give_up-in-Lost.ensures.outcomes)
+
+pub returns-in-Settles-clause-codes : goal.returns-in-Settles-clause-codes
+returns-in-Settles-clause-codes g c =
+    let last = c.in-Settles.last in
+    let settled = c.in_ok-step.ensures.codes last (ap (λ (s : Step). Ok s) c.in-Settles.is) in
+    subst (λ (p : Polled). HasCodes p c.quit.new.self) (sym c.quit.ensures.up) (settled_coded last c.step.new.self.dialogue.answers.items c.quit.new.self.outcomes settled c.quit.ensures.outcomes)

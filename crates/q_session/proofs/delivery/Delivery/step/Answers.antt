@@ -1,8 +1,9 @@
-use Rattle.std.proofs.Common.{arith, subst}
+use Rattle.std.proofs.Common.{◌≡◌, arith, subst}
 use Rattle.q_session.proofs.Hearings.{steps_behind, steps_unsendable, steps_unsent}
 use Rattle.q_session.specs.Mails.{StandsAt}
 use Rattle.q_session.specs.Steps.{SendsDue}
 use Rattle.q_session.specs.declared.outbox.Sent.{Sent}
+use Rattle.q_session.specs.declared.steps.Step.TheVariants.{Settles}
 use Rattle.q_session.proofs.delivery.Delivery.step.Goals as goal
 
 pub returns-in-All-clause-steps : goal.returns-in-All-clause-steps
@@ -26,3 +27,8 @@ returns-in-Lost-clause-steps g c =
     let given = StandsAt g.H.Host.tells (g.H.Host.view c.args.host.now) c.args.self.now.content.spot in
     let sends = subst (λ (s : Sent). SendsDue g.H.Host.tells given c.args.self.now c.send.new.self (g.L.Link.view c.args.link.now) (g.L.Link.view c.send.new.link) s) c.in-Lost.is c.in_ok-send.ensures.sends in
     steps_unsendable g.H.Host.tells given c.args.self.now c.send.new.self (g.L.Link.view c.args.link.now) (g.L.Link.view c.send.new.link) c.send.ensures.link sends
+
+pub returns-in-All-clause-codes : goal.returns-in-All-clause-codes
+returns-in-All-clause-codes g c last is =
+    let same : c.hear.result ≡ Settles last = cc in
+    c.hear.ensures.codes last same

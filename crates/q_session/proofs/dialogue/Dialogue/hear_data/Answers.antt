@@ -4,6 +4,7 @@ use Rattle.q_session.specs.declared.dialogue.Awaited.TheVariants.{Answer}
 use Rattle.q_session.specs.declared.dialogue.Command.TheVariants.{Data}
 use Rattle.q_session.specs.declared.dialogue.Next.TheVariants as next
 use Rattle.q_session.proofs.Dialogues.{goes_at, data_asked, data_refused, data_broken, place_at}
+use Rattle.q_session.proofs.CodeLaws.{answer_last, refusal_answers}
 use Rattle.q_session.proofs.dialogue.Dialogue.hear_data.Goals as goal
 
 pub returns-then-code-eq354-clause-goes : goal.returns-then-code-eq354-clause-goes
@@ -22,3 +23,6 @@ returns-clause-goes c =
     let other : (c.args.code == 354) ≡ false = grind (arith, nat_tests, c.if-code-eq354.false) in
     λ e all. goes_at e c.args.self.now (Answer Data) c.args.code (next.Settled c.args.code) c.args.self.now c.requires.awaited
     (λ more. data_refused e c.args.self.now.answers.items c.args.code more other (sym c.is_refusal.ensures ∙ c.if-not-is_refusal.false)) (place_at c.args.self.now (Answer Data) c.requires.awaited c.requires.course.place) refl (λ whole left h. tt)
+
+pub returns-clause-last : goal.returns-clause-last
+returns-clause-last c = answer_last c.args.code (refusal_answers c.args.code (sym c.is_refusal.ensures ∙ c.if-not-is_refusal.false))

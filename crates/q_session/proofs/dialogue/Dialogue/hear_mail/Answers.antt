@@ -5,6 +5,9 @@ use Rattle.q_session.specs.declared.dialogue.Awaited.TheVariants.{Answer}
 use Rattle.q_session.specs.declared.dialogue.Command.TheVariants.{Mail}
 use Rattle.q_session.specs.declared.dialogue.Next.TheVariants as next
 use Rattle.q_session.proofs.Dialogues.{goes_at, goes_named, is_ready_at, mail_broken, mail_heard, mail_refused, none_yet, one_more_of}
+use Rattle.std.specs.List.{list_all}
+use Rattle.q_smtp.specs.Codes.{is_answer}
+use Rattle.q_session.proofs.CodeLaws.{answer_last, refusal_answers, same_answers}
 use Rattle.q_session.proofs.dialogue.Dialogue.hear_mail.Goals as goal
 
 pub returns-then-is_done-clause-goes : goal.returns-then-is_done-clause-goes
@@ -41,3 +44,10 @@ returns-clause-goes c = λ e all. goes_at e c.args.self.now (Answer Mail) c.args
     ∙ ap (λ (xs : List ℕ). ends (Settled (map (outcome_by c.args.code) xs))) (sym c.loop.invariant.items))
     (let full : vec_len c.loop.self.answers ≡ c.loop.self.recipients = omega (arith, c.loop.invariant.count, c.loop.invariant.recipients, c.loop.auto.counter-end) in full)
     c.loop.invariant.recipients (λ whole left h. tt)
+
+pub returns-clause-codes : goal.returns-clause-codes
+returns-clause-codes c =
+    ap (list_all is_answer) c.loop.invariant.items ∙ same_answers c.loop.counter c.args.code (refusal_answers c.args.code (sym c.is_refusal.ensures ∙ c.if-not-is_refusal.false))
+
+pub returns-clause-last : goal.returns-clause-last
+returns-clause-last c = answer_last c.args.code (refusal_answers c.args.code (sym c.is_refusal.ensures ∙ c.if-not-is_refusal.false))
