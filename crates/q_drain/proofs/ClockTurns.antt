@@ -12,7 +12,7 @@ use Rattle.q_drain.proofs.Ending.{cases_deliver}
 use Rattle.q_drain.proofs.Moments.{begun_behind}
 use Rattle.q_drain.proofs.GivingUp.{gives_up_part}
 use Rattle.q_drain.proofs.Naming.{at_names_turn, at_turn}
-use Rattle.q_drain.proofs.Silent.{decisions_inside, no_replies}
+use Rattle.q_drain.proofs.Silent.{decisions_inside, no_moments, no_replies}
 use Rattle.q_drain.proofs.Turning.{at_entries, course_first, course_later, course_same, with_moment}
 use Rattle.q_drain.proofs.UnderWay.{at_under_way, did_still, given_more, same_under_way}
 use Rattle.q_drain.specs.Drains.{IsOwnRun}
@@ -70,6 +70,7 @@ heard_same w l a old new hops u engine early fs os s t now lawful some adds says
       moment = t;
       entries_told = [];
       waiting = [];
+      line = ([], refl, inl refl);
       plays = plays_none w k u lawful h.stands.host;
       adds = (stores_none w k u.files).adds;
       serving = subst (λ told. IsServing w l a (record { clock = new; hops = hops }) u engine (record { listed = os; polled = 0 }) early [] fs (record s { told = told; moments = s.moments ++ t ∷ [] })) (sym (append-nil s.told)) serving;
@@ -114,6 +115,7 @@ heard_at w l a old new hops u x engine next early fs os s first t f adds late b 
       moment = t;
       entries_told = at_entries w k t;
       waiting = begun_behind w l s (entries.At t) t;
+      line = (decisions w (after w k (entries.At t)), no_moments (decisions w (after w k (entries.At t))) (decisions_inside w (after w k (entries.At t))), inr refl);
       plays = subst (λ xs. PlaysRun w k xs u x) (at_turn w k t (omega (arith, least))) took.plays;
       adds = subst (λ xs. AddsAllNotes w k xs u.files x.files) (at_turn w k t (omega (arith, least))) took.notes.adds;
       serving = record { under_way = at_under_way w l a z u early fs os s b.0 engine next x new t h b.1 adds least c.0 took; polled = omega arith; some = omega (arith, more) };

@@ -13,6 +13,7 @@ use Rattle.q_drain.specs.Driving.{AreConnected, Driving, FewCutOff, HasCases}
 use Rattle.q_drain.specs.Stories.{Story}
 use Rattle.q_drain.specs.Told.{Begun, begun}
 use Rattle.q_drain.specs.Sweeps.{AllConnected, SomeConnected}
+use Rattle.q_drain.specs.Waited.{MadeSweeps}
 use Rattle.q_drain.specs.Waits.{Sweeps}
 use Rattle.q_drain.specs.Works.{IsSessionOf}
 use Rattle.q_link.specs.Views.{Told}
@@ -65,8 +66,8 @@ all_connected s early c =
     }
 
 -- where no delivery waits for its connect, and its last sweep did nothing
-pub drives_whole : (w : World) (l : Ledger) (Tells : Begun → Told → Type 0) (early : List Begun) (fs : List Delivery) (os : List OpenSession) (s : Story) → Driving w l Tells early [] fs os s → Sweeps 1 s → IsWhole w l s
-drives_whole w l Tells early fs os s d sweeps =
+abbrev pub drives_whole : (w : World) (l : Ledger) (Tells : Begun → Told → Type 0) (early : List Begun) (fs : List Delivery) (os : List OpenSession) (s : Story) → Driving w l Tells early [] fs os s → Sweeps 1 s → MadeSweeps w l s → IsWhole w l s
+drives_whole w l Tells early fs os s d sweeps made =
     let counted = d.opened.counted in
     let all = all_begun s early [] d.connected in
     record {
@@ -74,6 +75,7 @@ drives_whole w l Tells early fs os s d sweeps =
       room = d.course.room;
       clocked = d.course.clocked;
       rested = sweeps_end s sweeps (omega (arith, counted, all));
+      sweeps = made;
       connected = all_connected s early d.connected;
     }
 

@@ -15,14 +15,18 @@ use Rattle.q_drain.proofs.Polls.{order_same}
 use Rattle.q_drain.proofs.Starting.{nothing}
 use Rattle.q_drain.proofs.SweepsOn.{between_busy, between_rest}
 use Rattle.q_drain.proofs.UnderWay.{starts_under_way}
+use Rattle.q_drain.proofs.WaitingSweeps.{silent_less, silent_same, sweeps_none, sweeps_one_more, waited_more, waited_same}
 use Rattle.q_drain.specs.Drained.{CountsRests, DrainEnds, RestsBehind}
 use Rattle.q_drain.specs.Exits.{EndsEarly, EndsFull, EndsQuiet, EndsUnfinished, EndsWhole, IsAtStart}
 use Rattle.q_drain.specs.GivenUp.{GivesUp}
-use Rattle.q_drain.specs.Polling.{AreInOrder}
-use Rattle.q_drain.specs.Served.{FilledUp, ServedOn}
+use Rattle.q_drain.specs.Polling.{AreInOrder, KeepsSame}
+use Rattle.q_drain.specs.Progress.{LeavesLess, work_left}
+use Rattle.q_drain.specs.Served.{FilledUp}
 use Rattle.q_drain.specs.Standing.{Outside, counts_of}
 use Rattle.q_drain.specs.Stories.{Story}
-use Rattle.q_drain.specs.Swept.{IdlesOn, Outsides, StandsBetween}
+use Rattle.q_drain.specs.Swept.{IdlesOn, Outsides, StandsBetween, SweptOn}
+use Rattle.q_drain.specs.Told.{Begun}
+use Rattle.q_drain.specs.Waited.{AreSweeps, MadeSweep, is_silent, waiting_sweeps}
 use Rattle.q_drain.specs.Waits.{Sweeps, idle}
 use Rattle.q_drain.specs.Works.{IsLinkBetween, IsLinkOf, IsSessionOf}
 use Rattle.q_drain.specs.declared.poll.Served.{Served}
@@ -40,6 +44,7 @@ use Rattle.q_host.specs.View.{View as HostView}
 use Rattle.q_host.specs.declared.error.HostError.{HostError}
 use Rattle.q_host.specs.declared.error.HostError.TheVariants as faults
 use Rattle.q_link.specs.Records.{HopsView}
+use Rattle.q_link.specs.Views.{Told}
 use Rattle.q_model.specs.declared.entry.Entry.{Entry}
 use Rattle.q_model.specs.declared.spot.Area.{Area}
 use Rattle.q_model.specs.Ledger.{Ledger}
@@ -53,6 +58,9 @@ pub record DrainsSo (w : World) (l : Ledger) (a z : Outside) (u v : HostView) (e
   pub plays : PlaysRun w l story.told u v
   pub adds : AddsAllNotes w l story.told u.files v.files
   pub rests_given : story.rests ≡ given
+  pub made : List MadeSweep
+  pub are : AreSweeps story made
+  pub waited : waiting_sweeps w l made ≡ given
 
 -- at first
 pub drains_first : (w : World) (l : Ledger) (a : Outside) (u : HostView) (engine : Engine) → TellsCrashes u → EngineStands w engine u l → IsAtStart l → DrainsSo w l a a u u engine [] 0 true 0
@@ -73,6 +81,9 @@ drains_first w l a u engine lawful stands start = record {
   plays = plays_none w l u lawful stands.host;
   adds = adds_looked w l u u refl;
   rests_given = refl;
+  made = [];
+  are = sweeps_none nothing refl refl;
+  waited = refl;
 }
 
 module _ (w : World) (l : Ledger) (a z y : Outside) (u v x : HostView) (engine : Engine) (os : List OpenSession) (known : ℕ) (first : Bool) (given : ℕ) (d : DrainsSo w l a z u v engine os known first given) where
@@ -82,49 +93,93 @@ module _ (w : World) (l : Ledger) (a z y : Outside) (u v x : HostView) (engine :
   adds_more : (es : List Entry) (story : Story) → story.told ≡ (d.story).told ++ es → AddsAllNotes w (after_all w l (d.story).told) es v.files x.files → AddsAllNotes w l story.told u.files x.files
   adds_more es story told p = subst (λ (xs : List Entry). AddsAllNotes w l xs u.files x.files) (sym told) (adds_then w l (d.story).told es u.files v.files x.files d.adds p)
 
-  module _ (served : Served) (agent : Sessions) (m : ServedOn w l a y v x served agent d.story) where
-    pub sweep_plays : PlaysRun w l (m.story).told u x
-    sweep_plays = plays_more m.entries_told m.story m.told m.plays
+  module _ (served : Served) (agent : Sessions) (m : SweptOn w l a y v x served agent d.story) where
+    abbrev sweep : MadeSweep
+    sweep = record { moment = m.moment; told = m.served.entries_told }
 
-    pub sweep_adds : AddsAllNotes w l (m.story).told u.files x.files
-    sweep_adds = adds_more m.entries_told m.story m.told m.adds
+    abbrev Was : Begun → Told → Type 0
+    Was = IsLinkBetween d.between.between.0 (length d.story.moments)
 
-    pub sweep_rests : (m.story).rests ≡ given
-    sweep_rests = m.rests ∙ d.rests_given
+    abbrev Tells : Begun → Told → Type 0
+    Tells = IsLinkOf (counts_of a m.served.story agent.polled)
+
+    pub sweep_plays : PlaysRun w l (m.served.story).told u x
+    sweep_plays = plays_more m.served.entries_told m.served.story m.served.told m.served.plays
+
+    pub sweep_adds : AddsAllNotes w l (m.served.story).told u.files x.files
+    sweep_adds = adds_more m.served.entries_told m.served.story m.served.told m.served.adds
+
+    pub sweep_rests : (m.served.story).rests ≡ given
+    sweep_rests = m.served.rests ∙ d.rests_given
+
+    pub sweeps_are : AreSweeps m.served.story (d.made ++ sweep ∷ [])
+    sweeps_are = sweeps_one_more d.story m.served.story d.made sweep d.are m.line m.served.told m.served.moments
+
+    -- none was opened, and as many are open
+    silent : served.busy ≡ false → KeepsSame false served.busy known served.known (record { listed = os; polled = 0 }) agent → is_silent m.served.entries_told ≡ true
+    silent busy keeps =
+        let (still, on, stays) = keeps busy in
+        let known_is = d.between.known_is in
+        let is = m.served.known_is in
+        silent_same w l Was Tells d.between.early m.served.early d.between.flights m.served.flights os agent.listed d.story m.served.story m.served.entries_told m.served.told (d.between.between.2).driving m.served.serving.under_way.driving
+        (omega (arith, known_is, is, on)) stays
+
+    -- one was, or one is over
+    loud : LeavesLess false true (work_left known (record { listed = os; polled = 0 })) (work_left served.known agent) → is_silent m.served.entries_told ≡ false
+    loud less =
+        let known_is = d.between.known_is in
+        let is = m.served.known_is in
+        silent_less w l Was Tells d.between.early m.served.early d.between.flights m.served.flights os agent.listed d.story m.served.story m.served.entries_told m.served.told (d.between.between.2).driving m.served.serving.under_way.driving
+        (omega (arith, known_is, is, less))
+
+    -- the delivery of an open session is in flight
+    sweep_flies : agent.listed ≢ [] → (after_all w l (m.served.story).told).flights ≢ []
+    sweep_flies some =
+        let o = (m.served.serving).under_way.driving.opened in
+        λ none. pairs_some (IsSessionOf (after_all w l (m.served.story).told).book (m.served.story).told Tells) m.served.flights agent.listed o.sessions some
+        (sym (append-nil m.served.flights) ∙ sym o.flights ∙ none)
+
+    pub waited_on : served.busy ≡ false → agent.listed ≢ [] → KeepsSame false served.busy known served.known (record { listed = os; polled = 0 }) agent → waiting_sweeps w l (d.made ++ sweep ∷ []) ≡ given + 1
+    waited_on busy some keeps =
+        let more = waited_more w l d.story m.served.story d.made sweep d.are m.served.told (silent busy keeps) (sweep_flies some) in
+        let before = d.waited in
+        omega (arith, more, before)
+
+    pub waited_still : LeavesLess false true (work_left known (record { listed = os; polled = 0 })) (work_left served.known agent) → waiting_sweeps w l (d.made ++ sweep ∷ []) ≡ given
+    waited_still less = waited_same w l d.story m.served.story d.made sweep d.are m.served.told (loud less) ∙ d.waited
 
     -- behind a sweep in which no delivery began or ended
-    abbrev ends_whole : served.busy ≡ false → EndsWhole w l (record { before = a; behind = y }) u x
-    ends_whole busy = record {
-      story = m.story;
+    abbrev ends_whole : served.busy ≡ false → KeepsSame false served.busy known served.known (record { listed = os; polled = 0 }) agent → EndsWhole w l (record { before = a; behind = y }) u x
+    ends_whole busy keeps = record {
+      story = m.served.story;
       plays = sweep_plays;
       adds = sweep_adds;
-      whole = drives_whole w l (IsLinkOf (counts_of a m.story agent.polled)) m.early m.flights agent.listed m.story (m.serving).under_way.driving (subst (λ (b : Bool). Sweeps (idle b) m.story) busy m.sweeps);
-      given = (m.serving).under_way.given;
+      whole = drives_whole w l Tells m.served.early m.served.flights agent.listed m.served.story (m.served.serving).under_way.driving (subst (λ (b : Bool). Sweeps (idle b) m.served.story) busy m.served.sweeps)
+          (record { earlier = d.made; last = sweep; are = sweeps_are; rests = sweep_rests ∙ sym d.waited; silent = silent busy keeps });
+      given = (m.served.serving).under_way.given;
       delivered = λ now told.
-          let r = (m.serving).under_way.records now told in
-          (r.before, r.told, r.did, cases_deliver w l r.before.connects a.hops.connect_faults y.hops.connect_faults m.flights agent.listed m.story r.cases);
+          let r = (m.served.serving).under_way.records now told in
+          (r.before, r.told, r.did, cases_deliver w l r.before.connects a.hops.connect_faults y.hops.connect_faults m.served.flights agent.listed m.served.story r.cases);
     }
 
     -- the rests are given
-    pub ends_unfinished : served.busy ≡ false → agent.listed ≢ [] → EndsUnfinished w l (record { before = a; behind = y }) u x given
-    ends_unfinished busy some =
-        let o = (m.serving).under_way.driving.opened in
-        record {
-          ends = ends_whole busy;
-          flies = λ none. pairs_some (IsSessionOf (after_all w l (m.story).told).book (m.story).told (IsLinkOf (counts_of a m.story agent.polled))) m.flights agent.listed o.sessions some
-              (sym (append-nil m.flights) ∙ sym o.flights ∙ none);
-          rests_given = sweep_rests;
-        }
+    pub ends_unfinished : served.busy ≡ false → agent.listed ≢ [] → KeepsSame false served.busy known served.known (record { listed = os; polled = 0 }) agent → EndsUnfinished w l (record { before = a; behind = y }) u x given
+    ends_unfinished busy some keeps = record {
+      ends = ends_whole busy keeps;
+      flies = sweep_flies some;
+      rests_given = sweep_rests;
+      waited = waited_on busy some keeps;
+    }
 
   -- no session was open
-  pub ends_quiet : (next : Engine) → IdlesOn w l a y v x next d.story → EndsQuiet w l (record { before = a; behind = y }) u x next
+  pub ends_quiet : (next : Engine) → IdlesOn w l a y v x next os known d.story → EndsQuiet w l (record { before = a; behind = y }) u x next
   ends_quiet next h =
-      let served : Served = record { engine = next; known = h.0; busy = false } in
-      let m : ServedOn w l a y v x served (record { listed = []; polled = 0 }) d.story = h.1 in
+      let served : Served = record { engine = next; known = known; busy = false } in
+      let m : SweptOn w l a y v x served (record { listed = []; polled = 0 }) d.story = h.1 in
       record {
-        ends = ends_whole served (record { listed = []; polled = 0 }) m refl;
-        quiet = drives_quiet w l (IsLinkOf (counts_of a m.story 0)) m.early m.flights m.story (m.serving).under_way.driving;
-        stands = (m.serving).under_way.stands;
+        ends = ends_whole served (record { listed = []; polled = 0 }) m refl (λ idle. (refl, refl, sym (ap length h.0)));
+        quiet = drives_quiet w l (IsLinkOf (counts_of a m.served.story 0)) m.served.early m.served.flights m.served.story (m.served.serving).under_way.driving;
+        stands = (m.served.serving).under_way.stands;
       }
 
   -- no number is left
@@ -178,31 +233,40 @@ sweep_over_low s over = on s.listed (not_true (list_any (λ (o : OpenSession). n
         (ltb-false s.polled o.number both.0, on os both.1)
 
 pub drains_more : (w : World) (l : Ledger) (a z : Outside) (clock : Option (List ℕ)) (u v x : HostView) (hops rested : HopsView) (engine : Engine) (os : List OpenSession) (known : ℕ) (first : Bool) (given rests more : ℕ) (served : Served) (agent new : Sessions) (b : Bool)
-    → (d : DrainsSo w l a z u v engine os known first given) → (m : ServedOn w l a (record { clock = clock; hops = hops }) v x served agent d.story)
-    → is_sweep_over agent ≡ true → served.busy ≡ b → RestsBehind b given rests agent new hops rested (Some more)
+    → (d : DrainsSo w l a z u v engine os known first given) → (m : SweptOn w l a (record { clock = clock; hops = hops }) v x served agent d.story)
+    → is_sweep_over agent ≡ true → (served.busy ≡ false → agent.listed ≢ []) → KeepsSame false served.busy known served.known (record { listed = os; polled = 0 }) agent
+    → LeavesLess false served.busy (work_left known (record { listed = os; polled = 0 })) (work_left served.known agent) → served.busy ≡ b → RestsBehind b given rests agent new hops rested (Some more)
     → DrainsSo w l a (record { clock = clock; hops = rested }) u x served.engine new.listed served.known false more
-drains_more w l a z clock u v x hops rested engine os known first given rests more served agent new true d m over busy h =
+drains_more w l a z clock u v x hops rested engine os known first given rests more served agent new true d m over some keeps less busy h =
     let y : Outside = record { clock = clock; hops = hops } in
     let still : DrainsSo w l a y u x served.engine agent.listed served.known false given = record {
-      story = m.story;
-      between = between_busy w l a y v x served agent d.story m busy;
+      story = m.served.story;
+      between = between_busy w l a y v x served agent (m.moment ∷ []) d.story m.served busy;
       plays = sweep_plays w l a z y u v x engine os known first given d served agent m;
       adds = sweep_adds w l a z y u v x engine os known first given d served agent m;
       rests_given = sweep_rests w l a z y u v x engine os known first given d served agent m;
+      made = d.made ++ sweep w l a z y u v x engine os known first given d served agent m ∷ [];
+      are = sweeps_are w l a z y u v x engine os known first given d served agent m;
+      waited = waited_still w l a z y u v x engine os known first given d served agent m
+          (subst (λ (b : Bool). LeavesLess false b (work_left known (record { listed = os; polled = 0 })) (work_left served.known agent)) busy less);
     } in
     subst (λ (n : ℕ). DrainsSo w l a (record { clock = clock; hops = rested }) u x served.engine new.listed served.known false n) (sym (same_Some more given h.0))
     (subst (λ (n : HopsView). DrainsSo w l a (record { clock = clock; hops = n }) u x served.engine new.listed served.known false given) (sym h.2)
     (subst (λ (n : Sessions). DrainsSo w l a y u x served.engine n.listed served.known false given) (sym h.1) still))
-drains_more w l a z clock u v x hops rested engine os known first given rests more served agent new false d m over busy h =
+drains_more w l a z clock u v x hops rested engine os known first given rests more served agent new false d m over some keeps less busy h =
     let y : Outside = record { clock = clock; hops = hops } in
     let rests_given = sweep_rests w l a z y u v x engine os known first given d served agent m in
+    let are = sweeps_are w l a z y u v x engine os known first given d served agent m in
     let one = h.0 in
     record {
-      story = record m.story { rests = (m.story).rests + 1 };
-      between = between_rest w l a clock v x hops rested served agent new d.story m busy (sweep_over_low agent over) h.2 h.3.0 (ap (λ (n : HopsView). n.connect_faults) h.3.1);
+      story = record m.served.story { rests = (m.served.story).rests + 1 };
+      between = between_rest w l a clock v x hops rested served agent new (m.moment ∷ []) d.story m.served busy (sweep_over_low agent over) h.2 h.3.0 (ap (λ (n : HopsView). n.connect_faults) h.3.1);
       plays = sweep_plays w l a z y u v x engine os known first given d served agent m;
       adds = sweep_adds w l a z y u v x engine os known first given d served agent m;
       rests_given = omega (arith, rests_given, one);
+      made = d.made ++ sweep w l a z y u v x engine os known first given d served agent m ∷ [];
+      are = record { told = are.told; moments = are.moments; each = are.each };
+      waited = waited_on w l a z y u v x engine os known first given d served agent m busy (some busy) keeps ∙ sym one;
     }
 
 -- the sessions stay in order

@@ -18,6 +18,7 @@ pub mod Connecting
 pub mod Polling
 pub mod Turning
 pub mod Ending
+pub mod WaitingSweeps
 pub mod Starting
 pub mod CuttingOff
 pub mod Continuing

@@ -3,8 +3,9 @@ use native.Mathlib.Omega.{arith}
 use Rattle.q_drain.proofs.Rooming.{room_front, room_more, room_reply}
 use Rattle.q_drain.specs.Rooms.{HadRoom, MayBeginMore}
 use Rattle.std.proofs.Common.{◌≡◌, ◌≤◌, ◌+◌, inl, inr, ℕ, Bool, true, false, List, [], ◌∷◌, ◌++◌, length, length-append, Option, Some, None, refl, sym, ap, ◌∙◌, subst, append-nil, ◌<◌}
-use Rattle.std.specs.List.{AllByRecursion}
-use Rattle.std.specs.Prelude.{◌^◌, IfSome, nat_lt}
+use Rattle.std.specs.List.{AllByRecursion, list_all}
+use Rattle.q_core.specs.Hearing.{has_log_code}
+use Rattle.std.specs.Prelude.{◌^◌, if◌then◌else◌, IfSome, nat_lt}
 use Rattle.q_agent.specs.Answers.{HasFile, IsStanding, PollsNext}
 use Rattle.q_agent.specs.Requests.{active_spot}
 use Rattle.q_agent.specs.Sessions.{OpenSession, Sessions, Work, after_end, after_poll, next_polled, replaced, unpolled}
@@ -19,8 +20,8 @@ use Rattle.q_drain.proofs.Moments.{begun_behind}
 use Rattle.q_drain.proofs.Naming.{reply_names_turn, reply_turn}
 use Rattle.q_drain.proofs.Polling.{HasItsFile}
 use Rattle.q_drain.proofs.Parting.{GonePart, gone_clocked, gone_part}
-use Rattle.q_drain.proofs.Polls.{polled_on, polled_over, polling_less, polling_on, some_on, still_waits}
-use Rattle.q_drain.proofs.ReplyTurns.{counts_fit}
+use Rattle.q_drain.proofs.Polls.{polled_on, polled_over, polling_less, polling_on, same_on, still_waits}
+use Rattle.q_drain.proofs.ReplyTurns.{codes_logged, counts_fit}
 use Rattle.q_drain.proofs.Reports.{after_reply}
 use Rattle.q_drain.proofs.Requested.{gives_up}
 use Rattle.q_drain.proofs.Serving.{looked_under_way, polled_under_way}
@@ -32,7 +33,7 @@ use Rattle.q_drain.specs.Drains.{Delivers, IsOwnRun}
 use Rattle.q_drain.specs.Flights.{without_flight}
 use Rattle.q_drain.specs.GivenUp.{GivesUp}
 use Rattle.q_drain.specs.Opened.{FailsToOpenAll, GaveUp, IsServing, Looks, MayOpenAll, OpensAll}
-use Rattle.q_drain.specs.Polling.{IsPolling, KeepsSome}
+use Rattle.q_drain.specs.Polling.{IsPolling, KeepsSame}
 use Rattle.q_drain.specs.Replied.{entries_replied, HaltsReply, HasReplied, Replies, reply_event}
 use Rattle.q_drain.specs.Reported.{GivesUpReport, HearsReport}
 use Rattle.q_drain.specs.Served.{FilledUp, ServedOn}
@@ -116,7 +117,7 @@ polled_low w l a z v engine agent early waiting fs s o first h = in_up_to (lengt
 pub served_same : (w : World) (l : Ledger) (a : Outside) (clock : Option (List ℕ)) (u v : HostView) (hops next_hops : HopsView) (early : List Begun) (fs : List Delivery) (s : Story) (served : Served) (agent new : Sessions) (now : ℕ) (o p : OpenSession)
     → TellsCrashes u → Stays u v → unpolled agent ≡ Some o → IsWorking true u now o p → new ≡ after_poll p agent → next_hops ≡ hops
     → length early ≡ served.known → Sweeps (idle served.busy) s → IsServing w l a (record { clock = clock; hops = hops }) u served.engine agent early [] fs s
-    → ServedOn w l a (record { clock = clock; hops = next_hops }) u v served new s
+    → ServedOn w l a (record { clock = clock; hops = next_hops }) u v served new [] s
 served_same w l a clock u v hops next_hops early fs s served agent new now o p lawful stays first works made same known sweeps h =
     let k : Ledger = after_all w l s.told in
     let z : Outside = record { clock = clock; hops = hops } in
@@ -134,6 +135,7 @@ served_same w l a clock u v hops next_hops early fs s served agent new now o p l
       flights = fs;
       story = s;
       told = sym (append-nil s.told);
+      moments = sym (append-nil s.moments);
       rests = refl;
       plays = plays_looked w k u v lawful h.under_way.stands.host (reads_keep k.book k.book u v lawful stays h.under_way.stands.host);
       adds = adds_looked w k u v stays.files;
@@ -334,7 +336,7 @@ module _ (w : World) (l : Ledger) (a : Outside) (clock : Option (List ℕ)) (u v
 
       -- or all were
       pub served_replied : (b : HostView) (after_hops : HopsView) (sessions : Sessions) (known last : ℕ) (busy : Bool) → length early ≡ known → Sweeps (idle busy) s → OpensAll new x b next after_hops mid sessions known last
-          → ServedOn w l a (record { clock = clock; hops = after_hops }) u b (record { engine = new; known = last; busy = true }) sessions s
+          → ServedOn w l a (record { clock = clock; hops = after_hops }) u b (record { engine = new; known = last; busy = true }) sessions [] s
       served_replied b after_hops sessions known last busy is sweeps opens =
           let g = opens w l a clock early waiting (without_flight o.number fs) story is serving in
           let ds : List Entry = decisions w (after w k (entries.Reply o.number r.site r.outcomes)) in
@@ -345,6 +347,7 @@ module _ (w : World) (l : Ledger) (a : Outside) (clock : Option (List ℕ)) (u v
             flights = (g.0).flights;
             story = (g.0).story;
             told = (g.0).told;
+            moments = (g.0).moments ∙ sym (append-nil s.moments);
             rests = (g.0).rests;
             plays = plays b g.1;
             adds = adds_between w k es u v x b e.stays.files (subst (λ (xs : List Entry). AddsAllNotes w k xs v.files x.files) turn_is replied.took.notes.adds) (g.1).files;
@@ -366,9 +369,9 @@ module _ (w : World) (l : Ledger) (a : Outside) (clock : Option (List ℕ)) (u v
 
     -- it was told, and all were
     pub served_by_report : {H : Type 0} (view : H → HostView) (before b : H) → view before ≡ v → (mid : Sessions) (made : mid ≡ after_end o agent) (after_hops : HopsView) (sessions : Sessions) (known : ℕ) (served : Served) (busy : Bool) → length early ≡ known
-        → Sweeps (idle busy) s → served.busy ≡ true → HearsReport view r engine served before b next after_hops mid sessions known → ServedOn w l a (record { clock = clock; hops = after_hops }) u (view b) served sessions s
+        → Sweeps (idle busy) s → served.busy ≡ true → HearsReport view r engine served before b next after_hops mid sessions known → ServedOn w l a (record { clock = clock; hops = after_hops }) u (view b) served sessions [] s
     served_by_report view before b at mid made after_hops sessions known served busy is sweeps own heard =
-        subst (λ (n : Served). ServedOn w l a (record { clock = clock; hops = after_hops }) u (view b) n sessions s) (as_busy served own)
+        subst (λ (n : Served). ServedOn w l a (record { clock = clock; hops = after_hops }) u (view b) n sessions [] s) (as_busy served own)
         (served_replied (view heard.between) served.engine mid made (subst (λ (x : HostView). Replies r engine served.engine x (view heard.between)) at heard.replied) (view b) after_hops sessions known served.known busy is sweeps heard.opened)
 
 -- ---- by the answer of the agent
@@ -400,7 +403,7 @@ ends_poll w l a clock u v hops next engine agent mid early fs s tells now o r la
 pub served_on : (w : World) (l : Ledger) (a : Outside) (clock : Option (List ℕ)) (u v : HostView) (hops next : HopsView) (early : List Begun) (fs : List Delivery) (s : Story) (served : Served) (agent new : Sessions) (tells : Bool) (now : ℕ) (o : OpenSession)
     → TellsCrashes u → Stays u v → unpolled agent ≡ Some o → tells ≡ true → PollsNext tells u now hops next (next_polled agent) None agent new
     → length early ≡ served.known → Sweeps (idle served.busy) s → IsServing w l a (record { clock = clock; hops = hops }) u served.engine agent early [] fs s
-    → ServedOn w l a (record { clock = clock; hops = next }) u v served new s
+    → ServedOn w l a (record { clock = clock; hops = next }) u v served new [] s
 served_on w l a clock u v hops next early fs s served agent new tells now o lawful stays first t was_polled known sweeps h =
     let one = polled_on tells u now hops next agent new o first was_polled in
     served_same w l a clock u v hops next early fs s served agent new now o one.0 lawful stays first (subst (λ b. IsWorking b u now o one.0) t one.1) one.2 one.3 known sweeps h
@@ -416,16 +419,22 @@ polls_less number tells u now hops next agent new o r first was_polled h =
     let one = polled_over tells u now hops next agent new o r first was_polled in
     subst (λ (n : Sessions). IsPolling n number) (sym one.1) (polling_less agent number o first h)
 
-pub keeps_some : (busy : Bool) (tells : Bool) (u : HostView) (now : ℕ) (hops next : HopsView) (agent new : Sessions) (o : OpenSession) → unpolled agent ≡ Some o → PollsNext tells u now hops next (next_polled agent) None agent new → KeepsSome busy busy agent new
-keeps_some busy tells u now hops next agent new o first was_polled =
+pub keeps_same : (busy : Bool) (known : ℕ) (tells : Bool) (u : HostView) (now : ℕ) (hops next : HopsView) (agent new : Sessions) (o : OpenSession) → unpolled agent ≡ Some o → PollsNext tells u now hops next (next_polled agent) None agent new → KeepsSame busy busy known known agent new
+keeps_same busy known tells u now hops next agent new o first was_polled =
     let one = polled_on tells u now hops next agent new o first was_polled in
-    subst (λ (n : Sessions). KeepsSome busy busy agent n) (sym one.2) (some_on busy agent one.0)
+    subst (λ (n : Sessions). KeepsSame busy busy known known agent n) (sym one.2) (same_on busy known agent one.0)
 
 pub reply_fits : (tells : Bool) (u : HostView) (now : ℕ) (hops next : HopsView) (agent new : Sessions) (o : OpenSession) (r : Report) → unpolled agent ≡ Some o → PollsNext tells u now hops next (next_polled agent) (Some r) agent new → fits_state r.site r.outcomes ≡ true
 reply_fits tells u now hops next agent new o r first was_polled =
     let one = polled_over tells u now hops next agent new o r first was_polled in
     counts_fit r.site o.recipients r.outcomes one.0.counts
 
+-- and logs can hold the codes of its outcomes
+pub reply_codes : (tells : Bool) (u : HostView) (now : ℕ) (hops next : HopsView) (agent new : Sessions) (o : OpenSession) (r : Report) → unpolled agent ≡ Some o → PollsNext tells u now hops next (next_polled agent) (Some r) agent new → list_all has_log_code r.outcomes ≡ true
+reply_codes tells u now hops next agent new o r first was_polled =
+    let one = polled_over tells u now hops next agent new o r first was_polled in
+    codes_logged r.outcomes one.0.codes
+
 -- where the engine's record says that a delivery ended, nothing is asked of sessions
-pub busy_keeps : (was busy : Bool) (old new : Sessions) → busy ≡ true → KeepsSome was busy old new
-busy_keeps was busy old new is idle = let bad : true ≡ false = sym is ∙ idle in cc
+pub busy_keeps : (was busy : Bool) (known last : ℕ) (old new : Sessions) → busy ≡ true → KeepsSame was busy known last old new
+busy_keeps was busy known last old new is idle = let bad : true ≡ false = sym is ∙ idle in cc

@@ -29,13 +29,14 @@ use Rattle.q_model.specs.Step.{after_all}
 
 -- nothing was done yet
 pub served_none : (w : World) (l : Ledger) (a z : Outside) (u : HostView) (served : Served) (agent : Sessions) (early : List Begun) (fs : List Delivery) (s : Story)
-    → TellsCrashes u → length early ≡ served.known → Sweeps (idle served.busy) s → IsServing w l a z u served.engine agent early [] fs s → ServedOn w l a z u u served agent s
+    → TellsCrashes u → length early ≡ served.known → Sweeps (idle served.busy) s → IsServing w l a z u served.engine agent early [] fs s → ServedOn w l a z u u served agent [] s
 served_none w l a z u served agent early fs s lawful known sweeps h = record {
   entries_told = [];
   early = early;
   flights = fs;
   story = s;
   told = sym (append-nil s.told);
+  moments = sym (append-nil s.moments);
   rests = refl;
   plays = plays_none w (after_all w l s.told) u lawful h.under_way.stands.host;
   adds = adds_looked w (after_all w l s.told) u u refl;
@@ -45,22 +46,23 @@ served_none w l a z u served agent early fs s lawful known sweeps h = record {
 }
 
 -- what was told, behind what was told before
-plays_on : (w : World) (l : Ledger) (s r : Story) (es fs : List Entry) (u v x : HostView) → r.told ≡ s.told ++ es → PlaysRun w (after_all w l s.told) es u v → PlaysRun w (after_all w l r.told) fs v x → PlaysRun w (after_all w l s.told) (es ++ fs) u x
+pub plays_on : (w : World) (l : Ledger) (s r : Story) (es fs : List Entry) (u v x : HostView) → r.told ≡ s.told ++ es → PlaysRun w (after_all w l s.told) es u v → PlaysRun w (after_all w l r.told) fs v x → PlaysRun w (after_all w l s.told) (es ++ fs) u x
 plays_on w l s r es fs u v x told p q =
     plays_then w (after_all w l s.told) es fs u v x p (subst (λ (m : Ledger). PlaysRun w m fs v x) (ap (after_all w l) told ∙ after_all-append w l s.told es) q)
 
-told_on : (s r t : Story) (es fs : List Entry) → r.told ≡ s.told ++ es → t.told ≡ r.told ++ fs → t.told ≡ s.told ++ (es ++ fs)
+pub told_on : (s r t : Story) (es fs : List Entry) → r.told ≡ s.told ++ es → t.told ≡ r.told ++ fs → t.told ≡ s.told ++ (es ++ fs)
 told_on s r t es fs first later = later ∙ ap (λ (xs : List Entry). xs ++ fs) first ∙ append_assoc s.told es fs
 
-module _ (w : World) (l : Ledger) (a z y : Outside) (u v x : HostView) (served : Served) (agent : Sessions) (s : Story) (m : ServedOn w l a z u v served agent s) where
+module _ (w : World) (l : Ledger) (a z y : Outside) (u v x : HostView) (served : Served) (agent : Sessions) (ms : List ℕ) (s : Story) (m : ServedOn w l a z u v served agent ms s) where
   -- more polls
-  pub served_then : (next : Served) (new : Sessions) → ServedOn w l a y v x next new m.story → ServedOn w l a y u x next new s
+  abbrev pub served_then : (next : Served) (new : Sessions) → ServedOn w l a y v x next new [] m.story → ServedOn w l a y u x next new ms s
   served_then next new n = record {
     entries_told = m.entries_told ++ n.entries_told;
     early = n.early;
     flights = n.flights;
     story = n.story;
     told = told_on s m.story n.story m.entries_told n.entries_told m.told n.told;
+    moments = n.moments ∙ append-nil m.story.moments ∙ m.moments;
     rests = n.rests ∙ m.rests;
     plays = plays_on w l s m.story m.entries_told n.entries_told u v x m.told m.plays n.plays;
     adds = adds_then w (after_all w l s.told) m.entries_told n.entries_told u.files v.files x.files m.adds
@@ -90,7 +92,7 @@ module _ (w : World) (l : Ledger) (a z y : Outside) (u v x : HostView) (served :
 
 -- the next poll may be made
 pub may_serve : (clock : Option (List ℕ)) (u v : HostView) (hops next_hops : HopsView) (served next : Served) (agent new : Sessions) → (h : MayServe clock u hops served agent)
-    → ServedOn h.world h.ledger h.first (record { clock = clock; hops = next_hops }) u v next new h.story → MayServe clock v next_hops next new
+    → ServedOn h.world h.ledger h.first (record { clock = clock; hops = next_hops }) u v next new [] h.story → MayServe clock v next_hops next new
 may_serve clock u v hops next_hops served next agent new h m = record {
   world = h.world;
   ledger = h.ledger;

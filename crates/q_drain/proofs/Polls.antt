@@ -1,7 +1,8 @@
 -- The open sessions of a drain from call to call, whatever host and hops tell.
 use native.Mathlib.Omega.{arith}
-use Rattle.std.proofs.Common.{◌≡◌, ◌≢◌, ◌≤◌, ◌<◌, ◌+◌, ◌-◌, inl, inr, ℕ, Bool, true, false, if◌then◌else◌, List, [], ◌∷◌, ◌++◌, find, map, not, Option, Some, None, refl, sym, ap, ◌∙◌, subst, ltb-true, eq-eqb}
+use Rattle.std.proofs.Common.{◌≡◌, ◌≢◌, ◌≤◌, ◌<◌, ◌+◌, ◌-◌, inl, inr, ℕ, Bool, true, false, if◌then◌else◌, List, [], ◌∷◌, ◌++◌, find, length, map, not, Option, Some, None, refl, sym, ap, ◌∙◌, subst, ltb-true, eq-eqb}
 use Rattle.std.proofs.lemmas.Bool.{lt-ltb, ltb-false, ne_eqb}
+use Rattle.std.proofs.lemmas.List.{length-map}
 use Rattle.std.proofs.lemmas.Option.{same_Some}
 use Rattle.std.specs.List.{AllByRecursion, list_all, list_any}
 use Rattle.std.specs.Option.{option_or}
@@ -14,7 +15,8 @@ use Rattle.q_drain.proofs.Concluding.{IsBeside, beside}
 use Rattle.q_drain.proofs.Connecting.{AreUpTo, inserted_last, rises_more}
 use Rattle.q_drain.proofs.Reports.{rises_without}
 use Rattle.q_drain.proofs.Sessions.{replaced_numbers}
-use Rattle.q_drain.specs.Polling.{AreBelow, AreInOrder, ComesOrWaits, IsPolling, KeepsSome}
+use Rattle.q_drain.specs.Polling.{AreBelow, AreInOrder, ComesOrWaits, IsPolling, KeepsSame}
+use Rattle.q_drain.specs.Progress.{OpensUpTo}
 use Rattle.q_host.specs.View.{View as HostView}
 use Rattle.q_laws.proofs.Members.{IsIn, any_in, find_in, find_none}
 use Rattle.q_link.specs.Records.{HopsView}
@@ -161,19 +163,33 @@ polling_less s number o first h =
       waited = waited_beside s.polled o.number (without o.number s.listed) (all_without (ComesOrWaits s.polled) o.number s.listed h.waited) (beside s.polled o s.listed h.order.rises first);
     }
 
--- one stays where one was
-pub some_on : (busy : Bool) (s : Sessions) (p : OpenSession) → KeepsSome busy busy s (after_poll p s)
-some_on busy s p idle = (idle, some s.listed)
-  where
-    some : (os : List OpenSession) → os ≢ [] → replaced p os ≢ []
-    some [] h = λ none. h refl
-    some (x ∷ os) h = λ none. cc
+-- as many stay open
+pub same_on : (busy : Bool) (known : ℕ) (s : Sessions) (p : OpenSession) → KeepsSame busy busy known known s (after_poll p s)
+same_on busy known s p idle = (idle, refl, length-map s.listed (λ (x : OpenSession). if x.number == p.number then p else x))
 
-pub some_then : (first was busy : Bool) (s t u : Sessions) → KeepsSome first was s t → KeepsSome was busy t u → KeepsSome first busy s u
-some_then first was busy s t u h k idle =
+pub same_then : (first was busy : Bool) (known mid last : ℕ) (s t u : Sessions) → KeepsSame first was known mid s t → KeepsSame was busy mid last t u → KeepsSame first busy known last s u
+same_then first was busy known mid last s t u h k idle =
     let later = k idle in
     let before = h later.0 in
-    (before.0, λ some. later.1 (before.1 some))
+    (before.0, later.1 ∙ before.1, later.2 ∙ before.2)
+
+-- and so it is where sessions were opened before
+pub same_from : (was busy : Bool) (known opened last : ℕ) (s t u : Sessions) → nat_lt known opened ≡ was → known ≤ opened → OpensUpTo known opened s t → KeepsSame was busy opened last t u → KeepsSame false busy known last s u
+same_from was busy known opened last s t u is rises opens k idle =
+    let later = k idle in
+    let low : opened ≤ known = ltb-false known opened (is ∙ later.0) in
+    let listed = opens.listed in
+    let on = later.1 in
+    let count = later.2 in
+    (refl, omega (arith, on, low, rises), omega (arith, count, listed, low, rises))
+
+-- one is open where one was
+pub some_left : (s t : Sessions) → length t.listed ≡ length s.listed → s.listed ≢ [] → t.listed ≢ []
+some_left s t same some = on s.listed some same
+  where
+    on : (os : List OpenSession) → os ≢ [] → length t.listed ≡ length os → t.listed ≢ []
+    on [] h is = absurd (h refl)
+    on (o ∷ os) h is = λ none. let none_left = ap length none in absurd (omega (arith, is, none_left))
 
 -- ---- a session more
 

@@ -1,10 +1,16 @@
 -- The turn of a report's reply: which replies may come, and what a refusal leaves.
-use Rattle.std.proofs.Common.{◌≡◌, ℕ, zero, suc, Bool, true, false, if◌then◌else◌, List, [], length, Option, Some, None, refl, sym, ap, ◌∙◌, subst}
+use Rattle.std.proofs.Common.{◌≡◌, ℕ, zero, suc, Bool, true, false, if◌then◌else◌, List, [], ◌∷◌, arith, length, Option, Some, None, refl, sym, ap, ◌∙◌, subst}
+use Rattle.std.proofs.lemmas.Bool.{and_from, and_parts}
+use Rattle.std.proofs.lemmas.Bool.Decides.{nat_tests}
 use Rattle.std.specs.List.{list_all}
 use Rattle.std.specs.Option.{option_map_or}
 use Rattle.std.specs.Prelude.{◌&&◌, ◌==◌, ◌||◌, replicate}
 use Rattle.q_agent.specs.NextPoll.{Counts}
 use Rattle.q_agent.specs.declared.report.Report.{Report}
+use Rattle.q_session.specs.Codes.{HaveReplyCodes, has_reply_code}
+use Rattle.q_smtp.specs.Codes.{is_refusal}
+use Rattle.q_core.specs.Hearing.{has_log_code}
+use Rattle.q_model.specs.FailureLog.{is_log_code}
 use Rattle.q_books.specs.HostStands.{HostStands, TellsCrashes}
 use Rattle.q_drain.proofs.ClockTurns.{host_fault}
 use Rattle.q_drain.specs.Faults.{stop_of}
@@ -42,6 +48,21 @@ pub counts_fit : (site : SiteState) (n : ℕ) (os : List Outcome) → Counts sit
 counts_fit Up n os h = refl
 counts_fit Down n os h = ap (list_all is_later) h ∙ later_all n
 
+-- a failure log can hold the code of a reply that refuses
+refusal_logged : (code : ℕ) → ((code == 0) || is_refusal code) ≡ true → is_log_code code ≡ true
+refusal_logged code h = grind (arith, nat_tests, h)
+
+code_logged : (o : Outcome) → has_reply_code o ≡ true → has_log_code o ≡ true
+code_logged outcomes.Ok h = refl
+code_logged (outcomes.Later code) h = refusal_logged code h
+code_logged (outcomes.Never code) h = refusal_logged code h
+
+pub codes_logged : (os : List Outcome) → HaveReplyCodes os → list_all has_log_code os ≡ true
+codes_logged [] h = refl
+codes_logged (o ∷ os) h =
+    let both = and_parts (has_reply_code o) (list_all has_reply_code os) h in
+    and_from (has_log_code o) (list_all has_log_code os) (code_logged o both.0) (codes_logged os both.1)
+
 -- ---- a reply that isn't refused
 
 pub none_refused : (o : Option EngineError) → ((error : EngineError) → o ≡ Some error → ⊥) → o ≡ None
@@ -66,11 +87,11 @@ accepted_may l number site os fits none = early (is_early l.timed (events.Reply 
 
 -- one that may not come is refused
 pub refused_unless : (l : Ledger) (number : ℕ) (site : SiteState) (os : List Outcome) → fits_state site os ≡ true → may_reply l number site os ≡ false → (why : EngineError) × (refused_event l (events.Reply number site os) ≡ Some why)
-refused_unless l number site os fits no = on (refused_event l (events.Reply number site os)) refl
+refused_unless l number site os fits never = on (refused_event l (events.Reply number site os)) refl
   where
     on : (o : Option EngineError) → refused_event l (events.Reply number site os) ≡ o → (why : EngineError) × (refused_event l (events.Reply number site os) ≡ Some why)
     on (Some why) is = (why, is)
-    on None is = let bad : true ≡ false = sym (accepted_may l number site os fits is) ∙ no in absurd cc
+    on None is = let bad : true ≡ false = sym (accepted_may l number site os fits is) ∙ never in absurd cc
 
 -- ---- a refusal
 

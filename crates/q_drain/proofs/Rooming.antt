@@ -61,22 +61,24 @@ no_reply (entries.Bounce id) h = refl
 no_reply (entries.Remove id) h = refl
 no_reply (entries.Corrupt id) h = refl
 
+never_outside : (w : World) (l : Ledger) (e : Entry) → is_outside e ≡ false → is_outside e ≡ true → allowed w l e ≡ true
+never_outside w l e inside out = let bad : false ≡ true = sym inside ∙ out in absurd cc
+
 -- decisions ask for none
 pub room_inside : (w : World) (l : Ledger) (es : List Entry) → AreInside es → HadRoom w l es
 room_inside w l [] inside = tt
-room_inside w l (e ∷ es) inside = ((λ out. none e (inside.0).outside out, λ some. absurd (some (inside.0).reply)), room_inside w (after w l e) es inside.1)
-  where
-    none : (e : Entry) → is_outside e ≡ false → is_outside e ≡ true → allowed w l e ≡ true
-    none e no out = let bad : false ≡ true = sym no ∙ out in absurd cc
+room_inside w l (e ∷ es) inside = ((never_outside w l e (inside.0).outside, λ some. absurd (some (inside.0).reply)), room_inside w (after w l e) es inside.1)
+
+both_none : (b c : Bool) → (b || c) ≡ false → (b ≡ false) × (c ≡ false)
+both_none true c h = absurd cc
+both_none false c h = (refl, h)
 
 -- nor do entries of which none comes from outside
 pub room_none : (w : World) (l : Ledger) (es : List Entry) → list_any is_outside es ≡ false → HadRoom w l es
 room_none w l [] none = tt
-room_none w l (e ∷ es) none = by (is_outside e) refl none
-  where
-    by : (b : Bool) → is_outside e ≡ b → (b || list_any is_outside es) ≡ false → HadRoom w l (e ∷ es)
-    by true out none = absurd cc
-    by false out none = ((λ from. let bad : false ≡ true = sym out ∙ from in absurd cc, λ some. absurd (some (no_reply e out))), room_none w (after w l e) es none)
+room_none w l (e ∷ es) none =
+    let both = both_none (is_outside e) (list_any is_outside es) none in
+    ((never_outside w l e both.0, λ some. absurd (some (no_reply e both.0))), room_none w (after w l e) es both.1)
 
 -- a moment that isn't past
 pub room_at : (w : World) (k : Ledger) (t : ℕ) → is_living k ≡ true → k.now ≤ t → HadRoom w k (entries.At t ∷ decisions w (after w k (entries.At t)))

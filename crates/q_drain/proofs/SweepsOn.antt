@@ -1,6 +1,6 @@
 -- A drain through its sweeps.
 use native.Mathlib.Omega.{arith}
-use Rattle.std.proofs.Common.{◌≡◌, ◌≢◌, ◌≤◌, ◌<◌, ◌+◌, ℕ, Bool, true, false, List, [], ◌∷◌, ◌++◌, length, Option, refl, sym, ap, ◌∙◌, subst}
+use Rattle.std.proofs.Common.{◌≡◌, ◌≢◌, ◌≤◌, ◌<◌, ◌+◌, ℕ, Bool, true, false, List, [], ◌∷◌, ◌++◌, length, Option, refl, sym, ap, ◌∙◌, subst, append-nil}
 use Rattle.std.specs.List.{AllByRecursion}
 use Rattle.q_agent.specs.Rests.{RestsOne}
 use Rattle.q_agent.specs.Sessions.{OpenSession, Sessions}
@@ -8,16 +8,19 @@ use Rattle.q_books.specs.HostStands.{Takes, TellsCrashes}
 use Rattle.q_drain.proofs.GivingUp.{gives_up_later, gives_up_looking}
 use Rattle.q_drain.proofs.NextPolls.{adds_between, more_done, more_ended}
 use Rattle.q_drain.proofs.Ending.{all_begun}
+use Rattle.q_drain.proofs.PollingAll.{served_then}
 use Rattle.q_drain.proofs.Serving.{rest_under_way, swept_under_way}
 use Rattle.q_drain.proofs.Waiting.{done, sweeps_busy, sweeps_moment, sweeps_more, sweeps_rest}
+use Rattle.q_drain.proofs.WaitingSweeps.{line_on, no_more_moments}
 use Rattle.q_drain.specs.GivenUp.{GivesUp}
 use Rattle.q_drain.specs.Heard.{Heard, HearsClock}
 use Rattle.q_drain.specs.Opened.{FailsToOpenAll, Looks, MayOpenAll, OpensAll}
+use Rattle.q_drain.specs.Progress.{OpensUpTo}
 use Rattle.q_drain.specs.Served.{ServedOn}
 use Rattle.q_drain.specs.Standing.{Outside, counts_of}
 use Rattle.q_drain.specs.Stories.{Story}
 use Rattle.q_drain.specs.Told.{ended}
-use Rattle.q_drain.specs.Swept.{IdlesOn, StandsBetween}
+use Rattle.q_drain.specs.Swept.{IdlesOn, StandsBetween, SweptOn}
 use Rattle.q_drain.specs.Waits.{Sweeps, idle}
 use Rattle.q_drain.specs.declared.poll.Served.{Served}
 use Rattle.q_engine.specs.declared.engine.Engine.{Engine}
@@ -61,7 +64,7 @@ module _ (w : World) (l : Ledger) (a : Outside) (old new : Option (List ℕ)) (u
   -- the sessions of all deliveries that began are open
   pub served_heard : (x : HostView) (after_hops : HopsView) (sessions : Sessions) (opened : ℕ) (busy : Bool) → (busy ≡ true → known < opened)
       → OpensAll next v x hops after_hops (record { listed = os; polled = 0 }) sessions known opened
-      → ServedOn w l a (record { clock = new; hops = after_hops }) u x (record { engine = next; known = opened; busy = busy }) sessions s
+      → SweptOn w l a (record { clock = new; hops = after_hops }) u x (record { engine = next; known = opened; busy = busy }) sessions s
   served_heard x after_hops sessions opened busy more opens =
       let g = opens w l a new b.early heard.waiting b.flights story b.known_is heard.serving in
       let base : Story = record s { moments = s.moments ++ heard.moment ∷ [] } in
@@ -72,18 +75,23 @@ module _ (w : World) (l : Ledger) (a : Outside) (old new : Option (List ℕ)) (u
       let last = g.2 in
       let ends = more_ended base (g.0).story es (g.0).told in
       record {
-        entries_told = es;
-        early = b.early ++ heard.waiting;
-        flights = (g.0).flights;
-        story = (g.0).story;
-        told = (g.0).told;
-        rests = (g.0).rests;
-        plays = plays_reads w k es u v x heard.plays (looks_on x g.1);
-        adds = adds_between w k es u u v x refl heard.adds (g.1).files;
-        known_is = sym last;
-        sweeps = sweeps_opened busy base (g.0).story (sweeps_moment s heard.moment b.sweeps_made) (g.0).moments (g.0).rests (omega (arith, grown))
-            (λ is. let some = more is in omega (arith, some, before, behind, known_is, last, ends));
-        serving = (g.0).serving;
+        moment = heard.moment;
+        served = record {
+          entries_told = es;
+          early = b.early ++ heard.waiting;
+          flights = (g.0).flights;
+          story = (g.0).story;
+          told = (g.0).told;
+          moments = (g.0).moments;
+          rests = (g.0).rests;
+          plays = plays_reads w k es u v x heard.plays (looks_on x g.1);
+          adds = adds_between w k es u u v x refl heard.adds (g.1).files;
+          known_is = sym last;
+          sweeps = sweeps_opened busy base (g.0).story (sweeps_moment s heard.moment b.sweeps_made) (g.0).moments (g.0).rests (omega (arith, grown))
+              (λ is. let some = more is in omega (arith, some, before, behind, known_is, last, ends));
+          serving = (g.0).serving;
+        };
+        line = heard.line;
       }
 
   -- or one isn't
@@ -101,9 +109,9 @@ some_moments [] h = absurd (omega (arith, h))
 some_moments (t ∷ ts) h = λ none. cc
 
 -- it did something, and the next one follows at once
-pub between_busy : (w : World) (l : Ledger) (a z : Outside) (u v : HostView) (served : Served) (agent : Sessions) (s : Story) → (m : ServedOn w l a z u v served agent s) → served.busy ≡ true
+pub between_busy : (w : World) (l : Ledger) (a z : Outside) (u v : HostView) (served : Served) (agent : Sessions) (ms : List ℕ) (s : Story) → (m : ServedOn w l a z u v served agent ms s) → served.busy ≡ true
     → StandsBetween w l a z v served.engine agent.listed served.known false m.story
-between_busy w l a z u v served agent s m busy = record {
+between_busy w l a z u v served agent ms s m busy = record {
   early = m.early;
   flights = m.flights;
   begins = some_moments m.story.moments m.serving.some;
@@ -117,11 +125,11 @@ between_busy w l a z u v served agent s m busy = record {
 }
 
 -- it did nothing, and a rest follows it
-pub between_rest : (w : World) (l : Ledger) (a : Outside) (clock : Option (List ℕ)) (u v : HostView) (hops rested : HopsView) (served : Served) (agent new : Sessions) (s : Story)
-    → (m : ServedOn w l a (record { clock = clock; hops = hops }) u v served agent s) → served.busy ≡ false
+pub between_rest : (w : World) (l : Ledger) (a : Outside) (clock : Option (List ℕ)) (u v : HostView) (hops rested : HopsView) (served : Served) (agent new : Sessions) (ms : List ℕ) (s : Story)
+    → (m : ServedOn w l a (record { clock = clock; hops = hops }) u v served agent ms s) → served.busy ≡ false
     → AllByRecursion (λ (o : OpenSession). o.number ≤ agent.polled) agent.listed → RestsOne agent new → AddsHops with_rest hops rested → rested.connect_faults ≡ hops.connect_faults
     → StandsBetween w l a (record { clock = clock; hops = rested }) v served.engine new.listed served.known false (record m.story { rests = m.story.rests + 1 })
-between_rest w l a clock u v hops rested served agent new s m busy over rests adds faults =
+between_rest w l a clock u v hops rested served agent new ms s m busy over rests adds faults =
     let z : Outside = record { clock = clock; hops = hops } in
     record {
       early = m.early;
@@ -141,6 +149,34 @@ between_rest w l a clock u v hops rested served agent new s m busy over rests ad
 no_sessions : (s : Sessions) → s.listed ≡ [] → s.polled ≡ 0 → s ≡ record { listed = []; polled = 0 }
 no_sessions s none start = ap (λ (os : List OpenSession). record { listed = os; polled = s.polled }) none ∙ ap (λ (n : ℕ). record { listed = []; polled = n }) start
 
-pub idles_on : (w : World) (l : Ledger) (a z : Outside) (u v : HostView) (engine : Engine) (known : ℕ) (agent : Sessions) (s : Story) → agent.listed ≡ [] → agent.polled ≡ 0
-    → ServedOn w l a z u v (record { engine = engine; known = known; busy = false }) agent s → IdlesOn w l a z u v engine s
-idles_on w l a z u v engine known agent s none start m = (known, subst (λ (n : Sessions). ServedOn w l a z u v (record { engine = engine; known = known; busy = false }) n s) (no_sessions agent none start) m)
+-- none was opened, and none was open before
+none_open : (known opened : ℕ) (os : List OpenSession) (agent : Sessions) → agent.listed ≡ [] → known ≤ opened → OpensUpTo known opened (record { listed = os; polled = 0 }) agent → (opened ≡ known) × (os ≡ [])
+none_open known opened [] agent none rises opens =
+    let left = ap length none in
+    let listed = opens.listed in
+    (omega (arith, left, listed, rises), refl)
+none_open known opened (o ∷ os) agent none rises opens =
+    let left = ap length none in
+    let listed = opens.listed in
+    absurd (omega (arith, left, listed, rises))
+
+pub idles_on : (w : World) (l : Ledger) (a z : Outside) (u v : HostView) (engine : Engine) (known opened : ℕ) (os : List OpenSession) (agent : Sessions) (s : Story) → agent.listed ≡ [] → agent.polled ≡ 0 → known ≤ opened → OpensUpTo known opened (record { listed = os; polled = 0 }) agent
+    → SweptOn w l a z u v (record { engine = engine; known = opened; busy = false }) agent s → IdlesOn w l a z u v engine os known s
+idles_on w l a z u v engine known opened os agent s none start rises opens m =
+    let none_was = none_open known opened os agent none rises opens in (
+      none_was.1,
+      subst (λ n. SweptOn w l a z u v (record { engine = engine; known = n; busy = false }) (record { listed = []; polled = 0 }) s) none_was.0
+          (subst (λ (n : Sessions). SweptOn w l a z u v (record { engine = engine; known = opened; busy = false }) n s) (no_sessions agent none start) m),
+    )
+
+-- ---- a sweep as a whole
+
+-- polls behind others
+module _ (w : World) (l : Ledger) (a z y : Outside) (u v x : HostView) (served : Served) (agent : Sessions) (s : Story) (m : SweptOn w l a z u v served agent s) where
+  pub swept_then : (next : Served) (new : Sessions) → ServedOn w l a y v x next new [] m.served.story → SweptOn w l a y u x next new s
+  swept_then next new n = record {
+    moment = m.moment;
+    served = served_then w l a z y u v x served agent (m.moment ∷ []) s m.served next new n;
+    line = line_on m.moment m.served.entries_told n.entries_told m.line
+        (no_more_moments m.served.story n.story n.entries_told m.served.serving.under_way.driving.course.clocked n.serving.under_way.driving.course.clocked n.told (n.moments ∙ append-nil m.served.story.moments));
+  }

@@ -1,6 +1,7 @@
 -- A worked drain: two recipients, one of whom is refused; the hop sends its bytes one by one, and has no second link for the bounce.
-use Rattle.std.proofs.Common.{◌≡◌, ℕ, zero, suc, List, [], ◌∷◌, ◌++◌, Some, None, true, false, refl, codes, inl, lit<, drop, ap, length, sym, subst, ◌∙◌}
+use Rattle.std.proofs.Common.{◌≡◌, ℕ, zero, suc, List, [], ◌∷◌, ◌++◌, Some, None, true, false, refl, codes, inl, inr, lit<, drop, ap, length, sym, subst, ◌∙◌}
 use Rattle.std.proofs.lemmas.Option.{same_Some}
+use Rattle.std.specs.List.{AllByRecursion}
 use Rattle.std.specs.Prelude.{count_by, unwrap_or}
 use native.Mathlib.Omega.{arith}
 use Rattle.std.specs.Fmt.{digits}
@@ -36,6 +37,7 @@ use Rattle.q_drain.proofs.Rooming.{room_more, room_none}
 use Rattle.q_drain.specs.Rooms.{HadRoom}
 use Rattle.q_drain.specs.Stories.{Story}
 use Rattle.q_drain.specs.Sweeps.{IsRested}
+use Rattle.q_drain.specs.Waited.{IsSweep, MadeSweep, MadeSweeps}
 
 abbrev hop : List ℕ
 hop = codes "[127.0.0.1]:2525"
@@ -137,6 +139,34 @@ had_room =
     ((λ out. refl, λ some. lit< tt), room_none world (after world first (entries.Reply 1 Up said)) (drop 1 from_reply) refl)
     ((λ out. refl, λ some. lit< tt), room_none world (after world second (entries.Reply 2 Down (outcomes.Later 0 ∷ []))) (drop 1 from_bounce) refl))
 
+-- n sweeps in which nothing is told
+abbrev silent_sweeps : ℕ → List MadeSweep
+silent_sweeps zero = []
+silent_sweeps (suc n) = record { moment = 2000; told = [] } ∷ silent_sweeps n
+
+all_sweeps : (n : ℕ) (ps : List MadeSweep) → AllByRecursion IsSweep ps → AllByRecursion IsSweep (silent_sweeps n ++ ps)
+all_sweeps zero ps h = h
+all_sweeps (suc n) ps h = (([], refl, inl refl), all_sweeps n ps h)
+
+-- the reply and that of the bounce come in one sweep, behind 66 in which the session waits
+made_sweeps : MadeSweeps world begun_life story
+unfolding run turn decisions decide after after_all next digits hex
+made_sweeps = record {
+  earlier = record { moment = 2000; told = to_start } ∷ (silent_sweeps 66 ++ record { moment = 2000; told = from_reply ++ from_bounce } ∷ []);
+  last = record { moment = 2000; told = [] };
+  are = record {
+    told = refl;
+    moments = refl;
+    each = (
+      (drop 1 to_start, refl, inr refl),
+      all_sweeps 66 (record { moment = 2000; told = from_reply ++ from_bounce } ∷ record { moment = 2000; told = [] } ∷ [])
+          ((from_reply ++ from_bounce, refl, inl refl), (([], refl, inl refl), tt)),
+    );
+  };
+  rests = refl;
+  silent = refl;
+}
+
 whole_is : IsWhole world begun_life story
 unfolding run turn decisions decide after after_all next digits hex
 whole_is = record {
@@ -144,6 +174,7 @@ whole_is = record {
   room = had_room;
   clocked = refl;
   rested = record { least = omega arith; most = omega arith };
+  sweeps = made_sweeps;
   connected = record { connects = refl; hops = refl };
 }
 

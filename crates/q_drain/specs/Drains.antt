@@ -12,6 +12,7 @@ use Rattle.q_drain.specs.Rooms.{HadRoom}
 use Rattle.q_drain.specs.Stories.{Story}
 use Rattle.q_drain.specs.Told.{heard_of}
 use Rattle.q_drain.specs.Sweeps.{AllConnected, IsClocked, IsClockedSoFar, IsRested, SomeConnected}
+use Rattle.q_drain.specs.Waited.{MadeSweeps}
 
 -- What holds of its deliveries at each of its exits: `connects` were made before the call, and the
 -- count of connects that failed was `old` then and is `new`.
@@ -31,6 +32,7 @@ pub record IsWhole (w : World) (l : Ledger) (s : Story) : Type 0 where
   pub room : HadRoom w l s.told
   pub clocked : IsClocked s
   pub rested : IsRested s
+  pub sweeps : MadeSweeps w l s
   pub connected : AllConnected s
 
 -- What holds where it was given up.

@@ -1,5 +1,5 @@
 -- How a drain ends.
-use Rattle.std.specs.Prelude.{◌++◌, ◌^◌, ◌≡◌, ◌≢◌, ◌≤◌, [], length, List, map, Some, ℕ}
+use Rattle.std.specs.Prelude.{◌+◌, ◌++◌, ◌^◌, ◌≡◌, ◌≢◌, ◌≤◌, [], length, List, map, Some, ℕ}
 use Rattle.q_drain.specs.Drains.{Delivers, IsOwnRun, IsQuiet, IsWhole}
 use Rattle.q_drain.specs.Opened.{GaveUp}
 use Rattle.q_drain.specs.Standing.{HasGiven}
@@ -7,6 +7,7 @@ use Rattle.q_drain.specs.Stories.{Did, Story}
 use Rattle.q_drain.specs.Told.{events_of}
 use Rattle.q_drain.specs.Swept.{Outsides}
 use Rattle.q_drain.specs.Sweeps.{AllConnected, IsClocked}
+use Rattle.q_drain.specs.Waited.{waiting_in}
 use Rattle.q_engine.specs.KeptNotes.{AddsAllNotes}
 use Rattle.q_engine.specs.Stands.{EngineStands}
 use Rattle.q_engine.specs.declared.engine.Engine.{Engine}
@@ -51,11 +52,13 @@ pub record EndsQuiet (w : World) (l : Ledger) (o : Outsides) (u v : HostView) (e
   pub quiet : IsQuiet w l ends.story
   pub stands : EngineStands w engine v (after_all w l ends.story.told)
 
--- so many rests were given, and another is needed
+-- So many rests were given, and another is needed: in one sweep more, the last, every open session waited
+-- and none was opened.
 pub record EndsUnfinished (w : World) (l : Ledger) (o : Outsides) (u v : HostView) (rests : ℕ) : Type 0 where
   pub ends : EndsWhole w l o u v
   pub flies : (after_all w l ends.story.told).flights ≢ []
   pub rests_given : ends.story.rests ≡ rests
+  pub waited : waiting_in w l ends.story ends.whole.sweeps ≡ rests + 1
 
 -- It was given up: these events were heard, each allowed, the last perhaps in part, and some first
 -- entries of their run were told. No line names an event that wasn't told whole, and there is one such

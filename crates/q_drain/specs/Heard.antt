@@ -6,6 +6,7 @@ use Rattle.q_drain.specs.Opened.{IsServing}
 use Rattle.q_drain.specs.Standing.{IsUnderWay, Outside, counts_of}
 use Rattle.q_drain.specs.Stories.{Story}
 use Rattle.q_drain.specs.Told.{Begun}
+use Rattle.q_drain.specs.Waited.{IsSweep}
 use Rattle.q_drain.specs.Works.{IsLinkBetween}
 use Rattle.q_engine.specs.KeptNotes.{AddsAllNotes}
 use Rattle.q_engine.specs.declared.engine.Engine.{Engine}
@@ -33,6 +34,7 @@ pub record Heard (w : World) (l : Ledger) (a z : Outside) (u v : HostView) (engi
   pub moment : ℕ
   pub entries_told : List Entry
   pub waiting : List Begun
+  pub line : IsSweep (record { moment = moment; told = entries_told })
   pub plays : PlaysRun w (after_all w l s.told) entries_told u v
   pub adds : AddsAllNotes w (after_all w l s.told) entries_told u.files v.files
   pub serving : IsServing w l a z v engine (record { listed = os; polled = 0 }) early waiting fs

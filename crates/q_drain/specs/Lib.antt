@@ -4,6 +4,7 @@ pub mod Cases
 pub mod Causes
 pub mod Sweeps
 pub mod Rooms
+pub mod Waited
 pub mod Waits
 pub mod Progress
 pub mod AllTold

@@ -1,6 +1,6 @@
 -- The open sessions of a drain between two calls, whatever host and hops tell.
 use Rattle.std.specs.List.{AllByRecursion}
-use Rattle.std.specs.Prelude.{◌<◌, ◌≡◌, ◌≢◌, ◌≤◌, ◌⊎◌, [], Bool, false, List, map, true, ℕ}
+use Rattle.std.specs.Prelude.{◌<◌, ◌≡◌, ◌≤◌, ◌⊎◌, Bool, false, length, List, map, true, ℕ}
 use Rattle.q_agent.specs.Sessions.{OpenSession, Rises, Sessions, link_waits}
 
 -- each session's number is below this one
@@ -23,7 +23,7 @@ pub record IsPolling (agent : Sessions) (number : ℕ) : Type 0 where
   pub polled : agent.polled < number
   pub waited : AllByRecursion (ComesOrWaits agent.polled) agent.listed
 
--- unless a delivery began or ended meanwhile or before, a session is open where one was
-abbrev pub KeepsSome : Bool → Bool → Sessions → Sessions → Type 0
-KeepsSome was busy old new =
-    busy ≡ false → (was ≡ false) × (old.listed ≢ [] → new.listed ≢ [])
+-- Unless a delivery began or ended meanwhile or before, none was opened, and as many are open.
+abbrev pub KeepsSame : Bool → Bool → ℕ → ℕ → Sessions → Sessions → Type 0
+KeepsSame was busy known last old new = busy ≡ false
+    → (was ≡ false) × (last ≡ known) × (length new.listed ≡ length old.listed)

@@ -22,14 +22,15 @@ use Rattle.q_model.specs.Past.{starts}
 use Rattle.q_model.specs.Settings.{World}
 use Rattle.q_model.specs.Step.{after_all}
 
--- More entries were told, and no rest was given: each delivery that began has its session, and where
+-- More entries were told, these moments came, and no rest was given: each delivery that began has its session, and where
 -- one began or ended in the sweep, the engine's record says so.
-pub record ServedOn (w : World) (l : Ledger) (a z : Outside) (u v : HostView) (next : Served) (agent : Sessions) (s : Story) : Type 0 where
+pub record ServedOn (w : World) (l : Ledger) (a z : Outside) (u v : HostView) (next : Served) (agent : Sessions) (ms : List ℕ) (s : Story) : Type 0 where
   pub entries_told : List Entry
   pub early : List Begun
   pub flights : List Delivery
   pub story : Story
   pub told : story.told ≡ s.told ++ entries_told
+  pub moments : story.moments ≡ s.moments ++ ms
   pub rests : story.rests ≡ s.rests
   pub plays : PlaysRun w (after_all w l s.told) entries_told u v
   pub adds : AddsAllNotes w (after_all w l s.told) entries_told u.files v.files
@@ -59,7 +60,7 @@ ForServed served u hops agent says = (w : World) → (l : Ledger) → (a : Outsi
 -- it goes on, or there are no numbers left
 abbrev pub PollsOn : Served → Option Served → HostView → HostView → HopsView → HopsView → Sessions → Sessions → Type 0
 PollsOn served (Some next) u v hops_old hops_new old new = ForServed served u hops_old old
-    (λ w l a clock s. ServedOn w l a (record { clock = clock; hops = hops_new }) u v next new s)
+    (λ w l a clock s. ServedOn w l a (record { clock = clock; hops = hops_new }) u v next new [] s)
 PollsOn served None u v hops_old hops_new old new = ForServed served u hops_old old
     (λ w l a clock s. FilledUp w l a (record { clock = clock; hops = hops_new }) u v s)
 

@@ -1,5 +1,5 @@
 -- A sweep of a drain, and what comes of it.
-use Rattle.std.specs.Prelude.{◌≡◌, [], Bool, false, length, List, ℕ}
+use Rattle.std.specs.Prelude.{◌∷◌, ◌≡◌, [], Bool, false, length, List, ℕ}
 use Rattle.q_agent.specs.Sessions.{OpenSession, Sessions}
 use Rattle.q_drain.specs.GivenUp.{GivesUp}
 use Rattle.q_drain.specs.Heard.{IsBetween, IsFirst}
@@ -7,6 +7,7 @@ use Rattle.q_drain.specs.Served.{FilledUp, ServedOn}
 use Rattle.q_drain.specs.Standing.{Outside}
 use Rattle.q_drain.specs.Stories.{Story}
 use Rattle.q_drain.specs.Told.{Begun}
+use Rattle.q_drain.specs.Waited.{IsSweep}
 use Rattle.q_drain.specs.Waits.{Sweeps}
 use Rattle.q_drain.specs.declared.poll.Served.{Served}
 use Rattle.q_drain.specs.declared.sweep.Sweep.{Sweep}
@@ -38,17 +39,23 @@ abbrev pub ForSweep : Outsides → HostView → Engine → List OpenSession → 
 ForSweep o u engine os known first says = (w : World) → (l : Ledger) → (a : Outside) → (s : Story)
     → StandsBetween w l a o.before u engine os known first s → says w l a s
 
--- no session was open
-abbrev pub IdlesOn : World → Ledger → Outside → Outside → HostView → HostView → Engine → Story → Type 0
-IdlesOn w l a z u v engine s = (known : ℕ)
-    × ServedOn w l a z u v (record { engine = engine; known = known; busy = false }) (record { listed = []; polled = 0 }) s
+-- A moment came, and each open session was polled.
+pub record SweptOn (w : World) (l : Ledger) (a z : Outside) (u v : HostView) (next : Served) (agent : Sessions) (s : Story) : Type 0 where
+  pub moment : ℕ
+  pub served : ServedOn w l a z u v next agent (moment ∷ []) s
+  pub line : IsSweep (record { moment = moment; told = served.entries_told })
+
+-- no session was open, and none was opened
+abbrev pub IdlesOn : World → Ledger → Outside → Outside → HostView → HostView → Engine → List OpenSession → ℕ → Story → Type 0
+IdlesOn w l a z u v engine os known s = (os ≡ [])
+    × SweptOn w l a z u v (record { engine = engine; known = known; busy = false }) (record { listed = []; polled = 0 }) s
 
 -- no session was open, or the sweep went over all that were, or no number was left in it
 abbrev pub SweepsTo : Outsides → HostView → HostView → Engine → List OpenSession → ℕ → Bool → Sweep → Sessions → Type 0
 SweepsTo o u v engine os known first (sweeps.Idle next) new = ForSweep o u engine os known first
-    (λ w l a s. IdlesOn w l a o.behind u v next s)
+    (λ w l a s. IdlesOn w l a o.behind u v next os known s)
 SweepsTo o u v engine os known first (sweeps.Over served) new = ForSweep o u engine os known first
-    (λ w l a s. ServedOn w l a o.behind u v served new s)
+    (λ w l a s. SweptOn w l a o.behind u v served new s)
 SweepsTo o u v engine os known first sweeps.Full new = ForSweep o u engine os known first
     (λ w l a s. FilledUp w l a o.behind u v s)
 

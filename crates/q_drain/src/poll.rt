@@ -1,7 +1,9 @@
 //! The polls of a sweep.
 ghost use Rattle.std.specs.Prelude.{◌≡◌, ◌+◌, ◌<◌, ◌^◌, ◌≤◌, false, IfOk, IfSome, IsTrue, List, Option, true, ℕ};
+ghost use Rattle.std.specs.List.{list_all};
 ghost use Rattle.q_agent.specs.Sessions.{is_sweep_over};
-ghost use Rattle.q_drain.specs.Polling.{IsPolling, KeepsSome};
+ghost use Rattle.q_core.specs.Hearing.{has_log_code};
+ghost use Rattle.q_drain.specs.Polling.{IsPolling, KeepsSame};
 ghost use Rattle.q_drain.specs.Progress.{LeavesLess, OpensUpTo, polls_left, work_left};
 ghost use Rattle.q_drain.specs.Reported.{GivesUpReport, HearsReport, MayOpenBehind};
 ghost use Rattle.q_drain.specs.Served.{GivesUpServing, MayServe, PollsOn};
@@ -41,6 +43,7 @@ fn hear_report<L: Link, H: Host, N: Hops<Link = L>>(
 ) -> Result<Served, Stop>
     requires ready { IsReady engine }
     requires fits { fits_state report.site report.outcomes ≡ true }
+    requires codes { list_all has_log_code report.outcomes ≡ true }
     requires polling { IsPolling agent.old (known + 1) }
     requires stands { IsTrue H.tells → StandsForSome engine (H.view host.old) }
     requires opens { IsTrue H.tells → (clock : Option (List ℕ)) × MayOpenBehind H.view clock report
@@ -88,8 +91,8 @@ fn poll_next<L: Link, H: Host, N: Hops<Link = L>>(
         (H.view host.new) (N.view hops.old) (N.view hops.new) agent.old agent.new) }
     ensures ready { IfOk result (λ next. IfSome next (λ s. IsReady s.engine)) }
     ensures polling { IfOk result (λ next. IfSome next (λ s. IsPolling agent.new (s.known + 1))) }
-    ensures some { IfOk result (λ next. IfSome next (λ s. KeepsSome served.busy s.busy
-        agent.old agent.new)) }
+    ensures same { IfOk result (λ next. IfSome next (λ s. KeepsSame served.busy s.busy
+        served.known s.known agent.old agent.new)) }
     ensures fewer { IfOk result (λ next. IfSome next (λ s.
         polls_left s.known agent.new < polls_left served.known agent.old)) }
     ensures left { IfOk result (λ next. IfSome next (λ s. LeavesLess served.busy s.busy
@@ -137,8 +140,8 @@ pub(crate) fn poll_all<L: Link, H: Host, N: Hops<Link = L>>(
     ensures over { IfOk result (λ next. IfSome next (λ s. is_sweep_over agent.new ≡ true)) }
     ensures ready { IfOk result (λ next. IfSome next (λ s. IsReady s.engine)) }
     ensures polling { IfOk result (λ next. IfSome next (λ s. IsPolling agent.new (s.known + 1))) }
-    ensures some { IfOk result (λ next. IfSome next (λ s. KeepsSome begun.busy s.busy
-        agent.old agent.new)) }
+    ensures same { IfOk result (λ next. IfSome next (λ s. KeepsSame begun.busy s.busy
+        begun.known s.known agent.old agent.new)) }
     ensures left { IfOk result (λ next. IfSome next (λ s. LeavesLess begun.busy s.busy
         (work_left begun.known agent.old) (work_left s.known agent.new))) }
     ensures rests { (N.view hops.new).rests ≡ (N.view hops.old).rests }

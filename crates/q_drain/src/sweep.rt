@@ -1,7 +1,7 @@
 //! A sweep of a drain.
 ghost use Rattle.std.specs.Prelude.{◌+◌, ◌≡◌, ◌≢◌, [], false, IfOk, IsTrue, true};
 ghost use Rattle.q_agent.specs.Sessions.{is_sweep_over};
-ghost use Rattle.q_drain.specs.Polling.{AreInOrder, IsPolling};
+ghost use Rattle.q_drain.specs.Polling.{AreInOrder, IsPolling, KeepsSame};
 ghost use Rattle.q_drain.specs.Progress.{LeavesLess, work_left};
 ghost use Rattle.q_drain.specs.Swept.{GivesSweepUp, MaySweep, OfEngine, OfServed, SweepsTo};
 ghost use Rattle.q_engine.specs.Stands.{IsReady};
@@ -56,6 +56,8 @@ pub(crate) fn make_sweep<L: Link, H: Host, C: Clock, N: Hops<Link = L>>(
         IsPolling agent.new (served.known + 1) × (is_sweep_over agent.new ≡ true))) }
     ensures some { IfOk result (λ sweep. OfServed sweep (λ served.
         served.busy ≡ false → agent.new.listed ≢ [])) }
+    ensures same { IfOk result (λ sweep. OfServed sweep (λ served. KeepsSame false served.busy
+        known served.known agent.old agent.new)) }
     ensures left { IfOk result (λ sweep. OfServed sweep (λ served. LeavesLess false served.busy
         (work_left known agent.old) (work_left served.known agent.new))) }
     ensures rests { (N.view hops.new).rests ≡ (N.view hops.old).rests }

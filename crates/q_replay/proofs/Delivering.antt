@@ -203,6 +203,7 @@ module _ (w : World) (b : Book) (o : Outsides) (u v : View) (first : IsTold w De
     is = record { whole = (e.ends).whole; given = (e.ends).given; delivered = (e.ends).delivered };
     flies = e.flies;
     rests_given = e.rests_given;
+    waited = e.waited;
   }
 
   pub has_no_number : (x : View) → EndsFull w l o v x → HasNoNumber w b o u x

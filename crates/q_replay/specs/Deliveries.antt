@@ -1,5 +1,5 @@
 -- How a life ends whose messages are delivered by SMTP.
-use Rattle.std.specs.Prelude.{◌∷◌, ◌++◌, ◌≡◌, ◌≢◌, ◌≤◌, [], Err, length, List, map, Ok, Result, true, ◌^◌, ℕ}
+use Rattle.std.specs.Prelude.{◌∷◌, ◌+◌, ◌++◌, ◌≡◌, ◌≢◌, ◌≤◌, [], Err, length, List, map, Ok, Result, true, ◌^◌, ℕ}
 use Rattle.q_drain.specs.Drains.{IsQuiet, IsWhole}
 use Rattle.q_drain.specs.Exits.{Delivered as AsPromised}
 use Rattle.q_drain.specs.Opened.{GaveUp}
@@ -8,6 +8,7 @@ use Rattle.q_drain.specs.Stories.{Story}
 use Rattle.q_drain.specs.Told.{events_of}
 use Rattle.q_drain.specs.Swept.{Outsides}
 use Rattle.q_drain.specs.Sweeps.{AllConnected, IsClocked}
+use Rattle.q_drain.specs.Waited.{waiting_in}
 use Rattle.q_entries.specs.Runs.{PlaysRun}
 use Rattle.q_laws.specs.Traces.{AreAllowed}
 use Rattle.q_model.specs.declared.limits.Bound.TheVariants.{Deliveries, Generation}
@@ -58,7 +59,8 @@ pub record DeliversAll (w : World) (b : Book) (o : Outsides) (u v : View) : Type
   pub is : IsStoryOf w b o story
   pub quiet : IsQuiet w (begun_on w b) story
 
--- So many rests were given, and another is needed.
+-- So many rests were given, and another is needed: in one sweep more every open session waited and none
+-- was opened.
 pub record LeavesSome (w : World) (b : Book) (o : Outsides) (rests : ℕ) (u v : View) : Type 0 where
   pub story : Story
   pub fits : AreAllowed w (opening Deliver b) (life_told story)
@@ -66,6 +68,7 @@ pub record LeavesSome (w : World) (b : Book) (o : Outsides) (rests : ℕ) (u v :
   pub is : IsStoryOf w b o story
   pub flies : (after_all w (begun_on w b) story.told).flights ≢ []
   pub rests_given : story.rests ≡ rests
+  pub waited : waiting_in w (begun_on w b) story is.whole.sweeps ≡ rests + 1
 
 -- It was given up in some first part of the life: no line of the story names the last event that was
 -- heard. The lines before the story's and behind them name none.

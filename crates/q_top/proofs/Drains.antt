@@ -91,6 +91,7 @@ module _ (w : World) (b : Book) (o : Outsides) (u m v : View) (lawful : TellsCra
     is = d.is;
     flies = d.flies;
     rests_given = d.rests_given;
+    waited = d.waited;
   }
   delivery_behind (Err errors.Disk) d = stops_behind faults.Disk d
   delivery_behind (Err errors.Tell) d = stops_behind faults.Tell d

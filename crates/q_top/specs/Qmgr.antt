@@ -61,13 +61,6 @@ abbrev pub uses_connections : Request → Bool
 uses_connections (requests.Drain rests) = true
 uses_connections request = false
 
--- it runs lives
-abbrev pub runs_lives : Request → Bool
-runs_lives requests.Replay = true
-runs_lives (requests.Submit sender to) = true
-runs_lives (requests.Drain rests) = true
-runs_lives request = false
-
 -- how the command ends that is asked for
 abbrev pub Does : Request → Texts → Moments → Connections → Status → View → View → Type 0
 Does requests.Replay texts moments connections s u v = Replays texts u v s

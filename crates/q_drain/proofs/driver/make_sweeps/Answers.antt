@@ -7,7 +7,7 @@ use Rattle.q_drain.proofs.Polls.{all_wait}
 use Rattle.q_drain.proofs.Progressing.{left_behind}
 use Rattle.q_drain.specs.Drained.{CountsRests, RestsBehind}
 use Rattle.q_drain.specs.Exits.{EndsUnfinished}
-use Rattle.q_drain.specs.Polling.{AreInOrder, IsPolling}
+use Rattle.q_drain.specs.Polling.{AreInOrder, IsPolling, KeepsSame}
 use Rattle.q_drain.specs.Progress.{LeavesLess, work_left}
 use Rattle.q_drain.specs.Standing.{Outside}
 use Rattle.q_drain.specs.Swept.{OfEngine, OfServed, SweepsTo}
@@ -146,11 +146,12 @@ returns-in_default-clause-ok g c t w l stands start =
     let d = loop.invariant.so t w l stands start in
     let swept = subst (λ (sweep : Sweep). SweepsTo (record { before = z; behind = y }) v x loop.served.engine loop.agent.listed loop.served.known loop.first sweep agent) c.in-Over.is (c.in_ok-served.ensures.ok t) in
     let some = subst (λ (sweep : Sweep). OfServed sweep (λ (s : Served). s.busy ≡ false → agent.listed ≢ [])) c.in-Over.is c.in_ok-served.ensures.some in
+    let keeps = subst (λ (sweep : Sweep). OfServed sweep (λ (s : Served). KeepsSame false s.busy loop.served.known s.known loop.agent agent)) c.in-Over.is c.in_ok-served.ensures.same in
     let behind = subst (λ (o : Option ℕ). RestsBehind served.busy loop.given c.args.rests agent c.rest_behind.new.agent hops rested o) c.in_default.is c.rest_behind.ensures in
     let (idle, all, kept, still) = none_behind served.busy loop.given c.args.rests agent c.rest_behind.new.agent hops rested behind in
     subst (λ n. EndsUnfinished w l (record { before = a; behind = record { clock = clock; hops = rested } }) u x n) all
     (subst (λ (h : HopsView). EndsUnfinished w l (record { before = a; behind = record { clock = clock; hops = h } }) u x loop.given) (sym still)
-    (ends_unfinished w l a z y u v x loop.served.engine loop.agent.listed loop.served.known loop.first loop.given d served agent (swept w l a d.story d.between) idle (some idle)))
+    (ends_unfinished w l a z y u v x loop.served.engine loop.agent.listed loop.served.known loop.first loop.given d served agent (swept w l a d.story d.between) idle (some idle) keeps))
 
 pub returns-in_default-clause-unfinished : goal.returns-in_default-clause-unfinished
 returns-in_default-clause-unfinished g c n is =
@@ -189,6 +190,9 @@ sweeps-preserved g c =
     let z : Outside = record { clock = g.C.Clock.given loop.clock; hops = g.N.Hops.view loop.hops } in
     let y : Outside = record { clock = clock; hops = hops } in
     let both = subst (λ (sweep : Sweep). OfServed sweep (λ (s : Served). IsPolling agent (s.known + 1) × (is_sweep_over agent ≡ true))) c.in-Over.is c.in_ok-served.ensures.polling in
+    let keeps = subst (λ (sweep : Sweep). OfServed sweep (λ (s : Served). KeepsSame false s.busy loop.served.known s.known loop.agent agent)) c.in-Over.is c.in_ok-served.ensures.same in
+    let less = subst (λ (sweep : Sweep). OfServed sweep (λ (s : Served). LeavesLess false s.busy (work_left loop.served.known loop.agent) (work_left s.known agent))) c.in-Over.is c.in_ok-served.ensures.left in
+    let some = subst (λ (sweep : Sweep). OfServed sweep (λ (s : Served). s.busy ≡ false → agent.listed ≢ [])) c.in-Over.is c.in_ok-served.ensures.some in
     let behind = subst (λ (o : Option ℕ). RestsBehind served.busy loop.given c.args.rests agent new hops rested o) c.in-Some.is c.rest_behind.ensures in
     let sweep = c.in_ok-served.ensures.rests in
     let before = loop.invariant.counts in
@@ -202,7 +206,7 @@ sweeps-preserved g c =
       so = λ t w l stands start.
           let d = loop.invariant.so t w l stands start in
           let swept = subst (λ (sweep : Sweep). SweepsTo (record { before = z; behind = y }) v x loop.served.engine loop.agent.listed loop.served.known loop.first sweep agent) c.in-Over.is (c.in_ok-served.ensures.ok t) in
-          drains_more w l a z clock u v x hops rested loop.served.engine loop.agent.listed loop.served.known loop.first loop.given c.args.rests more served agent new served.busy d (swept w l a d.story d.between) both.1 refl behind;
+          drains_more w l a z clock u v x hops rested loop.served.engine loop.agent.listed loop.served.known loop.first loop.given c.args.rests more served agent new served.busy d (swept w l a d.story d.between) both.1 some keeps less refl behind;
       disk_later = omega (arith, loop.invariant.disk_later, c.in_ok-served.ensures.cause.disk_later);
       tell_later = omega (arith, loop.invariant.tell_later, c.in_ok-served.ensures.cause.tell_later);
     }

@@ -1,10 +1,10 @@
-use Rattle.std.proofs.Common.{◌+◌, ◌<◌, ◌∙◌, arith, Option, refl, subst}
+use Rattle.std.proofs.Common.{◌+◌, ◌<◌, ◌∙◌, [], arith, Option, refl, subst}
 use Rattle.std.specs.Prelude.{IfSome}
 use Rattle.q_books.specs.HostStands.{TellsCrashes}
 use Rattle.q_drain.proofs.PollingAll.{fails_then, filled_then, may_serve, served_none, served_then, stops_serving}
-use Rattle.q_drain.proofs.Polls.{some_then}
+use Rattle.q_drain.proofs.Polls.{same_then}
 use Rattle.q_drain.proofs.Progressing.{left_then}
-use Rattle.q_drain.specs.Polling.{IsPolling, KeepsSome}
+use Rattle.q_drain.specs.Polling.{IsPolling, KeepsSame}
 use Rattle.q_drain.specs.Progress.{LeavesLess, polls_left, work_left}
 use Rattle.q_drain.specs.Served.{PollsOn}
 use Rattle.q_drain.specs.Standing.{Outside}
@@ -21,7 +21,7 @@ polls-init g c =
     record {
       ready = c.requires.ready;
       polling = c.requires.polling;
-      some = λ idle. (idle, λ some. some);
+      same = λ idle. (idle, refl, refl);
       left = omega arith;
       rests = refl;
       may = c.requires.serves;
@@ -48,7 +48,7 @@ returns-in_err-next-clause-err g c error is t w l a clock early fs s known sweep
     let view = g.H.Host.view in
     let hops = g.N.Hops.view in
     let m = loop.invariant.on t w l a clock early fs s known sweeps h in
-    fails_then w l a (record { clock = clock; hops = hops loop.hops }) (record { clock = clock; hops = hops c.poll_next.new.hops }) (view c.args.host.now) (view loop.host) (view c.poll_next.new.host) loop.served loop.agent s m error
+    fails_then w l a (record { clock = clock; hops = hops loop.hops }) (record { clock = clock; hops = hops c.poll_next.new.hops }) (view c.args.host.now) (view loop.host) (view c.poll_next.new.host) loop.served loop.agent [] s m error
     (c.in_err-next.ensures.err error (same_stop c.from_residual.result c.in_err-next.field-0.0 (stops.Host error) c.from_residual.ensures.1 is) t w l a clock m.early m.flights m.story m.known_is m.sweeps m.serving)
 
 pub polls-preserved : goal.polls-preserved
@@ -59,15 +59,15 @@ polls-preserved g c =
     record {
       ready = subst (λ (o : Option Served). IfSome o (λ s. IsReady s.engine)) c.in-Some.is c.in_ok-next.ensures.ready;
       polling = subst (λ (o : Option Served). IfSome o (λ s. IsPolling c.poll_next.new.agent (s.known + 1))) c.in-Some.is c.in_ok-next.ensures.polling;
-      some = some_then c.args.begun.busy loop.served.busy c.in-Some.next.busy c.args.agent.now loop.agent c.poll_next.new.agent loop.invariant.some
-          (subst (λ (o : Option Served). IfSome o (λ s. KeepsSome loop.served.busy s.busy loop.agent c.poll_next.new.agent)) c.in-Some.is c.in_ok-next.ensures.some);
+      same = same_then c.args.begun.busy loop.served.busy c.in-Some.next.busy c.args.begun.known loop.served.known c.in-Some.next.known c.args.agent.now loop.agent c.poll_next.new.agent loop.invariant.same
+          (subst (λ (o : Option Served). IfSome o (λ s. KeepsSame loop.served.busy s.busy loop.served.known s.known loop.agent c.poll_next.new.agent)) c.in-Some.is c.in_ok-next.ensures.same);
       left = left_then c.args.begun.busy loop.served.busy c.in-Some.next.busy _ _ _ loop.invariant.left
           (subst (λ (o : Option Served). IfSome o (λ s. LeavesLess loop.served.busy s.busy (work_left loop.served.known loop.agent) (work_left s.known c.poll_next.new.agent))) c.in-Some.is c.in_ok-next.ensures.left);
       rests = c.in_ok-next.ensures.rests ∙ loop.invariant.rests;
       may = loop.invariant.may;
       on = λ t w l a clock early fs s known sweeps h.
           let m = loop.invariant.on t w l a clock early fs s known sweeps h in
-          served_then w l a (record { clock = clock; hops = hops loop.hops }) (record { clock = clock; hops = hops c.poll_next.new.hops }) (view c.args.host.now) (view loop.host) (view c.poll_next.new.host) loop.served loop.agent s m c.in-Some.next c.poll_next.new.agent
+          served_then w l a (record { clock = clock; hops = hops loop.hops }) (record { clock = clock; hops = hops c.poll_next.new.hops }) (view c.args.host.now) (view loop.host) (view c.poll_next.new.host) loop.served loop.agent [] s m c.in-Some.next c.poll_next.new.agent
           (subst (λ (o : Option Served). PollsOn loop.served o (view loop.host) (view c.poll_next.new.host) (hops loop.hops) (hops c.poll_next.new.hops) loop.agent c.poll_next.new.agent) c.in-Some.is (c.in_ok-next.ensures.ok t) w l a clock m.early m.flights m.story m.known_is m.sweeps m.serving);
       disk_later = omega (arith, loop.invariant.disk_later, c.in_ok-next.ensures.cause.disk_later);
       tell_later = omega (arith, loop.invariant.tell_later, c.in_ok-next.ensures.cause.tell_later);
@@ -79,7 +79,7 @@ returns-in_default-clause-ok g c t w l a clock early fs s known sweeps h =
     let view = g.H.Host.view in
     let hops = g.N.Hops.view in
     let m = loop.invariant.on t w l a clock early fs s known sweeps h in
-    filled_then w l a (record { clock = clock; hops = hops loop.hops }) (record { clock = clock; hops = hops c.poll_next.new.hops }) (view c.args.host.now) (view loop.host) (view c.poll_next.new.host) loop.served loop.agent s m
+    filled_then w l a (record { clock = clock; hops = hops loop.hops }) (record { clock = clock; hops = hops c.poll_next.new.hops }) (view c.args.host.now) (view loop.host) (view c.poll_next.new.host) loop.served loop.agent [] s m
     (subst (λ (o : Option Served). PollsOn loop.served o (view loop.host) (view c.poll_next.new.host) (hops loop.hops) (hops c.poll_next.new.hops) loop.agent c.poll_next.new.agent) c.in_default.is (c.in_ok-next.ensures.ok t) w l a clock m.early m.flights m.story m.known_is m.sweeps m.serving)
 
 pub returns-in_err-next-clause-cause : goal.returns-in_err-next-clause-cause

@@ -1,5 +1,5 @@
-use Rattle.std.proofs.Common.{◌≡◌, ◌≤◌, ◌+◌, IsTrue, List, Option, ℕ}
-use Rattle.q_drain.specs.Polling.{IsPolling, KeepsSome}
+use Rattle.std.proofs.Common.{◌≡◌, ◌≤◌, ◌+◌, [], IsTrue, List, Option, ℕ}
+use Rattle.q_drain.specs.Polling.{IsPolling, KeepsSame}
 use Rattle.q_drain.specs.Progress.{LeavesLess, polls_left, work_left}
 use Rattle.q_drain.specs.Served.{ForServed, MayServe, ServedOn}
 use Rattle.q_engine.specs.Stands.{IsReady}
@@ -13,11 +13,11 @@ invariant-polls g l =
     record {
       ready : IsReady l.served.engine;
       polling : IsPolling l.agent (l.served.known + 1);
-      some : KeepsSome l.fn.begun.busy l.served.busy l.fn.agent l.agent;
+      same : KeepsSame l.fn.begun.busy l.served.busy l.fn.begun.known l.served.known l.fn.agent l.agent;
       left : LeavesLess l.fn.begun.busy l.served.busy (work_left l.fn.begun.known l.fn.agent) (work_left l.served.known l.agent);
       rests : (hops l.hops).rests ≡ (hops l.fn.hops).rests;
       may : IsTrue g.H.Host.tells → (clock : Option (List ℕ)) × MayServe clock (view l.fn.host) (hops l.fn.hops) l.fn.begun l.fn.agent;
-      on : IsTrue g.H.Host.tells → ForServed l.fn.begun (view l.fn.host) (hops l.fn.hops) l.fn.agent (λ w k a clock s. ServedOn w k a (record { clock = clock; hops = hops l.hops }) (view l.fn.host) (view l.host) l.served l.agent s);
+      on : IsTrue g.H.Host.tells → ForServed l.fn.begun (view l.fn.host) (hops l.fn.hops) l.fn.agent (λ w k a clock s. ServedOn w k a (record { clock = clock; hops = hops l.hops }) (view l.fn.host) (view l.host) l.served l.agent [] s);
       disk_later : (faults l.fn.host).disk ≤ (faults l.host).disk;
       tell_later : (faults l.fn.host).tell ≤ (faults l.host).tell;
     }

@@ -5,7 +5,7 @@ use Rattle.q_agent.specs.Answers.{IsStanding, PollsNext}
 use Rattle.q_agent.specs.Sessions.{next_polled}
 use Rattle.q_agent.specs.declared.report.Report.{Report}
 use Rattle.q_books.specs.HostStands.{TellsCrashes}
-use Rattle.q_drain.proofs.NextPolls.{begins_fewer, busy_keeps, ends_poll, fills_up, keeps_some, may_open_more, may_poll, poll_fails, polls_less, polls_on, reply_fits, report_fails, served_by_report, served_on, stands_still}
+use Rattle.q_drain.proofs.NextPolls.{begins_fewer, busy_keeps, ends_poll, fills_up, keeps_same, may_open_more, may_poll, poll_fails, polls_less, polls_on, reply_codes, reply_fits, report_fails, served_by_report, served_on, stands_still}
 use Rattle.q_drain.proofs.Polls.{polled_over, polled_rests, some_unpolled}
 use Rattle.q_drain.proofs.Progressing.{ends_one, leaves_less, leaves_same, passes_one}
 use Rattle.q_drain.specs.Progress.{LeavesLess, work_left}
@@ -54,14 +54,14 @@ returns-in_default-clause-polling g c =
     polls_on _ g.H.Host.tells u c.now.result hops next agent c.poll_next.new.self o.0 o.1
     (subst (λ (r : Option Report). PollsNext g.H.Host.tells u c.now.result hops next (next_polled agent) r agent c.poll_next.new.self) c.in_default.is c.in_ok-report.ensures.ok) c.requires.polling
 
-pub returns-in_default-clause-some : goal.returns-in_default-clause-some
-returns-in_default-clause-some g c =
+pub returns-in_default-clause-same : goal.returns-in_default-clause-same
+returns-in_default-clause-same g c =
     let u = g.H.Host.view c.args.host.now in
     let hops = g.N.Hops.view c.args.hops.now in
     let next = g.N.Hops.view c.poll_next.new.hops in
     let agent = c.args.agent.now in
     let o = some_unpolled agent c.requires.over in
-    keeps_some c.args.served.busy g.H.Host.tells u c.now.result hops next agent c.poll_next.new.self o.0 o.1
+    keeps_same c.args.served.busy c.args.served.known g.H.Host.tells u c.now.result hops next agent c.poll_next.new.self o.0 o.1
     (subst (λ (r : Option Report). PollsNext g.H.Host.tells u c.now.result hops next (next_polled agent) r agent c.poll_next.new.self) c.in_default.is c.in_ok-report.ensures.ok)
 
 pub returns-clause-ok : goal.returns-clause-ok
@@ -85,8 +85,8 @@ returns-clause-ok g c t w l a clock early fs s known sweeps h =
 pub returns-clause-polling : goal.returns-clause-polling
 returns-clause-polling g c = c.in_ok-next.ensures.polling
 
-pub returns-clause-some : goal.returns-clause-some
-returns-clause-some g c = busy_keeps c.args.served.busy c.in_ok-next.next.busy c.args.agent.now c.hear_report.new.agent c.in_ok-next.ensures.busy
+pub returns-clause-same : goal.returns-clause-same
+returns-clause-same g c = busy_keeps c.args.served.busy c.in_ok-next.next.busy c.args.served.known c.in_ok-next.next.known c.args.agent.now c.hear_report.new.agent c.in_ok-next.ensures.busy
 
 pub returns-then-last_number-ge-MOST_DELIVERIES-clause-ok : goal.returns-then-last_number-ge-MOST_DELIVERIES-clause-ok
 returns-then-last_number-ge-MOST_DELIVERIES-clause-ok g c t w l a clock early fs s known sweeps h =
@@ -143,6 +143,16 @@ hear_report-requires-clause-fits g c =
     let agent = c.args.agent.now in
     let o = some_unpolled agent c.requires.over in
     reply_fits g.H.Host.tells u c.now.result hops next agent c.poll_next.new.self o.0 c.in-Some.report o.1
+    (subst (λ (r : Option Report). PollsNext g.H.Host.tells u c.now.result hops next (next_polled agent) r agent c.poll_next.new.self) c.in-Some.is c.in_ok-report.ensures.ok)
+
+pub hear_report-requires-clause-codes : goal.hear_report-requires-clause-codes
+hear_report-requires-clause-codes g c =
+    let u = g.H.Host.view c.args.host.now in
+    let hops = g.N.Hops.view c.args.hops.now in
+    let next = g.N.Hops.view c.poll_next.new.hops in
+    let agent = c.args.agent.now in
+    let o = some_unpolled agent c.requires.over in
+    reply_codes g.H.Host.tells u c.now.result hops next agent c.poll_next.new.self o.0 c.in-Some.report o.1
     (subst (λ (r : Option Report). PollsNext g.H.Host.tells u c.now.result hops next (next_polled agent) r agent c.poll_next.new.self) c.in-Some.is c.in_ok-report.ensures.ok)
 
 pub hear_report-requires-clause-stands : goal.hear_report-requires-clause-stands

@@ -1,4 +1,4 @@
-use Rattle.std.proofs.Common.{◌≡◌, ◌∙◌, [], ap, refl, rules, subst, sym, true}
+use Rattle.std.proofs.Common.{◌≡◌, ◌∙◌, [], ap, refl, subst, sym}
 use Rattle.std.proofs.lemmas.Bool.{and_from}
 use Rattle.std.specs.List.{list_all}
 use Rattle.std.specs.Prelude.{Err}
@@ -17,16 +17,7 @@ use Rattle.q_model.specs.declared.event.LifeEvent.TheVariants.{Heard}
 use Rattle.q_drain.proofs.reply.tell_reply.Goals as goal
 
 pub step-requires-clause-form : goal.step-requires-clause-form
-step-requires-clause-form g c =
-    let codes : c.have_log_codes.result ≡ true = search rules in
-    and_from (fits_state c.args.report.site c.args.report.outcomes) (list_all has_log_code c.args.report.outcomes) c.requires.fits
-    (ap (list_all has_log_code) (sym c.as_slice.ensures) ∙ sym c.have_log_codes.ensures ∙ codes)
-
-pub returns-then-not-have_log_codes-clause-err : goal.returns-then-not-have_log_codes-clause-err
-returns-then-not-have_log_codes-clause-err g c error is t w l stands =
-    let u = g.H.Host.view c.args.host.now in
-    let lawful : TellsCrashes u = record { only = g.met.H.Host.only_now c.args.host.now; told = g.met.H.Host.told_stays c.args.host.now } in
-    halts_nothing w l (entries_replied w l c.args.report) error u lawful stands.host
+step-requires-clause-form g c = and_from (fits_state c.args.report.site c.args.report.outcomes) (list_all has_log_code c.args.report.outcomes) c.requires.fits c.requires.codes
 
 pub returns-in-Ok-clause-ok : goal.returns-in-Ok-clause-ok
 returns-in-Ok-clause-ok g c t w l stands =
@@ -50,8 +41,8 @@ returns-in-Err-clause-err g c error is t w l stands =
     (λ fault same. c.in-Err.ensures.err fault (ap (λ e. Err e) same) t w l stands)
     (λ of. let refused = c.in-Err.ensures.only_refused why refl of w l stands.core stands.counts in ap g.H.Host.view (c.in-Err.ensures.refused w l stands.core stands.counts why refused).1)
     (let one : c.stop_of.result ≡ stops.Host error = cc in sym c.stop_of.ensures ∙ one))
-    (λ no.
-    let refused = refused_unless l r.number r.site r.outcomes fits no in
+    (λ never.
+    let refused = refused_unless l r.number r.site r.outcomes fits never in
     let same : u ≡ x = sym (ap g.H.Host.view (c.in-Err.ensures.refused w l stands.core stands.counts refused.0 refused.1).1) in
     subst (λ v. HaltsRun w l [] error u v) same (halts_nothing w l [] error u lawful stands.host))
 

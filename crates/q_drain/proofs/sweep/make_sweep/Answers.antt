@@ -1,13 +1,13 @@
-use Rattle.std.proofs.Common.{◌+◌, ◌∙◌, Option, ap, arith, false, ltb-true, subst, sym}
+use Rattle.std.proofs.Common.{◌+◌, ◌∙◌, ◌∷◌, [], Option, ap, arith, false, ltb-true, refl, subst, sym, true, ◌≡◌}
 use Rattle.std.specs.Prelude.{IfSome, nat_lt}
 use Rattle.q_agent.specs.Sessions.{Sessions}
 use Rattle.q_books.specs.HostStands.{TellsCrashes}
-use Rattle.q_drain.proofs.PollingAll.{fails_then, filled_then, served_then}
-use Rattle.q_drain.proofs.Polls.{polling_anew}
+use Rattle.q_drain.proofs.PollingAll.{fails_then, filled_then}
+use Rattle.q_drain.proofs.Polls.{polling_anew, same_from, some_left}
 use Rattle.q_drain.proofs.Progressing.{left_first, left_then}
-use Rattle.q_drain.proofs.SweepsOn.{idles_on, may_open, opening_given_up, served_heard}
+use Rattle.q_drain.proofs.SweepsOn.{idles_on, may_open, opening_given_up, served_heard, swept_then}
 use Rattle.q_drain.specs.Opened.{FailsToOpenAll, MayOpenAll, OpensAll}
-use Rattle.q_drain.specs.Polling.{IsPolling}
+use Rattle.q_drain.specs.Polling.{IsPolling, KeepsSame}
 use Rattle.q_drain.specs.Progress.{LeavesLess, OpensUpTo, work_left}
 use Rattle.q_drain.specs.Served.{PollsOn}
 use Rattle.q_drain.specs.declared.poll.Served.{Served}
@@ -64,7 +64,8 @@ returns-then-is_empty-clause-ok g c t w l a s b =
     let hops = g.N.Hops.view c.args.hops.now in
     let next = g.N.Hops.view c.open_started.new.hops in
     let agent = c.open_started.new.agent in
-    idles_on w l a (record { clock = new; hops = next }) u x c.in_ok-engine.engine c.in_ok-opened.opened agent s (c.is_empty.ensures.0 c.if-is_empty.true) (c.open_started.ensures.polled ∙ ap (λ (n : Sessions). n.polled) c.next_sweep.ensures)
+    idles_on w l a (record { clock = new; hops = next }) u x c.in_ok-engine.engine c.args.known c.in_ok-opened.opened c.args.agent.now.listed agent s (c.is_empty.ensures.0 c.if-is_empty.true) (c.open_started.ensures.polled ∙ ap (λ (n : Sessions). n.polled) c.next_sweep.ensures)
+    c.in_ok-opened.ensures.last.0 (subst (λ (n : Sessions). OpensUpTo c.args.known c.in_ok-opened.opened n agent) c.next_sweep.ensures c.in_ok-opened.ensures.opens)
     (served_heard w l a old new u v hops c.args.engine c.in_ok-engine.engine c.args.agent.now.listed c.args.known c.args.first s b (c.in_ok-engine.ensures.ok t) x next agent c.in_ok-opened.opened false (λ is. cc)
     (subst (λ (n : Sessions). OpensAll c.in_ok-engine.engine v x hops next n agent c.args.known c.in_ok-opened.opened) c.next_sweep.ensures (c.in_ok-opened.ensures.ok t)))
 
@@ -82,7 +83,7 @@ poll_all-requires-clause-serves g c t =
     let opened = c.in_ok-opened.opened in
     let m = served_heard w l a old new u v hops c.args.engine c.in_ok-engine.engine c.args.agent.now.listed c.args.known c.args.first s b (c.in_ok-engine.ensures.ok t) x next agent opened (nat_lt c.args.known opened) (λ is. ltb-true c.args.known opened is)
     (subst (λ (n : Sessions). OpensAll c.in_ok-engine.engine v x hops next n agent c.args.known opened) c.next_sweep.ensures (c.in_ok-opened.ensures.ok t)) in
-    (new, record { world = w; ledger = l; first = a; early = m.early; flights = m.flights; story = m.story; known_is = m.known_is; sweeps = m.sweeps; serving = m.serving })
+    (new, record { world = w; ledger = l; first = a; early = m.served.early; flights = m.served.flights; story = m.served.story; known_is = m.served.known_is; sweeps = m.served.sweeps; serving = m.served.serving })
 
 pub returns-in_err-served-clause-err : goal.returns-in_err-served-clause-err
 returns-in_err-served-clause-err g c error is t w l a s b =
@@ -98,8 +99,8 @@ returns-in_err-served-clause-err g c error is t w l a s b =
     let busy = nat_lt c.args.known opened in
     let m = served_heard w l a old new u v hops c.args.engine c.in_ok-engine.engine c.args.agent.now.listed c.args.known c.args.first s b (c.in_ok-engine.ensures.ok t) x next agent opened busy (λ is. ltb-true c.args.known opened is)
     (subst (λ (n : Sessions). OpensAll c.in_ok-engine.engine v x hops next n agent c.args.known opened) c.next_sweep.ensures (c.in_ok-opened.ensures.ok t)) in
-    fails_then w l a (record { clock = new; hops = next }) (record { clock = new; hops = g.N.Hops.view c.poll_all.new.hops }) u x (g.H.Host.view c.poll_all.new.host) (record { engine = c.in_ok-engine.engine; known = opened; busy = busy }) agent s m error
-    (c.in_err-served.ensures.err error (same_stop c.from_residual-in_err-served.result c.in_err-served.field-0.0 (stops.Host error) c.from_residual-in_err-served.ensures.1 is) t w l a new m.early m.flights m.story m.known_is m.sweeps m.serving)
+    fails_then w l a (record { clock = new; hops = next }) (record { clock = new; hops = g.N.Hops.view c.poll_all.new.hops }) u x (g.H.Host.view c.poll_all.new.host) (record { engine = c.in_ok-engine.engine; known = opened; busy = busy }) agent (m.moment ∷ []) s m.served error
+    (c.in_err-served.ensures.err error (same_stop c.from_residual-in_err-served.result c.in_err-served.field-0.0 (stops.Host error) c.from_residual-in_err-served.ensures.1 is) t w l a new m.served.early m.served.flights m.served.story m.served.known_is m.served.sweeps m.served.serving)
 
 pub returns-in-Some-clause-ok : goal.returns-in-Some-clause-ok
 returns-in-Some-clause-ok g c t w l a s b =
@@ -118,8 +119,8 @@ returns-in-Some-clause-ok g c t w l a s b =
     let begun : Served = record { engine = c.in_ok-engine.engine; known = opened; busy = busy } in
     let m = served_heard w l a old new u v hops c.args.engine c.in_ok-engine.engine c.args.agent.now.listed c.args.known c.args.first s b (c.in_ok-engine.ensures.ok t) x next agent opened busy (λ is. ltb-true c.args.known opened is)
     (subst (λ (n : Sessions). OpensAll c.in_ok-engine.engine v x hops next n agent c.args.known opened) c.next_sweep.ensures (c.in_ok-opened.ensures.ok t)) in
-    served_then w l a (record { clock = new; hops = next }) (record { clock = new; hops = last }) u x y begun agent s m c.in-Some.served c.poll_all.new.agent
-    (subst (λ (o : Option Served). PollsOn begun o x y next last agent c.poll_all.new.agent) c.in-Some.is (c.in_ok-served.ensures.ok t) w l a new m.early m.flights m.story m.known_is m.sweeps m.serving)
+    swept_then w l a (record { clock = new; hops = next }) (record { clock = new; hops = last }) u x y begun agent s m c.in-Some.served c.poll_all.new.agent
+    (subst (λ (o : Option Served). PollsOn begun o x y next last agent c.poll_all.new.agent) c.in-Some.is (c.in_ok-served.ensures.ok t) w l a new m.served.early m.served.flights m.served.story m.served.known_is m.served.sweeps m.served.serving)
 
 pub returns-in-None-clause-ok : goal.returns-in-None-clause-ok
 returns-in-None-clause-ok g c t w l a s b =
@@ -138,8 +139,8 @@ returns-in-None-clause-ok g c t w l a s b =
     let begun : Served = record { engine = c.in_ok-engine.engine; known = opened; busy = busy } in
     let m = served_heard w l a old new u v hops c.args.engine c.in_ok-engine.engine c.args.agent.now.listed c.args.known c.args.first s b (c.in_ok-engine.ensures.ok t) x next agent opened busy (λ is. ltb-true c.args.known opened is)
     (subst (λ (n : Sessions). OpensAll c.in_ok-engine.engine v x hops next n agent c.args.known opened) c.next_sweep.ensures (c.in_ok-opened.ensures.ok t)) in
-    filled_then w l a (record { clock = new; hops = next }) (record { clock = new; hops = last }) u x y begun agent s m
-    (subst (λ (o : Option Served). PollsOn begun o x y next last agent c.poll_all.new.agent) c.in-None.is (c.in_ok-served.ensures.ok t) w l a new m.early m.flights m.story m.known_is m.sweeps m.serving)
+    filled_then w l a (record { clock = new; hops = next }) (record { clock = new; hops = last }) u x y begun agent (m.moment ∷ []) s m.served
+    (subst (λ (o : Option Served). PollsOn begun o x y next last agent c.poll_all.new.agent) c.in-None.is (c.in_ok-served.ensures.ok t) w l a new m.served.early m.served.flights m.served.story m.served.known_is m.served.sweeps m.served.serving)
 
 pub returns-in-Some-clause-cause : goal.returns-in-Some-clause-cause
 returns-in-Some-clause-cause g c =
@@ -214,3 +215,19 @@ returns-in-Some-clause-left g c =
     (subst (λ (n : Sessions). OpensUpTo known opened n agent) c.next_sweep.ensures c.in_ok-opened.ensures.opens) in
     left_then false (nat_lt known opened) c.in-Some.served.busy _ _ _ first
     (subst (λ (o : Option Served). IfSome o (λ s. LeavesLess (nat_lt known opened) s.busy (work_left opened agent) (work_left s.known c.poll_all.new.agent))) c.in-Some.is c.in_ok-served.ensures.left)
+
+pub returns-in-Some-clause-same : goal.returns-in-Some-clause-same
+returns-in-Some-clause-same g c =
+    let known = c.args.known in
+    let opened = c.in_ok-opened.opened in
+    let agent = c.open_started.new.agent in
+    same_from (nat_lt known opened) c.in-Some.served.busy known opened c.in-Some.served.known (record c.args.agent.now { polled = 0 }) agent c.poll_all.new.agent refl c.in_ok-opened.ensures.last.0
+    (subst (λ (n : Sessions). OpensUpTo known opened n agent) c.next_sweep.ensures c.in_ok-opened.ensures.opens)
+    (subst (λ (o : Option Served). IfSome o (λ s. KeepsSame (nat_lt known opened) s.busy opened s.known agent c.poll_all.new.agent)) c.in-Some.is c.in_ok-served.ensures.same)
+
+pub returns-in-Some-clause-some : goal.returns-in-Some-clause-some
+returns-in-Some-clause-some g c =
+    let opened = c.in_ok-opened.opened in
+    let agent = c.open_started.new.agent in
+    let kept = subst (λ (o : Option Served). IfSome o (λ s. KeepsSame (nat_lt c.args.known opened) s.busy opened s.known agent c.poll_all.new.agent)) c.in-Some.is c.in_ok-served.ensures.same in
+    λ idle. some_left agent c.poll_all.new.agent (kept idle).2 (λ none. let bad : true ≡ false = sym (c.is_empty.ensures.1 none) ∙ c.if-is_empty.false in cc)
