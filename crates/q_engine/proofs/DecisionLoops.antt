@@ -1,5 +1,6 @@
 -- The loop of decisions: the entries that were told so far, and those that follow.
-use Rattle.std.proofs.Common.{◌≡◌, ◌<◌, ◌+◌, ◌-◌, ◌^◌, ◌++◌, ℕ, List, [], ◌∷◌, None, refl, sym, ap, subst, ◌∙◌, append_assoc}
+use Rattle.std.proofs.Common.{◌≡◌, ◌<◌, ◌+◌, ◌-◌, ◌^◌, ◌++◌, ℕ, List, [], ◌∷◌, None, length, refl, sym, ap, arith, subst, ◌∙◌, append-nil, append_assoc}
+use Rattle.std.proofs.lemmas.List.{length-append}
 use Rattle.q_model.specs.declared.entry.Entry.{Entry}
 use Rattle.q_model.specs.Ledger.{Ledger}
 use Rattle.q_model.specs.Next.{next}
@@ -27,11 +28,12 @@ pub record Went (w : World) (l : Ledger) (count : ℕ) (engine : Engine) (u v : 
   pub stands : EngineStands w engine v (after_all w l told_entries)
   pub notes : StoresAllNotes w l told_entries u.files v.files
   pub rest : told_entries ++ decide (2 ^ 60 - count) w (after_all w l told_entries) ≡ all_decisions w l
+  pub counted : length told_entries ≡ count
 
 module _ (w : World) (l : Ledger) where
   pub went_none : (engine : Engine) (u : View) → TellsCrashes u → EngineStands w engine u l → Went w l 0 engine u u
   unfolding after_all all_decisions
-  went_none engine u lawful h = record { told_entries = []; plays = plays_none w l u lawful h.host; stands = h; notes = stores_none w l u.files; rest = refl }
+  went_none engine u lawful h = record { told_entries = []; plays = plays_none w l u lawful h.host; stands = h; notes = stores_none w l u.files; rest = refl; counted = refl }
 
   -- the entry that was decided, carried out and told
   pub went_more : (count : ℕ) (old new : Engine) (u v x y : View) → count < 2 ^ 60 → (so_far : Went w l count old u v) → Takes (after_all w l so_far.told_entries).book (after_all w l so_far.told_entries).book v x
@@ -48,6 +50,7 @@ module _ (w : World) (l : Ledger) where
         stands = subst (EngineStands w new y) there carried.stands;
         notes = stores_more w l es e u.files x.files y.files (stores_looked w l es u.files v x so_far.notes keeps) carried.notes;
         rest = decide-more w l (2 ^ 60) count es (all_decisions w l) e below carried.following so_far.rest;
+        counted = omega (arith, length-append es (e ∷ []), so_far.counted);
       }
 
   -- there is no entry more
@@ -59,15 +62,28 @@ module _ (w : World) (l : Ledger) where
       record {
         plays = subst (λ (xs : List Entry). PlaysRun w l xs u x) all (plays_reads w l es u v x so_far.plays reads);
         stands = subst (λ (xs : List Entry). EngineStands w new x (after_all w l xs)) all stands;
-        quiet = subst (λ (xs : List Entry). next w (after_all w l xs) ≡ None) all quiet;
+        quiet = λ few. subst (λ (xs : List Entry). next w (after_all w l xs) ≡ None) all quiet;
         notes = subst (λ (xs : List Entry). StoresAllNotes w l xs u.files x.files) all (stores_looked w l es u.files v x so_far.notes keeps);
       }
 
-  -- no more than those told so far
-  pub halts_here : (count : ℕ) (engine : Engine) (u v : View) (error : HostError) → Went w l count engine u v → HaltsRun w l (all_decisions w l) error u v
-  halts_here count engine u v error so_far =
+  none_left : (n : ℕ) (m : Ledger) → n ≡ 0 → decide n w m ≡ []
+  unfolding decide
+  none_left n m none = ap (λ k. decide k w m) none
+
+  -- there are as many as may follow
+  pub went_cut : (count : ℕ) (old new : Engine) (u v x : View) (so_far : Went w l count old u v) → count ≡ 2 ^ 60 → Takes (after_all w l so_far.told_entries).book (after_all w l so_far.told_entries).book v x
+      → KeepsNotes v x → EngineStands w new x (after_all w l so_far.told_entries) → WentQuiet w l new u x
+  went_cut count old new u v x so_far full reads keeps stands =
       let es = so_far.told_entries in
-      subst (λ (xs : List Entry). HaltsRun w l xs error u v) so_far.rest (plays_given_up w l es (decide (2 ^ 60 - count) w (after_all w l es)) error u v so_far.plays)
+      let none = none_left (2 ^ 60 - count) (after_all w l es) (omega (arith, full)) in
+      let all : es ≡ all_decisions w l = sym (append-nil es) ∙ ap (λ (xs : List Entry). es ++ xs) (sym none) ∙ so_far.rest in
+      let as_many : length (all_decisions w l) ≡ 2 ^ 60 = sym (ap length all) ∙ so_far.counted ∙ full in
+      record {
+        plays = subst (λ (xs : List Entry). PlaysRun w l xs u x) all (plays_reads w l es u v x so_far.plays reads);
+        stands = subst (λ (xs : List Entry). EngineStands w new x (after_all w l xs)) all stands;
+        quiet = λ few. absurd (omega (arith, few, as_many));
+        notes = subst (λ (xs : List Entry). StoresAllNotes w l xs u.files x.files) all (stores_looked w l es u.files v x so_far.notes keeps);
+      }
 
   -- a look was refused
   pub halts_looking : (count : ℕ) (old : Engine) (u v x : View) (so_far : Went w l count old u v) (error : HostError) → Takes (after_all w l so_far.told_entries).book (after_all w l so_far.told_entries).book v x → HaltsRun w l (all_decisions w l) error u x

@@ -1,6 +1,7 @@
 -- What the core answered: the next entry, or what it asks for first.
-use Rattle.std.proofs.Common.{◌≡◌, ◌∙◌, ℕ, true, false, Option, Some, None, refl, sym, ap, subst, inl, inr, ⊎_elim}
-use Rattle.std.specs.Prelude.{Err, Ok, OnErr, Result}
+use Rattle.std.specs.Option.{option_or}
+use Rattle.std.proofs.Common.{◌≡◌, ◌∙◌, ℕ, Bool, if◌then◌else◌, not, true, false, Option, Some, None, refl, sym, ap, subst, inl, inr, ⊎_elim}
+use Rattle.std.specs.Prelude.{◌||◌, Err, is_none, Ok, OnErr, Result}
 use Rattle.q_model.specs.declared.entry.Entry.{Entry}
 use Rattle.q_model.specs.declared.id.Id.{Id}
 use Rattle.q_model.specs.Next.{next}
@@ -11,7 +12,11 @@ use Rattle.q_host.specs.View.{View}
 use Rattle.q_core.specs.Facts.{IsDated}
 use Rattle.q_core.specs.declared.decision.Found.TheVariants as founds
 use Rattle.q_look.specs.Forms.{IsLookedAt}
-use Rattle.q_core.specs.Deciding.{AsksOnly, is_asking, is_look, IsDecided, IsLooking, IsPlaced, IsStartOf, NotesSkip, question_of}
+use Rattle.q_core.specs.Changes.{is_known, is_looked_at}
+use Rattle.q_core.specs.Deciding.{AsksOnly, decide_in, first_rule_in, is_asking, is_look, IsDecided, IsLooking, IsPlaced, IsStartOf, NotesSkip, question_for, question_of, scan_look_in}
+use Rattle.q_core.specs.declared.state.Seen.{Seen}
+use Rattle.q_core.specs.declared.state.Seen.TheVariants.{Known, Unknown}
+use Rattle.q_model.specs.declared.rows.Scan.{Scan}
 use Rattle.q_core.specs.Agrees.{Agrees}
 use Rattle.q_core.specs.Decisions.{IsOf, WantsRead}
 use Rattle.q_core.specs.declared.decision.Decision.{Decision}
@@ -142,6 +147,17 @@ module _ (w : World) (l : Ledger) (v : View) where
 pub always_err : {T E : Type 0} {P : Type 0} (r : Result T E) → P → OnErr r P
 always_err (Ok x) h = tt
 always_err (Err e) h = h
+
+-- where the scan's next name isn't known, the look at it is decided
+scan_wanted : (scan : Option Scan) (deferred : Seen) → (is_none scan || is_known deferred) ≡ false → (s : Scan) × (scan_look_in deferred scan ≡ Some (decisions.LookDeferred s.place s.until))
+scan_wanted None deferred h = absurd cc
+scan_wanted (Some s) (Known found) h = absurd cc
+scan_wanted (Some s) Unknown h = (s, refl)
+
+pub scan_asked : (c : Core) (o : Option Decision) → c.timed ≡ true → is_looked_at c ≡ false → o ≡ decide_in c → is_look (question_for o) ≡ true
+scan_asked c o timed h is =
+    let found = scan_wanted c.scan c.deferred h in
+    ap (λ (d : Option Decision). is_look (question_for d)) (is ∙ ap (λ (b : Bool). if not b then None else option_or (scan_look_in c.deferred c.scan) (first_rule_in c)) timed ∙ ap (λ (d : Option Decision). option_or d (first_rule_in c)) found.1)
 
 -- what a look shows is the answer that the core waits for
 pub shown_answers : (d : Decision) (c : Core) (found : Found) (l : Ledger) → c.question ≡ question_of d → IsLookOf c d → IsShown d found l → IsFound c found l

@@ -87,12 +87,9 @@ stop_later a b c r disk tell h = record {
   tell = λ is. rose_later a.tell b.tell c.tell tell (h.tell is);
 }
 
--- where nothing failed, memory is wanting or a file is unreadable, no count has to rise
+-- where nothing failed, or a file is unreadable, no count has to rise
 pub ok_stop : {T : Type 0} (before after : Faults) (made : T) → before.disk ≤ after.disk → before.tell ≤ after.tell → StopCause {T = T} before after (Ok made)
 ok_stop before after made disk tell = record { disk_later = disk; tell_later = tell; disk = λ is. absurd cc; tell = λ is. absurd cc }
-
-pub memory_stop : {T : Type 0} (before after : Faults) → before.disk ≤ after.disk → before.tell ≤ after.tell → StopCause {T = T} before after (Err (stops.Host faults.NoMemory))
-memory_stop before after disk tell = record { disk_later = disk; tell_later = tell; disk = λ is. absurd cc; tell = λ is. absurd cc }
 
 pub unreadable_stop : {T : Type 0} (before after : Faults) (spot : Spot) (made : Stop) → made ≡ unreadable spot → before.disk ≤ after.disk → before.tell ≤ after.tell → StopCause {T = T} before after (Err made)
 unreadable_stop before after spot made is disk tell = record { disk_later = disk; tell_later = tell; disk = λ of. absurd cc; tell = λ of. absurd cc }

@@ -1,5 +1,5 @@
 -- The notice of a message: what is read for it, and how its message changes the book.
-use Rattle.std.specs.Prelude.{◌≡◌, Bool, false, is_none, List, None, Some, take, ℕ}
+use Rattle.std.specs.Prelude.{◌≡◌, Bool, false, is_none, length, List, None, Some, take, ℕ}
 use Rattle.q_model.specs.declared.id.Id.{Id}
 use Rattle.q_model.specs.declared.outcome.Failure.{Failure}
 use Rattle.q_model.specs.declared.spot.Area.TheVariants as areas
@@ -16,14 +16,16 @@ use Rattle.q_model.specs.SpoolFiles.{Files}
 use Rattle.q_model.specs.Values.{Spot}
 use Rattle.q_host.specs.View.{View}
 use Rattle.q_logfile.specs.Flags.{AreFlags}
+use Rattle.q_look.specs.Failures.{set_count}
 use Rattle.q_books.specs.HostStands.{HostStands}
 use Rattle.q_books.specs.Spots.{IsFileAt}
 
--- these flags and failures are those of so many recipients by these records
+-- these flags and failures are those of so many recipients by these records, as many as flags are set
 pub record AreKnown (n : ℕ) (records : List Failure) (flags : List Bool) (failures : List Failure)
     : Type 0 where
   pub set : AreFlags n records flags
   pub first : failures ≡ failures_of n records
+  pub counted : set_count flags ≡ length failures
 
 -- the front of the content of the message whose file these bytes are
 abbrev pub IsContentFront : List ℕ → List ℕ → Type 0

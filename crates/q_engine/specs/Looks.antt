@@ -30,6 +30,10 @@ abbrev pub AnswersLook : Decision → Engine → Engine → View → View → Ty
 AnswersLook d old new v x = ForStands old v (λ w l. IsLookOf old.core.value d
     → EngineStands w new x l × Takes l.book l.book v x)
 
+-- nothing but looks was done
+abbrev pub LooksAhead : Engine → Engine → View → View → Type 0
+LooksAhead old new v x = ForStands old v (λ w l. EngineStands w new x l × Takes l.book l.book v x)
+
 -- it was given up
 abbrev pub StaysAtBook : Engine → View → View → Type 0
 StaysAtBook engine v x = ForStands engine v (λ w l. Takes l.book l.book v x)

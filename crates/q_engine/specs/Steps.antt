@@ -1,9 +1,9 @@
 -- A decision carried out, and all that follow an event.
-use Rattle.std.specs.Prelude.{◌≡◌, IsErrOf, None, Result, Some}
+use Rattle.std.specs.Prelude.{◌≡◌, ◌<◌, ◌^◌, IsErrOf, length, None, Result, Some}
 use Rattle.q_model.specs.declared.entry.Entry.{Entry}
 use Rattle.q_model.specs.Ledger.{Ledger}
 use Rattle.q_model.specs.Next.{next}
-use Rattle.q_model.specs.Run.{decisions, turn}
+use Rattle.q_model.specs.Run.{decisions, entry_of, turn}
 use Rattle.q_model.specs.declared.event.Event.{Event}
 use Rattle.q_model.specs.declared.event.LifeEvent.TheVariants as life_events
 use Rattle.q_model.specs.Settings.{World}
@@ -52,11 +52,12 @@ HasNext d engine v = (w : World) × (l : Ledger) × IsNextEntry w l (Some d) eng
 abbrev pub StandsForSome : Engine → View → Type 0
 StandsForSome engine v = (w : World) × (l : Ledger) × EngineStands w engine v l
 
--- the decisions that follow an event were carried out and told, and no other follows
+-- The decisions that follow an event were carried out and told. No other follows, unless they are 2^60:
+-- what is left goes on with the next event then.
 pub record WentQuiet (w : World) (l : Ledger) (engine : Engine) (u v : View) : Type 0 where
   pub plays : PlaysRun w l (decisions w l) u v
   pub stands : EngineStands w engine v (after_all w l (decisions w l))
-  pub quiet : next w (after_all w l (decisions w l)) ≡ None
+  pub quiet : length (decisions w l) < 2 ^ 60 → next w (after_all w l (decisions w l)) ≡ None
   pub notes : StoresAllNotes w l (decisions w l) u.files v.files
 
 abbrev pub DecidesAll : Engine → Engine → View → View → Type 0
@@ -65,11 +66,12 @@ DecidesAll old new u v = ForStands old u (λ w l. WentQuiet w l new u v)
 abbrev pub HaltsDeciding : Engine → HostError → View → View → Type 0
 HaltsDeciding engine error u v = ForStands engine u (λ w l. HaltsRun w l (decisions w l) error u v)
 
--- an event's turn was carried out and told, and no decision follows
+-- An event's turn was carried out and told, and no decision follows, unless 2^60 did.
 pub record TookTurn (w : World) (l : Ledger) (event : Event) (engine : Engine) (u v : View) : Type 0 where
   pub plays : PlaysRun w l (turn w l (life_events.Heard event)) u v
   pub stands : EngineStands w engine v (after_all w l (turn w l (life_events.Heard event)))
-  pub quiet : next w (after_all w l (turn w l (life_events.Heard event))) ≡ None
+  pub quiet : length (decisions w (after w l (entry_of l (life_events.Heard event)))) < 2 ^ 60
+      → next w (after_all w l (turn w l (life_events.Heard event))) ≡ None
   pub notes : StoresAllNotes w l (turn w l (life_events.Heard event)) u.files v.files
 
 abbrev pub TakesTurn : Event → Engine → Engine → View → View → Type 0

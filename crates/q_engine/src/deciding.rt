@@ -8,14 +8,16 @@ ghost use Rattle.q_engine.specs.Steps.{DecidesAll, HaltsDeciding, StandsForSome}
 
 use crate::engine::Engine;
 use crate::stop::Stop;
-use q_host::{Host, HostError};
+use q_host::Host;
 use std::alloc::Global;
 
-/// How many decisions may follow one event. A life doesn't come near: each costs a line.
+/// How many decisions may follow one event; what is left goes on with the next one. A life doesn't
+/// come near: each costs a line.
 const DECISIONS: u64 = 1 << 60;
 
 impl Engine {
-    /// Carries out and tells the decisions that follow an event, until there is none.
+    /// Carries out and tells the decisions that follow an event, until there is none, or 2^60 of
+    /// them. Then the scan's next name is looked at, as the next event asks for.
     pub(crate) fn decisions<H: Host>(&mut self, alloc: Global, host: &mut H) -> Result<(), Stop>
         requires answered { is_answered self.old.core.value.question ≡ true }
         requires timed { self.old.core.value.timed ≡ true }
@@ -34,6 +36,7 @@ impl Engine {
             };
             self.carry_out(alloc, host, &decision)?;
         }
-        Err(Stop::Host(HostError::NoMemory))
+        self.look_ahead(alloc, host)?;
+        Ok(())
     }
 }

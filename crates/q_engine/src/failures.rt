@@ -1,5 +1,5 @@
 //! The failures of a message by its log.
-ghost use Rattle.std.specs.Prelude.{◌≡◌, ◌<◌, ◌∷◌, ◌++◌, [], All, Bool, IfOk, IsTrue, List, map, OnOk, ℕ};
+ghost use Rattle.std.specs.Prelude.{◌≡◌, ◌≤◌, ◌<◌, ◌∷◌, ◌++◌, [], All, Bool, IfOk, IsTrue, length, List, map, OnOk, ℕ};
 ghost use Rattle.q_engine.specs.BounceTexts.{AreKnown};
 ghost use Rattle.q_host.specs.Calls.{Stays};
 ghost use Rattle.q_host.specs.Faults.{DiskCause};
@@ -42,7 +42,8 @@ impl Known {
 
 /// The failures of so many recipients by these records.
 fn failures_by(alloc: Global, records: &[Failure], recipients: u32) -> Result<Records, NoMemory>
-    ensures { IfOk result (λ failures. failures ≡ failures_of recipients records.now) }
+    ensures failures { IfOk result (λ failures. failures ≡ failures_of recipients records.now) }
+    ensures few { IfOk result (λ failures. length failures ≤ recipients) }
 {
     let flags = vec![in alloc; false; recipients as usize]?;
     let failures = Records::new(alloc);
@@ -64,6 +65,7 @@ pub(crate) fn failures_at<H: Host>(
     ensures failures { IfOk result (λ failures. IsTrue H.tells
         → failures ≡ failures_of recipients (logged_in (H.view host.old).files id)) }
     ensures within { IfOk result (λ failures. All (λ f. f.position < recipients) failures) }
+    ensures few { IfOk result (λ failures. length failures ≤ recipients) }
     ensures stays { IsTrue H.tells → Stays (H.view host.old) (H.view host.new) }
     ensures cause { DiskCause (H.faults host.old) (H.faults host.new) result }
 {

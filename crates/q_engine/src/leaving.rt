@@ -6,7 +6,6 @@ ghost use Rattle.q_core.specs.declared.decision.Decision.TheVariants as decision
 ghost use Rattle.q_engine.specs.BounceTexts.{AddsBounce, IsNoBounce};
 ghost use Rattle.q_engine.specs.Steps.{CarriesOut, EachError, GivesDecisionUp, HasNext};
 ghost use Rattle.q_entries.specs.Causes.{HostCause};
-ghost use Rattle.q_files.specs.Submissions.{AddsMessage};
 ghost use Rattle.q_host.specs.Faults.{DiskCause};
 ghost use Rattle.q_host.specs.View.{Told};
 ghost use Rattle.q_message.specs.Told.{IsThere};
@@ -14,11 +13,12 @@ ghost use Rattle.q_model.specs.Ids.{bounce_of};
 ghost use Rattle.q_places.specs.Kept.{kept_file};
 
 use crate::engine::Engine;
+use crate::mailing::store;
 use crate::notices::notice_at;
 use crate::read_fault::head_at;
 use q_books::file_spot;
 use q_entries::tell;
-use q_files::{FileError, remove, submit};
+use q_files::remove;
 use q_host::{Host, HostError};
 use q_model::{Address, Addresses, Entry, FileHead, Head, Id, Moment, NoMemory, Place, Spot};
 use std::alloc::Global;
@@ -42,31 +42,6 @@ fn alone(alloc: Global, address: &Address) -> Result<Addresses, NoMemory>
     let mut to = Addresses::new(alloc);
     to.push(*address)?;
     Ok(to)
-}
-
-/// Stores a notice. One that is too large to be stored is taken for want of memory.
-fn store_notice<H: Host>(
-    alloc: Global,
-    host: &mut H,
-    id: Id,
-    head: &Head,
-    to: &Addresses,
-    content: &[u8],
-) -> Result<(), HostError>
-    requires arrival { head.now.arrival ≤ 999990000000 }
-    requires some { 1 ≤ length to.now }
-    ensures ok { OnOk result (TakesBy (AddsMessage (H.view host.old).files id head.now to.now content.now)
-        H.tells H.view host.old host.new) }
-    ensures err { OnErr result (TriesBy (AddsMessage (H.view host.old).files id head.now to.now content.now)
-        H.tells H.view host.old host.new) }
-    ensures notes { IsTrue H.tells → KeepsNotes (H.view host.old) (H.view host.new) }
-    ensures cause { DiskCause (H.faults host.old) (H.faults host.new) result }
-{
-    match submit(alloc, host, id, head, to, content) {
-        Ok(()) => Ok(()),
-        Err(FileError::Disk) => Err(HostError::Disk),
-        Err(_) => Err(HostError::NoMemory),
-    }
 }
 
 /// Stores the bounce of the message whose file stands at the spot. Whether that could be made: where
@@ -104,7 +79,7 @@ fn store_bounce<H: Host>(
         sender: None,
         arrival,
     };
-    store_notice(alloc, host, bounce_of(id), &head, &to, text.as_slice())?;
+    store(alloc, host, bounce_of(id), &head, &to, text.as_slice())?;
     Ok(true)
 }
 

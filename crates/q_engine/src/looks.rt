@@ -6,7 +6,7 @@ ghost use Rattle.q_core.specs.Agrees.{Agrees};
 ghost use Rattle.q_core.specs.Deciding.{is_answered, is_look, question_of};
 ghost use Rattle.q_core.specs.Facts.{IsDated};
 ghost use Rattle.q_core.specs.Looking.{LeavesFewer};
-ghost use Rattle.q_engine.specs.Looks.{AnswersLook, FindsNext, IsShown, StaysAtBook};
+ghost use Rattle.q_engine.specs.Looks.{AnswersLook, FindsNext, IsShown, LooksAhead, StaysAtBook};
 ghost use Rattle.q_engine.specs.Stands.{IsReady};
 ghost use Rattle.q_engine.specs.TakenOver.{IsTakenOver};
 ghost use Rattle.q_host.specs.Calls.{Stays};
@@ -95,6 +95,31 @@ impl Engine {
             if !self.core.is_looking() {
                 return Ok(Some(decision));
             }
+            self.answer(alloc, host, &decision)?;
+        }
+    }
+    /// Answers the looks at the scan's next name, until that is known or there is no scan.
+    pub(crate) fn look_ahead<H: Host>(
+        &mut self,
+        alloc: Global,
+        host: &mut H,
+    ) -> Result<(), HostError>
+        requires answered { is_answered self.old.core.value.question ≡ true }
+        requires timed { self.old.core.value.timed ≡ true }
+        ensures ok { OnOk result (Told H.tells H.view host.old host.new
+            (LooksAhead self.old self.new)) }
+        ensures err { OnErr result (Told H.tells H.view host.old host.new (StaysAtBook self.old)) }
+        ensures ready { OnOk result (IsReady self.new) }
+        ensures notes { IsTrue H.tells → KeepsNotes (H.view host.old) (H.view host.new) }
+        ensures cause { DiskCause (H.faults host.old) (H.faults host.new) result }
+    {
+        'scan: loop {
+            if self.core.is_looked_at() {
+                return Ok(());
+            }
+            let Some(decision) = self.core.next_decision() else {
+                unreachable!()
+            };
             self.answer(alloc, host, &decision)?;
         }
     }

@@ -20,8 +20,8 @@ use q_host::{Host, HostError};
 use q_model::{Address, Addresses, Bytes, Entry, Head, Id, Moment};
 use std::alloc::Global;
 
-/// Stores a message, which is within the limits.
-fn store<H: Host>(
+/// Stores a message, or a notice, which is within the limits of a queue file.
+pub(crate) fn store<H: Host>(
     alloc: Global,
     host: &mut H,
     id: Id,

@@ -70,8 +70,8 @@ impl Engine {
         self.decisions(alloc, host)
     }
 
-    /// Hears an event, and carries out and tells the decisions that follow it, until there is none.
-    /// The engine is spent by a refusal.
+    /// Hears an event, and carries out and tells the decisions that follow it, until there is none, or
+    /// 2^60 of them: what is left goes on with the next event. The engine is spent by a refusal.
     ///
     /// `Untimed`, `Unknown`, `WrongCount` and `Limit` come exactly where the event is one of these,
     /// before anything is done; of `Limit` only Content, Recipients and Serial. `Unreadable` names a
@@ -88,8 +88,8 @@ impl Engine {
         requires stands { IsTrue H.tells → StandsForSome self (H.view host.old) }
 
         // What was told grew by the text of the event's turn, engine and host stand for the ledger
-        // after it, nothing is left to decide, and no crash meanwhile leaves anything that the run of
-        // these entries doesn't allow.
+        // after it, nothing is left to decide but behind 2^60 decisions, and no crash meanwhile leaves
+        // anything that the run of these entries doesn't allow.
         ensures ok { IfOk result (λ engine. Told H.tells H.view host.old host.new
             (TakesTurn event self engine)) }
         ensures ready { IfOk result (λ engine. IsReady engine) }

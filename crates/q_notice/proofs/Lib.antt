@@ -1,1 +1,2 @@
+pub mod NoticeLengths
 pub mod TextPieces

@@ -1,5 +1,5 @@
 //! The content of a bounce.
-ghost use Rattle.std.specs.Prelude.{◌≡◌, ◌≤◌, ◌++◌, IfOk, length, min, OnOk};
+ghost use Rattle.std.specs.Prelude.{◌≡◌, ◌≤◌, ◌+◌, ◌++◌, IfOk, length, min, OnOk};
 ghost use Rattle.q_notice.specs.NoticeTexts.{head_lines, IsNotice, notice_text, size_lines};
 
 use crate::failures::add_failures;
@@ -9,7 +9,8 @@ use std::alloc::Global;
 
 /// Adds the header, and the line in front of the failures.
 fn add_head(text: &mut Vec<u8>, id: Id, sender: &Address) -> Result<(), NoMemory>
-    ensures { OnOk result (text.new.items ≡ text.old.items ++ head_lines id sender.now) }
+    ensures text { OnOk result (text.new.items ≡ text.old.items ++ head_lines id sender.now) }
+    ensures short { OnOk result (length text.new.items ≤ length text.old.items + 600) }
 {
     add(text, b"From: MAILER-DAEMON\nTo: ")?;
     add(text, sender.bytes())?;
@@ -34,7 +35,8 @@ fn front_size(size: u32) -> u32
 
 /// Adds the lines that say how much of the message follows.
 fn add_size(alloc: Global, text: &mut Vec<u8>, size: u32) -> Result<(), NoMemory>
-    ensures { OnOk result (text.new.items ≡ text.old.items ++ size_lines size) }
+    ensures text { OnOk result (text.new.items ≡ text.old.items ++ size_lines size) }
+    ensures short { OnOk result (length text.new.items ≤ length text.old.items + 100) }
 {
     let front = front_size(size);
     add(text, b"\nThe message had ")?;
@@ -64,6 +66,8 @@ pub fn notice(
     // It is the notice of each message whose failures, names, size and front these are.
     ensures notice { IfOk result (λ text.
         IsNotice text id sender.now failures.now names.now size front.now) }
+    // A queue file can hold it, where the failures are those of a message.
+    ensures room { length failures.now ≤ 50000 → IfOk result (λ text. length text ≤ 20000000) }
 {
     let mut text = Vec::new(alloc);
     add_head(&mut text, id, sender)?;

@@ -1,5 +1,5 @@
 //! The lines of failures.
-ghost use Rattle.std.specs.Prelude.{◌≡◌, ◌++◌, length, OnOk};
+ghost use Rattle.std.specs.Prelude.{◌≡◌, ◌≤◌, ◌*◌, ◌+◌, ◌++◌, length, OnOk};
 ghost use Rattle.q_model.specs.TextParts.{why_text};
 ghost use Rattle.q_notice.specs.NoticeTexts.{named_failure, named_failures};
 
@@ -23,7 +23,9 @@ fn add_failure(
     address: &Address,
     failure: Failure,
 ) -> Result<(), NoMemory>
-    ensures { OnOk result (text.new.items ≡ text.old.items ++ named_failure address.now failure) }
+    ensures text { OnOk result (text.new.items
+        ≡ text.old.items ++ named_failure address.now failure) }
+    ensures short { OnOk result (length (named_failure address.now failure) ≤ 280) }
 {
     add(text, address.bytes())?;
     add(text, b": ")?;
@@ -41,8 +43,10 @@ pub(crate) fn add_failures(
     names: &[Address],
 ) -> Result<(), NoMemory>
     requires { length names.now ≡ length failures.now }
-    ensures { OnOk result (text.new.items
+    ensures text { OnOk result (text.new.items
         ≡ text.old.items ++ named_failures failures.now names.now) }
+    ensures short { OnOk result (length text.new.items
+        ≤ length text.old.items + 280 * length failures.now) }
 {
     for (i, failure) in failures.iter().enumerate() {
         add_failure(alloc, text, &names[i], *failure)?;

@@ -5,4 +5,4 @@ use Rattle.q_engine.proofs.FailureFlags.{failures_within}
 use Rattle.q_engine.proofs.failures.failures_at.Goals as goal
 
 pub returns-clause-within : goal.returns-clause-within
-returns-clause-within g c = subst (λ (fs : List Failure). All (λ (f : Failure). f.position < c.args.recipients) fs) (sym c.in_ok-failures_by.ensures) (failures_within c.args.recipients c.as_slice.result.now)
+returns-clause-within g c = subst (λ (fs : List Failure). All (λ (f : Failure). f.position < c.args.recipients) fs) (sym c.in_ok-failures_by.ensures.failures) (failures_within c.args.recipients c.as_slice.result.now)

@@ -1,4 +1,4 @@
-use Rattle.std.proofs.Common.{◌≡◌, ◌∙◌, ◌∷◌, [], IsTrue, List, None, Option, Some, subst, sym, ℕ}
+use Rattle.std.proofs.Common.{◌≡◌, ◌≤◌, ◌∙◌, ◌∷◌, [], IsTrue, length, List, None, Option, Some, subst, sym, ℕ}
 use Rattle.std.specs.Prelude.{IfNone, IfSome}
 use Rattle.q_books.proofs.Joining.{kept_takes, kept_tries, reads_keep, reads_try}
 use Rattle.q_books.specs.HostStands.{TellsCrashes}
@@ -86,13 +86,13 @@ returns-in_err-to-clause-tries g c t b k h adds =
     let lawful : TellsCrashes v = record { only = g.met.H.Host.only_now c.args.host.now; told = g.met.H.Host.told_stays c.args.host.now } in
     reads_try b k v (g.H.Host.view c.notice_at.new.host) lawful (stays_on v (g.H.Host.view c.head_at.new.host) (g.H.Host.view c.notice_at.new.host) (c.in_ok-head.ensures.stays t) (c.in_ok-text.ensures.stays t)) h
 
-pub returns-in_err-store_notice-clause-tries : goal.returns-in_err-store_notice-clause-tries
-returns-in_err-store_notice-clause-tries g c t b k h adds =
+pub returns-in_err-store-clause-tries : goal.returns-in_err-store-clause-tries
+returns-in_err-store-clause-tries g c t b k h adds =
     let v = g.H.Host.view c.args.host.now in
     let lawful : TellsCrashes v = record { only = g.met.H.Host.only_now c.args.host.now; told = g.met.H.Host.told_stays c.args.host.now } in
     let m = g.H.Host.view c.head_at.new.host in
     let x = g.H.Host.view c.notice_at.new.host in
-    let w = g.H.Host.view c.store_notice.new.host in
+    let w = g.H.Host.view c.store.new.host in
     let read = (subst (λ (o : Option FileHead). IfSome o (λ head. TellsOf g.H.Host.tells v c.args.spot (IsHead head))) c.in-Some.is c.in_ok-head.ensures.head) in
     let head = c.in-Some.head in
     let sender = c.in-Some-sender_of.sender in
@@ -105,7 +105,7 @@ returns-in_err-store_notice-clause-tries g c t b k h adds =
     let told = notice_before v m c.args.spot c.args.id sender text lawful same (noticed t) in
     let made = bounce_adds v x.files b k c.args.spot c.args.id c.args.arrival head sender text first.files h (read t) some told adds in
     let stored = adds_by x.files (bounce_of c.args.id) c.bounce_of.result (record { sender = None; arrival = c.args.arrival }) (sender ∷ []) c.in_ok-to.to text c.as_slice.result.now b k c.bounce_of.ensures c.in_ok-to.ensures c.as_slice.ensures made in
-    kept_tries b k v x w keeps (c.in_err-store_notice.ensures.err t b k keeps.stands stored)
+    kept_tries b k v x w keeps (c.in_err-store.ensures.err t b k keeps.stands stored)
 
 pub returns-clause-ok : goal.returns-clause-ok
 returns-clause-ok g c t b k h adds =
@@ -113,7 +113,7 @@ returns-clause-ok g c t b k h adds =
     let lawful : TellsCrashes v = record { only = g.met.H.Host.only_now c.args.host.now; told = g.met.H.Host.told_stays c.args.host.now } in
     let m = g.H.Host.view c.head_at.new.host in
     let x = g.H.Host.view c.notice_at.new.host in
-    let w = g.H.Host.view c.store_notice.new.host in
+    let w = g.H.Host.view c.store.new.host in
     let read = (subst (λ (o : Option FileHead). IfSome o (λ head. TellsOf g.H.Host.tells v c.args.spot (IsHead head))) c.in-Some.is c.in_ok-head.ensures.head) in
     let head = c.in-Some.head in
     let sender = c.in-Some-sender_of.sender in
@@ -126,7 +126,7 @@ returns-clause-ok g c t b k h adds =
     let told = notice_before v m c.args.spot c.args.id sender text lawful same (noticed t) in
     let made = bounce_adds v x.files b k c.args.spot c.args.id c.args.arrival head sender text first.files h (read t) some told adds in
     let stored = adds_by x.files (bounce_of c.args.id) c.bounce_of.result (record { sender = None; arrival = c.args.arrival }) (sender ∷ []) c.in_ok-to.to text c.as_slice.result.now b k c.bounce_of.ensures c.in_ok-to.ensures c.as_slice.ensures made in
-    kept_takes b k v x w keeps (c.in_ok-store_notice.ensures.ok t b k keeps.stands stored)
+    kept_takes b k v x w keeps (c.in_ok-store.ensures.ok t b k keeps.stands stored)
 
 pub returns-clause-tries : goal.returns-clause-tries
 returns-clause-tries g c t b k h adds =
@@ -134,7 +134,7 @@ returns-clause-tries g c t b k h adds =
     let lawful : TellsCrashes v = record { only = g.met.H.Host.only_now c.args.host.now; told = g.met.H.Host.told_stays c.args.host.now } in
     let m = g.H.Host.view c.head_at.new.host in
     let x = g.H.Host.view c.notice_at.new.host in
-    let w = g.H.Host.view c.store_notice.new.host in
+    let w = g.H.Host.view c.store.new.host in
     let read = (subst (λ (o : Option FileHead). IfSome o (λ head. TellsOf g.H.Host.tells v c.args.spot (IsHead head))) c.in-Some.is c.in_ok-head.ensures.head) in
     let head = c.in-Some.head in
     let sender = c.in-Some-sender_of.sender in
@@ -147,4 +147,12 @@ returns-clause-tries g c t b k h adds =
     let told = notice_before v m c.args.spot c.args.id sender text lawful same (noticed t) in
     let made = bounce_adds v x.files b k c.args.spot c.args.id c.args.arrival head sender text first.files h (read t) some told adds in
     let stored = adds_by x.files (bounce_of c.args.id) c.bounce_of.result (record { sender = None; arrival = c.args.arrival }) (sender ∷ []) c.in_ok-to.to text c.as_slice.result.now b k c.bounce_of.ensures c.in_ok-to.ensures c.as_slice.ensures made in
-    kept_tries b k v x w keeps (tried b k x w (c.in_ok-store_notice.ensures.ok t b k keeps.stands stored))
+    kept_tries b k v x w keeps (tried b k x w (c.in_ok-store.ensures.ok t b k keeps.stands stored))
+
+pub notice_at-requires-clause-few : goal.notice_at-requires-clause-few
+notice_at-requires-clause-few g c = subst (λ (o : Option FileHead). IfSome o (λ head. head.recipients ≤ 50000)) c.in-Some.is c.in_ok-head.ensures.few
+
+pub store-requires-clause-short : goal.store-requires-clause-short
+store-requires-clause-short g c =
+    let short = subst (λ (o : Option (List ℕ)). IfSome o (λ text. length text ≤ 20000000)) c.in-Some-2.is c.in_ok-text.ensures.short in
+    subst (λ (x : List ℕ). length x ≤ 20000000) (sym c.as_slice.ensures) short

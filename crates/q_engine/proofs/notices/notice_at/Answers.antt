@@ -1,4 +1,4 @@
-use Rattle.std.proofs.Common.{◌≡◌, ◌∙◌, ◌<◌, List, ℕ, ap, map, sym, subst}
+use Rattle.std.proofs.Common.{◌≡◌, ◌∙◌, ◌<◌, List, ℕ, ap, arith, map, sym, subst}
 use Rattle.std.specs.Option.{IfSome}
 use Rattle.std.specs.Prelude.{All}
 use Rattle.std.proofs.lemmas.List.Elements.{All-map}
@@ -43,3 +43,11 @@ returns-in-Err-clause-notice g c = unless_none c.unless_damaged.result c.in-Err.
 pub returns-in-Err-clause-read : goal.returns-in-Err-clause-read
 returns-in-Err-clause-read g c =
     unless_none c.unless_damaged.result c.in-Err.error _ c.unless_damaged.ensures (λ place is. c.read_names.ensures.no_message place (err_same c.read_names.result c.in-Err.error (NotAMessage place) c.in-Err.is is))
+
+pub returns-clause-short : goal.returns-clause-short
+returns-clause-short g c =
+    let count : c.head.inside.recipients ≡ c.args.head.now.recipients = ap (λ (x : FileHead). x.recipients) c.head.view_is in
+    c.in_ok-text.ensures.room (omega (arith, c.in_ok-failures.ensures.few, count, c.requires.few))
+
+pub returns-in-Err-clause-short : goal.returns-in-Err-clause-short
+returns-in-Err-clause-short g c = unless_none c.unless_damaged.result c.in-Err.error _ c.unless_damaged.ensures (λ place is. tt)
