@@ -1,5 +1,6 @@
 //! A session that isn't over, and its link.
 ghost use Rattle.std.specs.Prelude.{◌≡◌, false};
+ghost use Rattle.q_link.specs.declared.usage.Usage.TheVariants.{Open};
 
 use q_link::ScriptLink;
 use q_session::{Polled, Session};
@@ -15,12 +16,13 @@ pub(crate) struct Running {
 
 impl Model for Running {
     ghost use Rattle.std.specs.Prelude.{◌≡◌, false};
+    ghost use Rattle.q_link.specs.declared.usage.Usage.TheVariants.{Open};
 
     ghost Value = { Unit {0} };
 
     ghost view = { λ r. tt };
 
-    ghost invariant = { λ r. (r.session.over ≡ false) × (r.link.view.ended ≡ false) };
+    ghost invariant = { λ r. (r.session.over ≡ false) × (r.link.view.ended ≡ false) × (r.link.view.usage ≡ Open) };
 }
 
 /// What came of a poll.
@@ -34,6 +36,7 @@ impl Running {
     pub(crate) fn new(session: Session, link: ScriptLink) -> Running
         requires goes_on { session.over ≡ false }
         requires ended { link.view.ended ≡ false }
+        requires usable { link.view.usage ≡ Open }
     {
         Running { session, link }
     }

@@ -31,6 +31,7 @@ begins_by view tells host spot hop positions now old new l w letter connected is
   sound = record {
     goes_on = is.over;
     linked = connected.0.ended;
+    usable = connected.0.usage;
     addresses = ap length is.to_is ∙ letter.count;
   };
 }

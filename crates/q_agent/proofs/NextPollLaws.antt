@@ -97,7 +97,7 @@ module _ {L : Type 0} (view : L → View) where
   rested_sound : (n : ℕ) (old new : Option Work) → IsSoundWork n old → RestsWork old new → IsSoundWork n new
   rested_sound n old new sound r =
       let was = subst (IsSoundWork n) r.has sound in
-      subst (IsSoundWork n) (sym r.rest) (record { goes_on = was.goes_on; linked = r.link_rested.ended ∙ was.linked; addresses = was.addresses })
+      subst (IsSoundWork n) (sym r.rest) (record { goes_on = was.goes_on; linked = r.link_rested.ended ∙ was.linked; usable = r.link_rested.usage ∙ was.usable; addresses = was.addresses })
 
   pub rested_next : (e : Slot) (h new : DeliverySession L) → IsSound (shown view e.number h) → new.recipients ≡ h.recipients → RestsWork (work_of view h) (work_of view new) → IsSound (shown view e.number new)
   rested_next e h new sound same r = subst (λ (n : ℕ). IsSoundWork n (work_of view new)) (sym same) (rested_sound h.recipients (work_of view h) (work_of view new) sound r)

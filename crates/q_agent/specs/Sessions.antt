@@ -2,6 +2,7 @@
 use Rattle.std.specs.List.{AllByRecursion, list_any}
 use Rattle.std.specs.Option.{option_map_or, option_or}
 use Rattle.std.specs.Prelude.{◌<◌, ◌==◌, ◌≡◌, [], Bool, false, filter, find, if◌then◌else◌, IfSome, length, List, map, nat_lt, not, Option, slice_get, true, ℕ, ◌∷◌}
+use Rattle.q_link.specs.declared.usage.Usage.TheVariants.{Open}
 use Rattle.q_link.specs.Views.{NoWait, View, Wait}
 use Rattle.q_session.specs.declared.delivery.Delivery.{Delivery}
 
@@ -25,6 +26,7 @@ pub record Sessions : Type 0 where
 pub record CanGoOn (recipients : ℕ) (w : Work) : Type 0 where
   pub goes_on : w.session.over ≡ false
   pub linked : w.link.ended ≡ false
+  pub usable : w.link.usage ≡ Open
   pub addresses : length w.session.to ≡ recipients
 
 abbrev pub IsSoundWork : ℕ → Option Work → Type 0

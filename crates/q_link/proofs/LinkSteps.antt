@@ -15,20 +15,20 @@ adds_none change old now is = cc
 pub took : (v new : View) (bytes : List ℕ) → new ≡ receives bytes v → Leaves NoWait (with_received bytes) v new
 took v new bytes is =
     subst (λ (w : View). Leaves NoWait (with_received bytes) v w) (sym is)
-    (record { faults = refl; wait = refl; ended = refl; told = tells_map (with_received bytes) v.told })
+    (record { faults = refl; wait = refl; ended = refl; usage = refl; told = tells_map (with_received bytes) v.told })
 
 pub waited : (v new : View) (wait : Wait) → new ≡ waits wait v → Leaves wait with_not_yet v new
 waited v new wait is =
     subst (λ (w : View). Leaves wait with_not_yet v w) (sym is)
-    (record { faults = refl; wait = refl; ended = refl; told = tells_more (λ t. t.not_yets) with_not_yet v.told })
+    (record { faults = refl; wait = refl; ended = refl; usage = refl; told = tells_more (λ t. t.not_yets) with_not_yet v.told })
 
 sent_all : (v new : View) (bytes : List ℕ) → IsSent bytes v new → Leaves NoWait (with_sent bytes) v new
 sent_all v new bytes (inl is) =
     subst (λ (w : View). Leaves NoWait (with_sent bytes) v w) (sym is)
-    (record { faults = refl; wait = refl; ended = refl; told = tells_map (with_sent bytes) v.told })
+    (record { faults = refl; wait = refl; ended = refl; usage = refl; told = tells_map (with_sent bytes) v.told })
 sent_all v new bytes (inr is) =
     subst (λ (w : View). Leaves NoWait (with_sent bytes) v w) (sym is)
-    (record { faults = refl; wait = refl; ended = refl; told = adds_none (with_sent bytes) v.told })
+    (record { faults = refl; wait = refl; ended = refl; usage = refl; told = adds_none (with_sent bytes) v.told })
 
 pub gave : (v new : View) (bytes : List ℕ) (n : ℕ) → n ≡ length bytes → IsSent bytes v new → Leaves NoWait (with_sent (take n bytes)) v new
 gave v new bytes n all is =

@@ -1,10 +1,11 @@
-pub mod Views
+pub mod Addresses
+pub mod ClosedLinks
+pub mod Playback
 pub mod Reads
 pub mod Records
 pub mod Routes
-pub mod Addresses
-pub mod Scripts
-pub mod Playback
-pub mod ScriptLinks
 pub mod ScriptHops
-pub mod ClosedLinks
+pub mod ScriptLinks
+pub mod Scripts
+pub mod Usages
+pub mod Views

@@ -5,6 +5,7 @@ use Rattle.q_link.specs.declared.link.Got.{Got}
 use Rattle.q_link.specs.declared.link.Got.TheVariants as got
 use Rattle.q_link.specs.declared.link.Put.{Put}
 use Rattle.q_link.specs.declared.link.Put.TheVariants as put
+use Rattle.q_link.specs.Usages.{usage_called, usage_closed}
 use Rattle.q_link.specs.Views.{ForRead, ForWrite, NoWait, Told, View, Wait}
 
 -- Where it still tells, it told before, and this was added.
@@ -29,6 +30,7 @@ pub record Leaves (waiting : Wait) (change : Told → Told) (old new : View) : T
   pub faults : new.faults ≡ old.faults
   pub wait : new.wait ≡ waiting
   pub ended : new.ended ≡ old.ended
+  pub usage : new.usage ≡ usage_called old.usage
   pub told : Adds change old.told new.told
 
 -- the end was reached, and nothing came
@@ -36,6 +38,7 @@ pub record Ends (old new : View) : Type 0 where
   pub faults : new.faults ≡ old.faults
   pub wait : new.wait ≡ NoWait
   pub ended : new.ended ≡ true
+  pub usage : new.usage ≡ usage_closed old.usage
   pub told : Adds same old.told new.told
 
 -- the call failed, which is counted, and nothing came or went
@@ -43,6 +46,7 @@ pub record Fails (old new : View) : Type 0 where
   pub faults : (old.faults ≤ new.faults) × Rose old.faults new.faults
   pub wait : new.wait ≡ NoWait
   pub ended : new.ended ≡ old.ended
+  pub usage : new.usage ≡ usage_closed old.usage
   pub told : Adds same old.told new.told
 
 -- a read into the front of a buffer

@@ -3,6 +3,7 @@ use Rattle.std.specs.Prelude.{◌+◌, ◌++◌, ◌-◌, ◌≡◌, ◌≤◌, 
 use Rattle.q_model.specs.FaultCounts.{Rose}
 use Rattle.q_link.specs.declared.hops.NoLink.{NoLink}
 use Rattle.q_link.specs.declared.hops.NoLink.TheVariants.{Failed, NoMemory}
+use Rattle.q_link.specs.declared.usage.Usage.TheVariants.{Open}
 use Rattle.q_link.specs.Views.{NoWait, Told, View}
 
 -- A link that was closed: what it told, whether it ended, its faults, the rests since its connect,
@@ -76,6 +77,7 @@ pub record IsFresh (hop : List ℕ) (hops : HopsView) (v : View) : Type 0 where
   pub faults : v.faults ≡ 0
   pub wait : v.wait ≡ NoWait
   pub ended : v.ended ≡ false
+  pub usage : v.usage ≡ Open
   pub told : (t : Told) → v.told ≡ Some t → (now : ToldHops) × (hops.told ≡ Some now)
       × (t ≡ record { hop = hop; received = []; sent = []; not_yets = 0; rests_before = now.rests })
 
@@ -89,6 +91,7 @@ pub record IsRested (old new : View) : Type 0 where
   pub faults : new.faults ≡ old.faults
   pub wait : new.wait ≡ NoWait
   pub ended : new.ended ≡ old.ended
+  pub usage : new.usage ≡ old.usage
   pub told : new.told ≡ old.told
 
 abbrev pub closed : View → Told → ToldHops → Closed

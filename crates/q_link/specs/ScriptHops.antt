@@ -5,6 +5,7 @@ use Rattle.q_link.specs.declared.hops.NoLink.TheVariants.{Failed, NoMemory, NoRo
 use Rattle.q_link.specs.Records.{HopsView, ToldHops, closed, counted, with_closed, with_connect, with_hop, with_record, with_rest}
 use Rattle.q_link.specs.Scripts.{Script}
 use Rattle.q_link.specs.ScriptLinks.{ScriptLink, told_more}
+use Rattle.q_link.specs.declared.usage.Usage.TheVariants.{Open}
 use Rattle.q_link.specs.Views.{NoWait, View}
 
 -- the scripts that no link follows yet, how many links were closed, and what is known of the hops
@@ -66,6 +67,7 @@ opened hop told = record {
   faults = 0;
   wait = NoWait;
   ended = false;
+  usage = Open;
   told = option_map
       (λ t. record { hop = hop; received = []; sent = []; not_yets = 0; rests_before = t.rests })
       told;

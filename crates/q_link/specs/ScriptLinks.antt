@@ -9,6 +9,8 @@ use Rattle.q_link.specs.declared.link_wait.LinkWait.TheVariants as link_waits
 use Rattle.q_link.specs.Reads.{with_not_yet, with_received, with_sent}
 use Rattle.q_link.specs.Records.{counted}
 use Rattle.q_link.specs.Scripts.{Script, steps_after, writes_after}
+use Rattle.q_link.specs.declared.usage.Usage.TheVariants.{Open}
+use Rattle.q_link.specs.Usages.{usage_called, usage_closed}
 use Rattle.q_link.specs.Views.{ForRead, ForWrite, NoWait, View, Wait}
 
 -- the rest of a link's script, and what is known of the link
@@ -36,6 +38,7 @@ new_view hop rests tells = record {
   faults = 0;
   wait = NoWait;
   ended = false;
+  usage = Open;
   told = told_while tells
       (record { hop = hop; received = []; sent = []; not_yets = 0; rests_before = rests });
 }
@@ -47,23 +50,27 @@ told_more number change told =
 
 -- bytes came
 abbrev pub receives : List ℕ → View → View
-receives bytes v = record v { wait = NoWait; told = option_map (with_received bytes) v.told }
+receives bytes v = record v { wait = NoWait; usage = usage_called v.usage; told = option_map (with_received bytes) v.told }
 
 -- bytes went
 abbrev pub sends : List ℕ → View → View
-sends bytes v = record v { wait = NoWait; told = option_map (with_sent bytes) v.told }
+sends bytes v = record v { wait = NoWait; usage = usage_called v.usage; told = option_map (with_sent bytes) v.told }
 
 -- nothing came or went yet
 abbrev pub waits : Wait → View → View
-waits wait v = record v { wait = wait; told = told_more (λ t. t.not_yets) with_not_yet v.told }
+waits wait v = record v {
+  wait = wait;
+  usage = usage_called v.usage;
+  told = told_more (λ t. t.not_yets) with_not_yet v.told;
+}
 
 -- the end was reached
 abbrev pub ends : View → View
-ends v = record v { wait = NoWait; ended = true }
+ends v = record v { wait = NoWait; ended = true; usage = usage_closed v.usage }
 
 -- the link failed
 abbrev pub fails : View → View
-fails v = record v { faults = counted v.faults 1; wait = NoWait }
+fails v = record v { faults = counted v.faults 1; wait = NoWait; usage = usage_closed v.usage }
 
 -- nothing is told any more
 abbrev pub tells_no_more : View → View

@@ -1,5 +1,6 @@
 -- What is known of a link, and what one that tells tells.
 use Rattle.std.specs.Prelude.{Bool, List, Option, ℕ}
+use Rattle.q_link.specs.declared.usage.Usage.{Usage}
 
 -- Whether the last read or write answered `NotYet`, and no rest was given for it since.
 pub data Wait : Type 0 where
@@ -16,9 +17,11 @@ pub record Told : Type 0 where
   pub not_yets : ℕ
   pub rests_before : ℕ
 
--- a link: how often it failed, whether it waits, whether it answered `End`, and what it tells
+-- A link: how often it failed, whether it waits, whether it answered `End`, whether it was called behind
+-- that or a failure, and what it tells.
 pub record View : Type 0 where
   pub faults : ℕ
   pub wait : Wait
   pub ended : Bool
+  pub usage : Usage
   pub told : Option Told

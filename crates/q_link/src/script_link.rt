@@ -10,7 +10,7 @@ ghost use Rattle.q_link.specs.ScriptLinks.{IsSent, IsWritten, after_read, fails,
 
 use crate::link_wait::LinkWait;
 use crate::script::{Playback, Script, WritePlan};
-use crate::{Got, Link, Put};
+use crate::{Got, Link, Put, Usage};
 use q_model::Hop;
 use std::alloc::Global;
 use std::marker::Model;
@@ -23,6 +23,7 @@ pub struct ScriptLink {
     pub(crate) faults: u64,
     pub(crate) wait: LinkWait,
     pub(crate) ended: bool,
+    pub(crate) usage: Usage,
     pub(crate) hop: Hop,
     pub(crate) sent: Vec<u8>,
     pub(crate) not_yets: u64,
@@ -43,6 +44,7 @@ impl Model for ScriptLink {
         faults = l.faults;
         wait = wait_of l.wait;
         ended = l.ended;
+        usage = l.usage;
         told = told_while l.tells (record {
           hop = l.hop;
           received = l.playback.received;
@@ -73,6 +75,7 @@ impl ScriptLink {
             faults: 0,
             wait: LinkWait::No,
             ended: false,
+            usage: Usage::Open,
             hop: *hop,
             sent: Vec::new(alloc),
             not_yets: 0,
@@ -101,6 +104,7 @@ impl ScriptLink {
         ensures view { self.new.view ≡ waits (wait_of wait) self.old.view }
     {
         self.wait = wait;
+        self.usage = self.usage.called();
         match self.not_yets.checked_add(1) {
             Some(count) => self.not_yets = count,
             None => self.tells = false,
@@ -113,6 +117,7 @@ impl ScriptLink {
         ensures counted { Fails self.old.view self.new.view }
     {
         self.wait = LinkWait::No;
+        self.usage = self.usage.closed();
         self.faults = self.faults.saturating_add(1);
     }
 
@@ -122,6 +127,7 @@ impl ScriptLink {
         ensures view { IsSent bytes.now self.old.view self.new.view }
     {
         self.wait = LinkWait::No;
+        self.usage = self.usage.called();
         if self.tells {
             self.tells = self.sent.extend_from_slice(bytes).is_ok();
         }
@@ -142,6 +148,7 @@ impl Link for ScriptLink {
         match self.playback.take(buf) {
             Got::Took(count) => {
                 self.wait = LinkWait::No;
+                self.usage = self.usage.called();
                 Got::Took(count)
             }
             Got::NotYet => {
@@ -151,6 +158,7 @@ impl Link for ScriptLink {
             Got::End => {
                 self.wait = LinkWait::No;
                 self.ended = true;
+                self.usage = self.usage.closed();
                 Got::End
             }
             Got::Failed => {

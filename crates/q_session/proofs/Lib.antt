@@ -12,3 +12,4 @@ pub mod Polling
 pub mod Sendings
 pub mod Standing
 pub mod Traffic
+mod Using

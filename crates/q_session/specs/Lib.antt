@@ -7,3 +7,4 @@ pub mod Polls
 pub mod Sending
 pub mod Steps
 pub mod Traffic
+pub mod Uses

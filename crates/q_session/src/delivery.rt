@@ -1,8 +1,9 @@
 //! One delivery: from a new one to the outcomes of its recipients.
-ghost use Rattle.std.specs.Prelude.{◌≡◌, ◌≤◌, ◌<◌, ◌+◌, [], length, map, take, vec_capacity, Bool, true, false, Some, Ok, IfOk, IsTrue, OnErr};
+ghost use Rattle.std.specs.Prelude.{◌≡◌, ◌≢◌, ◌≤◌, ◌<◌, ◌+◌, [], length, map, take, vec_capacity, Bool, true, false, Some, Ok, IfOk, IsTrue, OnErr};
 ghost use Rattle.q_host.specs.Calls.{Stays};
 ghost use Rattle.q_host.specs.Faults.{DiskCause};
 ghost use Rattle.q_link.specs.Views.{View as LinkView};
+ghost use Rattle.q_link.specs.declared.usage.Usage.TheVariants.{Misused, Open};
 ghost use Rattle.q_model.specs.declared.outcome.SiteState.{SiteState as State};
 ghost use Rattle.q_smtp.specs.Codes.{outcome_by, put_off};
 ghost use Rattle.q_smtp.specs.Dialogue.{quit_line};
@@ -11,6 +12,7 @@ ghost use Rattle.q_session.specs.Deliveries.{IsSound, Serves};
 ghost use Rattle.q_session.specs.Mails.{IsHeadOf, Mail, StandsAt};
 ghost use Rattle.q_session.specs.Polls.{Counts, Ends, IsAwaiting, IsNew, IsUnused, Keeps, OfMails, Passes, SendsOnce};
 ghost use Rattle.q_session.specs.Traffic.{GoesOn, Tells};
+ghost use Rattle.q_session.specs.Uses.{Uses};
 
 use crate::content::Content;
 use crate::dialogue::Dialogue;
@@ -91,6 +93,7 @@ impl Delivery {
         requires there { IsTrue H.tells
             → (mail : Mail) × StandsAt H.tells (H.view host.old) self.old.content.spot mail }
         requires ended { (L.view link.old).ended ≡ false }
+        requires usable { (L.view link.old).usage ≡ Open }
         ensures sound { self.new.over ≡ false → IsSound self.new }
         ensures late { self.old.opened + 600 ≤ now → result ≡ Ok (Polled.Over State.Down) }
         ensures in_time { result ≡ Ok Polled.Working → now < self.old.opened + 600 }
@@ -102,6 +105,7 @@ impl Delivery {
         ensures passes { IfOk result (λ p. Passes p (L.view link.old) (L.view link.new)) }
         ensures faults { (L.view link.old).faults ≤ (L.view link.new).faults }
         ensures ended { (L.view link.new).ended ≡ true → result ≡ Ok (Polled.Over State.Down) }
+        ensures uses { Uses result (L.view link.new).usage }
         ensures serves { result ≡ Ok Polled.Working
             → OfMails H.tells (H.view host.old) self.old (L.view link.old)
             (λ mail. Serves H.tells mail self.new (L.view link.new)) }
@@ -129,6 +133,7 @@ impl Delivery {
 
     /// Takes leave, by one write whose answer isn't looked at.
     fn quit<L: Link>(&mut self, link: &mut L, last: u16) -> Polled
+        requires usable { (L.view link.old).usage ≡ Open }
         requires room { length self.old.dialogue.answers.items ≤ vec_capacity self.old.room }
         requires empty { self.old.room.items ≡ [] }
         ensures up { result ≡ Polled.Over State.Up }
@@ -137,6 +142,7 @@ impl Delivery {
         ensures keeps { Keeps self.old self.new }
         ensures link { GoesOn (L.view link.old) (L.view link.new) }
         ensures quits { Tells (SendsOnce quit_line) (L.view link.old) (L.view link.new) }
+        ensures uses { (L.view link.new).usage ≢ Misused }
     {
         self.outbox.clear();
         self.outbox.add(b"QUIT\r\n");

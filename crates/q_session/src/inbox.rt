@@ -2,7 +2,9 @@
 ghost use Rattle.std.specs.Prelude.{◌≡◌, ◌≢◌, ◌≤◌, ◌+◌, [], ◌++◌, ◌∷◌, List, ℕ, length, drop, None, IfOk};
 ghost use Rattle.q_smtp.specs.Replies.{Part, codes_from, nothing_yet};
 ghost use Rattle.q_reply.specs.Progress.{Holds, room_of};
+ghost use Rattle.q_link.specs.declared.usage.Usage.TheVariants.{Open};
 ghost use Rattle.q_session.specs.Traffic.{Feeds, Received, Receives, Tells};
+ghost use Rattle.q_session.specs.Uses.{UsesHeard};
 
 use circular_buffer::HeapCircularBuffer;
 use q_link::{Got, Link};
@@ -48,10 +50,12 @@ impl Inbox {
     pub(crate) fn receive<L: Link>(&mut self, link: &mut L) -> Heard
         requires capacity { self.old.unused.capacity ≡ 512 }
         requires few { length self.old.unused.items ≤ 512 }
+        requires usable { (L.view link.old).usage ≡ Open }
         ensures capacity { self.new.unused.capacity ≡ 512 }
         ensures few { length self.new.unused.items ≤ 512 }
         ensures link { Receives result (L.view link.old) (L.view link.new) }
         ensures got { Tells (Received self.old result self.new) (L.view link.old) (L.view link.new) }
+        ensures uses { UsesHeard result (L.view link.new).usage }
     {
         let mut buffer = [0; ROOM];
         let mut count = self.unused.read_into(&mut buffer);

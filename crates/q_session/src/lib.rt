@@ -2,8 +2,8 @@
 //! sends what is due and reads what came, until the link answers that it isn't ready.
 //!
 //! It is an error to poll a session that is over, to poll it over another link than before, or over
-//! one that has ended; where the host tells its files, the message's file has to say the same at
-//! each poll, but for marks.
+//! one that has ended or failed; where the host tells its files, the message's file has to say the
+//! same at each poll, but for marks.
 #![tactic(auto)]
 
 mod content;

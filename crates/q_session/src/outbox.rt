@@ -1,9 +1,11 @@
 //! Bytes that are to be sent.
 ghost use Rattle.std.specs.Prelude.{◌≡◌, ◌≢◌, ◌≤◌, ◌+◌, ◌*◌, ◌++◌, [], length, take, drop};
 ghost use Rattle.q_content.specs.Encoding.{behind_bytes, sent_bytes, sent_end};
+ghost use Rattle.q_link.specs.declared.usage.Usage.TheVariants.{Misused, Open};
 ghost use Rattle.q_session.specs.Outgoing.{pending};
 ghost use Rattle.q_session.specs.Polls.{SendsOnce};
 ghost use Rattle.q_session.specs.Traffic.{Gave, GoesOn, Sends, Tells, waits_of_sent};
+ghost use Rattle.q_session.specs.Uses.{UsesSent};
 
 use q_content::{ContentLine, encode, encode_end};
 use q_link::{Link, Put};
@@ -93,9 +95,11 @@ impl Outbox {
 
     /// Sends until nothing is left or the link isn't ready.
     pub(crate) fn flush<L: Link>(&mut self, link: &mut L) -> Sent
+        requires usable { (L.view link.old).usage ≡ Open }
         ensures link { Sends result (pending self.new) (L.view link.old) (L.view link.new) }
         ensures gave { Tells (Gave (pending self.old) (pending self.new) (waits_of_sent result))
             (L.view link.old) (L.view link.new) }
+        ensures uses { UsesSent result (L.view link.new).usage }
     {
         while self.from < self.to {
             match link.write(&self.bytes[self.from..self.to]) {
@@ -109,9 +113,11 @@ impl Outbox {
 
     /// Sends what it can by one write, whatever comes of it.
     pub(crate) fn send_once<L: Link>(&mut self, link: &mut L)
+        requires usable { (L.view link.old).usage ≡ Open }
         ensures link { GoesOn (L.view link.old) (L.view link.new) }
         ensures sends { Tells (SendsOnce (pending self.old)) (L.view link.old) (L.view link.new) }
         ensures same { self.new ≡ self.old }
+        ensures uses { (L.view link.new).usage ≢ Misused }
     {
         if self.from < self.to {
             let _ = link.write(&self.bytes[self.from..self.to]);

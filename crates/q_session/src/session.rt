@@ -3,11 +3,13 @@ ghost use Rattle.std.specs.Prelude.{◌≡◌, ◌≤◌, ◌<◌, ◌+◌, [], 
 ghost use Rattle.q_host.specs.Calls.{Stays};
 ghost use Rattle.q_host.specs.Faults.{DiskCause};
 ghost use Rattle.q_link.specs.Views.{View as LinkView};
+ghost use Rattle.q_link.specs.declared.usage.Usage.TheVariants.{Open};
 ghost use Rattle.q_model.specs.declared.outcome.SiteState.{SiteState as State};
 ghost use Rattle.q_session.specs.Codes.{HasCodes};
 ghost use Rattle.q_session.specs.Deliveries.{Serves};
 ghost use Rattle.q_session.specs.Mails.{IsHeadOf, Mail, StandsAt};
 ghost use Rattle.q_session.specs.Polls.{Counts, Ends, IsAwaiting, IsNew, IsUnused, Keeps, OfMails, Passes};
+ghost use Rattle.q_session.specs.Uses.{Uses};
 
 use crate::delivery::Delivery;
 use crate::polled::Polled;
@@ -68,6 +70,7 @@ impl Session {
         requires there { IsTrue H.tells
             → (mail : Mail) × StandsAt H.tells (H.view host.old) self.old.content.spot mail }
         requires ended { (L.view link.old).ended ≡ false }
+        requires usable { (L.view link.old).usage ≡ Open }
         ensures late { self.old.opened + 600 ≤ now → result ≡ Ok (Polled.Over State.Down) }
         ensures in_time { result ≡ Ok Polled.Working → now < self.old.opened + 600 }
         ensures goes_on { result ≡ Ok Polled.Working → self.new.over ≡ false }
@@ -78,6 +81,8 @@ impl Session {
         ensures passes { IfOk result (λ p. Passes p (L.view link.old) (L.view link.new)) }
         ensures faults { (L.view link.old).faults ≤ (L.view link.new).faults }
         ensures ended { (L.view link.new).ended ≡ true → result ≡ Ok (Polled.Over State.Down) }
+        // It makes no call on the link behind one that answered `End` or `Failed`.
+        ensures uses { Uses result (L.view link.new).usage }
         ensures serves { result ≡ Ok Polled.Working
             → OfMails H.tells (H.view host.old) self.old (L.view link.old)
             (λ mail. Serves H.tells mail self.new (L.view link.new)) }

@@ -4,11 +4,13 @@ ghost use Rattle.q_host.specs.Calls.{Stays};
 ghost use Rattle.q_host.specs.Faults.{DiskCause};
 ghost use Rattle.q_link.specs.Views.{Told};
 ghost use Rattle.q_session.specs.Codes.{AreSettled};
+ghost use Rattle.q_link.specs.declared.usage.Usage.TheVariants.{Open};
 ghost use Rattle.q_session.specs.Course.{command_line, replies_left};
 ghost use Rattle.q_session.specs.Deliveries.{Hearing, IsAllSent, IsSound, Serves};
 ghost use Rattle.q_session.specs.Mails.{Mail, StandsAt};
 ghost use Rattle.q_session.specs.Steps.{Acts, IsSame, IsSendingSame, SendsDue, StaysSound, Steps};
 ghost use Rattle.q_session.specs.Traffic.{GoesOn};
+ghost use Rattle.q_session.specs.Uses.{UsesBy, UsesSent, UsesStep};
 
 use crate::delivery::Delivery;
 use crate::dialogue::{Command, Next};
@@ -40,6 +42,7 @@ impl Delivery {
         requires sound { IsSound self.old }
         requires there { IsTrue H.tells
             → (mail : Mail) × StandsAt H.tells (H.view host.old) self.old.content.spot mail }
+        requires usable { (L.view link.old).usage ≡ Open }
         ensures sound { IfOk result (StaysSound self.new) }
         ensures kept { (error : HostError) → result ≡ Err error → IsSound self.new }
         ensures same { IsSame self.old self.new }
@@ -55,6 +58,7 @@ impl Delivery {
         ensures faults { (L.view link.old).faults ≤ (L.view link.new).faults }
         ensures ended { (error : HostError) → result ≡ Err error
             → (L.view link.new).ended ≡ (L.view link.old).ended }
+        ensures uses { UsesBy UsesStep result (L.view link.new).usage }
         ensures stays { IsTrue H.tells → Stays (H.view host.old) (H.view host.new) }
         ensures cause { DiskCause (H.faults host.old) (H.faults host.new) result }
     {
@@ -69,6 +73,7 @@ impl Delivery {
     fn hear<L: Link>(&mut self, link: &mut L) -> Step
         requires sound { IsSound self.old }
         requires sent { IsAllSent self.old }
+        requires usable { (L.view link.old).usage ≡ Open }
         ensures sound { StaysSound self.new result }
         ensures same { IsSame self.old self.new }
         ensures fewer { result ≡ Step.Onward
@@ -79,6 +84,7 @@ impl Delivery {
             → AreSettled last self.new.dialogue.answers.items }
         ensures steps { (tells : Bool) → Steps tells (λ mail. Unit {0}) self.old self.new
             (L.view link.old) (L.view link.new) result }
+        ensures uses { UsesStep result (L.view link.new).usage }
     {
         let code = match self.inbox.receive(link) {
             Heard::Code(code) => code,
@@ -124,12 +130,14 @@ impl Delivery {
         requires sound { IsSound self.old }
         requires there { IsTrue H.tells
             → (mail : Mail) × StandsAt H.tells (H.view host.old) self.old.content.spot mail }
+        requires usable { (L.view link.old).usage ≡ Open }
         ensures sound { IsSound self.new }
         ensures same { IsSendingSame self.old self.new }
         ensures sends { IfOk result (SendsDue H.tells
             (StandsAt H.tells (H.view host.old) self.old.content.spot)
             self.old self.new (L.view link.old) (L.view link.new)) }
         ensures link { GoesOn (L.view link.old) (L.view link.new) }
+        ensures uses { UsesBy UsesSent result (L.view link.new).usage }
         ensures stays { IsTrue H.tells → Stays (H.view host.old) (H.view host.new) }
         ensures cause { DiskCause (H.faults host.old) (H.faults host.new) result }
     {

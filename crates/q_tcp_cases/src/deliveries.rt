@@ -1,5 +1,6 @@
 //! A whole delivery over TCP.
 ghost use Rattle.std.specs.Prelude.{◌≡◌, false, IfOk, length};
+ghost use Rattle.q_link.specs.declared.usage.Usage.TheVariants.{Open};
 
 use crate::servers::{Joined, RESTS, join, listen};
 use q_host::Host;
@@ -140,6 +141,7 @@ fn poll_all(
 ) -> Result<SiteState, Fail>
     requires goes_on { session.old.over ≡ false }
     requires ended { link.old.ended ≡ false }
+    requires usable { link.old.usage ≡ Open }
 {
     for _ in 0..RESTS {
         if let Polled::Over { site } = session.poll(host, link, 1000)? {
@@ -158,7 +160,8 @@ fn deliver(
     link: &mut TcpLink,
     server: &mut Server,
 ) -> Result<(SiteState, Vec<Outcome>), Fail>
-    requires { link.old.ended ≡ false }
+    requires ended { link.old.ended ≡ false }
+    requires usable { link.old.usage ≡ Open }
 {
     let to = recipients(alloc)?;
     let (mut host, spot) = spool(alloc, &to)?;

@@ -1,5 +1,6 @@
 //! Servers on free ports of 127.0.0.1, in the process of the test.
 ghost use Rattle.std.specs.Prelude.{◌≡◌, false, IfOk};
+ghost use Rattle.q_link.specs.declared.usage.Usage.TheVariants.{Open};
 
 use q_link::Hops;
 use q_model::Hop;
@@ -38,7 +39,7 @@ pub(crate) fn join(
     hops: &mut TcpHops<HostRuntime>,
     listening: &Listening,
 ) -> Result<Joined, Fail>
-    ensures { IfOk result (λ joined. joined.link.ended ≡ false) }
+    ensures { IfOk result (λ joined. (joined.link.ended ≡ false) × (joined.link.usage ≡ Open)) }
 {
     let Ok(link) = hops.connect(alloc, &listening.hop) else {
         return Err(Fail::from("no link"));

@@ -2,12 +2,13 @@
 //! empty buffer, and to write no bytes.
 ghost use Rattle.std.specs.Prelude.{◌≡◌, ◌<◌, length};
 ghost use Rattle.q_link.specs.Reads.{Fails, Reads, Writes};
-ghost use Rattle.q_tcp_hops.specs.TcpLinks.{fresh, rested};
+ghost use Rattle.q_tcp_hops.specs.TcpLinks.{called, fresh, rested};
+ghost use Rattle.q_tcp_hops.specs.Waits.{wait_of};
 
 use crate::link_wait::LinkWait;
 use crate::readiness::Readiness;
 use mio::net::TcpStream;
-use q_link::{Got, Link, Put};
+use q_link::{Got, Link, Put, Usage};
 use std::io;
 use std::io::{ErrorKind, Read, Write};
 use std::marker::Model;
@@ -23,6 +24,7 @@ pub struct TcpLink {
     pub(crate) faults: u64,
     waiting: LinkWait,
     pub(crate) ended: bool,
+    usage: Usage,
 }
 
 impl Model for TcpLink {
@@ -36,6 +38,7 @@ impl Model for TcpLink {
       faults = l.faults;
       wait = wait_of l.waiting;
       ended = l.ended;
+      usage = l.usage;
       told = None;
     } };
 }
@@ -66,6 +69,7 @@ impl TcpLink {
             faults: 0,
             waiting: LinkWait::No,
             ended: false,
+            usage: Usage::Open,
         }
     }
 
@@ -76,10 +80,19 @@ impl TcpLink {
         self.waiting = LinkWait::No;
     }
 
+    // A call answered neither `End` nor `Failed`.
+    fn go_on(&mut self, waiting: LinkWait)
+        ensures { self.new ≡ called (wait_of waiting) self.old }
+    {
+        self.waiting = waiting;
+        self.usage = self.usage.called();
+    }
+
     fn fail(&mut self)
         ensures { Fails self.old self.new }
     {
         self.waiting = LinkWait::No;
+        self.usage = self.usage.closed();
         self.faults = self.faults.saturating_add(1);
     }
 }
@@ -92,22 +105,23 @@ impl Link for TcpLink {
         ensures reads { Reads self.old self.new result buf.new }
     {
         if !self.ready.reads.get() {
-            self.waiting = LinkWait::ForRead;
+            self.go_on(LinkWait::ForRead);
             return Got::NotYet;
         }
         match self.stream.read(buf) {
             Ok(0) => {
                 self.waiting = LinkWait::No;
                 self.ended = true;
+                self.usage = self.usage.closed();
                 Got::End
             }
             Ok(count) => {
-                self.waiting = LinkWait::No;
+                self.go_on(LinkWait::No);
                 Got::Took(count)
             }
             Err(error) if is_not_yet(&error) => {
                 self.ready.reads.set(is_at_once(&error));
-                self.waiting = LinkWait::ForRead;
+                self.go_on(LinkWait::ForRead);
                 Got::NotYet
             }
             Err(_) => {
@@ -122,21 +136,21 @@ impl Link for TcpLink {
         ensures writes { Writes self.old self.new result bytes.now }
     {
         if !self.ready.writes.get() {
-            self.waiting = LinkWait::ForWrite;
+            self.go_on(LinkWait::ForWrite);
             return Put::NotYet;
         }
         match self.stream.write(bytes) {
             Ok(0) => {
-                self.waiting = LinkWait::ForWrite;
+                self.go_on(LinkWait::ForWrite);
                 Put::NotYet
             }
             Ok(count) => {
-                self.waiting = LinkWait::No;
+                self.go_on(LinkWait::No);
                 Put::Gave(count)
             }
             Err(error) if is_not_yet(&error) => {
                 self.ready.writes.set(is_at_once(&error));
-                self.waiting = LinkWait::ForWrite;
+                self.go_on(LinkWait::ForWrite);
                 Put::NotYet
             }
             Err(_) => {

@@ -1,3 +1,4 @@
+use Rattle.q_session.proofs.Using.{open_step, open_unmisused}
 use Rattle.q_session.proofs.Hearings.{steps_code, steps_lost, steps_no_reply, steps_not_yet}
 use Rattle.q_session.proofs.delivery.Delivery.hear.Goals as goal
 
@@ -17,3 +18,9 @@ pub returns-clause-steps : goal.returns-clause-steps
 returns-clause-steps g c = λ tells.
     steps_code tells c.args.self.now c.act.new.self c.receive.new.self c.in-Code.code (g.L.Link.view c.args.link.now) (g.L.Link.view c.receive.new.link) c.act.result c.requires.sent c.in-Code.ensures.link c.in-Code.ensures.got
     c.act.ensures.never (λ mail t. c.act.ensures.acts tells mail t)
+
+pub returns-clause-uses : goal.returns-clause-uses
+returns-clause-uses g c = open_step c.act.result (g.L.Link.view c.receive.new.link).usage c.in-Code.ensures.uses
+
+pub returns-in-NoReply-clause-uses : goal.returns-in-NoReply-clause-uses
+returns-in-NoReply-clause-uses g c = open_unmisused (g.L.Link.view c.receive.new.link).usage c.in-NoReply.ensures.uses

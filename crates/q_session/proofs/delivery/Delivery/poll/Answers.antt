@@ -1,4 +1,7 @@
 use Rattle.std.proofs.Common.{Ok, ap, arith, length, subst, sym}
+use Rattle.q_host.specs.declared.error.HostError.{HostError}
+use Rattle.q_session.specs.Uses.{UsesStep}
+use Rattle.q_session.proofs.Using.{open_unmisused, over_uses}
 use Rattle.q_model.specs.declared.outcome.SiteState.{SiteState}
 use Rattle.q_model.specs.declared.outcome.SiteState.TheVariants.{Down, Up}
 use Rattle.q_session.proofs.CodeLaws.{put_off_coded, settled_coded}
@@ -26,6 +29,7 @@ loop-self-preserved g c =
     let sound = subst (λ (s : Step). StaysSound c.step.new.self s) c.in-Onward.is e.sound in
     record {
       along = along_step c.step.new.self (g.L.Link.view c.step.new.link) i.along still sound e.same step;
+      usable = subst (λ (s : Step). UsesStep s (g.L.Link.view c.step.new.link).usage) c.in-Onward.is e.uses;
       stays = λ t. stays_on first here (g.H.Host.view c.step.new.host) (i.stays t) (e.stays t);
       disk = omega (arith, i.disk, e.cause.disk_later);
       tell = omega (arith, i.tell, e.cause.tell_later);
@@ -105,3 +109,20 @@ returns-in-Settles-clause-codes g c =
     let last = c.in-Settles.last in
     let settled = c.in_ok-step.ensures.codes last (ap (λ (s : Step). Ok s) c.in-Settles.is) in
     subst (λ (p : Polled). HasCodes p c.quit.new.self) (sym c.quit.ensures.up) (settled_coded last c.step.new.self.dialogue.answers.items c.quit.new.self.outcomes settled c.quit.ensures.outcomes)
+
+pub returns-in-Waits-clause-uses : goal.returns-in-Waits-clause-uses
+returns-in-Waits-clause-uses g c = subst (λ (s : Step). UsesStep s (g.L.Link.view c.step.new.link).usage) c.in-Waits.is c.in_ok-step.ensures.uses
+
+pub returns-in-Lost-clause-uses : goal.returns-in-Lost-clause-uses
+returns-in-Lost-clause-uses g c =
+    over_uses HostError c.give_up-in-Lost.result Down (g.L.Link.view c.step.new.link).usage c.give_up-in-Lost.ensures.down (subst (λ (s : Step). UsesStep s (g.L.Link.view c.step.new.link).usage) c.in-Lost.is c.in_ok-step.ensures.uses)
+
+pub quit-requires-clause-usable : goal.quit-requires-clause-usable
+quit-requires-clause-usable g c = subst (λ (s : Step). UsesStep s (g.L.Link.view c.step.new.link).usage) c.in-Settles.is c.in_ok-step.ensures.uses
+
+pub returns-in-Settles-clause-uses : goal.returns-in-Settles-clause-uses
+returns-in-Settles-clause-uses g c = over_uses HostError c.quit.result Up (g.L.Link.view c.quit.new.link).usage c.quit.ensures.up c.quit.ensures.uses
+
+pub returns-then-saturating_sub-ge-PATIENCE-clause-uses : goal.returns-then-saturating_sub-ge-PATIENCE-clause-uses
+returns-then-saturating_sub-ge-PATIENCE-clause-uses g c =
+    over_uses HostError c.give_up.result Down (g.L.Link.view c.args.link.now).usage c.give_up.ensures.down (open_unmisused (g.L.Link.view c.args.link.now).usage c.requires.usable)

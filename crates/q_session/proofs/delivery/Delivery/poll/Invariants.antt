@@ -1,4 +1,5 @@
-use Rattle.std.proofs.Common.{◌≤◌, IsTrue}
+use Rattle.q_link.specs.declared.usage.Usage.TheVariants.{Open}
+use Rattle.std.proofs.Common.{◌≡◌, ◌≤◌, IsTrue}
 use Rattle.q_host.specs.Calls.{Stays}
 use Rattle.q_session.specs.Course.{replies_left}
 use Rattle.q_session.specs.Mails.{StandsAt}
@@ -8,6 +9,7 @@ use Rattle.q_session.proofs.delivery.Delivery.poll.Given as goal
 abbrev pub invariant-loop-self : goal.invariant-loop-self
 invariant-loop-self g l = record {
   along : Along g.H.Host.tells (StandsAt g.H.Host.tells (g.H.Host.view l.fn.host) l.fn.self.content.spot) l.fn.self (g.L.Link.view l.fn.link) l.self (g.L.Link.view l.link);
+  usable : (g.L.Link.view l.link).usage ≡ Open;
   stays : IsTrue g.H.Host.tells → Stays (g.H.Host.view l.fn.host) (g.H.Host.view l.host);
   disk : (g.H.Host.faults l.fn.host).disk ≤ (g.H.Host.faults l.host).disk;
   tell : (g.H.Host.faults l.fn.host).tell ≤ (g.H.Host.faults l.host).tell;

@@ -33,6 +33,7 @@ loop-self-preserved g c =
       sending = sending_filled c.fill.new.outbox c.fill.new.self (sending_flushed c.flush.new.self (g.L.Link.view c.flush.new.link) i.sending c.in-All.ensures.link c.in-All.ensures.gave)
           c.in-All.ensures.link.1 (sym c.is_idle.ensures ∙ c.if-is_idle.false) e.spot
           (λ tells mail is placed. e.filled (ap Ok c.if-not-branch.false) tells mail (stands_still g.H.Host.tells (g.H.Host.view c.args.host.now) (g.H.Host.view c.loop-self.host) c.args.self.now.content.spot c.loop-self.self.content.spot mail i.stays i.sending.same.spot is) placed);
+      usable = c.in-All.ensures.uses;
       stays = λ t. stays_on (g.H.Host.view c.args.host.now) (g.H.Host.view c.loop-self.host) (g.H.Host.view c.fill.new.host) (i.stays t) (e.stays t);
       disk = omega (arith, i.disk, e.cause.disk_later);
       tell = omega (arith, i.tell, e.cause.tell_later);

@@ -1,3 +1,4 @@
+use Rattle.q_session.proofs.Using.{called_open, lost_once}
 use Rattle.std.proofs.Common.{refl, [], List, ℕ, take, ap, sym, subst, ◌∙◌, arith}
 use Rattle.circular_buffer.specs.Buffer.{Buffer}
 use Rattle.q_link.specs.Reads.{same, with_not_yet, with_received}
@@ -17,6 +18,7 @@ loop-code-init g c =
       capacity = ap (λ (b : Buffer ℕ). b.capacity) read.ensures.items ∙ c.requires.capacity;
       size = omega (arith, read.auto.dst);
       within = omega (arith, read.ensures.count);
+      usable = c.requires.usable;
       link = goes_nowhere (g.L.Link.view c.args.link.now);
       reading = subst (λ (xs : List ℕ). Tells (Reading old old.replies xs) (g.L.Link.view c.args.link.now) (g.L.Link.view c.args.link.now))
           (sym (in_hand old.unused.items _ read.new.dst read.result c.requires.few refl read.ensures.count read.ensures.read))
@@ -55,6 +57,7 @@ loop-code-preserved g c =
       capacity = c.in-More.ensures.capacity;
       size = omega (arith, c.read.auto.buf, i.size);
       within = omega (arith, c.read.auto.buf, i.size, c.in-Took.ensures.reads.1);
+      usable = called_open (view c.loop-code.link).usage (view c.read.new.self).usage i.usable leaves.usage;
       link = goes_then (view c.args.link.now) (view c.loop-code.link) (view c.read.new.self) i.link (goes_by_leaving NoWait (with_received came) (view c.loop-code.link) (view c.read.new.self) leaves);
       reading = reads_then old c.take_in.new.self.replies came (view c.args.link.now) (view c.loop-code.link) (view c.read.new.self) fed leaves.told;
     }
@@ -82,3 +85,9 @@ returns-in-End-clause-got g c =
     (reads_fed old kept hand new c.in-More.ensures.feeds) c.loop-code.invariant.reading in
     hears_then old new.replies Lost new same (view c.args.link.now) (view c.loop-code.link) (view c.read.new.self) fed
     (lost_adds (view c.loop-code.link) (view c.read.new.self) c.read.result c.read.new.buf c.in-End.is c.read.ensures.reads) (hears_lost old new)
+
+pub returns-in-NotYet-clause-uses : goal.returns-in-NotYet-clause-uses
+returns-in-NotYet-clause-uses g c = called_open (g.L.Link.view c.loop-code.link).usage (g.L.Link.view c.read.new.self).usage c.loop-code.invariant.usable c.in-NotYet.ensures.reads.usage
+
+pub returns-in-End-clause-uses : goal.returns-in-End-clause-uses
+returns-in-End-clause-uses g c = lost_once (g.L.Link.view c.loop-code.link) (g.L.Link.view c.read.new.self) c.read.result c.read.new.buf c.loop-code.invariant.usable c.in-End.is c.read.ensures.reads

@@ -1,3 +1,4 @@
+use Rattle.q_link.specs.declared.usage.Usage.TheVariants.{Open}
 use Rattle.std.proofs.Common.{◌≡◌, ◌≤◌, ◌+◌, ◌-◌, [], length, take}
 use Rattle.q_reply.specs.Progress.{room_of}
 use Rattle.q_session.specs.Traffic.{GoesOn, Tells}
@@ -10,6 +11,7 @@ invariant-loop-code g l = record {
   capacity : l.self.unused.capacity ≡ 512;
   size : length l.buffer ≡ 512;
   within : l.count ≤ 512;
+  usable : (g.L.Link.view l.link).usage ≡ Open;
   link : GoesOn (g.L.Link.view l.fn.link) (g.L.Link.view l.link);
   reading : Tells (Reading l.fn.self l.self.replies (take l.count l.buffer)) (g.L.Link.view l.fn.link) (g.L.Link.view l.link);
 }

@@ -1,3 +1,4 @@
+use Rattle.q_session.proofs.Using.{called_open, closed_once}
 use Rattle.std.proofs.Common.{arith}
 use Rattle.q_session.specs.Outgoing.{pending}
 use Rattle.q_session.proofs.Outboxes.{gives_failed, gives_no_more, gives_on}
@@ -9,7 +10,7 @@ loop-self-preserved g c =
     let view = g.L.Link.view in
     let more = gives_on (pending c.args.self.now) now.bytes now.from now.to c.in-Gave.count (view c.args.link.now) (view c.loop-self.link) (view c.write.new.self)
     c.loop-self.invariant.order c.in-Gave.ensures.writes.1 c.loop-self.invariant.link c.loop-self.invariant.gave c.in-Gave.ensures.writes.2 in
-    record { order = more.0; within = c.loop-self.invariant.within; size = c.loop-self.invariant.size; link = more.1; gave = more.2 }
+    record { order = more.0; within = c.loop-self.invariant.within; size = c.loop-self.invariant.size; link = more.1; usable = called_open (view c.loop-self.link).usage (view c.write.new.self).usage c.loop-self.invariant.usable c.in-Gave.ensures.writes.2.usage; gave = more.2 }
 
 pub returns-in-NotYet-clause-link : goal.returns-in-NotYet-clause-link
 returns-in-NotYet-clause-link g c =
@@ -24,3 +25,9 @@ returns-in-Failed-clause-link g c =
     let view = g.L.Link.view in
     gives_failed now.bytes now.from now.to (view c.args.link.now) (view c.loop-self.link) (view c.write.new.self)
     c.loop-self-test.true (omega (arith, c.loop-self.invariant.size, c.loop-self.invariant.within)) c.loop-self.invariant.link c.in-Failed.ensures.writes
+
+pub returns-in-NotYet-clause-uses : goal.returns-in-NotYet-clause-uses
+returns-in-NotYet-clause-uses g c = called_open (g.L.Link.view c.loop-self.link).usage (g.L.Link.view c.write.new.self).usage c.loop-self.invariant.usable c.in-NotYet.ensures.writes.usage
+
+pub returns-in-Failed-clause-uses : goal.returns-in-Failed-clause-uses
+returns-in-Failed-clause-uses g c = closed_once (g.L.Link.view c.loop-self.link).usage (g.L.Link.view c.write.new.self).usage c.loop-self.invariant.usable c.in-Failed.ensures.writes.usage

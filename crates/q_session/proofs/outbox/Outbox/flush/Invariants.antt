@@ -1,3 +1,4 @@
+use Rattle.q_link.specs.declared.usage.Usage.TheVariants.{Open}
 use Rattle.std.proofs.Common.{◌-◌, ◌≡◌, ◌≤◌, length, take, drop}
 use Rattle.q_session.specs.Outgoing.{pending}
 use Rattle.q_session.specs.Traffic.{Gave, GoesOn, Tells}
@@ -11,6 +12,7 @@ invariant-loop-self g l =
       within : l.self-inside.to ≤ 6160;
       size : length l.self-inside.bytes ≡ 6160;
       link : GoesOn (g.L.Link.view l.fn.link) (g.L.Link.view l.link);
+      usable : (g.L.Link.view l.link).usage ≡ Open;
       gave : Tells (Gave (pending l.fn.self) left 0) (g.L.Link.view l.fn.link) (g.L.Link.view l.link);
     }
 

@@ -1,4 +1,7 @@
-use Rattle.std.proofs.Common.{◌≡◌, ◌-◌, sym, ap, ◌∙◌}
+use Rattle.q_link.specs.declared.usage.Usage.TheVariants.{Misused}
+use Rattle.q_link.specs.Views.{View}
+use Rattle.q_session.proofs.Using.{open_unmisused, written_once}
+use Rattle.std.proofs.Common.{◌≡◌, ◌-◌, sym, ap, ◌∙◌, subst, ◌≢◌}
 use borrow.Rule.Slice.PartMut.{mid_of}
 use Rattle.q_session.specs.Outgoing.{pending}
 use Rattle.q_session.specs.Polls.{SendsOnce}
@@ -17,4 +20,12 @@ returns-clause-sends g c =
           (sends_once_of _ _ rest (view c.args.link.now) (view w.write.new.self) w.write.result w.write.ensures.writes)
       | else-self w ↦ tells_of (SendsOnce (pending c.args.self.now)) (view c.args.link.now) (view c.args.link.now) (view c.if-self.link) (sym (ap view w.link-is))
           (tells_nothing (SendsOnce (pending c.args.self.now)) (view c.args.link.now) (sends_none (pending c.args.self.now)))
+    ]
+
+pub returns-clause-uses : goal.returns-clause-uses
+returns-clause-uses g c =
+    let view = g.L.Link.view in
+    elim c.if-self.branch [
+      | then-self w ↦ subst (λ (v : View). v.usage ≢ Misused) (sym (ap view w.link-is)) (written_once (view c.args.link.now) (view w.write.new.self) w.write.result _ c.requires.usable w.write.ensures.writes)
+      | else-self w ↦ subst (λ (v : View). v.usage ≢ Misused) (sym (ap view w.link-is)) (open_unmisused (view c.args.link.now).usage c.requires.usable)
     ]
