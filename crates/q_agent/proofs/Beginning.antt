@@ -4,6 +4,7 @@ use Rattle.q_host.specs.View.{View as HostView}
 use Rattle.q_link.specs.Records.{HopsView, IsFresh}
 use Rattle.q_link.specs.Routes.{has_route}
 use Rattle.q_link.specs.Views.{Told, View}
+use Rattle.q_link.specs.WaitsLeft.{Spares, waits_sum}
 use Rattle.q_model.specs.Values.{Spot}
 use Rattle.q_session.specs.Deliveries.{Serves}
 use Rattle.q_session.specs.Mails.{IsHeadOf, Mail}
@@ -18,9 +19,10 @@ fresh_unused hop hops v f t told = let is = (f.told t told).2 in (ap (λ (x : To
 
 pub begins_by : {L : Type 0} (view : L → View) (tells : Bool) (host : HostView) (spot : Spot) (hop positions : List ℕ) (now : ℕ) (old new : HopsView) (l : Letter) (w : Work L)
     → IsLetter tells host spot positions l → IsFresh hop new (view w.link) × (has_route hop ≡ true) → IsNew spot l.to now w.session
+    → Spares 0 old.waits_left (waits_sum new.waits_left (view w.link).waits_left)
     → ((tells : Bool) (mail : Mail) (v : View) → (IsTrue tells → IsHeadOf mail l.file) → IsUnused v → Serves tells mail w.session v)
     → MayBegin view tells host spot hop positions now old new (Some w)
-begins_by view tells host spot hop positions now old new l w letter connected is serves = record {
+begins_by view tells host spot hop positions now old new l w letter connected is spares serves = record {
   begins = record {
     link = connected.0;
     route = connected.1;
@@ -34,4 +36,5 @@ begins_by view tells host spot hop positions now old new l w letter connected is
     usable = connected.0.usage;
     addresses = ap length is.to_is ∙ letter.count;
   };
+  spares = spares;
 }

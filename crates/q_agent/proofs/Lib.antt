@@ -9,3 +9,5 @@ pub mod Kept
 pub mod PollLaws
 pub mod NextPollLaws
 pub mod RequestLaws
+pub mod Sparing
+pub mod WaitingLaws

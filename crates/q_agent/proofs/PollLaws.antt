@@ -13,6 +13,7 @@ use Rattle.q_session.specs.Deliveries.{Serves}
 use Rattle.q_session.specs.Mails.{Mail, StandsAt, exchange_of}
 use Rattle.q_session.specs.Polls.{Counts, IsOver, Keeps, Passes}
 use Rattle.q_session.specs.Steps.{Awaits}
+use Rattle.q_session.specs.Uses.{SparesPolled}
 use Rattle.q_session.specs.declared.polled.Polled.{Polled}
 use Rattle.q_session.specs.declared.polled.Polled.TheVariants.{Over, Working}
 use Rattle.q_link.specs.Records.{HopsView}
@@ -31,6 +32,7 @@ pub record Polls (tells : Bool) (host : HostView) (now : ℕ) (w v : Work) (r : 
   pub codes : IfOk r (λ (p : Polled). HasCodes p v.session)
   pub passes : IfOk r (λ (p : Polled). Passes p w.link v.link)
   pub faults : w.link.faults ≤ v.link.faults
+  pub spares : IfOk r (λ (p : Polled). SparesPolled p w.link.waits_left v.link.waits_left)
   pub serves : r ≡ Ok Working → (mail : Mail) → StandsAt tells host w.session.content.spot mail → Serves tells mail w.session w.link → Serves tells mail v.session v.link
   pub awaits : r ≡ Ok Working → (mail : Mail) → StandsAt tells host w.session.content.spot mail → Serves tells mail w.session w.link → (t : Told) → v.link.told ≡ Some t
       → Awaits tells (exchange_of mail w.session.to t.received) t v.link
@@ -52,6 +54,7 @@ polls_work tells host now w v (Ok Working) p = record {
     keeps = p.keeps;
     passes = p.passes;
     faults = p.faults;
+    spares = p.spares;
     timely = p.in_time refl;
     comes = λ mail stands serves. (p.serves refl mail stands serves, p.awaits refl mail stands serves);
   };
@@ -63,6 +66,7 @@ polls_work tells host now w v (Ok (Over site)) p = record {
     keeps = p.keeps;
     passes = p.passes;
     faults = p.faults;
+    spares = p.spares;
     timely = timely site w.session.opened now p.late;
     comes = λ mail stands serves. p.over site refl mail stands serves;
   };

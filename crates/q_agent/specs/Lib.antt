@@ -8,3 +8,4 @@ pub mod Polling
 pub mod Slots
 pub mod Places
 pub mod Openings
+pub mod WaitsLeft

@@ -12,6 +12,7 @@ use Rattle.q_session.specs.Deliveries.{Serves}
 use Rattle.q_session.specs.Mails.{Mail, StandsAt, exchange_of}
 use Rattle.q_session.specs.Polls.{IsOver, Keeps, Passes}
 use Rattle.q_session.specs.Steps.{Awaits}
+use Rattle.q_session.specs.Uses.{SparesPolled}
 use Rattle.q_session.specs.declared.polled.Polled.{Polled}
 use Rattle.q_session.specs.declared.polled.Polled.TheVariants.{Over, Working}
 use Rattle.q_agent.specs.Sessions.{OpenSession, Work}
@@ -35,6 +36,7 @@ pub record IsPolled (tells : Bool) (host : HostView) (now : ℕ) (p : Polled) (o
   pub keeps : Keeps old.session new.session
   pub passes : Passes p old.link new.link
   pub faults : old.link.faults ≤ new.link.faults
+  pub spares : SparesPolled p old.link.waits_left new.link.waits_left
   pub timely : IsTimely p old.session.opened now
   pub comes : (mail : Mail) → StandsAt tells host old.session.content.spot mail
       → Serves tells mail old.session old.link → ComesTo p tells now mail old new

@@ -4,11 +4,13 @@ ghost use Rattle.std.specs.List.{AllByRecursion, list_all};
 ghost use Rattle.q_host.specs.Calls.{Stays};
 ghost use Rattle.q_host.specs.Faults.{DiskCause};
 ghost use Rattle.q_link.specs.Records.{AddsHops, Connects, Rests, StaysOpen, with_hop};
+ghost use Rattle.q_link.specs.WaitsLeft.{Spares};
 ghost use Rattle.q_session.specs.Mails.{Mail, StandsAt};
 ghost use Rattle.q_agent.specs.Sessions.{OpenSession, Sessions, has_number, is_sweep_over, link_waits, next_polled, with_session};
 ghost use Rattle.q_agent.specs.Requests.{IsReadable, Opens, TriesConnect, active_spot};
 ghost use Rattle.q_agent.specs.Rests.{RestsOne};
 ghost use Rattle.q_agent.specs.Answers.{IsStanding, PollsNext, Stopped};
+ghost use Rattle.q_agent.specs.WaitsLeft.{polls_spent, waits_left};
 
 use crate::delivery_session::DeliverySession;
 use crate::opening::begin;
@@ -100,6 +102,8 @@ impl<L: Link> Agent<L> {
             positions.now now (N.view hops.old) (N.view hops.new) o) }
         ensures connects { OnOk result (IsTrue H.tells
             → AddsHops (with_hop ask.site.hop) (N.view hops.old) (N.view hops.new)) }
+        ensures spares { OnOk result (Spares 0 (waits_left (N.view hops.old) self.old)
+            (waits_left (N.view hops.new) self.new)) }
         ensures err { OnErr result (self.new ≡ self.old) }
         ensures tries { OnErr result
             (TriesConnect ask.site.hop (N.view hops.old) (N.view hops.new)) }
@@ -139,6 +143,8 @@ impl<L: Link> Agent<L> {
             → AllByRecursion (IsStanding H.tells (H.view host.old)) self.old.listed }
         ensures ok { IfOk result (λ r. PollsNext H.tells (H.view host.old) now
             (N.view hops.old) (N.view hops.new) (next_polled self.old) r self.old self.new) }
+        ensures spares { IfOk result (λ r. Spares (polls_spent (next_polled self.old) r)
+            (waits_left (N.view hops.old) self.old) (waits_left (N.view hops.new) self.new)) }
         ensures err { OnErr result (Stopped (next_polled self.old) self.old self.new) }
         ensures unrecorded { OnErr result (StaysOpen (N.view hops.old) (N.view hops.new)) }
         ensures stays { IsTrue H.tells → Stays (H.view host.old) (H.view host.new) }
@@ -182,6 +188,8 @@ impl<L: Link> Agent<L> {
         requires waits { list_all link_waits self.old.listed ≡ true }
         ensures rests { RestsOne self.old self.new }
         ensures hops { Rests (N.view hops.old) (N.view hops.new) }
+        ensures spares { Spares 0 (waits_left (N.view hops.old) self.old)
+            (waits_left (N.view hops.new) self.new) }
     {
         let Some(first) = self.slots.first() else {
             return;

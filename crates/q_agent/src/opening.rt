@@ -3,8 +3,9 @@ ghost use Rattle.std.specs.Prelude.{IsTrue, IfOk, OnErr, OnOk};
 ghost use Rattle.q_host.specs.Calls.{Stays};
 ghost use Rattle.q_host.specs.Faults.{DiskCause};
 ghost use Rattle.q_link.specs.Records.{AddsHops, Connects, with_connect, with_hop};
+ghost use Rattle.q_link.specs.WaitsLeft.{Spares};
 ghost use Rattle.q_session.specs.Mails.{Mail, StandsAt};
-ghost use Rattle.q_agent.specs.Openings.{Connected, MayBegin};
+ghost use Rattle.q_agent.specs.Openings.{Connected, MayBegin, with_link};
 ghost use Rattle.q_agent.specs.Requests.{IsReadable, TriesConnect};
 
 use crate::delivery_session::Work;
@@ -23,6 +24,8 @@ fn connect<L: Link, N: Hops<Link = L>>(
 ) -> Result<Option<L>, NoMemory>
     ensures connected { IfOk result (Connected L.view hop.now (N.view hops.old) (N.view hops.new)) }
     ensures hop { OnOk result (AddsHops (with_hop hop.now) (N.view hops.old) (N.view hops.new)) }
+    ensures spares { IfOk result (λ link. Spares 0 (N.view hops.old).waits_left
+        (with_link L.view (N.view hops.new) link)) }
     ensures err { OnErr result (AddsHops with_connect (N.view hops.old) (N.view hops.new)) }
     ensures counts { Connects (N.view hops.old) (N.view hops.new) }
 {

@@ -51,6 +51,18 @@ unfoldable pub conf_of : Files → Sayings
 conf_of f = with_params (params_of (conf_bytes f (codes "params")))
     (conf_bytes f (codes "transport"))
 
+-- Some two texts say so, in place of the parameters and of the table.
+pub record SaySo (said : Sayings) : Type 0 where
+  pub params : List ℕ
+  pub table : List ℕ
+  pub say : with_params (params_of params) table ≡ said
+
+-- a fault of a line is one that some texts have, whether the host tells its files or not
+abbrev pub IsFaultOfSome : ConfError → Type 0
+IsFaultOfSome (errors.BadLine file line) = SaySo (at_fault file line)
+IsFaultOfSome errors.Disk = Unit {0}
+IsFaultOfSome errors.NoMemory = Unit {0}
+
 -- why they can't be gone by
 abbrev pub IsConfFault : Bool → Sayings → ConfError → Type 0
 IsConfFault tells c (errors.BadLine file line) = IsTrue tells → c ≡ at_fault file line

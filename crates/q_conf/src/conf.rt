@@ -9,7 +9,7 @@ ghost use Rattle.q_model.specs.FaultCounts.{Rose};
 ghost use Rattle.q_params.specs.ParameterFile.{settings_of_file as params_of};
 ghost use Rattle.q_settings.specs.Ranges.{IsInRange};
 ghost use Rattle.q_transport.specs.TableFile.{table_of_file as contents_of};
-ghost use Rattle.q_conf.specs.Confs.{conf_of, goes_by, IsConfFault, world_of};
+ghost use Rattle.q_conf.specs.Confs.{conf_of, goes_by, IsConfFault, IsFaultOfSome, SaySo, world_of};
 ghost use Rattle.q_conf.specs.ConfReads.{GivesParams, GivesTable};
 
 use crate::error::{ConfError, ConfFile, host_error};
@@ -86,6 +86,9 @@ pub fn read_conf<H: Host>(alloc: Global, host: &mut H) -> Result<Conf, ConfError
     ensures range { IfOk result (λ conf. IsInRange (world_of conf).settings) }
     ensures fault { IfErr result (λ error. IsConfFault H.tells
         (conf_of (H.view host.old).files) error) }
+    // Of every host: what it goes by, or the line at fault, is what some texts say.
+    ensures some { IfOk result (λ conf. SaySo (goes_by (world_of conf))) }
+    ensures some_fault { IfErr result IsFaultOfSome }
     ensures stays { IsTrue H.tells → Stays (H.view host.old) (H.view host.new) }
     ensures disk_later { (H.faults host.old).disk ≤ (H.faults host.new).disk }
     ensures tell_later { (H.faults host.old).tell ≤ (H.faults host.new).tell }

@@ -6,6 +6,7 @@ pub mod Running
 pub mod Flying
 pub mod Timing
 pub mod Adding
+pub mod Awaited
 pub mod Numbering
 pub mod Waiting
 pub mod Replying
@@ -35,6 +36,7 @@ pub mod Polls
 pub mod GivingUp
 pub mod Noting
 pub mod Progressing
+pub mod Sparing
 pub mod Requested
 pub mod OpeningAll
 pub mod ClockTurns

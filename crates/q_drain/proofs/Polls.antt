@@ -178,10 +178,11 @@ pub same_from : (was busy : Bool) (known opened last : ℕ) (s t u : Sessions) �
 same_from was busy known opened last s t u is rises opens k idle =
     let later = k idle in
     let low : opened ≤ known = ltb-false known opened (is ∙ later.0) in
+    let kept = opens.kept in
     let listed = opens.listed in
     let on = later.1 in
     let count = later.2 in
-    (refl, omega (arith, on, low, rises), omega (arith, count, listed, low, rises))
+    (refl, omega (arith, on, low, rises), omega (arith, count, kept, listed, low, rises))
 
 -- one is open where one was
 pub some_left : (s t : Sessions) → length t.listed ≡ length s.listed → s.listed ≢ [] → t.listed ≢ []
@@ -227,6 +228,20 @@ polling_more number old new o made is h =
     let b = one_before number old.polled h.polled in
     subst (λ (s : Sessions). IsPolling s (number + 1)) (sym made)
     (subst (λ n. IsPolling (with_session o old) (n + 1)) (sym b.1) (polling_by b.0 old.polled o old.listed (is ∙ b.1) (subst (IsPolling old) b.1 h)))
+
+-- and none was opened
+pub polling_later : (number : ℕ) (s : Sessions) → IsPolling s number → IsPolling s (number + 1)
+polling_later number s h =
+    let low = h.polled in
+    record {
+      order = record { rises = h.order.rises; positive = h.order.positive; below = below_later number s.listed h.order.below };
+      polled = omega (arith, low);
+      waited = h.waited;
+    }
+  where
+    below_later : (number : ℕ) (os : List OpenSession) → AreBelow number os → AreBelow (number + 1) os
+    below_later number [] h = tt
+    below_later number (o ∷ os) h = let low = h.0 in (omega (arith, low), below_later number os h.1)
 
 -- ---- the end of a sweep
 

@@ -14,9 +14,10 @@ use Rattle.q_core.proofs.CountLaws.{counted_step}
 use Rattle.q_drain.proofs.Polls.{polled_on, polled_over}
 use Rattle.q_drain.proofs.Sessions.{replaced_numbers}
 use Rattle.q_drain.specs.Drained.{RestsBehind}
-use Rattle.q_drain.specs.Progress.{LeavesLess, OpensUpTo, polls_left, unpolled_count, work_left}
+use Rattle.q_drain.specs.Progress.{LeavesLess, OpensBy, OpensUpTo, polls_left, unpolled_count, work_left}
 use Rattle.q_drain.specs.Waits.{idle}
 use Rattle.q_host.specs.View.{View as HostView}
+use Rattle.q_model.specs.declared.rows.Delivery.{Delivery}
 use Rattle.q_laws.proofs.Members.{IsIn, find_in, in_map}
 use Rattle.q_link.specs.Records.{HopsView}
 
@@ -56,16 +57,25 @@ inserted_counts f o (p ∷ ps) = one (nat_lt o.number p.number) (inserted_counts
 
 -- none more up to the same number
 pub opens_none : (known : ℕ) (s : Sessions) → OpensUpTo known known s s
-opens_none known s = record { listed = refl; unpolled = omega arith }
+opens_none known s = record { kept = omega arith; listed = omega arith; unpolled = omega arith }
 
 -- one more under the next
 pub opens_more : (known last : ℕ) (old mid new : Sessions) (o : OpenSession) → new ≡ with_session o mid → OpensUpTo known last old mid → OpensUpTo known (last + 1) old new
 opens_more known last old mid new o is h =
+    let kept = h.kept in
     let listed = h.listed in
     let unpolled = h.unpolled in
     let more = inserted_more o mid.listed in
     let counts = inserted_counts (nat_lt mid.polled) o mid.listed in
-    subst (OpensUpTo known (last + 1) old) (sym is) (record { listed = omega (arith, listed, more); unpolled = omega (arith, unpolled, counts) })
+    subst (OpensUpTo known (last + 1) old) (sym is) (record { kept = omega (arith, kept, more); listed = omega (arith, listed, more); unpolled = omega (arith, unpolled, counts) })
+
+-- one more at most under the next
+pub opens_by : (known last : ℕ) (old mid new : Sessions) (o : Option Delivery) → OpensBy o mid new → OpensUpTo known last old mid → OpensUpTo known (last + 1) old new
+opens_by known last old mid new None is h =
+    let listed = h.listed in
+    let unpolled = h.unpolled in
+    subst (OpensUpTo known (last + 1) old) (sym is) (record { kept = h.kept; listed = omega (arith, listed); unpolled = omega (arith, unpolled) })
+opens_by known last old mid new (Some f) (o, is) h = opens_more known last old mid new o is h
 
 -- ---- a poll
 

@@ -109,6 +109,29 @@ none_has number (o ∷ os) h =
     let low = h.0 in
     ap (λ (b : Bool). b || has_number number os) (ne_eqb o.number number (λ e. omega (arith, low, e))) ∙ none_has number os h.1
 
+-- Where none of its number is in flight, it isn't one that waits.
+pub opens_never : (engine : Engine) (u x : HostView) (hops_old hops_new : HopsView) (old new : Sessions) (number : ℕ) → AreBelow number old.listed → ForAgreed engine (λ w l. flight_of l number ≡ None) → OpensFirst engine u x hops_old hops_new old new number
+opens_never engine u x hops_old hops_new old new number below never w l a clock early waiting fs s b rest waits number_is h =
+    let k : Ledger = after_all w l s.told in
+    let same : number ≡ b.number = number_is ∙ sym h.under_way.driving.connected.numbers.0 in
+    let found : flight_of k number ≡ Some (flight b) = ap (flight_of k) same ∙ first_flight w l a (record { clock = clock; hops = hops_old }) u engine old early b rest fs s (subst (λ n. AreBelow n old.listed) same below) h in
+    let none : flight_of k number ≡ None = never w k h.under_way.stands.core h.under_way.stands.counts in
+    let bad : Some (flight b) ≡ None = sym found ∙ none in
+    absurd cc
+
+pub none_shown : (o : Option Delivery) → option_map flight_shown o ≡ None → o ≡ None
+none_shown None h = refl
+none_shown (Some f) h = cc
+
+pub none_placed : (o : Option Delivery) → option_map (λ (f : Delivery). f.row.positions) o ≡ None → o ≡ None
+none_placed None h = refl
+none_placed (Some f) h = cc
+
+-- a delivery is shown
+pub some_shown : (o : Option Delivery) (x : Flight) → Some x ≡ option_map flight_shown o → (f : Delivery) × (o ≡ Some f)
+some_shown None x h = cc
+some_shown (Some f) x h = (f, refl)
+
 -- ---- where it is given up
 
 -- more connects may have failed

@@ -62,6 +62,18 @@ module _ (w : World) (l : Ledger) (a : Outside) (old new : Option (List ℕ)) (u
   looks_on x looks = subst (λ (m : Ledger). Takes m.book m.book v x) (after_all-append w l s.told es) looks.takes
 
   -- the sessions of all deliveries that began are open
+  -- where no session is open in the end, no delivery began
+  pub none_heard : (x : HostView) (after_hops : HopsView) (sessions : Sessions) (opened : ℕ) → OpensAll next v x hops after_hops (record { listed = os; polled = 0 }) sessions known opened → sessions.listed ≡ [] → opened ≤ known
+  none_heard x after_hops sessions opened opens none =
+      let g = opens w l a new b.early heard.waiting b.flights story b.known_is heard.serving in
+      let before = heard.serving.under_way.driving.opened.counted in
+      let behind = (g.0).serving.under_way.driving.opened.counted in
+      let told = ap (λ (xs : List Entry). length (ended xs)) (g.0).told in
+      let last = g.2 in
+      let known_is = b.known_is in
+      let left = ap length none in
+      omega (arith, before, behind, told, last, known_is, left)
+
   pub served_heard : (x : HostView) (after_hops : HopsView) (sessions : Sessions) (opened : ℕ) (busy : Bool) → (busy ≡ true → known < opened)
       → OpensAll next v x hops after_hops (record { listed = os; polled = 0 }) sessions known opened
       → SweptOn w l a (record { clock = new; hops = after_hops }) u x (record { engine = next; known = opened; busy = busy }) sessions s
@@ -150,20 +162,17 @@ no_sessions : (s : Sessions) → s.listed ≡ [] → s.polled ≡ 0 → s ≡ re
 no_sessions s none start = ap (λ (os : List OpenSession). record { listed = os; polled = s.polled }) none ∙ ap (λ (n : ℕ). record { listed = []; polled = n }) start
 
 -- none was opened, and none was open before
-none_open : (known opened : ℕ) (os : List OpenSession) (agent : Sessions) → agent.listed ≡ [] → known ≤ opened → OpensUpTo known opened (record { listed = os; polled = 0 }) agent → (opened ≡ known) × (os ≡ [])
-none_open known opened [] agent none rises opens =
+none_open : (known opened : ℕ) (os : List OpenSession) (agent : Sessions) → agent.listed ≡ [] → known ≤ opened → opened ≤ known → OpensUpTo known opened (record { listed = os; polled = 0 }) agent → (opened ≡ known) × (os ≡ [])
+none_open known opened [] agent none rises few opens = (omega (arith, few, rises), refl)
+none_open known opened (o ∷ os) agent none rises few opens =
     let left = ap length none in
-    let listed = opens.listed in
-    (omega (arith, left, listed, rises), refl)
-none_open known opened (o ∷ os) agent none rises opens =
-    let left = ap length none in
-    let listed = opens.listed in
-    absurd (omega (arith, left, listed, rises))
+    let kept = opens.kept in
+    absurd (omega (arith, left, kept))
 
-pub idles_on : (w : World) (l : Ledger) (a z : Outside) (u v : HostView) (engine : Engine) (known opened : ℕ) (os : List OpenSession) (agent : Sessions) (s : Story) → agent.listed ≡ [] → agent.polled ≡ 0 → known ≤ opened → OpensUpTo known opened (record { listed = os; polled = 0 }) agent
+pub idles_on : (w : World) (l : Ledger) (a z : Outside) (u v : HostView) (engine : Engine) (known opened : ℕ) (os : List OpenSession) (agent : Sessions) (s : Story) → agent.listed ≡ [] → agent.polled ≡ 0 → known ≤ opened → opened ≤ known → OpensUpTo known opened (record { listed = os; polled = 0 }) agent
     → SweptOn w l a z u v (record { engine = engine; known = opened; busy = false }) agent s → IdlesOn w l a z u v engine os known s
-idles_on w l a z u v engine known opened os agent s none start rises opens m =
-    let none_was = none_open known opened os agent none rises opens in (
+idles_on w l a z u v engine known opened os agent s none start rises few opens m =
+    let none_was = none_open known opened os agent none rises few opens in (
       none_was.1,
       subst (λ n. SweptOn w l a z u v (record { engine = engine; known = n; busy = false }) (record { listed = []; polled = 0 }) s) none_was.0
           (subst (λ (n : Sessions). SweptOn w l a z u v (record { engine = engine; known = opened; busy = false }) n s) (no_sessions agent none start) m),

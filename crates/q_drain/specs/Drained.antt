@@ -1,5 +1,5 @@
 -- A drain, by its answer.
-use Rattle.std.specs.Prelude.{◌+◌, ◌≡◌, ◌≤◌, ◌⊎◌, Bool, Err, false, None, Ok, Option, Result, Some, true, ℕ}
+use Rattle.std.specs.Prelude.{◌+◌, ◌<◌, ◌≡◌, ◌≤◌, ◌⊎◌, Bool, Err, false, None, Ok, Option, Result, Some, true, ℕ}
 use Rattle.q_agent.specs.Rests.{RestsOne}
 use Rattle.q_agent.specs.Sessions.{Sessions}
 use Rattle.q_drain.specs.Exits.{EndsEarly, EndsFull, EndsQuiet, EndsUnfinished, ForStarted}
@@ -30,6 +30,10 @@ RestsBehind false given rests old new hops next None =
 -- So many rests more were counted, up to the last value of a count.
 abbrev pub CountsRests : HopsView → HopsView → ℕ → Type 0
 CountsRests old new more = counted new.rests 0 ≡ counted old.rests more
+
+-- so many rests are fewer than the links may answer `NotYet`, where it is known how often they may
+abbrev pub AreTooFew : ℕ → HopsView → Type 0
+AreTooFew rests hops = (most : ℕ) → hops.waits_left ≡ Some most → rests < most
 
 -- how it ends on a ledger
 abbrev pub EndsAs : World → Ledger → Outsides → HostView → HostView → Option Drained → Type 0

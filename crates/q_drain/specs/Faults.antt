@@ -5,8 +5,7 @@ use Rattle.q_engine.specs.declared.stop.Stop.{Stop}
 use Rattle.q_engine.specs.declared.stop.Stop.TheVariants as stops
 use Rattle.q_host.specs.declared.error.HostError.TheVariants as faults
 
--- one of its host stays, and so does an unreadable file; one of an event never comes where the host
--- tells
+-- one of its host stays, and so does an unreadable file; no other comes
 abbrev pub stop_of : EngineError → Stop
 stop_of errors.Disk = stops.Host faults.Disk
 stop_of errors.Tell = stops.Host faults.Tell

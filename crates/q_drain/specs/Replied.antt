@@ -1,7 +1,9 @@
 -- The turn of a report's reply.
-use Rattle.std.specs.Prelude.{◌≡◌, [], if◌then◌else◌, List, true}
+use Rattle.std.specs.Prelude.{◌≡◌, [], if◌then◌else◌, List, None, true}
 use Rattle.q_agent.specs.declared.report.Report.{Report}
+use Rattle.q_core.specs.Queries.{flight_in}
 use Rattle.q_engine.specs.Looks.{ForStands}
+use Rattle.q_engine.specs.Refusals.{refused_reply}
 use Rattle.q_engine.specs.Steps.{TookTurn}
 use Rattle.q_engine.specs.declared.engine.Engine.{Engine}
 use Rattle.q_entries.specs.Runs.{HaltsRun}
@@ -19,6 +21,11 @@ use Rattle.q_model.specs.Settings.{World}
 -- the reply that a report says
 abbrev pub reply_event : Report → Event
 reply_event r = events.Reply r.number r.site r.outcomes
+
+-- A delivery of its number is in flight, by what the engine keeps, and has as many recipients as the
+-- report has outcomes.
+abbrev pub IsAwaited : Engine → Report → Type 0
+IsAwaited engine r = refused_reply r.number r.outcomes (flight_in engine.core.value r.number) ≡ None
 
 -- it is one that may come, and its turn was carried out and told
 pub record HasReplied (w : World) (l : Ledger) (r : Report) (engine : Engine) (u v : HostView) : Type 0 where

@@ -2,7 +2,7 @@
 ghost use Rattle.std.specs.List.{list_all};
 ghost use Rattle.std.specs.Prelude.{◌≡◌, ◌≢◌, ◌≤◌, [], false, IfErr, IfOk, IsTrue, Ok, Some, true, ℕ};
 ghost use Rattle.q_agent.specs.Sessions.{is_sweep_over, link_waits};
-ghost use Rattle.q_drain.specs.Drained.{CountsRests, Drains, EndsAs, IsDrainError, RestsBehind};
+ghost use Rattle.q_drain.specs.Drained.{AreTooFew, CountsRests, Drains, EndsAs, IsDrainError, RestsBehind};
 ghost use Rattle.q_drain.specs.Exits.{EndsEarly, ForStarted, MayStart};
 ghost use Rattle.q_drain.specs.declared.driver.Drained.TheVariants.{Quiet, Unfinished};
 ghost use Rattle.q_engine.specs.Refusals.{EngineCause, is_unreadable};
@@ -75,6 +75,8 @@ fn make_sweeps<L: Link, H: Host, C: Clock, N: Hops<Link = L>>(
     ensures ready { IfOk result (λ end. (next : Started) → end ≡ Some (Quiet next) → IsReady next) }
     ensures unfinished { IfOk result (λ end. (n : ℕ) → end ≡ Some (Unfinished n)
         → (n ≡ rests) × CountsRests (N.view hops.old) (N.view hops.new) rests) }
+    ensures few { IfOk result (λ end. (n : ℕ) → end ≡ Some (Unfinished n)
+        → AreTooFew rests (N.view hops.old)) }
     ensures err { EachStop result (λ error. Told H.tells H.view host.old host.new (λ u v.
         ForStarted engine u (λ w l. EndsEarly w l (record {
           before = record { clock = C.given clock.old; hops = N.view hops.old };
@@ -134,6 +136,8 @@ pub fn drain<L: Link, H: Host, C: Clock, N: Hops<Link = L>>(
     ensures ready { (next : Started) → result ≡ Ok (Quiet next) → IsReady next }
     ensures unfinished { (n : ℕ) → result ≡ Ok (Unfinished n)
         → (n ≡ rests) × CountsRests (N.view hops.old) (N.view hops.new) rests }
+    // As many rests suffice as the links may answer `NotYet`.
+    ensures few { (n : ℕ) → result ≡ Ok (Unfinished n) → AreTooFew rests (N.view hops.old) }
     ensures kinds { IfErr result IsDrainError }
     // Where the host tells its files, each can be read.
     ensures readable { IsTrue H.tells → IfErr result (λ error. is_unreadable error ≡ false) }

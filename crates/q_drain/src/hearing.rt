@@ -1,5 +1,5 @@
 //! The moments of a clock.
-ghost use Rattle.std.specs.Prelude.{IfOk, IsTrue};
+ghost use Rattle.std.specs.Prelude.{◌≡◌, false, IfOk, IsTrue, true};
 ghost use Rattle.q_drain.specs.Heard.{HearsClock, StopsHearingClock};
 ghost use Rattle.q_engine.specs.Stands.{IsReady};
 ghost use Rattle.q_engine.specs.Steps.{StandsForSome};
@@ -28,6 +28,8 @@ pub(crate) fn hear_clock<H: Host, C: Clock>(
     ensures ok { IfOk result (λ next. IsTrue H.tells → HearsClock first (H.view host.old)
         (H.view host.new) (C.given clock.old) (C.given clock.new) engine next) }
     ensures ready { IfOk result (λ next. IsReady next) }
+    ensures timed { IfOk result (λ next. (first ≡ false → engine.core.value.timed ≡ true)
+        → next.core.value.timed ≡ true) }
     ensures err { EachStop result (λ error. IsTrue H.tells
         → StopsHearingClock first (H.view host.old) (H.view host.new) (C.given clock.old)
         (C.given clock.new) engine error) }

@@ -1,6 +1,6 @@
 //! The sessions of deliveries that have begun.
 ghost use Rattle.std.specs.Prelude.{◌≡◌, ◌≤◌, ◌<◌, ◌^◌, ◌+◌, IfOk, IsTrue, List, Option, ℕ, OnErr, OnOk};
-ghost use Rattle.q_agent.specs.Sessions.{OpenSession, with_session};
+ghost use Rattle.q_agent.specs.WaitsLeft.{waits_left};
 ghost use Rattle.q_drain.specs.Opened.{
   FailsToOpen,
   FailsToOpenAll,
@@ -10,9 +10,10 @@ ghost use Rattle.q_drain.specs.Opened.{
   OpensFirst,
 };
 ghost use Rattle.q_drain.specs.Polling.{IsPolling};
-ghost use Rattle.q_drain.specs.Progress.{OpensUpTo};
+ghost use Rattle.q_drain.specs.Progress.{OpensIfInFlight, OpensUpTo};
 ghost use Rattle.q_host.specs.Calls.{Stays};
 ghost use Rattle.q_host.specs.Faults.{DiskCause};
+ghost use Rattle.q_link.specs.WaitsLeft.{Spares};
 
 use q_agent::{Agent, Request};
 use q_engine::Engine;
@@ -21,8 +22,9 @@ use q_link::{Hops, Link};
 use q_model::Positions;
 use std::alloc::Global;
 
-/// Opens the session of the delivery of this number, the first in flight that has none. After an
-/// error none was opened, and a connection may have been made.
+/// Opens the session of the delivery of this number, the first in flight that has none. Where none of
+/// this number is in flight, which no host that tells its files leads to, there is none to open. After
+/// an error none was opened, and a connection may have been made.
 fn open_next<L: Link, H: Host, N: Hops<Link = L>>(
     alloc: Global,
     engine: &Engine,
@@ -37,7 +39,9 @@ fn open_next<L: Link, H: Host, N: Hops<Link = L>>(
     ensures ok { OnOk result (IsTrue H.tells → OpensFirst engine.now (H.view host.old)
         (H.view host.new) (N.view hops.old) (N.view hops.new) agent.old agent.new number) }
     ensures polling { OnOk result (IsPolling agent.new (number + 1)) }
-    ensures opens { OnOk result ((o : OpenSession) × (agent.new ≡ with_session o agent.old)) }
+    ensures opens { OnOk result (OpensIfInFlight engine.now number agent.old agent.new) }
+    ensures spares { OnOk result (Spares 0 (waits_left (N.view hops.old) agent.old)
+        (waits_left (N.view hops.new) agent.new)) }
     ensures polled { agent.new.polled ≡ agent.old.polled }
     ensures rests { (N.view hops.new).rests ≡ (N.view hops.old).rests }
     ensures err { OnErr result (IsTrue H.tells → FailsToOpen engine.now (H.view host.old)
@@ -46,7 +50,7 @@ fn open_next<L: Link, H: Host, N: Hops<Link = L>>(
     ensures cause { DiskCause (H.faults host.old) (H.faults host.new) result }
 {
     let (Some(flight), Some(positions)) = (engine.flight(number), engine.positions(number)) else {
-        return Err(HostError::NoMemory);
+        return Ok(());
     };
     let to = Positions::from_vec(positions.to_vec(alloc)?);
     let request = Request {
@@ -74,6 +78,8 @@ pub(crate) fn open_started<L: Link, H: Host, N: Hops<Link = L>>(
         (H.view host.new) (N.view hops.old) (N.view hops.new) agent.old agent.new known last) }
     ensures last { IfOk result (λ last. known ≤ last × IsPolling agent.new (last + 1)) }
     ensures opens { IfOk result (λ last. OpensUpTo known last agent.old agent.new) }
+    ensures spares { OnOk result (Spares 0 (waits_left (N.view hops.old) agent.old)
+        (waits_left (N.view hops.new) agent.new)) }
     ensures fits { IfOk result (λ last. last < 2 ^ 64) }
     ensures polled { agent.new.polled ≡ agent.old.polled }
     ensures rests { (N.view hops.new).rests ≡ (N.view hops.old).rests }

@@ -1,7 +1,7 @@
 //! The reply of a delivery that is over.
 ghost use Rattle.std.specs.List.{list_all};
 ghost use Rattle.std.specs.Prelude.{◌≡◌, IfOk, IsTrue, List, true};
-ghost use Rattle.q_drain.specs.Replied.{HaltsReply, Replies};
+ghost use Rattle.q_drain.specs.Replied.{HaltsReply, IsAwaited, Replies};
 ghost use Rattle.q_core.specs.Hearing.{has_log_code};
 ghost use Rattle.q_engine.specs.Stands.{IsReady};
 ghost use Rattle.q_engine.specs.Steps.{StandsForSome};
@@ -25,12 +25,15 @@ pub(crate) fn tell_reply<H: Host>(
     report: Report,
 ) -> Result<Engine, Stop>
     requires ready { IsReady engine }
+    requires timed { engine.core.value.timed ≡ true }
+    requires awaited { IsAwaited engine report }
     requires fits { fits_state report.site report.outcomes ≡ true }
     requires codes { list_all has_log_code report.outcomes ≡ true }
     requires stands { IsTrue H.tells → StandsForSome engine (H.view host.old) }
     ensures ok { IfOk result (λ next. Told H.tells H.view host.old host.new
         (Replies report engine next)) }
     ensures ready { IfOk result (λ next. IsReady next) }
+    ensures timed { IfOk result (λ next. next.core.value.timed ≡ true) }
     ensures err { EachStop result (λ error. Told H.tells H.view host.old host.new
         (HaltsReply report engine error)) }
     ensures readable { FindsReadable H.tells result }

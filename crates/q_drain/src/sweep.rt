@@ -1,11 +1,14 @@
 //! A sweep of a drain.
 ghost use Rattle.std.specs.Prelude.{◌+◌, ◌≡◌, ◌≢◌, [], false, IfOk, IsTrue, true};
 ghost use Rattle.q_agent.specs.Sessions.{is_sweep_over};
+ghost use Rattle.q_agent.specs.WaitsLeft.{waits_left};
 ghost use Rattle.q_drain.specs.Polling.{AreInOrder, IsPolling, KeepsSame};
 ghost use Rattle.q_drain.specs.Progress.{LeavesLess, work_left};
 ghost use Rattle.q_drain.specs.Swept.{GivesSweepUp, MaySweep, OfEngine, OfServed, SweepsTo};
+ghost use Rattle.q_drain.specs.Waits.{idle};
 ghost use Rattle.q_engine.specs.Stands.{IsReady};
 ghost use Rattle.q_engine.specs.Stops.{EachStop, FindsReadable, StopCause};
+ghost use Rattle.q_link.specs.WaitsLeft.{Spares};
 
 use crate::hearing::hear_clock;
 use crate::opening::open_started;
@@ -41,6 +44,7 @@ pub(crate) fn make_sweep<L: Link, H: Host, C: Clock, N: Hops<Link = L>>(
     first: bool,
 ) -> Result<Sweep, Stop>
     requires ready { IsReady engine }
+    requires timed { first ≡ false → engine.core.value.timed ≡ true }
     requires order { AreInOrder agent.old.listed (known + 1) }
     requires stands { IsTrue H.tells → MaySweep (record {
       clock = C.given clock.old;
@@ -52,6 +56,8 @@ pub(crate) fn make_sweep<L: Link, H: Host, C: Clock, N: Hops<Link = L>>(
     })
         (H.view host.old) (H.view host.new) engine agent.old.listed known first sweep agent.new) }
     ensures ready { IfOk result (λ sweep. OfEngine sweep (λ engine. IsReady engine)) }
+    ensures timed { IfOk result (λ sweep. OfEngine sweep (λ engine.
+        engine.core.value.timed ≡ true)) }
     ensures polling { IfOk result (λ sweep. OfServed sweep (λ served.
         IsPolling agent.new (served.known + 1) × (is_sweep_over agent.new ≡ true))) }
     ensures some { IfOk result (λ sweep. OfServed sweep (λ served.
@@ -60,6 +66,8 @@ pub(crate) fn make_sweep<L: Link, H: Host, C: Clock, N: Hops<Link = L>>(
         known served.known agent.old agent.new)) }
     ensures left { IfOk result (λ sweep. OfServed sweep (λ served. LeavesLess false served.busy
         (work_left known agent.old) (work_left served.known agent.new))) }
+    ensures spares { IfOk result (λ sweep. OfServed sweep (λ served. Spares (idle served.busy)
+        (waits_left (N.view hops.old) agent.old) (waits_left (N.view hops.new) agent.new))) }
     ensures rests { (N.view hops.new).rests ≡ (N.view hops.old).rests }
     ensures err { EachStop result (λ error. IsTrue H.tells → GivesSweepUp (record {
       before = record { clock = C.given clock.old; hops = N.view hops.old };

@@ -1,6 +1,6 @@
 -- The first entry of a life, told on a spool that was opened; and the refusals of a life's ends.
 use Rattle.std.proofs.Common.{None, ◌≡◌, ◌+◌, ◌-◌, ◌^◌, ℕ, Bool, true, false, List, [], ◌∷◌, length, min, refl, sym, ap, subst, ◌∙◌, arith}
-use Rattle.std.specs.Prelude.{count_by, Err, IfOk, IsErrOf, Ok, Result, if◌then◌else◌}
+use Rattle.std.specs.Prelude.{count_by, Err, IfErr, IfOk, IsErrOf, Ok, Result, if◌then◌else◌}
 use Rattle.std.proofs.lemmas.List.Sums.{sum_by-cons}
 use Rattle.q_model.specs.declared.entry.Entry.{Entry}
 use Rattle.q_model.specs.declared.entry.Entry.TheVariants as entries
@@ -19,6 +19,7 @@ use Rattle.q_books.specs.HostStands.{HostStands, OwnLogs}
 use Rattle.q_core.specs.Agrees.{AgreesIfOrderly, ForFirst}
 use Rattle.q_entries.specs.Entries.{DoesEntry, StopsEntry}
 use Rattle.q_entries.proofs.Lines.{changed_does, changed_stops}
+use Rattle.q_restart.specs.Judgements.{IsRefusalOfSome}
 use Rattle.q_restart.specs.Openings.{begun, IsRefusal, KeepsOwnNotes, Opens}
 use Rattle.q_restart.specs.declared.error.OpenError.{OpenError}
 use Rattle.q_restart.specs.declared.error.OpenError.TheVariants as open_errors
@@ -28,7 +29,7 @@ use Rattle.q_model.specs.declared.spot.Area.{Area}
 use Rattle.q_engine.specs.declared.error.EngineError.TheVariants as errors
 use Rattle.q_transport.specs.Contents.{Contents}
 use Rattle.q_transport.specs.Routing.{table_of}
-use Rattle.q_engine.specs.Beginnings.{BeganLife, is_of_spool, opening_refusal}
+use Rattle.q_engine.specs.Beginnings.{BeganLife, is_of_spool, IsRefusalOfSomeSpool, opening_refusal}
 use Rattle.q_engine.specs.Refusals.{refusal_of}
 use Rattle.q_model.specs.declared.id.Id.{Id}
 use Rattle.q_places.specs.Kept.{kept_file}
@@ -150,6 +151,29 @@ pub found_spent : {T : Type 0} (e : OpenError) (made : EngineError) (bound : Bou
 found_spent e made bound r is how of =
     let two : made ≡ errors.Limit bound = cc in
     is ∙ ap (λ (x : OpenError). Err x) (spent_is e bound (sym how ∙ two))
+
+-- a refusal of the spool that some names and files have
+pub refused_by_some : (e : OpenError) → IsRefusalOfSome e → IsRefusalOfSomeSpool (opening_refusal e)
+refused_by_some open_errors.Disk h = tt
+refused_by_some open_errors.NoMemory h = tt
+refused_by_some (open_errors.Damaged area name) h = h
+refused_by_some open_errors.Spent h = (refl, h)
+
+-- what isn't of the spool is one of any
+pub not_of_spool : (error : EngineError) → is_of_spool error ≡ false → IsRefusalOfSomeSpool error
+not_of_spool (errors.Damaged area name) h = absurd cc
+not_of_spool (errors.Limit bound) h = absurd cc
+not_of_spool errors.Disk h = tt
+not_of_spool errors.Tell h = tt
+not_of_spool errors.NoMemory h = tt
+not_of_spool (errors.Unknown n) h = tt
+not_of_spool (errors.WrongCount n want got) h = tt
+not_of_spool errors.Untimed h = tt
+not_of_spool (errors.Unreadable area name) h = tt
+
+pub each_not_of_spool : {T : Type 0} (r : Result T EngineError) → ((error : EngineError) → IsErrOf r error → is_of_spool error ≡ false) → IfErr r IsRefusalOfSomeSpool
+each_not_of_spool (Ok x) h = tt
+each_not_of_spool (Err error) h = not_of_spool error (h error refl)
 
 pub found_refused : {T : Type 0} (e : OpenError) (made error : EngineError) (r : Result Spool OpenError) → r ≡ Err e → made ≡ opening_refusal e → IsErrOf {T = T} (Err made) error → is_of_spool error ≡ true → IsRefusal r
 found_refused e made error r is how of h =

@@ -18,6 +18,7 @@ use Rattle.q_restart.specs.Openings.{begun, KeepsOwnNotes}
 use Rattle.q_restart.specs.declared.error.OpenError.{OpenError}
 use Rattle.q_restart.specs.declared.error.OpenError.TheVariants as open_errors
 use Rattle.q_transport.specs.Contents.{Contents}
+use Rattle.q_restart.specs.Judgements.{IsRefusalOfSome}
 use Rattle.q_transport.specs.Routing.{table_of}
 use Rattle.q_engine.specs.Looks.{ForStands}
 use Rattle.q_engine.specs.Stands.{EngineStands}
@@ -37,6 +38,13 @@ abbrev pub is_of_spool : EngineError → Bool
 is_of_spool (errors.Damaged area name) = true
 is_of_spool (errors.Limit bound) = true
 is_of_spool _ = false
+
+-- A refusal of the spool is one that some names of boot and some files of the queues have, whether the
+-- host tells its own or not.
+abbrev pub IsRefusalOfSomeSpool : EngineError → Type 0
+IsRefusalOfSomeSpool (errors.Damaged area name) = IsRefusalOfSome (open_errors.Damaged area name)
+IsRefusalOfSomeSpool (errors.Limit bound) = (bound ≡ bounds.Generation) × IsRefusalOfSome open_errors.Spent
+IsRefusalOfSomeSpool _ = Unit {0}
 
 -- the first entry of a life on a book
 abbrev pub first_entry : Book → Mode → Entry

@@ -70,6 +70,18 @@ abbrev pub refused_event : Ledger → Event → Option EngineError
 refused_event l event = if is_early l.timed event then Some errors.Untimed
     else refused_kind l event
 
+-- the same by what the engine keeps itself
+abbrev pub kind_refused_by : Engine → Event → Option EngineError
+kind_refused_by e (events.At t) = None
+kind_refused_by e (events.Mail sender to content) = refused_mail e.arrivals to content
+kind_refused_by e (events.Reply number state os) =
+    refused_reply number os (flight_in e.core.value number)
+kind_refused_by e (events.Trigger kind) = None
+
+abbrev pub refused_by : Engine → Event → Option EngineError
+refused_by e event = if is_early e.core.value.timed event then Some errors.Untimed
+    else kind_refused_by e event
+
 -- for each ledger with which the engine agrees
 abbrev pub ForAgreed : Engine → (World → Ledger → Type 0) → Type 0
 ForAgreed engine says = (w : World) → (l : Ledger) → Agrees w engine.core.value l → HasCounts engine l → says w l

@@ -1,10 +1,10 @@
 //! The beginning of a life on a spool.
-ghost use Rattle.std.specs.Prelude.{◌≡◌, ◌<◌, ◌-◌, ◌^◌, ◌||◌, IfOk, IfSome, IsErrOf, false, IsTrue, length, List, None, ℕ, true};
+ghost use Rattle.std.specs.Prelude.{◌≡◌, ◌<◌, ◌-◌, ◌^◌, ◌||◌, IfErr, IfOk, IfSome, IsErrOf, false, IsTrue, length, List, None, ℕ, true};
 ghost use Rattle.q_books.specs.HostStands.{HostStands};
 ghost use Rattle.q_core.specs.Agrees.{AgreesIfOrderly, ForFirst};
 ghost use Rattle.q_core.specs.Changes.{is_looked_at};
 ghost use Rattle.q_core.specs.Deciding.{is_answered};
-ghost use Rattle.q_engine.specs.Beginnings.{BeginsLife, is_of_spool, opening_refusal, StopsBeginning};
+ghost use Rattle.q_engine.specs.Beginnings.{BeginsLife, is_of_spool, IsRefusalOfSomeSpool, opening_refusal, StopsBeginning};
 ghost use Rattle.q_engine.specs.Refusals.{EngineCause, is_of_host, refusal_of};
 ghost use Rattle.q_engine.specs.Stands.{IsReady};
 ghost use Rattle.q_engine.specs.declared.error.EngineError.{EngineError as EngineRefusal};
@@ -164,6 +164,8 @@ pub fn begin<H: Host>(
         → bound ≡ bounds.Generation }
     ensures spent { (bound : Bounds) → IsErrOf result (errors.Limit bound) → IsTrue H.tells
         → IsSpent (H.view host.old).files }
+    // The same of every host, by some names and files.
+    ensures some { IfErr result IsRefusalOfSomeSpool }
     ensures untouched { (error : EngineRefusal) → IsErrOf result error → is_of_spool error ≡ true
         → Told H.tells H.view host.old host.new Stays }
 
@@ -216,8 +218,13 @@ impl Engine {
             → bound ≡ bounds.Generation }
         ensures spent { (bound : Bounds) → IsErrOf result (errors.Limit bound) → IsTrue H.tells
             → IsSpent (H.view host.old).files }
+        // The same of every host, by some names and files.
+        ensures some { IfErr result IsRefusalOfSomeSpool }
         ensures untouched { (error : EngineRefusal) → IsErrOf result error
             → is_of_spool error ≡ true → Told H.tells H.view host.old host.new Stays }
+
+        // A spool on which no life can begin is only looked at, whatever the answer.
+        ensures unbegun { Told H.tells H.view host.old host.new LeavesUnbegun }
 
         // No other refusal comes, so none of an event.
         ensures kinds { (error : EngineRefusal) → IsErrOf result error

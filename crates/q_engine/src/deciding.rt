@@ -25,6 +25,7 @@ impl Engine {
         ensures ok { OnOk result (Told H.tells H.view host.old host.new
             (DecidesAll self.old self.new)) }
         ensures ready { OnOk result (IsReady self.new) }
+        ensures timed { OnOk result (self.new.core.value.timed ≡ true) }
         ensures err { EachStop result (λ error. Told H.tells H.view host.old host.new
             (HaltsDeciding self.old error)) }
         ensures readable { FindsReadable H.tells result }

@@ -1,12 +1,14 @@
 //! Which events are refused, before anything is done.
+ghost use Rattle.std.specs.Option.{is_some};
 ghost use Rattle.std.specs.Prelude.{◌≡◌, IfNone, IfSome, true};
+ghost use Rattle.q_core.specs.Queries.{flight_in};
 ghost use Rattle.q_engine.specs.Heard.{is_moment};
-ghost use Rattle.q_engine.specs.Refusals.{Flies, ForAgreed, is_early, is_of_event, IsAdmissible, IsPossible, MayArrive, refused_event, refused_kind, refused_mail, refused_reply, told_count};
+ghost use Rattle.q_engine.specs.Refusals.{Flies, ForAgreed, is_early, is_of_event, IsAdmissible, IsPossible, kind_refused_by, MayArrive, refused_by, refused_event, refused_kind, refused_mail, refused_reply, told_count};
 ghost use Rattle.q_model.specs.Deliveries.{flight_of};
 
 use crate::engine::Engine;
 use crate::error::EngineError;
-use q_model::{Address, Bound, Event, MOST_MAIL_BYTES, MOST_RECIPIENTS, Outcome};
+use q_model::{Address, Bound, Event, MOST_MAIL_BYTES, MOST_RECIPIENTS, Outcome, Outcomes};
 
 /// A count, of which no more than 2^32 - 1 is told.
 fn counted(count: usize) -> u32
@@ -45,6 +47,8 @@ impl Engine {
     fn reply_refusal(&self, number: u64, outcomes: &[Outcome]) -> Option<EngineError>
         ensures ledger { ForAgreed self.now (λ w l. result
             ≡ refused_reply number outcomes.now (flight_of l number)) }
+        ensures own { result
+            ≡ refused_reply number outcomes.now (flight_in self.now.core.value number) }
         ensures flies { IfNone result (Flies self.now number) }
         ensures kind { IfSome result (λ error. is_of_event error ≡ true) }
     {
@@ -63,6 +67,7 @@ impl Engine {
 
     fn kind_refusal(&self, event: &Event) -> Option<EngineError>
         ensures ledger { ForAgreed self.now (λ w l. result ≡ refused_kind l event.now) }
+        ensures own { result ≡ kind_refused_by self.now event.now }
         ensures possible { IfNone result (IsPossible self.now event.now) }
         ensures kind { IfSome result (λ error. is_of_event error ≡ true) }
     {
@@ -90,9 +95,20 @@ impl Engine {
         !self.core.is_timed()
     }
 
+    /// Whether `step` would refuse a reply of this number with these outcomes, once a moment came.
+    pub fn refuses_reply(&self, number: u64, outcomes: &Outcomes) -> bool
+        ensures ledger { ForAgreed self.now (λ w l. result
+            ≡ is_some (refused_reply number outcomes.now (flight_of l number))) }
+        ensures own { result
+            ≡ is_some (refused_reply number outcomes.now (flight_in self.now.core.value number)) }
+    {
+        self.reply_refusal(number, outcomes.as_slice()).is_some()
+    }
+
     /// Why the event is refused, where it is.
     pub(crate) fn refusal(&self, event: &Event) -> Option<EngineError>
         ensures ledger { ForAgreed self.now (λ w l. result ≡ refused_event l event.now) }
+        ensures own { result ≡ refused_by self.now event.now }
         ensures none { IfNone result (IsAdmissible self.now event.now) }
         ensures kind { IfSome result (λ error. is_of_event error ≡ true) }
     {

@@ -98,6 +98,7 @@ impl Engine {
             self.answer(alloc, host, &decision)?;
         }
     }
+
     /// Answers the looks at the scan's next name, until that is known or there is no scan.
     pub(crate) fn look_ahead<H: Host>(
         &mut self,
@@ -110,6 +111,7 @@ impl Engine {
             (LooksAhead self.old self.new)) }
         ensures err { OnErr result (Told H.tells H.view host.old host.new (StaysAtBook self.old)) }
         ensures ready { OnOk result (IsReady self.new) }
+        ensures timed { OnOk result (self.new.core.value.timed ≡ true) }
         ensures notes { IsTrue H.tells → KeepsNotes (H.view host.old) (H.view host.new) }
         ensures cause { DiskCause (H.faults host.old) (H.faults host.new) result }
     {

@@ -1,9 +1,9 @@
 //! What an engine tells of its life: the time, its deliveries and what it counts.
 //!
-//! Each answer is that of the ledger with which the engine agrees. No call is an error, and none
-//! touches the host.
+//! Each answer is that of the ledger with which the engine agrees; what is told of a delivery is that
+//! of the core, whether a ledger is known or not. No call is an error, and none touches the host.
 ghost use Rattle.std.specs.Prelude.{◌≡◌, ◌≤◌, ◌-◌, ◌^◌, map, min, nat_lt, option_copied, option_map};
-ghost use Rattle.q_core.specs.Queries.{flight_shown};
+ghost use Rattle.q_core.specs.Queries.{flight_in, flight_shown};
 ghost use Rattle.q_engine.specs.Refusals.{ForAgreed};
 ghost use Rattle.q_engine.specs.Stands.{preempts};
 ghost use Rattle.q_model.specs.Deliveries.{flight_of};
@@ -32,16 +32,19 @@ impl Engine {
 
     /// The delivery of this number, where it is in flight.
     pub fn flight(&self, number: u64) -> Option<Flight>
-        ensures { ForAgreed self.now (λ w l. result
+        ensures ledger { ForAgreed self.now (λ w l. result
             ≡ option_map flight_shown (flight_of l number)) }
+        ensures own { result ≡ option_map flight_shown (flight_in self.now.core.value number) }
     {
         self.core.flight(number)
     }
 
     /// The positions of the delivery's recipients, where it is in flight.
     pub fn positions(&self, number: u64) -> Option<&[u32]>
-        ensures { ForAgreed self.now (λ w l. option_copied result ≡ option_map
+        ensures ledger { ForAgreed self.now (λ w l. option_copied result ≡ option_map
             (λ f. f.row.positions) (flight_of l number)) }
+        ensures own { option_copied result
+            ≡ option_map (λ f. f.row.positions) (flight_in self.now.core.value number) }
     {
         self.core.entry_positions(number)
     }

@@ -6,7 +6,7 @@ ghost use Rattle.std.specs.Prelude.{◌≡◌, ◌||◌, false, None, IfOk, IsEr
 ghost use Rattle.q_core.specs.Deciding.{is_answered};
 ghost use Rattle.q_engine.specs.Heard.{HearsEvent, IsEventInForm, StopsHearing};
 ghost use Rattle.q_engine.specs.Looks.{ForStands};
-ghost use Rattle.q_engine.specs.Refusals.{EngineCause, ForAgreed, is_of_event, is_of_host, is_unreadable, IsAdmissible, refused_event};
+ghost use Rattle.q_engine.specs.Refusals.{EngineCause, ForAgreed, is_of_event, is_of_host, is_unreadable, IsAdmissible, refused_by, refused_event};
 ghost use Rattle.q_engine.specs.Stands.{IsReady};
 ghost use Rattle.q_engine.specs.Steps.{HaltsTurn, StandsForSome, TakesTurn};
 ghost use Rattle.q_entries.specs.Causes.{HostCause};
@@ -61,6 +61,7 @@ impl Engine {
         ensures ok { OnOk result (Told H.tells H.view host.old host.new
             (TakesTurn event self.old self.new)) }
         ensures ready { OnOk result (IsReady self.new) }
+        ensures timed { OnOk result (self.new.core.value.timed ≡ true) }
         ensures err { EachStop result (λ error. Told H.tells H.view host.old host.new
             (HaltsTurn event self.old error)) }
         ensures readable { FindsReadable H.tells result }
@@ -93,6 +94,8 @@ impl Engine {
         ensures ok { IfOk result (λ engine. Told H.tells H.view host.old host.new
             (TakesTurn event self engine)) }
         ensures ready { IfOk result (λ engine. IsReady engine) }
+        // Behind any event a moment came.
+        ensures timed { IfOk result (λ engine. engine.core.value.timed ≡ true) }
 
         // By a fault or for want of memory it went some way into that turn.
         ensures err { EachFault result (λ error. Told H.tells H.view host.old host.new
@@ -103,6 +106,9 @@ impl Engine {
             → refused_event l event ≡ Some error → IsErrOf result error × (host.new ≡ host.old)) }
         ensures only_refused { (error : EngineRefusal) → IsErrOf result error
             → is_of_event error ≡ true → ForAgreed self (λ w l. refused_event l event ≡ Some error) }
+        // Whether a ledger is known or not, it is refused by what the engine keeps.
+        ensures own { (error : EngineRefusal) → IsErrOf result error
+            → is_of_event error ≡ true → refused_by self event ≡ Some error }
 
         // No other refusal comes, so none of the spool.
         ensures kinds { (error : EngineRefusal) → IsErrOf result error

@@ -46,11 +46,14 @@ impl PairedLink {
 impl Link for PairedLink {
     ghost use Rattle.std.specs.Prelude.{false, if◌then◌else◌, None};
     ghost use Rattle.q_link.specs.Views.{ForRead, NoWait};
+    ghost use Rattle.q_link.specs.declared.usage.Usage.TheVariants.{Open};
 
     ghost view = { λ waits. record {
       faults = 0;
       wait = if waits then ForRead else NoWait;
       ended = false;
+      usage = Open;
+      waits_left = None;
       told = None;
     } };
 
@@ -130,6 +133,7 @@ impl Hops for PairedHops {
       rests = rests;
       link_faults = 0;
       link_ends = 0;
+      waits_left = None;
       told = None;
     } };
 

@@ -6,7 +6,7 @@ use Rattle.std.specs.Prelude.{option_and_then, option_map, unwrap_or}
 use Rattle.q_link.specs.ClosedLinks.{record_of, records_of, untold}
 use Rattle.q_link.specs.declared.closed_link.ClosedLink.{ClosedLink}
 use Rattle.q_link.specs.Records.{Closes, HopsView, Rests, ToldHops, closed, counted, with_closed, with_record, with_rest}
-use Rattle.q_link.specs.ScriptHops.{ScriptHops, last_changed, with_last}
+use Rattle.q_link.specs.ScriptHops.{ScriptHops, last_changed, with_last, with_scripts}
 use Rattle.q_link.specs.Scripts.{Script}
 use Rattle.q_link.specs.ScriptLinks.{told_more, told_while}
 use Rattle.q_link.specs.Views.{Told, View}
@@ -23,9 +23,9 @@ last_set change (s ∷ t ∷ more) zero old new last is same = absurd (omega (ar
 last_set change (s ∷ t ∷ more) (suc i) old new last is same = ap (λ x. s ∷ x) (last_set change (t ∷ more) i old new (omega (arith, last)) is same)
 
 pub last_added : (change : Script → Script) (h now : ScriptHops) (i : ℕ) (old new : Script) → h ≡ now → i + 1 ≡ length h.scripts → old ≡ get_or h.scripts i old → new ≡ change old
-    → record h { scripts = slice_set h.scripts i new } ≡ with_last change now
+    → with_scripts (slice_set h.scripts i new) h ≡ with_last change now
 last_added change h now i old new same last is changed =
-    ap (λ (l : List Script). record h { scripts = l }) (last_set change h.scripts i old new last is changed) ∙ ap (with_last change) same
+    ap (λ (l : List Script). with_scripts l h) (last_set change h.scripts i old new last is changed) ∙ ap (with_last change) same
 
 -- ---- rests
 

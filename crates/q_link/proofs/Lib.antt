@@ -5,4 +5,6 @@ mod Results
 mod RouteReads
 mod RouteRows
 mod ScriptRows
+mod ScriptWaits
+pub mod Sparing
 mod Telling

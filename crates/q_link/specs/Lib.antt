@@ -9,3 +9,4 @@ pub mod ScriptLinks
 pub mod Scripts
 pub mod Usages
 pub mod Views
+pub mod WaitsLeft

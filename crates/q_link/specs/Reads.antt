@@ -7,6 +7,7 @@ use Rattle.q_link.specs.declared.link.Put.{Put}
 use Rattle.q_link.specs.declared.link.Put.TheVariants as put
 use Rattle.q_link.specs.Usages.{usage_called, usage_closed}
 use Rattle.q_link.specs.Views.{ForRead, ForWrite, NoWait, Told, View, Wait}
+use Rattle.q_link.specs.WaitsLeft.{Spares, waits_spent}
 
 -- Where it still tells, it told before, and this was added.
 abbrev pub Adds : (Told → Told) → Option Told → Option Told → Type 0
@@ -31,6 +32,7 @@ pub record Leaves (waiting : Wait) (change : Told → Told) (old new : View) : T
   pub wait : new.wait ≡ waiting
   pub ended : new.ended ≡ old.ended
   pub usage : new.usage ≡ usage_called old.usage
+  pub waits_left : Spares (waits_spent waiting) old.waits_left new.waits_left
   pub told : Adds change old.told new.told
 
 -- the end was reached, and nothing came

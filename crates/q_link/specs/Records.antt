@@ -1,10 +1,11 @@
 -- What hops count, and what those that tell tell.
-use Rattle.std.specs.Prelude.{◌+◌, ◌++◌, ◌-◌, ◌≡◌, ◌≤◌, ◌^◌, [], ◌∷◌, Bool, false, if◌then◌else◌, IsErrOf, List, min, Option, Result, Some, ℕ}
+use Rattle.std.specs.Prelude.{◌+◌, ◌++◌, ◌-◌, ◌≡◌, ◌≤◌, ◌^◌, [], ◌∷◌, Bool, Err, false, if◌then◌else◌, IsErrOf, List, min, Ok, Option, Result, Some, ℕ}
 use Rattle.q_model.specs.FaultCounts.{Rose}
 use Rattle.q_link.specs.declared.hops.NoLink.{NoLink}
 use Rattle.q_link.specs.declared.hops.NoLink.TheVariants.{Failed, NoMemory}
 use Rattle.q_link.specs.declared.usage.Usage.TheVariants.{Open}
 use Rattle.q_link.specs.Views.{NoWait, Told, View}
+use Rattle.q_link.specs.WaitsLeft.{Spares, waits_sum}
 
 -- A link that was closed: what it told, whether it ended, its faults, the rests since its connect,
 -- and the connect calls so far.
@@ -27,12 +28,14 @@ pub record ToldHops : Type 0 where
   pub records : List Closed
 
 -- Faults of connects, rests, and the faults and ends of the links that were closed. Each count
--- stands at its last value where it would pass that.
+-- stands at its last value where it would pass that. And how often all links that are still to be
+-- opened may answer `NotYet`, where that is known.
 pub record HopsView : Type 0 where
   pub connect_faults : ℕ
   pub rests : ℕ
   pub link_faults : ℕ
   pub link_ends : ℕ
+  pub waits_left : Option ℕ
   pub told : Option ToldHops
 
 -- a count with so many more, up to its last value
@@ -72,6 +75,12 @@ TellsConnect result old new = IsErrOf result NoMemory → AddsHops with_connect 
 abbrev pub CountsFailure : {L : Type 0} → Result L NoLink → HopsView → HopsView → Type 0
 CountsFailure result old new = IsErrOf result Failed → Rose old.connect_faults new.connect_faults
 
+-- What a link may answer isn't left to those that are still to be opened.
+abbrev pub MovesWaits : {L : Type 0} → (L → View) → Result L NoLink → HopsView → HopsView → Type 0
+MovesWaits view (Ok link) old new =
+    Spares 0 old.waits_left (waits_sum new.waits_left (view link).waits_left)
+MovesWaits view (Err error) old new = Spares 0 old.waits_left new.waits_left
+
 -- a link over which nothing came or went yet
 pub record IsFresh (hop : List ℕ) (hops : HopsView) (v : View) : Type 0 where
   pub faults : v.faults ≡ 0
@@ -92,6 +101,7 @@ pub record IsRested (old new : View) : Type 0 where
   pub wait : new.wait ≡ NoWait
   pub ended : new.ended ≡ old.ended
   pub usage : new.usage ≡ old.usage
+  pub waits_left : new.waits_left ≡ old.waits_left
   pub told : new.told ≡ old.told
 
 abbrev pub closed : View → Told → ToldHops → Closed

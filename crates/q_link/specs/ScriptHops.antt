@@ -3,7 +3,7 @@ use Rattle.std.specs.Prelude.{◌∷◌, ◌≡◌, ◌+◌, ◌++◌, [], drop,
 use Rattle.q_link.specs.declared.hops.NoLink.{NoLink}
 use Rattle.q_link.specs.declared.hops.NoLink.TheVariants.{Failed, NoMemory, NoRoute}
 use Rattle.q_link.specs.Records.{HopsView, ToldHops, closed, counted, with_closed, with_connect, with_hop, with_record, with_rest}
-use Rattle.q_link.specs.Scripts.{Script}
+use Rattle.q_link.specs.Scripts.{Script, script_waits, scripts_waits}
 use Rattle.q_link.specs.ScriptLinks.{ScriptLink, told_more}
 use Rattle.q_link.specs.declared.usage.Usage.TheVariants.{Open}
 use Rattle.q_link.specs.Views.{NoWait, View}
@@ -24,13 +24,21 @@ no_scripts = record {
     rests = 0;
     link_faults = 0;
     link_ends = 0;
+    waits_left = Some 0;
     told = Some (record { connects = 0; hops = []; rests = 0; records = [] });
   };
 }
 
+-- these scripts are left
+abbrev pub with_scripts : List Script → ScriptHops → ScriptHops
+with_scripts scripts h = record h {
+  scripts = scripts;
+  view = record h.view { waits_left = scripts_waits scripts };
+}
+
 -- one script more
 abbrev pub with_script : Script → ScriptHops → ScriptHops
-with_script script h = record h { scripts = h.scripts ++ script ∷ [] }
+with_script script h = with_scripts (h.scripts ++ script ∷ []) h
 
 -- the last script changed
 abbrev pub last_changed : (Script → Script) → List Script → List Script
@@ -40,7 +48,7 @@ last_changed change (script ∷ other ∷ more) = script ∷ last_changed change
 
 -- the script that was begun last changed
 abbrev pub with_last : (Script → Script) → ScriptHops → ScriptHops
-with_last change h = record h { scripts = last_changed change h.scripts }
+with_last change h = with_scripts (last_changed change h.scripts) h
 
 -- a connect call, which is told so
 abbrev pub connected : (ToldHops → ToldHops) → ScriptHops → ScriptHops
@@ -56,18 +64,19 @@ with_fault h = record h {
 
 -- the hops after a connect with this answer
 abbrev pub after_connect : {L : Type 0} → List ℕ → Result L NoLink → ScriptHops → ScriptHops
-after_connect hop (Ok link) h = record (connected (with_hop hop) h) { scripts = drop 1 h.scripts }
+after_connect hop (Ok link) h = with_scripts (drop 1 h.scripts) (connected (with_hop hop) h)
 after_connect hop (Err NoRoute) h = connected (with_hop hop) h
 after_connect hop (Err Failed) h = with_fault (connected (with_hop hop) h)
 after_connect hop (Err NoMemory) h = connected with_connect h
 
--- what is known of a link that was just opened
-abbrev pub opened : List ℕ → Option ToldHops → View
-opened hop told = record {
+-- what is known of a link that was just opened, and follows this script
+abbrev pub opened : Script → List ℕ → Option ToldHops → View
+opened script hop told = record {
   faults = 0;
   wait = NoWait;
   ended = false;
   usage = Open;
+  waits_left = script_waits script;
   told = option_map
       (λ t. record { hop = hop; received = []; sent = []; not_yets = 0; rests_before = t.rests })
       told;

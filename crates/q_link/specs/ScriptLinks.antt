@@ -8,7 +8,7 @@ use Rattle.q_link.specs.declared.link_wait.LinkWait.{LinkWait}
 use Rattle.q_link.specs.declared.link_wait.LinkWait.TheVariants as link_waits
 use Rattle.q_link.specs.Reads.{with_not_yet, with_received, with_sent}
 use Rattle.q_link.specs.Records.{counted}
-use Rattle.q_link.specs.Scripts.{Script, steps_after, writes_after}
+use Rattle.q_link.specs.Scripts.{Script, script_waits, steps_after, writes_after}
 use Rattle.q_link.specs.declared.usage.Usage.TheVariants.{Open}
 use Rattle.q_link.specs.Usages.{usage_called, usage_closed}
 use Rattle.q_link.specs.Views.{ForRead, ForWrite, NoWait, View, Wait}
@@ -32,13 +32,14 @@ rested link = record link { view = record link.view { wait = NoWait } }
 abbrev pub told_while : {T : Type 0} → Bool → T → Option T
 told_while tells t = if tells then Some t else None
 
--- what is known of a link that was just opened
-abbrev pub new_view : List ℕ → ℕ → Bool → View
-new_view hop rests tells = record {
+-- what is known of a link that was just opened, and follows this script
+abbrev pub new_view : Script → List ℕ → ℕ → Bool → View
+new_view script hop rests tells = record {
   faults = 0;
   wait = NoWait;
   ended = false;
   usage = Open;
+  waits_left = script_waits script;
   told = told_while tells
       (record { hop = hop; received = []; sent = []; not_yets = 0; rests_before = rests });
 }
@@ -83,19 +84,22 @@ after_answer got.NotYet buf v = waits ForRead v
 after_answer got.End buf v = ends v
 after_answer got.Failed buf v = fails v
 
+-- a link with this rest of its script, of which this is known besides
+abbrev pub following : Script → View → ScriptLink
+following script v =
+    record { script = script; view = record v { waits_left = script_waits script } }
+
 -- a link after a read with this answer
 abbrev pub after_read : Got → List ℕ → ScriptLink → ScriptLink
-after_read answer buf link = record {
-  script = record link.script { steps = steps_after link.script.steps (length buf) };
-  view = after_answer answer buf link.view;
-}
+after_read answer buf link = following
+    (record link.script { steps = steps_after link.script.steps (length buf) })
+    (after_answer answer buf link.view)
 
 -- a link after a write that changed what is known so
 abbrev pub after_write : (View → View) → ScriptLink → ScriptLink
-after_write change link = record {
-  script = record link.script { writes = writes_after link.script.writes };
-  view = change link.view;
-}
+after_write change link = following
+    (record link.script { writes = writes_after link.script.writes })
+    (change link.view)
 
 -- What was sent is told, or nothing any more.
 abbrev pub IsSent : List ℕ → View → View → Type 0

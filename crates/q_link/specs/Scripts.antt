@@ -1,11 +1,12 @@
 -- What a script says of the reads and writes of a link.
-use Rattle.std.specs.Prelude.{◌∷◌, ◌==◌, [], drop, if◌then◌else◌, length, List, min, nat_lt, ◌++◌, Bool, ℕ}
+use Rattle.std.specs.Prelude.{◌∷◌, ◌==◌, ◌-◌, ◌^◌, [], drop, filter, if◌then◌else◌, length, List, min, nat_lt, ◌++◌, Bool, None, Option, Some, ℕ}
 use Rattle.std.specs.List.{list_any}
 use Rattle.q_link.specs.declared.link.Got.{Got}
 use Rattle.q_link.specs.declared.link.Got.TheVariants as got
 use Rattle.q_link.specs.declared.link.Put.{Put}
 use Rattle.q_link.specs.declared.link.Put.TheVariants as put
 use Rattle.q_link.specs.Records.{counted}
+use Rattle.q_link.specs.WaitsLeft.{waits_sum}
 
 -- what a read meets: bytes, nothing yet, the end, or a failure
 pub data Step : Type 0 where
@@ -85,3 +86,27 @@ write_answer w count =
     if is_named w.failing (counted w.calls 1) then put.Failed
     else if is_named w.not_yet (counted w.calls 1) then put.NotYet
     else put.Gave count
+
+-- how often reads may still answer `NotYet`; behind the last step each does
+abbrev pub steps_waits : List Step → Option ℕ
+steps_waits [] = None
+steps_waits (piece bytes ∷ steps) = steps_waits steps
+steps_waits (not_yet ∷ steps) = waits_sum (Some 1) (steps_waits steps)
+steps_waits (end ∷ steps) = Some 0
+steps_waits (failure ∷ steps) = Some 0
+
+-- How often writes may: so many numbers are still to come. The count of writes stands at its last
+-- value, so where that is named each write from there on may.
+abbrev pub writes_waits : WritePlan → Option ℕ
+writes_waits w =
+    if is_named w.not_yet (2 ^ 64 - 1) then None
+    else Some (length (filter (λ k. nat_lt w.calls k) w.not_yet))
+
+-- how often a link that follows this may
+abbrev pub script_waits : Script → Option ℕ
+script_waits s = waits_sum (steps_waits s.steps) (writes_waits s.writes)
+
+-- how often links that follow these may, one after another; with none left a connect fails
+abbrev pub scripts_waits : List Script → Option ℕ
+scripts_waits [] = Some 0
+scripts_waits (script ∷ scripts) = waits_sum (script_waits script) (scripts_waits scripts)

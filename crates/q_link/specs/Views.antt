@@ -18,10 +18,11 @@ pub record Told : Type 0 where
   pub rests_before : ℕ
 
 -- A link: how often it failed, whether it waits, whether it answered `End`, whether it was called behind
--- that or a failure, and what it tells.
+-- that or a failure, how often it may still answer `NotYet` where that is known, and what it tells.
 pub record View : Type 0 where
   pub faults : ℕ
   pub wait : Wait
   pub ended : Bool
   pub usage : Usage
+  pub waits_left : Option ℕ
   pub told : Option Told

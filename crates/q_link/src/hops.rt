@@ -2,7 +2,7 @@
 //! last read or write didn't answer `NotYet`.
 ghost use Rattle.std.specs.Prelude.{◌≡◌, ◌≢◌, ◌⊎◌, false, IfOk, OnOk, OnErr, IsErrOf};
 ghost use Rattle.q_link.specs.Views.{NoWait};
-ghost use Rattle.q_link.specs.Records.{HopsView, Closes, Connects, CountsFailure, IsFresh, IsRested, Rests, StaysOpen, TellsConnect, TellsHop};
+ghost use Rattle.q_link.specs.Records.{HopsView, Closes, Connects, CountsFailure, IsFresh, IsRested, MovesWaits, Rests, StaysOpen, TellsConnect, TellsHop};
 ghost use Rattle.q_link.specs.Routes.{has_route};
 ghost use Rattle.q_link.specs.declared.hops.NoLink.TheVariants.{NoRoute, NoMemory as OutOfMemory};
 
@@ -41,7 +41,8 @@ pub trait Hops {
         ensures no_route { IsErrOf result NoRoute → has_route hop.now ≡ false }
         ensures route { has_route hop.now ≡ false
             → IsErrOf result NoRoute ⊎ IsErrOf result OutOfMemory }
-        ensures failed { CountsFailure result (view self.old) (view self.new) };
+        ensures failed { CountsFailure result (view self.old) (view self.new) }
+        ensures waits { MovesWaits Self.Link.view result (view self.old) (view self.new) };
 
     /// Waits a little for a link that waits, which doesn't wait any more then.
     fn rest(&mut self, link: &mut Self::Link)

@@ -1,7 +1,8 @@
 //! What a link in memory will give: the steps of its reads, and what its writes answer. It is an
 //! error to take a step into an empty buffer.
 ghost use Rattle.std.specs.Prelude.{◌≡◌, ◌<◌, ◌++◌, ◌∷◌, [], length, OnErr, OnOk, min, take};
-ghost use Rattle.q_link.specs.Scripts.{empty_script, is_named, next_bytes, read_answer, steps_after, with_failing_write, with_not_yet_write, with_step, write_answer, writes_after};
+ghost use Rattle.q_link.specs.Scripts.{empty_script, is_named, next_bytes, read_answer, steps_after, with_failing_write, with_not_yet_write, with_step, write_answer, writes_after, writes_waits};
+ghost use Rattle.q_link.specs.WaitsLeft.{Spares};
 ghost use Rattle.q_link.specs.Playback.{IsFront, received_after, step_of, steps_of};
 
 use crate::piece::Piece;
@@ -52,6 +53,9 @@ impl WritePlan {
     pub(crate) fn next(&mut self, count: usize) -> Put
         ensures answer { result ≡ write_answer self.old count }
         ensures after { self.new ≡ writes_after self.old }
+        ensures spares { Spares 0 (writes_waits self.old) (writes_waits self.new) }
+        ensures spends { result ≡ Put.NotYet
+            → Spares 1 (writes_waits self.old) (writes_waits self.new) }
     {
         self.calls = self.calls.saturating_add(1);
         if is_named(&self.failing, self.calls) {

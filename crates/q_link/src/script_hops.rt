@@ -7,7 +7,7 @@
 //! or a number would pass 2^64 - 1. Then they go on, and tell nothing any more.
 ghost use Rattle.std.specs.Prelude.{◌≡◌, ◌≢◌, ◌<◌, ◌⊎◌, ◌∷◌, [], false, IfOk, IsErrOf, length, OnErr, OnOk};
 ghost use Rattle.q_link.specs.Views.{NoWait};
-ghost use Rattle.q_link.specs.Records.{Closes, Connects, CountsFailure, IsFresh, IsRested, Rests, StaysOpen, TellsConnect, TellsHop, with_connect, with_hop};
+ghost use Rattle.q_link.specs.Records.{Closes, Connects, CountsFailure, IsFresh, IsRested, MovesWaits, Rests, StaysOpen, TellsConnect, TellsHop, with_connect, with_hop};
 ghost use Rattle.q_link.specs.Routes.{has_route};
 ghost use Rattle.q_link.specs.Scripts.{empty_script, end, failure, not_yet, piece, with_failing_write, with_not_yet_write, with_step};
 ghost use Rattle.q_link.specs.Playback.{step_of};
@@ -48,6 +48,7 @@ impl Model for ScriptHops {
     ghost use Rattle.q_link.specs.ClosedLinks.{records_of};
     ghost use Rattle.q_link.specs.ScriptHops.{ScriptHops as Scripted};
     ghost use Rattle.q_link.specs.ScriptLinks.{told_while};
+    ghost use Rattle.q_link.specs.Scripts.{scripts_waits};
 
     ghost Value = { Scripted };
 
@@ -59,6 +60,7 @@ impl Model for ScriptHops {
         rests = h.rests;
         link_faults = h.link_faults;
         link_ends = h.link_ends;
+        waits_left = scripts_waits h.scripts.items;
         told = told_while h.tells (record {
           connects = h.connects;
           hops = h.hops.items;
@@ -231,10 +233,12 @@ impl Hops for ScriptHops {
         ensures route { has_route hop.now ≡ false
             → IsErrOf result NoRoute ⊎ IsErrOf result OutOfMemory }
         ensures failed { CountsFailure result self.old.view self.new.view }
+        ensures waits { MovesWaits (λ link. link.view) result self.old.view self.new.view }
         // The link follows the next script; where none is left, the connect fails.
         ensures after { self.new ≡ after_connect hop.now result self.old }
         ensures script { IfOk result (λ link. self.old.scripts ≡ link.script ∷ self.new.scripts) }
-        ensures link { IfOk result (λ link. link.view ≡ opened hop.now self.new.view.told) }
+        ensures link { IfOk result (λ link.
+            link.view ≡ opened link.script hop.now self.new.view.told) }
         ensures none_left { IsErrOf result NoLink.Failed → self.old.scripts ≡ [] }
     {
         if self.note_connect(hop).is_err() {

@@ -35,6 +35,7 @@ pub struct ScriptLink {
 
 impl Model for ScriptLink {
     ghost use Rattle.q_link.specs.ScriptLinks.{ScriptLink as Scripted, told_while, wait_of};
+    ghost use Rattle.q_link.specs.Scripts.{script_waits};
 
     ghost Value = { Scripted };
 
@@ -45,6 +46,7 @@ impl Model for ScriptLink {
         wait = wait_of l.wait;
         ended = l.ended;
         usage = l.usage;
+        waits_left = script_waits (record { steps = l.playback.rest; writes = l.writes });
         told = told_while l.tells (record {
           hop = l.hop;
           received = l.playback.received;
@@ -66,7 +68,7 @@ impl ScriptLink {
         tells: bool,
     ) -> ScriptLink
         ensures script { result.script ≡ script }
-        ensures view { result.view ≡ new_view hop.now rests_before tells }
+        ensures view { result.view ≡ new_view script hop.now rests_before tells }
     {
         let Script { steps, writes } = script;
         ScriptLink {

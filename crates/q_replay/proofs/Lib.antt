@@ -2,9 +2,11 @@ pub mod AllowedItems
 pub mod AnyLists
 pub mod CallsLeft
 pub mod DamagedSpools
+pub mod FaultyLines
 pub mod Listings
 pub mod LivesLeft
 pub mod Modes
+pub mod Named
 pub mod Readable
 pub mod Readings
 pub mod Replaying

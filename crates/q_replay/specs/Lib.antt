@@ -1,5 +1,6 @@
 pub mod DamagedSpools
 pub mod Listings
+pub mod Named
 pub mod Reading
 pub mod LivesLeft
 pub mod ReplayEnds

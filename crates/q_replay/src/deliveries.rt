@@ -1,10 +1,11 @@
 //! One life, whose messages are delivered by SMTP.
 ghost use Rattle.std.specs.Prelude.{◌≡◌, ◌≢◌, IsErrOf, IsTrue, Ok, ℕ, IfErr, false};
-ghost use Rattle.q_drain.specs.Drained.{CountsRests};
+ghost use Rattle.q_drain.specs.Drained.{AreTooFew, CountsRests};
 ghost use Rattle.q_host.specs.View.{Told};
 ghost use Rattle.q_settings.specs.Ranges.{IsInRange};
 ghost use Rattle.q_replay.specs.DamagedSpools.{FindsDamage, NamesOnlyDamage};
 ghost use Rattle.q_replay.specs.Deliveries.{DeliveryEnds};
+ghost use Rattle.q_replay.specs.Named.{IsDeliveryRefusal};
 ghost use Rattle.q_replay.specs.ReplayEnds.{ForOrderly, IsFitSpool};
 ghost use Rattle.q_replay.specs.Takings.{is_unreadable, ReplayCause};
 ghost use Rattle.q_replay.specs.declared.deliveries.Delivered.TheVariants.{Unfinished};
@@ -57,12 +58,15 @@ pub fn deliver<L: Link, H: Host, C: Clock, N: Hops<Link = L>>(
         }) u v result)) }
     ensures unfinished { (n : ℕ) → result ≡ Ok (Unfinished n)
         → (n ≡ rests) × CountsRests (N.view hops.old) (N.view hops.new) rests }
+    ensures few { (n : ℕ) → result ≡ Ok (Unfinished n) → AreTooFew rests (N.view hops.old) }
     ensures no_source { IsErrOf result ReplayError.Source → ⊥ }
     // A spool that shows a damage is found so, and nothing is changed; only a damage is called one.
     ensures damaged { Told H.tells H.view host.old host.new (λ u v. FindsDamage u v result) }
     ensures only_damaged { IsTrue H.tells → NamesOnlyDamage (H.view host.new) result }
     // Where the host tells its files, each queue file can be read.
     ensures readable { IsTrue H.tells → IfErr result (λ error. is_unreadable error ≡ false) }
+    // Of every host: what a limit, or some names and files of the spool, say of it.
+    ensures named { IfErr result IsDeliveryRefusal }
     ensures cause { ReplayCause (H.faults host.old) (H.faults host.new) result }
 {
     let begun = begin_life(alloc, host, params, table, Mode::Deliver, 0)?;

@@ -5,6 +5,7 @@ ghost use Rattle.q_host.specs.View.{Told};
 ghost use Rattle.q_model.specs.declared.event.Mode.TheVariants as modes;
 ghost use Rattle.q_settings.specs.Ranges.{IsInRange};
 ghost use Rattle.q_replay.specs.DamagedSpools.{FindsDamage, NamesOnlyDamage};
+ghost use Rattle.q_replay.specs.Named.{IsLetterRefusal};
 ghost use Rattle.q_replay.specs.ReplayEnds.{ForOrderly, IsFitSpool};
 ghost use Rattle.q_replay.specs.RunEnds.{RunEnds};
 ghost use Rattle.q_replay.specs.Submissions.{submitted};
@@ -55,6 +56,8 @@ pub fn submit<H: Host>(
     ensures only_damaged { IsTrue H.tells → NamesOnlyDamage (H.view host.new) result }
     // Where the host tells its files, each queue file can be read.
     ensures readable { IsTrue H.tells → IfErr result (λ error. is_unreadable error ≡ false) }
+    // Of every host: what a limit, or some names and files of the spool, say of it.
+    ensures named { IfErr result (IsLetterRefusal letter.to letter.content) }
     ensures cause { ReplayCause (H.faults host.old) (H.faults host.new) result }
 {
     let begun = begin_life(alloc, host, params, table, Mode::Intake, 0)?;

@@ -6,6 +6,8 @@ ghost use Rattle.q_model.specs.FaultCounts.{Rose};
 ghost use Rattle.q_settings.specs.Ranges.{IsInRange};
 ghost use Rattle.q_replay.specs.AnyLists.{TakesList};
 ghost use Rattle.q_replay.specs.DamagedSpools.{FindsDamage, NamesOnlyDamage};
+ghost use Rattle.q_replay.specs.Listings.{listing_of};
+ghost use Rattle.q_replay.specs.Named.{IsLineOf, IsNamed};
 ghost use Rattle.q_replay.specs.ReplayEnds.{ForOrderly, IsFitSpool, ReplayEnds};
 ghost use Rattle.q_replay.specs.Takings.{is_unreadable, ReplayCause};
 
@@ -52,6 +54,11 @@ pub fn replay<H: Host, S: Source>(
     ensures only_damaged { IsTrue H.tells → NamesOnlyDamage (H.view host.new) result }
     // Where the host tells its files, each queue file can be read.
     ensures readable { IsTrue H.tells → IfErr result (λ error. is_unreadable error ≡ false) }
+    // Of every host: a damage, and that no generation is left, are what some names and files show.
+    ensures named { IfErr result IsNamed }
+    // Where the source tells, a bad event is a line of its text that is at fault.
+    ensures line { IfErr result (λ error. IfSome (S.left source.old) (λ bytes.
+        IsLineOf (listing_of bytes) error)) }
     ensures cause { ReplayCause (H.faults host.old) (H.faults host.new) result }
     ensures source { result ≡ Err ReplayError.Source
         → Rose (S.faults source.old) (S.faults source.new) }

@@ -1,5 +1,5 @@
 //! One item of an event list, taken by a life.
-ghost use Rattle.std.specs.Prelude.{◌≡◌, IfErr, IfOk, IfSome, is_none, IsErrOf, IsTrue, None, Some, ℕ, false};
+ghost use Rattle.std.specs.Prelude.{◌≡◌, IfErr, IfOk, IfSome, is_none, IsErrOf, IsTrue, None, Some, ℕ, false, true};
 ghost use Rattle.q_engine.specs.Stands.{IsReady};
 ghost use Rattle.q_engine.specs.Steps.{StandsForSome};
 ghost use Rattle.q_events.specs.Forms.{IsInForm, IsItemInForm};
@@ -9,6 +9,7 @@ ghost use Rattle.q_host.specs.View.{Told};
 ghost use Rattle.q_settings.specs.Ranges.{IsInRange};
 ghost use Rattle.q_restart.specs.Damages.{IsUndamaged};
 ghost use Rattle.q_replay.specs.DamagedSpools.{FindsDamage, NamesOnlyDamage};
+ghost use Rattle.q_replay.specs.Named.{is_of_host, IsBadItem, IsNamed, IsRefusedBy, IsUnbegun};
 ghost use Rattle.q_replay.specs.Takings.{BeginsAnew, GivesUpItem, GivesUpNext, is_unreadable, NeverBegins, ReplayCause, TakesItem, TakesNext};
 
 use crate::error::{ReplayError, replay_error};
@@ -40,6 +41,7 @@ pub(crate) fn begin_life<H: Host>(
     ensures only_damaged { IsTrue H.tells → NamesOnlyDamage (H.view host.new) result }
     ensures no_source { IsErrOf result ReplayError.Source → ⊥ }
     ensures readable { IsTrue H.tells → IfErr result (λ error. is_unreadable error ≡ false) }
+    ensures named { IfErr result IsUnbegun }
     ensures cause { ReplayCause (H.faults host.old) (H.faults host.new) result }
 {
     match begin(alloc, host, params, table, mode) {
@@ -62,10 +64,12 @@ pub(crate) fn hear<H: Host>(
     ensures ok { IfOk result (λ next. (at : ℕ) → Told H.tells H.view host.old host.new
         (TakesItem engine (items.Step event at) (Some next))) }
     ensures ready { IfOk result IsReady }
+    ensures timed { IfOk result (λ next. next.core.value.timed ≡ true) }
     ensures err { IfErr result (λ error. (at : ℕ) → Told H.tells H.view host.old host.new
         (GivesUpItem engine (items.Step event at) line error)) }
     ensures no_source { IsErrOf result ReplayError.Source → ⊥ }
     ensures readable { IsTrue H.tells → IfErr result (λ error. is_unreadable error ≡ false) }
+    ensures named { IfErr result (IsRefusedBy line engine event) }
     ensures cause { ReplayCause (H.faults host.old) (H.faults host.new) result }
 {
     match engine.step(alloc, host, event) {
@@ -87,6 +91,7 @@ pub(crate) fn end<H: Host>(
         (GivesUpItem engine items.End line error)) }
     ensures no_source { IsErrOf result ReplayError.Source → ⊥ }
     ensures readable { IsTrue H.tells → IfErr result (λ error. is_unreadable error ≡ false) }
+    ensures named { IfErr result (λ error. is_of_host error ≡ true) }
     ensures cause { ReplayCause (H.faults host.old) (H.faults host.new) result }
 {
     match engine.finish(alloc, host) {
@@ -117,6 +122,8 @@ pub(crate) fn take<H: Host>(
         (GivesUpNext params engine item line error)) }
     ensures no_source { IsErrOf result ReplayError.Source → ⊥ }
     ensures readable { IsTrue H.tells → IfErr result (λ error. is_unreadable error ≡ false) }
+    ensures named { IfErr result IsNamed }
+    ensures bad { IfErr result (IsBadItem item line) }
     ensures cause { ReplayCause (H.faults host.old) (H.faults host.new) result }
 {
     match item {

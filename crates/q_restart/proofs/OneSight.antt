@@ -2,7 +2,7 @@
 use Rattle.std.proofs.Common.{◌≡◌, arith, inl, inr, List, Option, None, Some, refl, sym, ap, subst, ◌∙◌, ◌+◌, ℕ}
 use Rattle.std.specs.Cmp.Lexicographic.{nat_list_cmp_total, slice_cmp}
 use Rattle.std.specs.Ordering.{nat_cmp}
-use Rattle.std.specs.Prelude.{Err, IsErrAnd, Ok, Result}
+use Rattle.std.specs.Prelude.{Err, IfErr, IsErrAnd, Ok, Result}
 use Rattle.q_model.specs.declared.spot.Area.{Area}
 use Rattle.q_model.specs.SpoolFiles.{Files}
 use Rattle.q_model.specs.Values.{Spot}
@@ -12,7 +12,7 @@ use Rattle.q_restart.specs.declared.opening.Spool.{Spool}
 use Rattle.q_restart.specs.declared.standing.Standing.{Standing}
 use Rattle.q_restart.specs.Damages.{CannotBegin, damage_of, IsDamage, IsIntact, IsNextGeneration, SpoolShows}
 use Rattle.q_restart.specs.Generations.{boot_generation}
-use Rattle.q_restart.specs.Judgements.{IsAllowed, IsRefused}
+use Rattle.q_restart.specs.Judgements.{IsAllowed, IsRefusalOfSome, IsRefused}
 use Rattle.q_restart.specs.Openings.{IsAccepted}
 use Rattle.q_restart.specs.Walks.{AreAllNames, IsWalk, standing_cmp}
 use Rattle.q_restart.proofs.Lists.{sorted_same}
@@ -52,6 +52,17 @@ accepted-spent (Err errors.Disk) e is accepted = absurd accepted
 accepted-spent (Err errors.NoMemory) e is accepted = absurd accepted
 accepted-spent (Err (errors.Damaged area name)) e is accepted = absurd accepted
 accepted-spent (Err errors.Spent) e is accepted = sym is
+
+-- a spool that is refused is so by these names and files
+refused_by_these : (boot : List (List ℕ)) (walk : List Standing) (e : OpenError) → IsRefused boot walk e → IsRefusalOfSome e
+refused_by_these boot walk errors.Disk h = tt
+refused_by_these boot walk errors.NoMemory h = tt
+refused_by_these boot walk (errors.Damaged area name) h = (boot, walk, h)
+refused_by_these boot walk errors.Spent h = (boot, walk, h)
+
+pub refused_some : (boot : List (List ℕ)) (walk : List Standing) (e : OpenError) (r : Result Spool OpenError) → IsErrAnd r (λ x. x ≡ e) → IsRefused boot walk e → IfErr r IsRefusalOfSome
+refused_some boot walk e (Ok spool) is h = tt
+refused_some boot walk e (Err x) is h = subst IsRefusalOfSome (sym is) (refused_by_these boot walk e h)
 
 pub spent-undamaged : (f : Files) (boot : List (List ℕ)) (walk : List Standing) (area : Area) (name : List ℕ) → SpoolShows f boot walk → (e : OpenError) → e ≡ errors.Spent → IsRefused boot walk e → IsDamage f area name → ⊥
 spent-undamaged f boot walk area name shows e is refused h = sound-undamaged f boot walk area name shows (subst (IsRefused boot walk) is refused).0 h

@@ -43,3 +43,12 @@ IsRefused boot walk (errors.Damaged area name) =
     (damage_of boot walk ≡ Some (record { area = area; name = name })) × (is_name name ≡ true)
 IsRefused boot walk errors.Spent =
     (damage_of boot walk ≡ None) × (boot_generation boot ≡ 2 ^ 32 - 1)
+
+-- some names of boot and some files of the queues are refused so
+abbrev pub IsRefusalOfSome : OpenError → Type 0
+IsRefusalOfSome errors.Disk = Unit {0}
+IsRefusalOfSome errors.NoMemory = Unit {0}
+IsRefusalOfSome (errors.Damaged area name) =
+    (boot : List (List ℕ)) × (walk : List Standing) × IsRefused boot walk (errors.Damaged area name)
+IsRefusalOfSome errors.Spent =
+    (boot : List (List ℕ)) × (walk : List Standing) × IsRefused boot walk errors.Spent

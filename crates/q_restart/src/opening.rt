@@ -1,8 +1,9 @@
 //! Opening a spool.
-ghost use Rattle.std.specs.Prelude.{IfOk, IsErrOf, IsTrue};
+ghost use Rattle.std.specs.Prelude.{IfErr, IfOk, IsErrOf, IsTrue};
 ghost use Rattle.q_host.specs.Calls.{Stays};
 ghost use Rattle.q_host.specs.View.{Told};
 ghost use Rattle.q_restart.specs.Damages.{IsNextGeneration, IsSpent, IsUndamaged};
+ghost use Rattle.q_restart.specs.Judgements.{IsRefusalOfSome};
 ghost use Rattle.q_restart.specs.Openings.{AcceptsOrderly, IsAccepted, IsRefusal, LeavesUnbegun, NamesDamage, OpenCause, OpensUnder, TriesToBegin};
 
 use crate::clearing::clear;
@@ -49,6 +50,8 @@ pub fn open_spool<H: Host>(alloc: Global, host: &mut H) -> Result<Spool, OpenErr
     ensures undamaged { IsTrue H.tells → IsAccepted result → IsUndamaged (H.view host.old).files }
     ensures spent { IsTrue H.tells → IsErrOf result OpenError.Spent
         → IsSpent (H.view host.old).files }
+    // The same of every host, by some names and files.
+    ensures some { IfErr result IsRefusalOfSome }
     ensures untouched { IsRefusal result → Told H.tells H.view host.old host.new Stays }
 
     // A spool on which no life can begin is only looked at, whatever the answer.

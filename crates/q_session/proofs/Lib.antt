@@ -10,6 +10,7 @@ pub mod Inboxes
 pub mod Outboxes
 pub mod Polling
 pub mod Sendings
+mod Sparing
 pub mod Standing
 pub mod Traffic
 mod Using

@@ -12,7 +12,7 @@ ghost use Rattle.q_session.specs.Deliveries.{IsSound, Serves};
 ghost use Rattle.q_session.specs.Mails.{IsHeadOf, Mail, StandsAt};
 ghost use Rattle.q_session.specs.Polls.{Counts, Ends, IsAwaiting, IsNew, IsUnused, Keeps, OfMails, Passes, SendsOnce};
 ghost use Rattle.q_session.specs.Traffic.{GoesOn, Tells};
-ghost use Rattle.q_session.specs.Uses.{Uses};
+ghost use Rattle.q_session.specs.Uses.{SparesPolled, Uses};
 
 use crate::content::Content;
 use crate::dialogue::Dialogue;
@@ -106,6 +106,8 @@ impl Delivery {
         ensures faults { (L.view link.old).faults ≤ (L.view link.new).faults }
         ensures ended { (L.view link.new).ended ≡ true → result ≡ Ok (Polled.Over State.Down) }
         ensures uses { Uses result (L.view link.new).usage }
+        ensures spares { IfOk result (λ polled. SparesPolled polled
+            (L.view link.old).waits_left (L.view link.new).waits_left) }
         ensures serves { result ≡ Ok Polled.Working
             → OfMails H.tells (H.view host.old) self.old (L.view link.old)
             (λ mail. Serves H.tells mail self.new (L.view link.new)) }

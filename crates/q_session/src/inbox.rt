@@ -4,7 +4,7 @@ ghost use Rattle.q_smtp.specs.Replies.{Part, codes_from, nothing_yet};
 ghost use Rattle.q_reply.specs.Progress.{Holds, room_of};
 ghost use Rattle.q_link.specs.declared.usage.Usage.TheVariants.{Open};
 ghost use Rattle.q_session.specs.Traffic.{Feeds, Received, Receives, Tells};
-ghost use Rattle.q_session.specs.Uses.{UsesHeard};
+ghost use Rattle.q_session.specs.Uses.{SparesHeard, UsesHeard};
 
 use circular_buffer::HeapCircularBuffer;
 use q_link::{Got, Link};
@@ -56,6 +56,8 @@ impl Inbox {
         ensures link { Receives result (L.view link.old) (L.view link.new) }
         ensures got { Tells (Received self.old result self.new) (L.view link.old) (L.view link.new) }
         ensures uses { UsesHeard result (L.view link.new).usage }
+        ensures spares { SparesHeard result
+            (L.view link.old).waits_left (L.view link.new).waits_left }
     {
         let mut buffer = [0; ROOM];
         let mut count = self.unused.read_into(&mut buffer);

@@ -5,7 +5,7 @@ ghost use Rattle.q_link.specs.declared.usage.Usage.TheVariants.{Misused, Open};
 ghost use Rattle.q_session.specs.Outgoing.{pending};
 ghost use Rattle.q_session.specs.Polls.{SendsOnce};
 ghost use Rattle.q_session.specs.Traffic.{Gave, GoesOn, Sends, Tells, waits_of_sent};
-ghost use Rattle.q_session.specs.Uses.{UsesSent};
+ghost use Rattle.q_session.specs.Uses.{SparesSent, UsesSent};
 
 use q_content::{ContentLine, encode, encode_end};
 use q_link::{Link, Put};
@@ -100,6 +100,8 @@ impl Outbox {
         ensures gave { Tells (Gave (pending self.old) (pending self.new) (waits_of_sent result))
             (L.view link.old) (L.view link.new) }
         ensures uses { UsesSent result (L.view link.new).usage }
+        ensures spares { SparesSent result
+            (L.view link.old).waits_left (L.view link.new).waits_left }
     {
         while self.from < self.to {
             match link.write(&self.bytes[self.from..self.to]) {

@@ -9,7 +9,7 @@ ghost use Rattle.q_session.specs.Codes.{HasCodes};
 ghost use Rattle.q_session.specs.Deliveries.{Serves};
 ghost use Rattle.q_session.specs.Mails.{IsHeadOf, Mail, StandsAt};
 ghost use Rattle.q_session.specs.Polls.{Counts, Ends, IsAwaiting, IsNew, IsUnused, Keeps, OfMails, Passes};
-ghost use Rattle.q_session.specs.Uses.{Uses};
+ghost use Rattle.q_session.specs.Uses.{SparesPolled, Uses};
 
 use crate::delivery::Delivery;
 use crate::polled::Polled;
@@ -83,6 +83,9 @@ impl Session {
         ensures ended { (L.view link.new).ended ≡ true → result ≡ Ok (Polled.Over State.Down) }
         // It makes no call on the link behind one that answered `End` or `Failed`.
         ensures uses { Uses result (L.view link.new).usage }
+        // Where it isn't over, the link answered `NotYet` once more than before.
+        ensures spares { IfOk result (λ polled. SparesPolled polled
+            (L.view link.old).waits_left (L.view link.new).waits_left) }
         ensures serves { result ≡ Ok Polled.Working
             → OfMails H.tells (H.view host.old) self.old (L.view link.old)
             (λ mail. Serves H.tells mail self.new (L.view link.new)) }

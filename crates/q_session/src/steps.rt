@@ -10,7 +10,7 @@ ghost use Rattle.q_session.specs.Deliveries.{Hearing, IsAllSent, IsSound, Serves
 ghost use Rattle.q_session.specs.Mails.{Mail, StandsAt};
 ghost use Rattle.q_session.specs.Steps.{Acts, IsSame, IsSendingSame, SendsDue, StaysSound, Steps};
 ghost use Rattle.q_session.specs.Traffic.{GoesOn};
-ghost use Rattle.q_session.specs.Uses.{UsesBy, UsesSent, UsesStep};
+ghost use Rattle.q_session.specs.Uses.{SparesSent, SparesStep, UsesBy, UsesSent, UsesStep};
 
 use crate::delivery::Delivery;
 use crate::dialogue::{Command, Next};
@@ -59,6 +59,8 @@ impl Delivery {
         ensures ended { (error : HostError) → result ≡ Err error
             → (L.view link.new).ended ≡ (L.view link.old).ended }
         ensures uses { UsesBy UsesStep result (L.view link.new).usage }
+        ensures spares { IfOk result (λ step. SparesStep step
+            (L.view link.old).waits_left (L.view link.new).waits_left) }
         ensures stays { IsTrue H.tells → Stays (H.view host.old) (H.view host.new) }
         ensures cause { DiskCause (H.faults host.old) (H.faults host.new) result }
     {
@@ -85,6 +87,8 @@ impl Delivery {
         ensures steps { (tells : Bool) → Steps tells (λ mail. Unit {0}) self.old self.new
             (L.view link.old) (L.view link.new) result }
         ensures uses { UsesStep result (L.view link.new).usage }
+        ensures spares { SparesStep result
+            (L.view link.old).waits_left (L.view link.new).waits_left }
     {
         let code = match self.inbox.receive(link) {
             Heard::Code(code) => code,
@@ -138,6 +142,8 @@ impl Delivery {
             self.old self.new (L.view link.old) (L.view link.new)) }
         ensures link { GoesOn (L.view link.old) (L.view link.new) }
         ensures uses { UsesBy UsesSent result (L.view link.new).usage }
+        ensures spares { IfOk result (λ sent. SparesSent sent
+            (L.view link.old).waits_left (L.view link.new).waits_left) }
         ensures stays { IsTrue H.tells → Stays (H.view host.old) (H.view host.new) }
         ensures cause { DiskCause (H.faults host.old) (H.faults host.new) result }
     {

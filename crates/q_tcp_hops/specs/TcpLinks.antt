@@ -1,4 +1,4 @@
--- Links and hops that tell nothing of what came and went.
+-- Links and hops that tell nothing of what came and went. How often a link may answer `NotYet` isn't known.
 use Rattle.std.specs.Prelude.{false, None}
 use Rattle.q_link.specs.Records.{HopsView}
 use Rattle.q_link.specs.declared.usage.Usage.TheVariants.{Open}
@@ -7,7 +7,7 @@ use Rattle.q_link.specs.Views.{NoWait, View, Wait}
 
 -- a link over which nothing came or went yet
 abbrev pub fresh : View
-fresh = record { faults = 0; wait = NoWait; ended = false; usage = Open; told = None }
+fresh = record { faults = 0; wait = NoWait; ended = false; usage = Open; waits_left = None; told = None }
 
 -- a link after a rest
 abbrev pub rested : View → View
@@ -19,4 +19,4 @@ called waiting link = record link { wait = waiting; usage = usage_called link.us
 
 -- hops of which nothing was asked yet
 abbrev pub no_calls : HopsView
-no_calls = record { connect_faults = 0; rests = 0; link_faults = 0; link_ends = 0; told = None }
+no_calls = record { connect_faults = 0; rests = 0; link_faults = 0; link_ends = 0; waits_left = None; told = None }

@@ -54,6 +54,7 @@ impl<N: Net + Drop> Model for TcpHops<N> {
       rests = h.rests;
       link_faults = h.link_faults;
       link_ends = h.link_ends;
+      waits_left = None;
       told = None;
     } };
 }

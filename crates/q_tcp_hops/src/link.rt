@@ -39,6 +39,7 @@ impl Model for TcpLink {
       wait = wait_of l.waiting;
       ended = l.ended;
       usage = l.usage;
+      waits_left = None;
       told = None;
     } };
 }

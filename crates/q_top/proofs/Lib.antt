@@ -1,5 +1,6 @@
 pub mod Asked
 pub mod FirstRefusals
+pub mod Named
 pub mod Readable
 pub mod RunsBehind
 pub mod Submissions

@@ -1,9 +1,10 @@
 //! `drain`: a life that delivers by SMTP.
 ghost use Rattle.std.specs.Prelude.{◌≡◌, ◌≢◌, IsTrue, ℕ, false, true};
 ghost use Rattle.q_host.specs.View.{Told};
-ghost use Rattle.q_drain.specs.Drained.{CountsRests};
+ghost use Rattle.q_drain.specs.Drained.{AreTooFew, CountsRests};
 ghost use Rattle.q_replay.specs.ReplayEnds.{IsFitSpool};
 ghost use Rattle.q_replay.specs.Spools.{Serves};
+ghost use Rattle.q_top.specs.Named.{IsNamed};
 ghost use Rattle.q_top.specs.Statuses.{is_unreadable};
 ghost use Rattle.q_top.specs.Causes.{HasHostCause};
 ghost use Rattle.q_top.specs.Lives.{DrainsSpool};
@@ -31,11 +32,13 @@ pub(crate) fn drain_spool<L: Link, H: Host, C: Clock, N: Hops<Link = L>>(
     }) u v result) }
     ensures serves { Told H.tells H.view host.old host.new (Serves true) }
     ensures readable { IsTrue H.tells → is_unreadable result ≡ false }
+    ensures named { IsNamed ⊥ result }
     ensures host { HasHostCause (H.faults host.old) (H.faults host.new) result }
     ensures no_source { result ≢ Status.Source }
     ensures no_usage { result ≢ Status.Usage }
     ensures unfinished { (n : ℕ) → result ≡ Status.Unfinished n
         → (n ≡ rests) × CountsRests (N.view hops.old) (N.view hops.new) rests }
+    ensures few { (n : ℕ) → result ≡ Status.Unfinished n → AreTooFew n (N.view hops.old) }
 {
     match read_conf(alloc, host) {
         Ok(conf) => delivery_status(deliver(

@@ -6,6 +6,7 @@ ghost use Rattle.q_replay.specs.ReplayEnds.{IsFitSpool};
 ghost use Rattle.q_replay.specs.Spools.{Serves};
 ghost use Rattle.q_stream.specs.Clocks.{last_moment};
 ghost use Rattle.q_top.specs.Causes.{HasHostCause, HasSourceCause};
+ghost use Rattle.q_top.specs.Named.{IsNamed};
 ghost use Rattle.q_top.specs.Statuses.{content_status, is_unreadable};
 ghost use Rattle.q_top.specs.Courses.{Moments, Texts};
 ghost use Rattle.q_top.specs.Lives.{SubmitsAt, Submits};
@@ -43,6 +44,7 @@ fn submit_letter<H: Host>(alloc: Global, host: &mut H, moment: Moment, letter: L
         SubmitsAt moment letter u v result) }
     ensures serves { Told H.tells H.view host.old host.new (Serves true) }
     ensures readable { IsTrue H.tells → is_unreadable result ≡ false }
+    ensures named { IsNamed ⊥ result }
     ensures host { HasHostCause (H.faults host.old) (H.faults host.new) result }
     ensures no_source { result ≢ Status.Source }
     ensures no_usage { result ≢ Status.Usage }
@@ -70,6 +72,7 @@ pub(crate) fn submit_content<H: Host, S: Source, C: Clock>(
         (record { before = C.given clock.old; after = C.given clock.new }) u v result) }
     ensures serves { Told H.tells H.view host.old host.new (Serves true) }
     ensures readable { IsTrue H.tells → is_unreadable result ≡ false }
+    ensures named { IsNamed ⊥ result }
     ensures host { HasHostCause (H.faults host.old) (H.faults host.new) result }
     ensures source { HasSourceCause (S.faults source.old) (S.faults source.new) result }
     ensures no_usage { result ≢ Status.Usage }

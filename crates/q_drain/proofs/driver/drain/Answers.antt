@@ -44,6 +44,11 @@ returns-in-Ok-Some-clause-unfinished g c n is =
     let same : c.in-Ok-Some.drained ≡ Unfinished n = cc in
     c.in-Ok-Some.ensures.unfinished n (c.in-Ok-Some.field-0-is ∙ ap Some same)
 
+pub returns-in-Ok-Some-clause-few : goal.returns-in-Ok-Some-clause-few
+returns-in-Ok-Some-clause-few g c n is =
+    let same : c.in-Ok-Some.drained ≡ Unfinished n = cc in
+    c.in-Ok-Some.ensures.few n (c.in-Ok-Some.field-0-is ∙ ap Some same)
+
 pub returns-in-Ok-Some-clause-cause : goal.returns-in-Ok-Some-clause-cause
 returns-in-Ok-Some-clause-cause g c = done_cause (g.H.Host.faults c.args.host.now) (g.H.Host.faults c.make_sweeps.new.host) c.make_sweeps.result c.in-Ok-Some.drained c.make_sweeps.ensures.cause
 

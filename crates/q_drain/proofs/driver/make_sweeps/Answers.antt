@@ -1,16 +1,19 @@
 use Rattle.std.proofs.Common.{◌≡◌, ◌≢◌, ◌+◌, [], ap, arith, false, Option, refl, subst, sym, true, ℕ}
 use Rattle.q_agent.specs.Sessions.{Sessions, is_sweep_over}
+use Rattle.q_agent.specs.WaitsLeft.{waits_left}
 use Rattle.q_books.specs.HostStands.{TellsCrashes}
 use Rattle.q_drain.proofs.Causes.{same_rests}
 use Rattle.q_drain.proofs.Exiting.{DrainsSo, counted_behind, drains_first, drains_more, ends_early, ends_full, ends_quiet, ends_unfinished, given_behind, none_behind, order_behind}
 use Rattle.q_drain.proofs.Polls.{all_wait}
 use Rattle.q_drain.proofs.Progressing.{left_behind}
+use Rattle.q_drain.proofs.Sparing.{given_spares, more_spent, none_spent}
 use Rattle.q_drain.specs.Drained.{CountsRests, RestsBehind}
 use Rattle.q_drain.specs.Exits.{EndsUnfinished}
 use Rattle.q_drain.specs.Polling.{AreInOrder, IsPolling, KeepsSame}
 use Rattle.q_drain.specs.Progress.{LeavesLess, work_left}
 use Rattle.q_drain.specs.Standing.{Outside}
 use Rattle.q_drain.specs.Swept.{OfEngine, OfServed, SweepsTo}
+use Rattle.q_drain.specs.Waits.{idle}
 use Rattle.q_drain.specs.declared.poll.Served.{Served}
 use Rattle.q_drain.specs.declared.sweep.Sweep.{Sweep}
 use Rattle.q_engine.proofs.Stopping.{ok_stop, same_stop, stop_readable}
@@ -18,6 +21,7 @@ use Rattle.q_engine.specs.declared.stop.Stop.TheVariants as stops
 use Rattle.q_engine.specs.Stands.{IsReady}
 use Rattle.q_events.proofs.LineParts.{rose_later}
 use Rattle.q_link.specs.Records.{HopsView}
+use Rattle.q_link.specs.WaitsLeft.{Spares}
 use Rattle.q_drain.proofs.driver.make_sweeps.Goals as goal
 
 pub sweeps-init : goal.sweeps-init
@@ -27,14 +31,19 @@ sweeps-init g c =
     let a : Outside = record { clock = g.C.Clock.given c.args.clock.now; hops = g.N.Hops.view c.args.hops.now } in
     record {
       ready = c.requires.ready;
+      timed = λ is. absurd cc;
       order = subst (λ (s : Sessions). AreInOrder s.listed 1) (sym c.new-agent.ensures) (record { rises = tt; positive = tt; below = tt });
       few = omega arith;
       counts = refl;
+      spares = none_spent (g.N.Hops.view c.args.hops.now) c.new-agent.result c.new-agent.ensures;
       may = c.requires.stands;
       so = λ t w l stands start. subst (λ (s : Sessions). DrainsSo w l a a u u c.args.engine s.listed 0 true 0) (sym c.new-agent.ensures) (drains_first w l a u c.args.engine lawful stands start);
       disk_later = omega arith;
       tell_later = omega arith;
     }
+
+pub make_sweep-requires-clause-timed : goal.make_sweep-requires-clause-timed
+make_sweep-requires-clause-timed g c = c.sweeps.invariant.timed
 
 pub make_sweep-requires-clause-ready : goal.make_sweep-requires-clause-ready
 make_sweep-requires-clause-ready g c = c.sweeps.invariant.ready
@@ -166,6 +175,20 @@ returns-in_default-clause-unfinished g c n is =
     let counts = loop.invariant.counts in
     (same_rests c.args.rests n is, omega (arith, all, sweep, same, counts))
 
+pub returns-in_default-clause-few : goal.returns-in_default-clause-few
+returns-in_default-clause-few g c n is most known =
+    let loop = c.sweeps in
+    let first = g.N.Hops.view c.args.hops.now in
+    let hops = g.N.Hops.view c.make_sweep.new.hops in
+    let rested = g.N.Hops.view c.rest_behind.new.hops in
+    let served = c.in-Over.served in
+    let agent = c.make_sweep.new.agent in
+    let before = waits_left (g.N.Hops.view loop.hops) loop.agent in
+    let behind = subst (λ (o : Option ℕ). RestsBehind served.busy loop.given c.args.rests agent c.rest_behind.new.agent hops rested o) c.in_default.is c.rest_behind.ensures in
+    let (idles, all, kept, still) = none_behind served.busy loop.given c.args.rests agent c.rest_behind.new.agent hops rested behind in
+    let swept = subst (λ (sweep : Sweep). OfServed sweep (λ (s : Served). Spares (idle s.busy) before (waits_left hops agent))) c.in-Over.is c.in_ok-served.ensures.spares in
+    more_spent served.busy loop.given c.args.rests most first.waits_left before (waits_left hops agent) idles all known loop.invariant.spares swept
+
 pub returns-in_default-clause-cause : goal.returns-in_default-clause-cause
 returns-in_default-clause-cause g c =
     let later = c.sweeps.invariant in
@@ -195,13 +218,16 @@ sweeps-preserved g c =
     let some = subst (λ (sweep : Sweep). OfServed sweep (λ (s : Served). s.busy ≡ false → agent.listed ≢ [])) c.in-Over.is c.in_ok-served.ensures.some in
     let behind = subst (λ (o : Option ℕ). RestsBehind served.busy loop.given c.args.rests agent new hops rested o) c.in-Some.is c.rest_behind.ensures in
     let sweep = c.in_ok-served.ensures.rests in
+    let swept_spares = subst (λ (sweep : Sweep). OfServed sweep (λ (s : Served). Spares (idle s.busy) (waits_left (g.N.Hops.view loop.hops) loop.agent) (waits_left hops agent))) c.in-Over.is c.in_ok-served.ensures.spares in
     let before = loop.invariant.counts in
     let counts : CountsRests (g.N.Hops.view c.args.hops.now) hops loop.given = omega (arith, sweep, before) in
     record {
       ready = subst (λ (sweep : Sweep). OfEngine sweep IsReady) c.in-Over.is c.in_ok-served.ensures.ready;
+      timed = λ _. subst (λ (sweep : Sweep). OfEngine sweep (λ engine. engine.core.value.timed ≡ true)) c.in-Over.is c.in_ok-served.ensures.timed;
       order = order_behind served.busy loop.given c.args.rests more (served.known + 1) agent new hops rested both.0.order behind;
       few = given_behind served.busy loop.given c.args.rests more agent new hops rested loop.invariant.few behind;
       counts = counted_behind served.busy loop.given c.args.rests more agent new (g.N.Hops.view c.args.hops.now) hops rested counts behind;
+      spares = given_spares served.busy loop.given c.args.rests more agent new hops rested (g.N.Hops.view c.args.hops.now).waits_left (waits_left (g.N.Hops.view loop.hops) loop.agent) loop.invariant.spares swept_spares behind;
       may = loop.invariant.may;
       so = λ t w l stands start.
           let d = loop.invariant.so t w l stands start in

@@ -1,6 +1,7 @@
 use Rattle.std.proofs.Common.{◌≡◌, ◌∙◌, arith, inl, inr, refl, subst, sym, ap, Bool}
 use Rattle.std.specs.Prelude.{Err}
 use Rattle.q_books.specs.HostStands.{TellsCrashes}
+use Rattle.q_drain.proofs.Awaited.{at_unrefused, unless_event}
 use Rattle.q_drain.proofs.Causes.{engine_ok, engine_passed, engine_readable}
 use Rattle.q_drain.proofs.ClockTurns.{heard_at, heard_part, heard_same, host_fault, IsNew, never_refused, past_now}
 use Rattle.q_drain.specs.Faults.{stop_of}
@@ -47,6 +48,11 @@ returns-in-Err-clause-err g c error is t w l a hops early fs os s first b =
     let same : stop_of why ≡ stops.Host error = sym c.stop_of.ensures ∙ one in
     heard_part w l a old (g.C.Clock.given c.now-moment.new.self) hops u (g.H.Host.view c.step.new.host) c.args.engine early fs os s c.args.first moment error first c.now-moment.ensures.given late b
     (c.in-Err.ensures.err error (ap (λ e. Err e) (host_fault why error kind same)) t w k h.stands)
+
+pub stop_of-requires : goal.stop_of-requires
+stop_of-requires g c =
+    let why = c.in-Err.error in
+    unless_event why (c.in-Err.ensures.kinds why refl) (λ of. at_unrefused c.args.engine c.now-moment.result why (c.in-Err.ensures.own why refl of))
 
 pub returns-in-Ok-clause-cause : goal.returns-in-Ok-clause-cause
 returns-in-Ok-clause-cause g c = engine_ok (g.H.Host.faults c.args.host.now) (g.H.Host.faults c.step.new.host) c.step.result c.in-Ok.next c.step.ensures.cause

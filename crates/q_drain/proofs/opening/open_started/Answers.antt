@@ -1,7 +1,10 @@
-use Rattle.std.proofs.Common.{◌∙◌, ◌++◌, arith, refl}
+use Rattle.std.proofs.Common.{◌∙◌, ◌+◌, ◌++◌, arith, refl}
+use Rattle.q_core.specs.Queries.{flight_in}
+use Rattle.q_agent.proofs.Sparing.{spares_on, spares_same}
+use Rattle.q_agent.specs.WaitsLeft.{waits_left}
 use Rattle.q_books.specs.HostStands.{TellsCrashes}
 use Rattle.q_drain.proofs.OpeningAll.{may_open, some_all, some_begin, some_fails, some_more}
-use Rattle.q_drain.proofs.Progressing.{opens_more, opens_none}
+use Rattle.q_drain.proofs.Progressing.{opens_by, opens_none}
 use Rattle.q_drain.proofs.Requested.{always_err}
 use Rattle.q_drain.proofs.opening.open_started.Goals as goal
 
@@ -15,6 +18,7 @@ loop-number-init g c =
       polling = c.requires.polling;
       known = omega arith;
       opens = opens_none c.args.known c.args.agent.now;
+      spares = spares_same (waits_left (g.N.Hops.view c.args.hops.now) c.args.agent.now);
       polled = refl;
       rests = refl;
       disk_later = omega arith;
@@ -42,8 +46,8 @@ loop-number-preserved g c =
           (loop.invariant.opened t w l a clock early waiting fs s is h) (g.H.Host.view c.open_next.new.host) (g.N.Hops.view c.open_next.new.hops) c.open_next.new.agent c.loop-number-test.true lawful (c.open_next.ensures.stays t) (c.in_ok-open_next.ensures.ok t);
       polling = c.in_ok-open_next.ensures.polling;
       known = omega (arith, loop.invariant.known);
-      opens = let (o, is) = c.in_ok-open_next.ensures.opens in
-          opens_more c.args.known loop.number c.args.agent.now loop.agent c.open_next.new.agent o is loop.invariant.opens;
+      opens = opens_by c.args.known loop.number c.args.agent.now loop.agent c.open_next.new.agent (flight_in c.args.engine.now.core.value (loop.number + 1)) c.in_ok-open_next.ensures.opens loop.invariant.opens;
+      spares = spares_on 0 _ _ _ loop.invariant.spares c.in_ok-open_next.ensures.spares;
       polled = c.open_next.ensures.polled ∙ loop.invariant.polled;
       rests = c.open_next.ensures.rests ∙ loop.invariant.rests;
       disk_later = omega (arith, loop.invariant.disk_later, c.open_next.ensures.cause.disk_later);
@@ -79,6 +83,9 @@ returns-in_err-open_next-clause-rests g c = c.open_next.ensures.rests ∙ c.loop
 
 pub returns-clause-rests : goal.returns-clause-rests
 returns-clause-rests g c = c.loop-number.invariant.rests
+
+pub returns-clause-spares : goal.returns-clause-spares
+returns-clause-spares g c = c.loop-number.invariant.spares
 
 pub returns-clause-opens : goal.returns-clause-opens
 returns-clause-opens g c = c.loop-number.invariant.opens

@@ -1,8 +1,10 @@
 use Rattle.std.proofs.Common.{◌≡◌, ◌≤◌, ◌+◌, ◌-◌, ◌++◌, IsTrue, length, List, Option, ℕ}
+use Rattle.q_agent.specs.WaitsLeft.{waits_left}
 use Rattle.q_drain.proofs.OpeningAll.{OpenedSome}
 use Rattle.q_drain.specs.Opened.{ForServing, IsServing, MayOpenAll}
 use Rattle.q_drain.specs.Polling.{IsPolling}
 use Rattle.q_drain.specs.Progress.{OpensUpTo}
+use Rattle.q_link.specs.WaitsLeft.{Spares}
 use Rattle.q_drain.proofs.opening.open_started.Given as goal
 
 abbrev pub invariant-loop-number : goal.invariant-loop-number
@@ -17,6 +19,7 @@ invariant-loop-number g l =
       polling : IsPolling l.agent (l.number + 1);
       known : l.known ≤ l.number;
       opens : OpensUpTo l.known l.number l.fn.agent l.agent;
+      spares : Spares 0 (waits_left (hops l.fn.hops) l.fn.agent) (waits_left (hops l.hops) l.agent);
       polled : l.agent.polled ≡ l.fn.agent.polled;
       rests : (hops l.hops).rests ≡ (hops l.fn.hops).rests;
       disk_later : (faults l.fn.host).disk ≤ (faults l.host).disk;

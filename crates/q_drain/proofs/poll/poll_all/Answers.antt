@@ -1,5 +1,7 @@
-use Rattle.std.proofs.Common.{◌+◌, ◌<◌, ◌∙◌, [], arith, Option, refl, subst}
+use Rattle.std.proofs.Common.{◌≡◌, ◌≤◌, ◌+◌, ◌<◌, ◌∙◌, [], arith, false, Option, refl, subst, sym, true}
 use Rattle.std.specs.Prelude.{IfSome}
+use Rattle.q_agent.proofs.Sparing.{spares_less, spares_on, spares_same}
+use Rattle.q_agent.specs.WaitsLeft.{waits_left}
 use Rattle.q_books.specs.HostStands.{TellsCrashes}
 use Rattle.q_drain.proofs.PollingAll.{fails_then, filled_then, may_serve, served_none, served_then, stops_serving}
 use Rattle.q_drain.proofs.Polls.{same_then}
@@ -8,10 +10,12 @@ use Rattle.q_drain.specs.Polling.{IsPolling, KeepsSame}
 use Rattle.q_drain.specs.Progress.{LeavesLess, polls_left, work_left}
 use Rattle.q_drain.specs.Served.{PollsOn}
 use Rattle.q_drain.specs.Standing.{Outside}
+use Rattle.q_drain.specs.Waits.{idle}
 use Rattle.q_drain.specs.declared.poll.Served.{Served}
 use Rattle.q_engine.proofs.Stopping.{ok_stop, same_stop, stop_later, stop_passed, stop_readable}
 use Rattle.q_engine.specs.declared.stop.Stop.TheVariants as stops
 use Rattle.q_engine.specs.Stands.{IsReady}
+use Rattle.q_link.specs.WaitsLeft.{Spares}
 use Rattle.q_drain.proofs.poll.poll_all.Goals as goal
 
 pub polls-init : goal.polls-init
@@ -20,9 +24,12 @@ polls-init g c =
     let lawful : TellsCrashes u = record { only = g.met.H.Host.only_now c.args.host.now; told = g.met.H.Host.told_stays c.args.host.now } in
     record {
       ready = c.requires.ready;
+      timed = c.requires.timed;
       polling = c.requires.polling;
       same = λ idle. (idle, refl, refl);
       left = omega arith;
+      spares = spares_same (waits_left (g.N.Hops.view c.args.hops.now) c.args.agent.now);
+      once = λ over fresh. let never : true ≡ false = sym over ∙ fresh in cc;
       rests = refl;
       may = c.requires.serves;
       on = λ t w l a clock early fs s known sweeps h. served_none w l a (record { clock = clock; hops = g.N.Hops.view c.args.hops.now }) u c.args.begun c.args.agent.now early fs s lawful known sweeps h;
@@ -56,13 +63,21 @@ polls-preserved g c =
     let loop = c.polls in
     let view = g.H.Host.view in
     let hops = g.N.Hops.view in
+    let first = waits_left (hops c.args.hops.now) c.args.agent.now in
+    let last = waits_left (hops c.poll_next.new.hops) c.poll_next.new.agent in
+    let busy = c.in-Some.next.busy in
+    let polled = subst (λ (o : Option Served). IfSome o (λ s. Spares (idle s.busy) (waits_left (hops loop.hops) loop.agent) last)) c.in-Some.is c.in_ok-next.ensures.spares in
+    let spares = spares_on (idle busy) first (waits_left (hops loop.hops) loop.agent) last loop.invariant.spares polled in
     record {
       ready = subst (λ (o : Option Served). IfSome o (λ s. IsReady s.engine)) c.in-Some.is c.in_ok-next.ensures.ready;
+      timed = subst (λ (o : Option Served). IfSome o (λ s. s.engine.core.value.timed ≡ true)) c.in-Some.is c.in_ok-next.ensures.timed;
       polling = subst (λ (o : Option Served). IfSome o (λ s. IsPolling c.poll_next.new.agent (s.known + 1))) c.in-Some.is c.in_ok-next.ensures.polling;
       same = same_then c.args.begun.busy loop.served.busy c.in-Some.next.busy c.args.begun.known loop.served.known c.in-Some.next.known c.args.agent.now loop.agent c.poll_next.new.agent loop.invariant.same
           (subst (λ (o : Option Served). IfSome o (λ s. KeepsSame loop.served.busy s.busy loop.served.known s.known loop.agent c.poll_next.new.agent)) c.in-Some.is c.in_ok-next.ensures.same);
       left = left_then c.args.begun.busy loop.served.busy c.in-Some.next.busy _ _ _ loop.invariant.left
           (subst (λ (o : Option Served). IfSome o (λ s. LeavesLess loop.served.busy s.busy (work_left loop.served.known loop.agent) (work_left s.known c.poll_next.new.agent))) c.in-Some.is c.in_ok-next.ensures.left);
+      spares = spares_less (idle busy) 0 first last (omega arith) spares;
+      once = λ over fresh. spares;
       rests = c.in_ok-next.ensures.rests ∙ loop.invariant.rests;
       may = loop.invariant.may;
       on = λ t w l a clock early fs s known sweeps h.
@@ -103,6 +118,9 @@ returns-in_err-next-clause-readable g c = stop_readable g.H.Host.tells c.from_re
 
 pub returns-clause-left : goal.returns-clause-left
 returns-clause-left g c = c.polls.invariant.left
+
+pub returns-clause-spares : goal.returns-clause-spares
+returns-clause-spares g c = c.polls.invariant.once (sym c.sweep_over.ensures ∙ c.polls-test.false)
 
 pub polls-smaller : goal.polls-smaller
 polls-smaller g c = subst (λ (o : Option Served). IfSome o (λ s. polls_left s.known c.poll_next.new.agent < polls_left c.polls.served.known c.polls.agent)) c.in-Some.is c.in_ok-next.ensures.fewer

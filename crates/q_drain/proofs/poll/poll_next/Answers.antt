@@ -1,15 +1,22 @@
-use Rattle.std.proofs.Common.{◌≡◌, ◌<◌, ◌≤◌, ◌∙◌, [], Option, arith, ap, refl, rules, subst, sym}
+use Rattle.std.proofs.Common.{◌≡◌, ◌<◌, ◌≤◌, ◌∙◌, [], false, Option, arith, ap, refl, rules, subst, sym, true}
 use Rattle.std.specs.List.{AllByRecursion}
 use Rattle.std.specs.Prelude.{◌^◌}
+use Rattle.q_agent.proofs.Sparing.{spares_same}
 use Rattle.q_agent.specs.Answers.{IsStanding, PollsNext}
 use Rattle.q_agent.specs.Sessions.{next_polled}
+use Rattle.q_agent.specs.WaitsLeft.{polls_spent, waits_left}
 use Rattle.q_agent.specs.declared.report.Report.{Report}
 use Rattle.q_books.specs.HostStands.{TellsCrashes}
+use Rattle.q_core.specs.Queries.{flight_in}
+use Rattle.q_drain.proofs.Awaited.{not_some, refuses_none, reply_awaited}
 use Rattle.q_drain.proofs.NextPolls.{begins_fewer, busy_keeps, ends_poll, fills_up, keeps_same, may_open_more, may_poll, poll_fails, polls_less, polls_on, reply_codes, reply_fits, report_fails, served_by_report, served_on, stands_still}
 use Rattle.q_drain.proofs.Polls.{polled_over, polled_rests, some_unpolled}
-use Rattle.q_drain.proofs.Progressing.{ends_one, leaves_less, leaves_same, passes_one}
+use Rattle.q_drain.proofs.Progressing.{ends_one, leaves_less, leaves_same, opens_none, passes_one}
+use Rattle.q_drain.proofs.Sparing.{on_spares, over_spares}
 use Rattle.q_drain.specs.Progress.{LeavesLess, work_left}
+use Rattle.q_link.specs.WaitsLeft.{Spares}
 use Rattle.q_engine.proofs.Stopping.{disk_stopped, host_readable, ok_stop, same_stop, stop_later, stop_passed, stop_readable}
+use Rattle.q_engine.specs.Refusals.{refused_reply}
 use Rattle.q_engine.specs.declared.stop.Stop.TheVariants as stops
 use Rattle.q_model.specs.Step.{after_all}
 use Rattle.q_drain.proofs.poll.poll_next.Goals as goal
@@ -275,3 +282,100 @@ returns-clause-left g c =
     subst (λ busy. LeavesLess c.args.served.busy busy (work_left c.args.served.known agent) (work_left c.in_ok-next.next.known c.hear_report.new.agent)) (sym c.in_ok-next.ensures.busy)
     (leaves_less g.H.Host.tells u c.now.result hops next agent c.poll_next.new.self c.hear_report.new.agent o.0 c.in-Some.report o.1 c.args.served.known c.in_ok-next.next.known
     (subst (λ (r : Option Report). PollsNext g.H.Host.tells u c.now.result hops next (next_polled agent) r agent c.poll_next.new.self) c.in-Some.is c.in_ok-report.ensures.ok) opened.0 c.in_ok-next.ensures.fits opened.1 c.args.served.busy)
+
+pub returns-in_default-clause-spares : goal.returns-in_default-clause-spares
+returns-in_default-clause-spares g c =
+    let agent = c.args.agent.now in
+    let o = some_unpolled agent c.requires.over in
+    let first = waits_left (g.N.Hops.view c.args.hops.now) agent in
+    let last = waits_left (g.N.Hops.view c.poll_next.new.hops) c.poll_next.new.self in
+    on_spares agent o.0 o.1 first last c.args.served.busy
+    (subst (λ (r : Option Report). Spares (polls_spent (next_polled agent) r) first last) c.in_default.is c.in_ok-report.ensures.spares)
+
+pub returns-clause-spares : goal.returns-clause-spares
+returns-clause-spares g c =
+    let agent = c.args.agent.now in
+    let o = some_unpolled agent c.requires.over in
+    let first = waits_left (g.N.Hops.view c.args.hops.now) agent in
+    let mid = waits_left (g.N.Hops.view c.poll_next.new.hops) c.poll_next.new.self in
+    let last = waits_left (g.N.Hops.view c.hear_report.new.hops) c.hear_report.new.agent in
+    over_spares agent o.0 o.1 first mid c.in-Some.report c.in_ok-next.next.busy last c.in_ok-next.ensures.busy
+    (subst (λ (r : Option Report). Spares (polls_spent (next_polled agent) r) first mid) c.in-Some.is c.in_ok-report.ensures.spares) c.in_ok-next.ensures.spares
+
+-- ---- a report that the engine doesn't await
+
+pub returns-then-refuses_reply-clause-ok : goal.returns-then-refuses_reply-clause-ok
+returns-then-refuses_reply-clause-ok g c t w l a clock early fs s known sweeps h =
+    let u = g.H.Host.view c.args.host.now in
+    let hops = g.N.Hops.view c.args.hops.now in
+    let next = g.N.Hops.view c.poll_next.new.hops in
+    let agent = c.args.agent.now in
+    let engine = c.args.served.engine in
+    let r = c.in-Some.report in
+    let o = some_unpolled agent c.requires.over in
+    let was_polled = subst (λ (r : Option Report). PollsNext g.H.Host.tells u c.now.result hops next (next_polled agent) r agent c.poll_next.new.self) c.in-Some.is c.in_ok-report.ensures.ok in
+    let one = polled_over g.H.Host.tells u c.now.result hops next agent c.poll_next.new.self o.0 r o.1 was_polled in
+    let none = reply_awaited w l a (record { clock = clock; hops = hops }) u engine agent early fs s o.0 r h o.1 (one.0).number (one.0).counts in
+    let never = refuses_none engine r.number r.outcomes c.refuses_reply.result w (after_all w l s.told) h.under_way.stands.core h.under_way.stands.counts c.refuses_reply.ensures.ledger none in
+    let bad : true ≡ false = sym c.if-refuses_reply.true ∙ never in
+    absurd cc
+
+pub returns-then-refuses_reply-clause-polling : goal.returns-then-refuses_reply-clause-polling
+returns-then-refuses_reply-clause-polling g c =
+    let u = g.H.Host.view c.args.host.now in
+    let hops = g.N.Hops.view c.args.hops.now in
+    let next = g.N.Hops.view c.poll_next.new.hops in
+    let agent = c.args.agent.now in
+    let o = some_unpolled agent c.requires.over in
+    polls_less _ g.H.Host.tells u c.now.result hops next agent c.poll_next.new.self o.0 c.in-Some.report o.1
+    (subst (λ (r : Option Report). PollsNext g.H.Host.tells u c.now.result hops next (next_polled agent) r agent c.poll_next.new.self) c.in-Some.is c.in_ok-report.ensures.ok) c.requires.polling
+
+pub returns-then-refuses_reply-clause-same : goal.returns-then-refuses_reply-clause-same
+returns-then-refuses_reply-clause-same g c = busy_keeps c.args.served.busy true c.args.served.known c.args.served.known c.args.agent.now c.poll_next.new.self refl
+
+pub returns-then-refuses_reply-clause-fewer : goal.returns-then-refuses_reply-clause-fewer
+returns-then-refuses_reply-clause-fewer g c =
+    let u = g.H.Host.view c.args.host.now in
+    let hops = g.N.Hops.view c.args.hops.now in
+    let next = g.N.Hops.view c.poll_next.new.hops in
+    let agent = c.args.agent.now in
+    let known = c.args.served.known in
+    let within : known < 2 ^ 64 = search rules in
+    let o = some_unpolled agent c.requires.over in
+    ends_one g.H.Host.tells u c.now.result hops next agent c.poll_next.new.self c.poll_next.new.self o.0 c.in-Some.report o.1 known known
+    (subst (λ (r : Option Report). PollsNext g.H.Host.tells u c.now.result hops next (next_polled agent) r agent c.poll_next.new.self) c.in-Some.is c.in_ok-report.ensures.ok) (omega arith) within (opens_none known c.poll_next.new.self)
+
+pub returns-then-refuses_reply-clause-left : goal.returns-then-refuses_reply-clause-left
+returns-then-refuses_reply-clause-left g c =
+    let u = g.H.Host.view c.args.host.now in
+    let hops = g.N.Hops.view c.args.hops.now in
+    let next = g.N.Hops.view c.poll_next.new.hops in
+    let agent = c.args.agent.now in
+    let known = c.args.served.known in
+    let within : known < 2 ^ 64 = search rules in
+    let o = some_unpolled agent c.requires.over in
+    leaves_less g.H.Host.tells u c.now.result hops next agent c.poll_next.new.self c.poll_next.new.self o.0 c.in-Some.report o.1 known known
+    (subst (λ (r : Option Report). PollsNext g.H.Host.tells u c.now.result hops next (next_polled agent) r agent c.poll_next.new.self) c.in-Some.is c.in_ok-report.ensures.ok) (omega arith) within (opens_none known c.poll_next.new.self) c.args.served.busy
+
+pub returns-then-refuses_reply-clause-rests : goal.returns-then-refuses_reply-clause-rests
+returns-then-refuses_reply-clause-rests g c =
+    polled_rests g.H.Host.tells (g.H.Host.view c.args.host.now) c.now.result (g.N.Hops.view c.args.hops.now) (g.N.Hops.view c.poll_next.new.hops) (next_polled c.args.agent.now) c.in_ok-report.field-0 c.args.agent.now c.poll_next.new.self c.in_ok-report.ensures.ok
+
+pub returns-then-refuses_reply-clause-cause : goal.returns-then-refuses_reply-clause-cause
+returns-then-refuses_reply-clause-cause g c =
+    let was_polled = c.in_ok-report.ensures.cause in
+    ok_stop (g.H.Host.faults c.args.host.now) (g.H.Host.faults c.poll_next.new.host) _ was_polled.disk_later was_polled.tell_later
+
+pub hear_report-requires-clause-awaited : goal.hear_report-requires-clause-awaited
+hear_report-requires-clause-awaited g c =
+    let r = c.in-Some.report in
+    not_some (refused_reply r.number r.outcomes (flight_in c.args.served.engine.core.value r.number)) c.refuses_reply.result c.refuses_reply.ensures.own c.if-refuses_reply.false
+
+pub returns-then-refuses_reply-clause-spares : goal.returns-then-refuses_reply-clause-spares
+returns-then-refuses_reply-clause-spares g c =
+    let agent = c.args.agent.now in
+    let o = some_unpolled agent c.requires.over in
+    let first = waits_left (g.N.Hops.view c.args.hops.now) agent in
+    let last = waits_left (g.N.Hops.view c.poll_next.new.hops) c.poll_next.new.self in
+    over_spares agent o.0 o.1 first last c.in-Some.report true last refl
+    (subst (λ (r : Option Report). Spares (polls_spent (next_polled agent) r) first last) c.in-Some.is c.in_ok-report.ensures.spares) (spares_same last)

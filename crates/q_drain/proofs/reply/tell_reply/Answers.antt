@@ -3,6 +3,7 @@ use Rattle.std.proofs.lemmas.Bool.{and_from}
 use Rattle.std.specs.List.{list_all}
 use Rattle.std.specs.Prelude.{Err}
 use Rattle.q_books.specs.HostStands.{TellsCrashes}
+use Rattle.q_drain.proofs.Awaited.{reply_unrefused, unless_event}
 use Rattle.q_drain.proofs.Causes.{engine_ok, engine_passed, engine_readable}
 use Rattle.q_drain.proofs.ReplyTurns.{accepted_may, fault_halts, halts_nothing, halts_reply, none_refused, refused_unless}
 use Rattle.q_drain.specs.Replied.{entries_replied, reply_event}
@@ -45,6 +46,11 @@ returns-in-Err-clause-err g c error is t w l stands =
     let refused = refused_unless l r.number r.site r.outcomes fits never in
     let same : u ≡ x = sym (ap g.H.Host.view (c.in-Err.ensures.refused w l stands.core stands.counts refused.0 refused.1).1) in
     subst (λ v. HaltsRun w l [] error u v) same (halts_nothing w l [] error u lawful stands.host))
+
+pub stop_of-requires : goal.stop_of-requires
+stop_of-requires g c =
+    let why = c.in-Err.error in
+    unless_event why (c.in-Err.ensures.kinds why refl) (λ of. reply_unrefused c.args.engine c.args.report why c.requires.timed c.requires.awaited (c.in-Err.ensures.own why refl of))
 
 pub returns-in-Ok-clause-cause : goal.returns-in-Ok-clause-cause
 returns-in-Ok-clause-cause g c = engine_ok (g.H.Host.faults c.args.host.now) (g.H.Host.faults c.step.new.host) c.step.result c.in-Ok.next c.step.ensures.cause

@@ -1,18 +1,23 @@
 use Rattle.std.proofs.Common.{◌+◌, ◌∙◌, ◌∷◌, [], Option, ap, arith, false, ltb-true, refl, subst, sym, true, ◌≡◌}
 use Rattle.std.specs.Prelude.{IfSome, nat_lt}
+use Rattle.q_agent.proofs.Sparing.{spares_on}
 use Rattle.q_agent.specs.Sessions.{Sessions}
+use Rattle.q_agent.specs.WaitsLeft.{waits_left}
 use Rattle.q_books.specs.HostStands.{TellsCrashes}
 use Rattle.q_drain.proofs.PollingAll.{fails_then, filled_then}
 use Rattle.q_drain.proofs.Polls.{polling_anew, same_from, some_left}
 use Rattle.q_drain.proofs.Progressing.{left_first, left_then}
-use Rattle.q_drain.proofs.SweepsOn.{idles_on, may_open, opening_given_up, served_heard, swept_then}
+use Rattle.q_drain.proofs.Sparing.{not_over}
+use Rattle.q_drain.proofs.SweepsOn.{idles_on, none_heard, may_open, opening_given_up, served_heard, swept_then}
 use Rattle.q_drain.specs.Opened.{FailsToOpenAll, MayOpenAll, OpensAll}
 use Rattle.q_drain.specs.Polling.{IsPolling, KeepsSame}
 use Rattle.q_drain.specs.Progress.{LeavesLess, OpensUpTo, work_left}
 use Rattle.q_drain.specs.Served.{PollsOn}
+use Rattle.q_drain.specs.Waits.{idle}
 use Rattle.q_drain.specs.declared.poll.Served.{Served}
 use Rattle.q_engine.proofs.Stopping.{disk_stopped, host_readable, same_stop, stop_later, stop_passed, stop_readable}
 use Rattle.q_engine.specs.declared.stop.Stop.TheVariants as stops
+use Rattle.q_link.specs.WaitsLeft.{Spares}
 use Rattle.q_model.specs.Step.{after_all}
 use Rattle.q_drain.proofs.sweep.make_sweep.Goals as goal
 
@@ -65,7 +70,10 @@ returns-then-is_empty-clause-ok g c t w l a s b =
     let next = g.N.Hops.view c.open_started.new.hops in
     let agent = c.open_started.new.agent in
     idles_on w l a (record { clock = new; hops = next }) u x c.in_ok-engine.engine c.args.known c.in_ok-opened.opened c.args.agent.now.listed agent s (c.is_empty.ensures.0 c.if-is_empty.true) (c.open_started.ensures.polled ∙ ap (λ (n : Sessions). n.polled) c.next_sweep.ensures)
-    c.in_ok-opened.ensures.last.0 (subst (λ (n : Sessions). OpensUpTo c.args.known c.in_ok-opened.opened n agent) c.next_sweep.ensures c.in_ok-opened.ensures.opens)
+    c.in_ok-opened.ensures.last.0
+    (none_heard w l a old new u v hops c.args.engine c.in_ok-engine.engine c.args.agent.now.listed c.args.known c.args.first s b (c.in_ok-engine.ensures.ok t) x next agent c.in_ok-opened.opened
+    (subst (λ (n : Sessions). OpensAll c.in_ok-engine.engine v x hops next n agent c.args.known c.in_ok-opened.opened) c.next_sweep.ensures (c.in_ok-opened.ensures.ok t)) (c.is_empty.ensures.0 c.if-is_empty.true))
+    (subst (λ (n : Sessions). OpensUpTo c.args.known c.in_ok-opened.opened n agent) c.next_sweep.ensures c.in_ok-opened.ensures.opens)
     (served_heard w l a old new u v hops c.args.engine c.in_ok-engine.engine c.args.agent.now.listed c.args.known c.args.first s b (c.in_ok-engine.ensures.ok t) x next agent c.in_ok-opened.opened false (λ is. cc)
     (subst (λ (n : Sessions). OpensAll c.in_ok-engine.engine v x hops next n agent c.args.known c.in_ok-opened.opened) c.next_sweep.ensures (c.in_ok-opened.ensures.ok t)))
 
@@ -231,3 +239,16 @@ returns-in-Some-clause-some g c =
     let agent = c.open_started.new.agent in
     let kept = subst (λ (o : Option Served). IfSome o (λ s. KeepsSame (nat_lt c.args.known opened) s.busy opened s.known agent c.poll_all.new.agent)) c.in-Some.is c.in_ok-served.ensures.same in
     λ idle. some_left agent c.poll_all.new.agent (kept idle).2 (λ none. let bad : true ≡ false = sym (c.is_empty.ensures.1 none) ∙ c.if-is_empty.false in cc)
+
+pub returns-in-Some-clause-spares : goal.returns-in-Some-clause-spares
+returns-in-Some-clause-spares g c =
+    let hops = g.N.Hops.view in
+    let agent = c.open_started.new.agent in
+    let first = waits_left (hops c.args.hops.now) c.args.agent.now in
+    let mid = waits_left (hops c.open_started.new.hops) agent in
+    let last = waits_left (hops c.poll_all.new.hops) c.poll_all.new.agent in
+    let opened = subst (λ (n : Sessions). Spares 0 (waits_left (hops c.args.hops.now) n) mid) c.next_sweep.ensures c.in_ok-opened.ensures.spares in
+    let begins = c.open_started.ensures.polled ∙ ap (λ (n : Sessions). n.polled) c.next_sweep.ensures in
+    let fresh = not_over agent (c.in_ok-opened.opened + 1) begins (λ none. let bad : true ≡ false = sym (c.is_empty.ensures.1 none) ∙ c.if-is_empty.false in cc) c.in_ok-opened.ensures.last.1.order in
+    spares_on (idle c.in-Some.served.busy) first mid last opened
+    (subst (λ (o : Option Served). IfSome o (λ s. Spares (idle s.busy) mid last)) c.in-Some.is (c.in_ok-served.ensures.spares fresh))

@@ -1,11 +1,11 @@
-use Rattle.std.proofs.Common.{◌≡◌, true, false}
+use Rattle.std.proofs.Common.{◌≡◌, true, false, subst, sym}
 use Rattle.q_entries.proofs.Lines.{may_stop}
 use Rattle.q_restart.proofs.OneSight.{next-begins}
 use Rattle.q_restart.specs.Openings.{begun}
 use Rattle.q_transport.specs.Routing.{table_of}
-use Rattle.q_engine.specs.Beginnings.{first_entry}
+use Rattle.q_engine.specs.Beginnings.{first_entry, IsRefusalOfSomeSpool}
 use Rattle.q_engine.specs.declared.error.EngineError.TheVariants as errors
-use Rattle.q_engine.proofs.BegunLives.{began, by_four, found_damaged, found_refused, found_spent, new_engine, not_begun}
+use Rattle.q_engine.proofs.BegunLives.{began, by_four, each_not_of_spool, found_damaged, found_refused, found_spent, new_engine, not_begun, refused_by_some}
 use Rattle.q_engine.proofs.beginning.begin.Goals as goal
 
 pub returns-in-Ok-clause-ok : goal.returns-in-Ok-clause-ok
@@ -52,6 +52,14 @@ returns-in-Err-clause-spent g c bound is t =
 pub returns-in-Err-clause-untouched : goal.returns-in-Err-clause-untouched
 returns-in-Err-clause-untouched g c error is of t =
     c.open_spool.ensures.untouched (found_refused c.in-Err.error c.opening_refusal.result error c.open_spool.result c.in-Err.is c.opening_refusal.ensures.exact is of) t
+
+pub returns-in-Err-clause-some : goal.returns-in-Err-clause-some
+returns-in-Err-clause-some g c =
+    let some = refused_by_some c.in-Err.error c.in-Err.ensures.some in
+    subst IsRefusalOfSomeSpool (sym c.opening_refusal.ensures.exact) some
+
+pub returns-in-Ok-clause-some : goal.returns-in-Ok-clause-some
+returns-in-Ok-clause-some g c = each_not_of_spool c.tell_life.result c.tell_life.ensures.spool
 
 pub returns-in-Ok-clause-unbegun : goal.returns-in-Ok-clause-unbegun
 returns-in-Ok-clause-unbegun g c t cannot =

@@ -13,10 +13,12 @@ use Rattle.q_model.specs.declared.event.Mode.TheVariants.{Deliver}
 use Rattle.q_replay.proofs.AllowedItems.{first_allowed}
 use Rattle.q_replay.proofs.DamagedSpools.{only_passed, refused_passed, untaken_only}
 use Rattle.q_replay.proofs.Delivering.{at_start, begun_stands, begun_told, delivers_all, drain_failed, leaves_some, never_delivers, never_ended, stands_quiet}
+use Rattle.q_replay.proofs.Named.{delivery_begins, drained_named, ended_delivery}
 use Rattle.q_replay.proofs.Readings.{ledger_on}
 use Rattle.q_replay.proofs.Replaying.{IsGivenTo, may_begin, passed_as, some_given}
 use Rattle.q_replay.proofs.Submitting.{cause_on, engine_passed}
 use Rattle.q_replay.specs.Deliveries.{begun_on, DeliveryEnds, life_told}
+use Rattle.q_replay.specs.Named.{IsDeliveryRefusal}
 use Rattle.q_replay.specs.Takings.{is_unreadable}
 use Rattle.q_replay.specs.declared.error.ReplayError.{ReplayError}
 use Rattle.q_engine.specs.Refusals.{is_unreadable as is_engine_unreadable}
@@ -173,6 +175,11 @@ returns-in-Ok-Unfinished-clause-unfinished g c n is =
     let same : c.in-Ok-Unfinished.rests ≡ n = cc in
     c.drain.ensures.unfinished n (c.in-Ok-Unfinished.is ∙ ap {B = Result Drained EngineError} (λ (d : Drained). Ok d) (c.in-Ok-Unfinished.field-0-is ∙ ap Unfinished same))
 
+pub returns-in-Ok-Unfinished-clause-few : goal.returns-in-Ok-Unfinished-clause-few
+returns-in-Ok-Unfinished-clause-few g c n is =
+    let same : c.in-Ok-Unfinished.rests ≡ n = cc in
+    c.drain.ensures.few n (c.in-Ok-Unfinished.is ∙ ap {B = Result Drained EngineError} (λ (d : Drained). Ok d) (c.in-Ok-Unfinished.field-0-is ∙ ap Unfinished same))
+
 pub returns-in-Err-clause-cause : goal.returns-in-Err-clause-cause
 returns-in-Err-clause-cause g c =
     let b = g.H.Host.faults c.begin_life.new.host in
@@ -193,3 +200,16 @@ pub returns-in-Err-clause-readable : goal.returns-in-Err-clause-readable
 returns-in-Err-clause-readable g c t =
     let readable = subst (λ (r : Result Drained EngineError). IfErr r (λ error. is_engine_unreadable error ≡ false)) c.in-Err.is (c.drain.ensures.readable t) in
     rw c.replay_error.ensures.exact (engine_readable 0 c.in-Err.error readable)
+
+pub returns-in_err-begun-clause-named : goal.returns-in_err-begun-clause-named
+returns-in_err-begun-clause-named g c =
+    passed_as c.from_residual.result c.in_err-begun.field-0.0 (λ (r : Result Delivered ReplayError). IfErr r IsDeliveryRefusal) c.from_residual.ensures.1 (delivery_begins c.in_err-begun.field-0.0 c.in_err-begun.ensures.named)
+
+pub returns-in_err-end-in-Ok-Quiet-clause-named : goal.returns-in_err-end-in-Ok-Quiet-clause-named
+returns-in_err-end-in-Ok-Quiet-clause-named g c =
+    passed_as c.from_residual-in_err-end-in-Ok-Quiet.result c.in_err-end-in-Ok-Quiet.field-0.0 (λ (r : Result Delivered ReplayError). IfErr r IsDeliveryRefusal) c.from_residual-in_err-end-in-Ok-Quiet.ensures.1 (ended_delivery c.in_err-end-in-Ok-Quiet.field-0.0 c.in_err-end-in-Ok-Quiet.ensures.named)
+
+pub returns-in-Err-clause-named : goal.returns-in-Err-clause-named
+returns-in-Err-clause-named g c =
+    let kinds = subst (λ (r : Result Drained EngineError). IfErr r IsDrainError) c.in-Err.is c.drain.ensures.kinds in
+    rw c.replay_error.ensures.exact (drained_named c.in-Err.error kinds)

@@ -6,10 +6,12 @@ use Rattle.q_model.specs.Ledger.{opening}
 use Rattle.q_model.specs.declared.event.Event.TheVariants as events
 use Rattle.q_model.specs.declared.event.Mode.TheVariants.{Intake}
 use Rattle.q_replay.specs.Listings.{bad, gives}
+use Rattle.q_replay.specs.Named.{IsLetterRefusal}
 use Rattle.q_replay.specs.RunEnds.{RunEnds}
 use Rattle.q_replay.specs.Submissions.{submitted}
 use Rattle.q_replay.specs.Takings.{ReplayCause, is_unreadable}
 use Rattle.q_replay.specs.declared.error.ReplayError.{ReplayError}
+use Rattle.q_replay.proofs.Named.{each_ended, ended_letter, letter_begins, mail_letter, moment_letter}
 use Rattle.q_replay.proofs.Readings.{ledger_on}
 use Rattle.q_replay.proofs.Replaying.{IsGivenTo, may_begin, passed_as, some_given}
 use Rattle.q_replay.proofs.Submitting.{cause_on, ends_so, gone_first, gone_further, gone_last, gone_up, never_gone, rose_later}
@@ -182,3 +184,18 @@ returns-in_err-taken-clause-readable g c t =
 
 pub returns-clause-readable : goal.returns-clause-readable
 returns-clause-readable g c t = c.end.ensures.readable t
+
+pub returns-in_err-begun-clause-named : goal.returns-in_err-begun-clause-named
+returns-in_err-begun-clause-named g c =
+    passed_as c.from_residual.result c.in_err-begun.field-0.0 (λ (r : Result (Unit {0}) ReplayError). IfErr r (IsLetterRefusal c.args.letter.to c.args.letter.content)) c.from_residual.ensures.1 (letter_begins c.args.letter.to c.args.letter.content c.in_err-begun.field-0.0 c.in_err-begun.ensures.named)
+
+pub returns-in_err-timed-clause-named : goal.returns-in_err-timed-clause-named
+returns-in_err-timed-clause-named g c =
+    passed_as c.from_residual-in_err-timed.result c.in_err-timed.field-0.0 (λ (r : Result (Unit {0}) ReplayError). IfErr r (IsLetterRefusal c.args.letter.to c.args.letter.content)) c.from_residual-in_err-timed.ensures.1 (moment_letter c.args.letter.to c.args.letter.content c.in_ok-begun.begun c.args.moment c.in_err-timed.field-0.0 c.in_err-timed.ensures.named)
+
+pub returns-in_err-taken-clause-named : goal.returns-in_err-taken-clause-named
+returns-in_err-taken-clause-named g c =
+    passed_as c.from_residual-in_err-taken.result c.in_err-taken.field-0.0 (λ (r : Result (Unit {0}) ReplayError). IfErr r (IsLetterRefusal c.args.letter.to c.args.letter.content)) c.from_residual-in_err-taken.ensures.1 (mail_letter c.args.letter.sender c.args.letter.to c.args.letter.content c.in_ok-timed.timed c.in_err-taken.field-0.0 c.in_ok-timed.ensures.timed c.in_err-taken.ensures.named)
+
+pub returns-clause-named : goal.returns-clause-named
+returns-clause-named g c = each_ended c.end.result (IsLetterRefusal c.args.letter.to c.args.letter.content) (ended_letter c.args.letter.to c.args.letter.content) c.end.ensures.named

@@ -1,6 +1,6 @@
 use Rattle.q_host.proofs.Stays.{stays_here}
-use Rattle.std.proofs.Common.{◌≡◌, ◌∙◌, ap, arith, false, None, Option, Some, subst, sym, true}
-use Rattle.std.specs.Prelude.{Err, is_none, Result, IfErr}
+use Rattle.std.proofs.Common.{◌≡◌, ◌∙◌, ap, arith, false, None, Option, Some, subst, sym, true, ℕ}
+use Rattle.std.specs.Prelude.{Err, is_none, Result, IfErr, IfSome}
 use Rattle.q_books.specs.HostStands.{TellsCrashes}
 use Rattle.q_engine.specs.declared.engine.Engine.{Engine}
 use Rattle.q_events.specs.Readings.{is_list_end}
@@ -8,12 +8,16 @@ use Rattle.q_events.specs.declared.error.EventError.{EventError}
 use Rattle.q_events.specs.States.{EventsState, text_left, unread_list}
 use Rattle.q_model.specs.Ledger.{opening}
 use Rattle.q_model.specs.declared.event.Mode.TheVariants.{Deliver}
+use Rattle.q_replay.specs.Named.{IsBadItem, IsLineOf, IsNamed}
+use Rattle.q_replay.specs.Listings.{listing_of}
 use Rattle.q_replay.specs.ReplayEnds.{ReplayEnds}
-use Rattle.q_replay.specs.Takings.{NotTaken, ReplayCause, TookItem, is_unreadable}
+use Rattle.q_replay.specs.Takings.{list_error, NotTaken, ReplayCause, TookItem, is_unreadable}
 use Rattle.q_replay.specs.declared.error.ReplayError.{ReplayError}
 use Rattle.q_replay.specs.declared.error.ReplayError.TheVariants as errors
 use Rattle.q_replay.specs.AnyLists.{TakesList}
 use Rattle.q_replay.proofs.AnyLists.{has_bound, list_done, list_unbegun, list_unread, list_untaken}
+use Rattle.q_replay.proofs.FaultyLines.{all_left, each_text, IsRestOf, line_bad, line_refused, line_unbegun, rest_on}
+use Rattle.q_replay.proofs.Named.{list_named, named_begins}
 use Rattle.q_replay.proofs.Readings.{ledger_on}
 use Rattle.q_replay.proofs.Replaying.{delivers, ends_done, ends_unbegun, ends_unread, ends_untaken, for_each, for_text, IsGivenTo, may_begin, passed_as, same_new, some_given, went_begins, went_on}
 use Rattle.q_replay.proofs.Submitting.{cause_on, own_error, rose_later}
@@ -29,6 +33,7 @@ loop-item-init g c =
     let lawful : TellsCrashes u = record { only = g.met.H.Host.only_now c.args.host.now; told = g.met.H.Host.told_stays c.args.host.now } in
     record {
       went = λ t w b given. went_begins w b u lawful given.host text c.in-Ok.events c.in_ok-engine.engine (g.H.Host.view c.begin_life.new.host) new (c.in_ok-engine.ensures.ok t w (opening Deliver b) (may_begin c.args.params c.args.table Deliver w b u given));
+      rest = all_left c.in-Ok.events text new;
       some = λ t. some_given c.args.params c.args.table u (c.requires.spool t) (c.in_ok-engine.ensures.undamaged t);
       whole = c.in_ok-engine.ensures.undamaged;
       ready = c.in_ok-engine.ensures.ready;
@@ -60,6 +65,8 @@ loop-item-preserved g c =
           subst (λ (o : Option Engine). TookItem w l item o (view old.host) (view c.take.new.host)) c.in-Some.is (c.in_ok-next.ensures.ok t w l went.stands given.settings (delivers w b went.items)) in
           went_on w b (text_left old.events.buffered (left old.source)) old.events old.invariant.going old.engine (view c.args.host.now) (view old.host) (left c.args.source.now)
           (text_left c.read_event.new.self.buffered (left c.read_event.new.source)) c.read_event.new.self c.in-Some.next (view c.take.new.host) item c.in-Ok-read_event.ensures.form went c.in-Ok-read_event.ensures.exact more took;
+      rest = each_text (λ bytes. IsRestOf bytes old.events (text_left old.events.buffered (left old.source))) (λ bytes. IsRestOf bytes c.read_event.new.self (text_left c.read_event.new.self.buffered (left c.read_event.new.source))) (left c.args.source.now)
+          (λ bytes h. rest_on bytes old.events (text_left old.events.buffered (left old.source)) old.invariant.going c.read_event.new.self (text_left c.read_event.new.self.buffered (left c.read_event.new.source)) (left c.read_event.new.source) item c.in-Ok-read_event.ensures.exact h) old.invariant.rest;
       some = old.invariant.some;
       whole = old.invariant.whole;
       ready = rw c.in-Some.is at c.in_ok-next.ensures.ready;
@@ -246,3 +253,44 @@ returns-in_err-next-clause-readable g c t =
 
 pub returns-in-Err-clause-readable : goal.returns-in-Err-clause-readable
 returns-in-Err-clause-readable g c t = rw c.list_error.ensures.exact (list_readable c.in-Err.error)
+
+pub returns-in_err-engine-clause-named : goal.returns-in_err-engine-clause-named
+returns-in_err-engine-clause-named g c =
+    passed_as c.from_residual.result c.in_err-engine.field-0.0 (λ (r : Result (Unit {0}) ReplayError). IfErr r IsNamed) c.from_residual.ensures.1 (named_begins c.in_err-engine.field-0.0 c.in_err-engine.ensures.named)
+
+pub returns-in_err-next-clause-named : goal.returns-in_err-next-clause-named
+returns-in_err-next-clause-named g c =
+    passed_as c.from_residual-in_err-next.result c.in_err-next.field-0.0 (λ (r : Result (Unit {0}) ReplayError). IfErr r IsNamed) c.from_residual-in_err-next.ensures.1 (c.in_err-next.ensures.named)
+
+pub returns-in-Err-clause-named : goal.returns-in-Err-clause-named
+returns-in-Err-clause-named g c =
+    let old = c.loop-item in
+    let bound = has_bound old.events (text_left old.events.buffered (g.S.Source.left old.source)) c.read_event.new.self (text_left c.read_event.new.self.buffered (g.S.Source.left c.read_event.new.source)) (g.S.Source.left c.read_event.new.source) c.in-Err.error c.in-Err.ensures.exact in
+    rw c.list_error.ensures.exact (list_named c.in-Err.error bound)
+
+pub returns-in_err-engine-clause-line : goal.returns-in_err-engine-clause-line
+returns-in_err-engine-clause-line g c =
+    let text = g.S.Source.left c.args.source.now in
+    passed_as c.from_residual.result c.in_err-engine.field-0.0 (λ (r : Result (Unit {0}) ReplayError). IfErr r (λ error. IfSome text (λ bytes. IsLineOf (listing_of bytes) error))) c.from_residual.ensures.1
+    (line_unbegun text c.in_err-engine.field-0.0 c.in_err-engine.ensures.named)
+
+pub returns-in_err-next-clause-line : goal.returns-in_err-next-clause-line
+returns-in_err-next-clause-line g c =
+    let old = c.loop-item in
+    let left = g.S.Source.left in
+    let text = left c.args.source.now in
+    let error = c.in_err-next.field-0.0 in
+    let item = c.in-Ok-read_event.item in
+    let bad_item = subst (λ (n : ℕ). IsBadItem item n error) c.lines.ensures c.in_err-next.ensures.bad in
+    passed_as c.from_residual-in_err-next.result error (λ (r : Result (Unit {0}) ReplayError). IfErr r (λ error. IfSome text (λ bytes. IsLineOf (listing_of bytes) error))) c.from_residual-in_err-next.ensures.1
+    (each_text (λ bytes. IsRestOf bytes old.events (text_left old.events.buffered (left old.source))) (λ bytes. IsLineOf (listing_of bytes) error) text
+    (λ bytes h. line_refused bytes old.events (text_left old.events.buffered (left old.source)) old.invariant.going c.read_event.new.self (text_left c.read_event.new.self.buffered (left c.read_event.new.source)) (left c.read_event.new.source) item error c.in-Ok-read_event.ensures.exact h bad_item) old.invariant.rest)
+
+pub returns-in-Err-clause-line : goal.returns-in-Err-clause-line
+returns-in-Err-clause-line g c =
+    let old = c.loop-item in
+    let left = g.S.Source.left in
+    let text = left c.args.source.now in
+    let error = c.in-Err.error in
+    rw c.list_error.ensures.exact (each_text (λ bytes. IsRestOf bytes old.events (text_left old.events.buffered (left old.source))) (λ bytes. IsLineOf (listing_of bytes) (list_error error)) text
+    (λ bytes h. line_bad bytes old.events (text_left old.events.buffered (left old.source)) old.invariant.going c.read_event.new.self (text_left c.read_event.new.self.buffered (left c.read_event.new.source)) (left c.read_event.new.source) error c.in-Err.ensures.exact h) old.invariant.rest)

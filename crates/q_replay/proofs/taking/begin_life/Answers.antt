@@ -3,6 +3,7 @@ use Rattle.q_books.specs.HostStands.{TellsCrashes}
 use Rattle.q_engine.specs.Refusals.{refusal_of}
 use Rattle.q_engine.specs.declared.error.EngineError.TheVariants as engine_errors
 use Rattle.q_replay.proofs.DamagedSpools.{begun_damaged, begun_only, none_only, Unbegun}
+use Rattle.q_replay.proofs.Named.{unbegun}
 use Rattle.q_replay.proofs.Takings.{error_is, never_begins, took_life}
 use Rattle.q_restart.proofs.OneSight.{sound-undamaged}
 use Rattle.q_replay.proofs.Submitting.{ok_lists}
@@ -75,3 +76,6 @@ returns-in-Ok-clause-cause g c = ok_lists (g.H.Host.faults c.args.host.now) (g.H
 
 pub returns-in-Err-clause-readable : goal.returns-in-Err-clause-readable
 returns-in-Err-clause-readable g c t = rw c.replay_error.ensures.exact (begun_readable c.args.line c.in-Err.error (c.in-Err.ensures.kinds c.in-Err.error refl))
+
+pub returns-in-Err-clause-named : goal.returns-in-Err-clause-named
+returns-in-Err-clause-named g c = rw c.replay_error.ensures.exact (unbegun c.args.line c.in-Err.error (c.in-Err.ensures.kinds c.in-Err.error refl) c.in-Err.ensures.some)

@@ -2,6 +2,7 @@ use Rattle.std.proofs.Common.{refl}
 use Rattle.q_books.specs.HostStands.{TellsCrashes}
 use Rattle.q_engine.specs.Refusals.{refusal_of}
 use Rattle.q_replay.proofs.Submitting.{engine_passed, ok_lists}
+use Rattle.q_replay.proofs.Named.{ended_host}
 use Rattle.q_replay.proofs.Takings.{error_is, never_ends, took_end}
 use Rattle.q_replay.proofs.Readable.{ended_readable}
 use Rattle.q_replay.proofs.taking.end.Goals as goal
@@ -28,3 +29,6 @@ returns-in-Err-clause-cause g c =
 
 pub returns-in-Err-clause-readable : goal.returns-in-Err-clause-readable
 returns-in-Err-clause-readable g c t = rw c.replay_error.ensures.exact (ended_readable c.args.line c.in-Err.error (c.in-Err.ensures.kinds c.in-Err.error refl))
+
+pub returns-in-Err-clause-named : goal.returns-in-Err-clause-named
+returns-in-Err-clause-named g c = rw c.replay_error.ensures.exact (ended_host c.args.line c.in-Err.error (c.in-Err.ensures.kinds c.in-Err.error refl))

@@ -2,6 +2,7 @@ use Rattle.std.proofs.Common.{ap, refl}
 use Rattle.q_books.specs.HostStands.{TellsCrashes}
 use Rattle.q_engine.specs.Refusals.{refusal_of, refused_event}
 use Rattle.q_replay.proofs.Submitting.{engine_passed, ok_lists}
+use Rattle.q_replay.proofs.Named.{why_heard}
 use Rattle.q_replay.proofs.Takings.{error_is, heard, never_heard, not_refused}
 use Rattle.q_engine.proofs.EventForms.{form}
 use Rattle.q_replay.proofs.Readable.{engine_readable}
@@ -40,3 +41,6 @@ returns-in-Err-clause-cause g c =
 
 pub returns-in-Err-clause-readable : goal.returns-in-Err-clause-readable
 returns-in-Err-clause-readable g c t = rw c.replay_error.ensures.exact (engine_readable c.args.line c.in-Err.error (c.in-Err.ensures.readable t c.in-Err.error refl))
+
+pub returns-in-Err-clause-named : goal.returns-in-Err-clause-named
+returns-in-Err-clause-named g c = rw c.replay_error.ensures.exact (why_heard c.args.line c.args.engine c.args.event c.in-Err.error (c.in-Err.ensures.kinds c.in-Err.error refl) (c.in-Err.ensures.own c.in-Err.error refl))

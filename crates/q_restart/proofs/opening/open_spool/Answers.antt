@@ -12,7 +12,7 @@ use Rattle.q_restart.proofs.Begun.{begun-opens, begun-tries, cleared-tries}
 use Rattle.q_restart.proofs.Opened.{boot-same}
 use Rattle.q_restart.proofs.Seen.{boot-file, boot-is, no_boot, sees}
 use Rattle.q_restart.proofs.SoundBooks.{none-refused}
-use Rattle.q_restart.proofs.OneSight.{accepted-spent, allowed-begins, sound-undamaged, spent-undamaged}
+use Rattle.q_restart.proofs.OneSight.{accepted-spent, allowed-begins, refused_some, sound-undamaged, spent-undamaged}
 use Rattle.q_restart.proofs.opening.open_spool.Goals as goal
 
 pub raise-requires-clause-there : goal.raise-requires-clause-there
@@ -111,3 +111,8 @@ pub returns-clause-unbegun : goal.returns-clause-unbegun
 returns-clause-unbegun g c t cannot =
     let sight = c.in_ok-sight.sight in
     absurd (allowed-begins (g.H.Host.view c.args.host.now).files sight.boot.items sight.walk.items c.in_ok-generation.generation (c.in_ok-sight.ensures.shows t) c.in_ok-generation.ensures.ok cannot)
+
+pub returns-in_err-generation-clause-some : goal.returns-in_err-generation-clause-some
+returns-in_err-generation-clause-some g c =
+    let sight = c.in_ok-sight.sight in
+    refused_some sight.boot.items sight.walk.items c.in_err-generation.field-0.0 c.from_residual-in_err-generation.result c.from_residual-in_err-generation.ensures.1 c.in_err-generation.ensures.err

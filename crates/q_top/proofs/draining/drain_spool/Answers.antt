@@ -1,7 +1,10 @@
+use Rattle.std.proofs.Common.{◌∙◌, subst, sym, ℕ}
 use Rattle.q_books.specs.HostStands.{TellsCrashes}
 use Rattle.q_top.proofs.Drains.{drained, never_of_source, unread_drain}
 use Rattle.q_top.proofs.RunsBehind.{still_fit}
 use Rattle.q_top.proofs.Serving.{drain_serves, still_serves}
+use Rattle.q_drain.specs.Drained.{AreTooFew}
+use Rattle.q_top.proofs.Named.{conf_named, delivered_named, left_unfinished}
 use Rattle.q_top.proofs.Readable.{conf_readable, delivered_readable}
 use Rattle.q_top.proofs.draining.drain_spool.Goals as goal
 
@@ -51,3 +54,15 @@ returns-in-Err-clause-serves g c t =
     let u = g.H.Host.view c.args.host.now in
     let lawful : TellsCrashes u = record { only = g.met.H.Host.only_now c.args.host.now; told = g.met.H.Host.told_stays c.args.host.now } in
     still_serves u (g.H.Host.view c.read_conf.new.host) lawful (c.read_conf.ensures.stays t)
+
+pub returns-in-Ok-clause-named : goal.returns-in-Ok-clause-named
+returns-in-Ok-clause-named g c = rw c.delivery_status.ensures.exact (delivered_named ⊥ c.deliver.result c.deliver.ensures.named)
+
+pub returns-in-Err-clause-named : goal.returns-in-Err-clause-named
+returns-in-Err-clause-named g c = rw c.conf_status.ensures.exact (conf_named ⊥ c.in-Err.error c.in-Err.ensures.some_fault)
+
+pub returns-in-Ok-clause-few : goal.returns-in-Ok-clause-few
+returns-in-Ok-clause-few g c n is =
+    let left = left_unfinished c.deliver.result n (sym c.delivery_status.ensures.exact ∙ is) in
+    let (same, counted) = c.deliver.ensures.unfinished n left in
+    subst (λ (k : ℕ). AreTooFew k (g.N.Hops.view c.args.hops.now)) (sym same) (c.deliver.ensures.few n left)

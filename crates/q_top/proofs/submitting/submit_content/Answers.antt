@@ -2,6 +2,7 @@ use Rattle.q_books.specs.HostStands.{TellsCrashes}
 use Rattle.q_host.proofs.Stays.{stays_here}
 use Rattle.q_top.proofs.Serving.{still_serves}
 use Rattle.q_top.proofs.Submissions.{no_content, with_content}
+use Rattle.q_top.proofs.Named.{content_named}
 use Rattle.q_top.proofs.Readable.{content_readable}
 use Rattle.q_top.proofs.submitting.submit_content.Goals as goal
 
@@ -33,3 +34,9 @@ returns-in-Err-clause-serves g c t =
     let u = g.H.Host.view c.args.host.now in
     let lawful : TellsCrashes u = record { only = g.met.H.Host.only_now c.args.host.now; told = g.met.H.Host.told_stays c.args.host.now } in
     still_serves u u lawful (stays_here u)
+
+pub returns-in-Ok-clause-named : goal.returns-in-Ok-clause-named
+returns-in-Ok-clause-named g c = c.submit_letter.ensures.named
+
+pub returns-in-Err-clause-named : goal.returns-in-Err-clause-named
+returns-in-Err-clause-named g c = rw c.content_status.ensures.exact (content_named ⊥ c.in-Err.error)

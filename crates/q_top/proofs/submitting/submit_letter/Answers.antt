@@ -2,6 +2,7 @@ use Rattle.q_books.specs.HostStands.{TellsCrashes}
 use Rattle.q_top.proofs.FirstRefusals.{never_source, submitted_so, unread_submission}
 use Rattle.q_top.proofs.RunsBehind.{still_fit}
 use Rattle.q_top.proofs.Serving.{still_serves, submission_serves}
+use Rattle.q_top.proofs.Named.{conf_named, submitted_named}
 use Rattle.q_top.proofs.Readable.{conf_readable, ended_readable}
 use Rattle.q_top.proofs.submitting.submit_letter.Goals as goal
 
@@ -44,3 +45,9 @@ returns-in-Err-clause-serves g c t =
     let u = g.H.Host.view c.args.host.now in
     let lawful : TellsCrashes u = record { only = g.met.H.Host.only_now c.args.host.now; told = g.met.H.Host.told_stays c.args.host.now } in
     still_serves u (g.H.Host.view c.read_conf.new.host) lawful (c.read_conf.ensures.stays t)
+
+pub returns-in-Ok-clause-named : goal.returns-in-Ok-clause-named
+returns-in-Ok-clause-named g c = rw c.status_of.ensures.exact (submitted_named ⊥ c.args.letter.to c.args.letter.content c.submit.result c.submit.ensures.named)
+
+pub returns-in-Err-clause-named : goal.returns-in-Err-clause-named
+returns-in-Err-clause-named g c = rw c.conf_status.ensures.exact (conf_named ⊥ c.in-Err.error c.in-Err.ensures.some_fault)

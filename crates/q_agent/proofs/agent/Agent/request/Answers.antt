@@ -1,13 +1,14 @@
-use Rattle.std.proofs.Common.{List, ap, arith, refl, subst, sym, ◌∙◌, ℕ}
+use Rattle.std.proofs.Common.{List, ap, arith, map, refl, subst, sym, ◌∙◌, ℕ}
 use Rattle.std.specs.Option.{option_map}
 use Rattle.q_model.specs.Values.{Site, Spot}
 use Rattle.q_agent.specs.Requests.{BeginsWork}
 use Rattle.q_agent.specs.Sessions.{IsSoundWork}
-use Rattle.q_agent.specs.Slots.{shown, shown_work}
+use Rattle.q_agent.specs.Slots.{shown, shown_at, shown_work}
 use Rattle.q_agent.specs.declared.delivery_session.DeliverySession.{DeliverySession}
 use Rattle.q_agent.specs.declared.slot.Slot.{Slot}
 use Rattle.q_agent.proofs.Kept.{rising}
 use Rattle.q_agent.proofs.RequestLaws.{comes, inserts, opened}
+use Rattle.q_agent.proofs.WaitingLaws.{opens_spare}
 use Rattle.q_agent.proofs.agent.Agent.request.Goals as goal
 
 pub place_above-place-requires : goal.place_above-place-requires
@@ -47,3 +48,10 @@ returns-clause-ok g c =
       opened g.L.Link.view key.new.self c.insert.new.self.items i.polled slot made c.args.self.now i.sessions i.slots.items c.self.view_is becomes,
       record { number_is = refl; recipients = c.len.ensures; work = begins },
     )
+
+pub returns-clause-spares : goal.returns-clause-spares
+unfolding returns-clause-ok
+returns-clause-spares g c =
+    let opened = returns-clause-ok g c in
+    opens_spare (g.N.Hops.view c.args.hops.now) (g.N.Hops.view c.begin.new.hops) c.args.self.now
+    (record { listed = map (shown_at g.L.Link.view c.insert_reserved-key.new.self) c.insert.new.self.items; polled = c.self.inside.polled }) opened.0 opened.1 c.in_ok-work.ensures.begins.spares

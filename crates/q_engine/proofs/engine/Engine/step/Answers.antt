@@ -25,6 +25,13 @@ returns-in-Err-clause-refused g c w l agrees counts error is =
 pub returns-in-Err-clause-only_refused : goal.returns-in-Err-clause-only_refused
 returns-in-Err-clause-only_refused g c error of event w l agrees counts = absurd (stop_apart c.stopped_by.result error c.in-Err.stop c.stopped_by.ensures of event)
 
+pub returns-in-Err-clause-own : goal.returns-in-Err-clause-own
+returns-in-Err-clause-own g c error of event = absurd (stop_apart c.stopped_by.result error c.in-Err.stop c.stopped_by.ensures of event)
+
+pub returns-in-Some-clause-own : goal.returns-in-Some-clause-own
+returns-in-Some-clause-own g c error of event =
+    asked_so c.refusal.result _ c.in-Some.error error c.in-Some.is c.refusal.ensures.own of
+
 pub returns-in-Some-clause-refused : goal.returns-in-Some-clause-refused
 returns-in-Some-clause-refused g c w l agrees counts error is =
     (refused_so c.refusal.result _ c.in-Some.error error c.in-Some.is (c.refusal.ensures.ledger w l agrees counts) is, refl)

@@ -1,3 +1,4 @@
+use Rattle.q_session.proofs.Sparing.{spared_step}
 use Rattle.q_session.proofs.Using.{open_step, open_unmisused}
 use Rattle.q_session.proofs.Hearings.{steps_code, steps_lost, steps_no_reply, steps_not_yet}
 use Rattle.q_session.proofs.delivery.Delivery.hear.Goals as goal
@@ -24,3 +25,7 @@ returns-clause-uses g c = open_step c.act.result (g.L.Link.view c.receive.new.li
 
 pub returns-in-NoReply-clause-uses : goal.returns-in-NoReply-clause-uses
 returns-in-NoReply-clause-uses g c = open_unmisused (g.L.Link.view c.receive.new.link).usage c.in-NoReply.ensures.uses
+
+pub returns-clause-spares : goal.returns-clause-spares
+returns-clause-spares g c =
+    spared_step c.act.result (g.L.Link.view c.args.link.now).waits_left (g.L.Link.view c.receive.new.link).waits_left c.act.ensures.never c.in-Code.ensures.spares

@@ -1,6 +1,8 @@
 use Rattle.std.proofs.Common.{Ok, ap, arith, length, subst, sym}
 use Rattle.q_host.specs.declared.error.HostError.{HostError}
-use Rattle.q_session.specs.Uses.{UsesStep}
+use Rattle.q_session.specs.Uses.{SparesStep, UsesStep}
+use Rattle.q_link.proofs.Sparing.{spares_then}
+use Rattle.q_session.proofs.Sparing.{over_spares}
 use Rattle.q_session.proofs.Using.{open_unmisused, over_uses}
 use Rattle.q_model.specs.declared.outcome.SiteState.{SiteState}
 use Rattle.q_model.specs.declared.outcome.SiteState.TheVariants.{Down, Up}
@@ -30,6 +32,8 @@ loop-self-preserved g c =
     record {
       along = along_step c.step.new.self (g.L.Link.view c.step.new.link) i.along still sound e.same step;
       usable = subst (λ (s : Step). UsesStep s (g.L.Link.view c.step.new.link).usage) c.in-Onward.is e.uses;
+      spared = spares_then 0 0 (g.L.Link.view c.args.link.now).waits_left (g.L.Link.view c.loop-self.link).waits_left (g.L.Link.view c.step.new.link).waits_left i.spared
+          (subst (λ (s : Step). SparesStep s (g.L.Link.view c.loop-self.link).waits_left (g.L.Link.view c.step.new.link).waits_left) c.in-Onward.is e.spares);
       stays = λ t. stays_on first here (g.H.Host.view c.step.new.host) (i.stays t) (e.stays t);
       disk = omega (arith, i.disk, e.cause.disk_later);
       tell = omega (arith, i.tell, e.cause.tell_later);
@@ -126,3 +130,19 @@ returns-in-Settles-clause-uses g c = over_uses HostError c.quit.result Up (g.L.L
 pub returns-then-saturating_sub-ge-PATIENCE-clause-uses : goal.returns-then-saturating_sub-ge-PATIENCE-clause-uses
 returns-then-saturating_sub-ge-PATIENCE-clause-uses g c =
     over_uses HostError c.give_up.result Down (g.L.Link.view c.args.link.now).usage c.give_up.ensures.down (open_unmisused (g.L.Link.view c.args.link.now).usage c.requires.usable)
+
+pub returns-in-Waits-clause-spares : goal.returns-in-Waits-clause-spares
+returns-in-Waits-clause-spares g c =
+    let here = (g.L.Link.view c.loop-self.link).waits_left in
+    let new = (g.L.Link.view c.step.new.link).waits_left in
+    spares_then 0 1 (g.L.Link.view c.args.link.now).waits_left here new c.loop-self.invariant.spared
+    (subst (λ (s : Step). SparesStep s here new) c.in-Waits.is c.in_ok-step.ensures.spares)
+
+pub returns-in-Lost-clause-spares : goal.returns-in-Lost-clause-spares
+returns-in-Lost-clause-spares g c = over_spares c.give_up-in-Lost.result Down _ _ c.give_up-in-Lost.ensures.down
+
+pub returns-in-Settles-clause-spares : goal.returns-in-Settles-clause-spares
+returns-in-Settles-clause-spares g c = over_spares c.quit.result Up _ _ c.quit.ensures.up
+
+pub returns-then-saturating_sub-ge-PATIENCE-clause-spares : goal.returns-then-saturating_sub-ge-PATIENCE-clause-spares
+returns-then-saturating_sub-ge-PATIENCE-clause-spares g c = over_spares c.give_up.result Down _ _ c.give_up.ensures.down

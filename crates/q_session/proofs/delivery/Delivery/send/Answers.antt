@@ -1,6 +1,7 @@
 use Rattle.std.proofs.Common.{ap, sym, ◌∙◌, arith, Ok}
 use Rattle.q_session.proofs.Sendings.{not_filled, sending_filled, sending_flushed, sends_due, sends_short}
 use Rattle.q_host.proofs.Stays.{stays_on}
+use Rattle.q_link.proofs.Sparing.{spares_then}
 use Rattle.q_session.proofs.Standing.{stands_still}
 use Rattle.q_session.specs.declared.outbox.Sent.TheVariants as sent
 use Rattle.q_session.proofs.delivery.Delivery.send.Goals as goal
@@ -34,7 +35,16 @@ loop-self-preserved g c =
           c.in-All.ensures.link.1 (sym c.is_idle.ensures ∙ c.if-is_idle.false) e.spot
           (λ tells mail is placed. e.filled (ap Ok c.if-not-branch.false) tells mail (stands_still g.H.Host.tells (g.H.Host.view c.args.host.now) (g.H.Host.view c.loop-self.host) c.args.self.now.content.spot c.loop-self.self.content.spot mail i.stays i.sending.same.spot is) placed);
       usable = c.in-All.ensures.uses;
+      spared = spares_then 0 0 (g.L.Link.view c.args.link.now).waits_left (g.L.Link.view c.loop-self.link).waits_left (g.L.Link.view c.flush.new.link).waits_left i.spared c.in-All.ensures.spares;
       stays = λ t. stays_on (g.H.Host.view c.args.host.now) (g.H.Host.view c.loop-self.host) (g.H.Host.view c.fill.new.host) (i.stays t) (e.stays t);
       disk = omega (arith, i.disk, e.cause.disk_later);
       tell = omega (arith, i.tell, e.cause.tell_later);
     }
+
+pub returns-in-NotYet-clause-spares : goal.returns-in-NotYet-clause-spares
+returns-in-NotYet-clause-spares g c =
+    spares_then 0 1 (g.L.Link.view c.args.link.now).waits_left (g.L.Link.view c.loop-self.link).waits_left (g.L.Link.view c.flush.new.link).waits_left c.loop-self.invariant.spared c.in-NotYet.ensures.spares
+
+pub returns-then-is_idle-clause-spares : goal.returns-then-is_idle-clause-spares
+returns-then-is_idle-clause-spares g c =
+    spares_then 0 0 (g.L.Link.view c.args.link.now).waits_left (g.L.Link.view c.loop-self.link).waits_left (g.L.Link.view c.flush.new.link).waits_left c.loop-self.invariant.spared c.in-All.ensures.spares

@@ -1,4 +1,6 @@
 use Rattle.std.proofs.Common.{◌≡◌, arith, subst}
+use Rattle.q_session.proofs.Sparing.{step_behind}
+use Rattle.q_session.specs.Uses.{SparesSent}
 use Rattle.q_session.proofs.Hearings.{steps_behind, steps_unsendable, steps_unsent}
 use Rattle.q_session.specs.Mails.{StandsAt}
 use Rattle.q_session.specs.Steps.{SendsDue}
@@ -32,3 +34,13 @@ pub returns-in-All-clause-codes : goal.returns-in-All-clause-codes
 returns-in-All-clause-codes g c last is =
     let same : c.hear.result ≡ Settles last = cc in
     c.hear.ensures.codes last same
+
+pub returns-in-All-clause-spares : goal.returns-in-All-clause-spares
+returns-in-All-clause-spares g c =
+    let first = (g.L.Link.view c.args.link.now).waits_left in
+    let sent = (g.L.Link.view c.send.new.link).waits_left in
+    step_behind c.hear.result first sent (g.L.Link.view c.hear.new.link).waits_left (subst (λ (s : Sent). SparesSent s first sent) c.in-All.is c.in_ok-send.ensures.spares) c.hear.ensures.spares
+
+pub returns-in-NotYet-clause-spares : goal.returns-in-NotYet-clause-spares
+returns-in-NotYet-clause-spares g c =
+    subst (λ (s : Sent). SparesSent s (g.L.Link.view c.args.link.now).waits_left (g.L.Link.view c.send.new.link).waits_left) c.in-NotYet.is c.in_ok-send.ensures.spares

@@ -1,3 +1,4 @@
+use Rattle.q_link.proofs.Sparing.{spares_same, spares_then}
 use Rattle.q_session.proofs.Using.{called_open, lost_once}
 use Rattle.std.proofs.Common.{refl, [], List, ℕ, take, ap, sym, subst, ◌∙◌, arith}
 use Rattle.circular_buffer.specs.Buffer.{Buffer}
@@ -19,6 +20,7 @@ loop-code-init g c =
       size = omega (arith, read.auto.dst);
       within = omega (arith, read.ensures.count);
       usable = c.requires.usable;
+      spared = spares_same (g.L.Link.view c.args.link.now).waits_left;
       link = goes_nowhere (g.L.Link.view c.args.link.now);
       reading = subst (λ (xs : List ℕ). Tells (Reading old old.replies xs) (g.L.Link.view c.args.link.now) (g.L.Link.view c.args.link.now))
           (sym (in_hand old.unused.items _ read.new.dst read.result c.requires.few refl read.ensures.count read.ensures.read))
@@ -58,6 +60,7 @@ loop-code-preserved g c =
       size = omega (arith, c.read.auto.buf, i.size);
       within = omega (arith, c.read.auto.buf, i.size, c.in-Took.ensures.reads.1);
       usable = called_open (view c.loop-code.link).usage (view c.read.new.self).usage i.usable leaves.usage;
+      spared = spares_then 0 0 (view c.args.link.now).waits_left (view c.loop-code.link).waits_left (view c.read.new.self).waits_left i.spared leaves.waits_left;
       link = goes_then (view c.args.link.now) (view c.loop-code.link) (view c.read.new.self) i.link (goes_by_leaving NoWait (with_received came) (view c.loop-code.link) (view c.read.new.self) leaves);
       reading = reads_then old c.take_in.new.self.replies came (view c.args.link.now) (view c.loop-code.link) (view c.read.new.self) fed leaves.told;
     }
@@ -91,3 +94,8 @@ returns-in-NotYet-clause-uses g c = called_open (g.L.Link.view c.loop-code.link)
 
 pub returns-in-End-clause-uses : goal.returns-in-End-clause-uses
 returns-in-End-clause-uses g c = lost_once (g.L.Link.view c.loop-code.link) (g.L.Link.view c.read.new.self) c.read.result c.read.new.buf c.loop-code.invariant.usable c.in-End.is c.read.ensures.reads
+
+pub returns-in-NotYet-clause-spares : goal.returns-in-NotYet-clause-spares
+returns-in-NotYet-clause-spares g c =
+    let view = g.L.Link.view in
+    spares_then 0 1 (view c.args.link.now).waits_left (view c.loop-code.link).waits_left (view c.read.new.self).waits_left c.loop-code.invariant.spared c.in-NotYet.ensures.reads.waits_left

@@ -1,4 +1,5 @@
 use Rattle.q_link.specs.declared.usage.Usage.TheVariants.{Open}
+use Rattle.q_link.specs.WaitsLeft.{Spares}
 use Rattle.std.proofs.Common.{◌≡◌, ◌≤◌, ◌+◌, ◌-◌, [], length, take}
 use Rattle.q_reply.specs.Progress.{room_of}
 use Rattle.q_session.specs.Traffic.{GoesOn, Tells}
@@ -12,6 +13,7 @@ invariant-loop-code g l = record {
   size : length l.buffer ≡ 512;
   within : l.count ≤ 512;
   usable : (g.L.Link.view l.link).usage ≡ Open;
+  spared : Spares 0 (g.L.Link.view l.fn.link).waits_left (g.L.Link.view l.link).waits_left;
   link : GoesOn (g.L.Link.view l.fn.link) (g.L.Link.view l.link);
   reading : Tells (Reading l.fn.self l.self.replies (take l.count l.buffer)) (g.L.Link.view l.fn.link) (g.L.Link.view l.link);
 }

@@ -1,3 +1,4 @@
+use Rattle.q_link.proofs.Sparing.{spares_then}
 use Rattle.q_session.proofs.Using.{called_open, closed_once}
 use Rattle.std.proofs.Common.{arith}
 use Rattle.q_session.specs.Outgoing.{pending}
@@ -10,7 +11,7 @@ loop-self-preserved g c =
     let view = g.L.Link.view in
     let more = gives_on (pending c.args.self.now) now.bytes now.from now.to c.in-Gave.count (view c.args.link.now) (view c.loop-self.link) (view c.write.new.self)
     c.loop-self.invariant.order c.in-Gave.ensures.writes.1 c.loop-self.invariant.link c.loop-self.invariant.gave c.in-Gave.ensures.writes.2 in
-    record { order = more.0; within = c.loop-self.invariant.within; size = c.loop-self.invariant.size; link = more.1; usable = called_open (view c.loop-self.link).usage (view c.write.new.self).usage c.loop-self.invariant.usable c.in-Gave.ensures.writes.2.usage; gave = more.2 }
+    record { order = more.0; within = c.loop-self.invariant.within; size = c.loop-self.invariant.size; link = more.1; usable = called_open (view c.loop-self.link).usage (view c.write.new.self).usage c.loop-self.invariant.usable c.in-Gave.ensures.writes.2.usage; spared = spares_then 0 0 (view c.args.link.now).waits_left (view c.loop-self.link).waits_left (view c.write.new.self).waits_left c.loop-self.invariant.spared c.in-Gave.ensures.writes.2.waits_left; gave = more.2 }
 
 pub returns-in-NotYet-clause-link : goal.returns-in-NotYet-clause-link
 returns-in-NotYet-clause-link g c =
@@ -31,3 +32,8 @@ returns-in-NotYet-clause-uses g c = called_open (g.L.Link.view c.loop-self.link)
 
 pub returns-in-Failed-clause-uses : goal.returns-in-Failed-clause-uses
 returns-in-Failed-clause-uses g c = closed_once (g.L.Link.view c.loop-self.link).usage (g.L.Link.view c.write.new.self).usage c.loop-self.invariant.usable c.in-Failed.ensures.writes.usage
+
+pub returns-in-NotYet-clause-spares : goal.returns-in-NotYet-clause-spares
+returns-in-NotYet-clause-spares g c =
+    let view = g.L.Link.view in
+    spares_then 0 1 (view c.args.link.now).waits_left (view c.loop-self.link).waits_left (view c.write.new.self).waits_left c.loop-self.invariant.spared c.in-NotYet.ensures.writes.waits_left

@@ -1,4 +1,5 @@
 use Rattle.q_link.specs.declared.usage.Usage.TheVariants.{Open}
+use Rattle.q_link.specs.WaitsLeft.{Spares}
 use Rattle.std.proofs.Common.{◌-◌, ◌≡◌, ◌≤◌, length, take, drop}
 use Rattle.q_session.specs.Outgoing.{pending}
 use Rattle.q_session.specs.Traffic.{Gave, GoesOn, Tells}
@@ -13,6 +14,7 @@ invariant-loop-self g l =
       size : length l.self-inside.bytes ≡ 6160;
       link : GoesOn (g.L.Link.view l.fn.link) (g.L.Link.view l.link);
       usable : (g.L.Link.view l.link).usage ≡ Open;
+      spared : Spares 0 (g.L.Link.view l.fn.link).waits_left (g.L.Link.view l.link).waits_left;
       gave : Tells (Gave (pending l.fn.self) left 0) (g.L.Link.view l.fn.link) (g.L.Link.view l.link);
     }
 
