@@ -1,7 +1,7 @@
 -- What bytes add, cut in two, and how much.
-use Rattle.std.proofs.Common.{◌≡◌, ◌*◌, ◌≤◌, ◌++◌, ◌∷◌, ◌∙◌, [], append_assoc, ap, arith, length, List, refl, sym, ℕ}
+use Rattle.std.proofs.Common.{◌≡◌, ◌+◌, ◌*◌, ◌≤◌, ◌++◌, ◌∷◌, ◌∙◌, [], append_assoc, ap, arith, length, List, refl, sym, ℕ}
 use Rattle.std.proofs.lemmas.List.{length-append}
-use Rattle.q_content.specs.Encoding.{behind_byte, behind_bytes, sent_byte, sent_bytes, sent_end, sent_rest}
+use Rattle.q_content.specs.Encoding.{behind_byte, behind_bytes, held_back, sent_byte, sent_bytes, sent_end, sent_rest}
 use Rattle.q_content.specs.declared.encoding.ContentLine.{ContentLine}
 
 pub sent_bytes-append : (l : ContentLine) (front back : List ℕ) → sent_bytes l (front ++ back) ≡ sent_bytes l front ++ sent_bytes (behind_bytes l front) back
@@ -23,12 +23,25 @@ sent_rest-append l front back =
     ∙ ap (λ (m : ContentLine). (sent_bytes l front ++ sent_bytes behind back) ++ sent_end m) (behind_bytes-append l front back)
     ∙ append_assoc (sent_bytes l front) (sent_bytes behind back) (sent_end (behind_bytes behind back))
 
-few_byte : (l : ContentLine) (b : ℕ) → length (sent_byte l b) ≤ 3
+-- how many bytes a line holds back
+holds : ContentLine → ℕ
+holds l = length (held_back l)
+
+-- a byte adds two at most, and what was held back before it
+few_byte : (l : ContentLine) (b : ℕ) → length (sent_byte l b) + holds (behind_byte l b) ≤ 2 + holds l
+unfolding holds
 few_byte l b = grind arith
 
--- a byte adds three at most
-pub few_bytes : (l : ContentLine) (bytes : List ℕ) → length (sent_bytes l bytes) ≤ 3 * length bytes
-unfolding sent_bytes
-few_bytes l [] = omega arith
-few_bytes l (b ∷ bytes) =
-    omega (arith, length-append (sent_byte l b) (sent_bytes (behind_byte l b) bytes), few_byte l b, few_bytes (behind_byte l b) bytes)
+few_behind : (l : ContentLine) (bytes : List ℕ) → length (sent_bytes l bytes) + holds (behind_bytes l bytes) ≤ 2 * length bytes + holds l
+unfolding sent_bytes behind_bytes
+few_behind l [] = omega arith
+few_behind l (b ∷ bytes) =
+    omega (arith, length-append (sent_byte l b) (sent_bytes (behind_byte l b) bytes), few_byte l b, few_behind (behind_byte l b) bytes)
+
+holds_one : (l : ContentLine) → holds l ≤ 1
+unfolding holds
+holds_one l = grind arith
+
+-- bytes add two each at most, and one that was held back before them
+pub few_bytes : (l : ContentLine) (bytes : List ℕ) → length (sent_bytes l bytes) ≤ 2 * length bytes + 1
+few_bytes l bytes = omega (arith, few_behind l bytes, holds_one l)

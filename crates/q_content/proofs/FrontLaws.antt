@@ -32,12 +32,12 @@ more_sent {start} {piece} {out} {behind} {from} {count} so rest new next taken s
       bytes = bytes ∙ ap (λ (x : List ℕ). x ++ sent_bytes behind more) so.bytes ∙ sym all;
     }
 
--- each byte gives three at most
-pub few_sent : {start : ContentLine} {piece out : List ℕ} {behind : ContentLine} {from count : ℕ} → IsSent start piece out behind from count → count ≤ 3 * length piece
+-- each byte gives two at most, and one was held back before them
+pub few_sent : {start : ContentLine} {piece out : List ℕ} {behind : ContentLine} {from count : ℕ} → IsSent start piece out behind from count → count ≤ 2 * length piece + 1
 few_sent {start} {piece} {out} {behind} {from} {count} so =
     omega (arith, so.total, so.within, few_bytes start (take from piece), length-take-le from piece so.within)
 
 -- so there is room for what is left
-pub room_left : {start : ContentLine} {piece out : List ℕ} {behind : ContentLine} {from count : ℕ} → IsSent start piece out behind from count → (rest : List ℕ) → rest ≡ drop from piece → count + 3 * length rest ≤ 3 * length piece
+pub room_left : {start : ContentLine} {piece out : List ℕ} {behind : ContentLine} {from count : ℕ} → IsSent start piece out behind from count → (rest : List ℕ) → rest ≡ drop from piece → count + 2 * length rest ≤ 2 * length piece + 1
 room_left {start} {piece} {out} {behind} {from} {count} so rest left =
     omega (arith, so.total, so.within, few_bytes start (take from piece), length-take-le from piece so.within, ap (λ (x : List ℕ). length x) left, length-drop from piece)

@@ -1,5 +1,5 @@
 //! Pieces of a content as they are sent.
-ghost use Rattle.std.specs.Prelude.{◌≡◌, ◌≤◌, ◌*◌, length, take};
+ghost use Rattle.std.specs.Prelude.{◌≡◌, ◌≤◌, ◌+◌, ◌*◌, length, take};
 ghost use Rattle.q_content.specs.Encoding.{behind_bytes, line_end, line_start, sent_bytes, sent_end};
 
 use crate::runs::{held_back, put, send_some};
@@ -36,10 +36,10 @@ impl ContentLine {
 
 /// Puts a piece of the content, as it is sent, at the front of a buffer.
 pub fn encode(line: ContentLine, piece: &[u8], out: &mut [u8]) -> Encoded
-    requires room { 3 * length piece.now ≤ length out.old }
+    requires room { 2 * length piece.now + 2 ≤ length out.old }
     ensures line { result.line ≡ behind_bytes line piece.now }
     ensures count { result.count ≡ length (sent_bytes line piece.now) }
-    ensures few { result.count ≤ 3 * length piece.now }
+    ensures few { result.count ≤ 2 * length piece.now + 1 }
     ensures bytes { take result.count out.new ≡ sent_bytes line piece.now }
     ensures length { length out.new ≡ length out.old }
 {

@@ -2,7 +2,7 @@
 //! CRLF, a line that begins with a dot gets one more, and a line with one dot ends the content.
 //! Content is taken in pieces of any size.
 //!
-//! It is an error to encode into a buffer that has fewer than three bytes for each byte of the piece.
+//! It is an error to encode into a buffer that hasn't two bytes for each byte of the piece, and two more.
 #![tactic(auto)]
 
 mod encoding;

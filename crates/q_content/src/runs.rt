@@ -19,7 +19,7 @@ pub(crate) struct Sent {
 /// Sends the first bytes of what is left of a piece: a run within a line, or one byte.
 pub(crate) fn send_some(line: ContentLine, rest: &[u8], out: &mut [u8], count: usize) -> Sent
     requires some { 0 < length rest.now }
-    requires room { count + 3 * length rest.now ≤ length out.old }
+    requires room { count + 2 * length rest.now + 1 ≤ length out.old }
     ensures moves { 0 < result.taken }
     ensures within { result.taken ≤ length rest.now }
     ensures line { result.line ≡ behind_bytes line (take result.taken rest.now) }

@@ -1,20 +1,20 @@
 -- What filling the outbox from a file that says a mail leaves to be sent.
-use Rattle.std.proofs.Common.{◌≡◌, ◌+◌, ◌-◌, ◌<◌, ◌≤◌, ◌++◌, ◌∙◌, [], ap, arith, Bool, cond, drop, false, length, List, min, Option, Some, subst, sym, take, true, ℕ}
+use Rattle.std.proofs.Common.{◌≡◌, ◌+◌, ◌-◌, ◌<◌, ◌≤◌, ◌++◌, ◌∙◌, [], ap, arith, Bool, cond, drop, false, length, List, min, Option, refl, Some, subst, sym, take, true, ℕ}
 use Rattle.std.specs.Option.{IfSome, option_and_then, option_map}
 use Rattle.std.proofs.Math.Seq.{drop-append-add}
-use Rattle.std.proofs.lemmas.List.{append-nil, drop-append-le, drop-drop, drop_all, length-append, length-drop, take-append-drop, take-append-le}
+use Rattle.std.proofs.lemmas.List.{append-nil, append_assoc, drop-append-le, drop-drop, drop_all, length-append, length-drop, take-append-drop, take-append-le}
 use Rattle.q_content.specs.Encoding.{behind_bytes, sent_bytes, sent_end, sent_rest}
 use Rattle.q_content.specs.declared.encoding.ContentLine.{ContentLine}
 use Rattle.q_content.proofs.EncodingLaws.{sent_rest-append}
 use Rattle.q_model.specs.QueueFile.{queue_file}
 use Rattle.q_session.specs.Mails.{Mail, mail_of}
 use Rattle.q_session.specs.Outgoing.{Outgoing}
-use Rattle.q_session.specs.Sending.{Fills, IsPieceAt, IsPlaced, unsent}
+use Rattle.q_session.specs.Sending.{Fills, IsPieceAt, IsPlaced, to_send, unsent}
 use Rattle.q_session.specs.declared.content.Content.{Content}
 use Rattle.q_session.proofs.ContentPlaces.{ContentStands, file_content}
 
 -- the end is in the outbox
-pub end_fills : (mail : Mail) (old new : Content) (o : Outgoing) → old.left ≡ 0 → IsPlaced mail old → new ≡ record old { idle = true } → o ≡ record { bytes = sent_end old.line; gone = 0 } → Fills mail old new o
+end_fills : (mail : Mail) (old new : Content) (o : Outgoing) → old.left ≡ 0 → IsPlaced mail old → new ≡ record old { idle = true } → o ≡ record { bytes = sent_end old.line; gone = 0 } → Fills mail old new o
 unfolding sent_bytes behind_bytes
 end_fills mail old new o none placed content bytes =
     let nothing : drop (length mail.content - old.left) mail.content ≡ [] = drop_all (length mail.content - old.left) mail.content (omega arith) in
@@ -23,6 +23,11 @@ end_fills mail old new o none placed content bytes =
       gone = ap (λ (x : Outgoing). x.gone) bytes;
       placed = record { left = placed.left; place = placed.place };
     })
+
+-- the end alone is in the outbox
+pub end_alone_fills : (mail : Mail) (old new : Content) (cleared o : Outgoing) → old.left ≡ 0 → IsPlaced mail old → new ≡ record old { idle = true } → cleared ≡ record { bytes = []; gone = 0 } → o ≡ record { bytes = cleared.bytes ++ sent_end old.line; gone = cleared.gone } → Fills mail old new o
+end_alone_fills mail old new cleared o none placed content empty bytes =
+    end_fills mail old new o none placed content (bytes ∙ ap (λ (x : Outgoing). record { bytes = x.bytes ++ sent_end old.line; gone = x.gone }) empty)
 
 -- the file from the next byte on
 rest_of : (file : List ℕ) (mail : Mail) (c : Content) (k : ContentStands file mail) → IsPlaced mail c → drop c.at file ≡ drop (length mail.content - c.left) mail.content ++ k.back
@@ -86,4 +91,16 @@ piece_fills o mail c piece true at count line out says placed size few read is i
           ∙ sent_on content piece c.line c.left placed.left short next;
       gone = ap (λ (x : Outgoing). x.gone) bytes;
       placed = record { left = omega (arith, placed.left); place = omega (arith, place, placed.place, f.2.few, few) };
+    }
+
+-- the last piece is in the outbox, and then the end too
+pub last_fills : (mail : Mail) (old mid new : Content) (out o : Outgoing) → Fills mail old mid out → mid.idle ≡ false → mid.left ≡ 0 → new ≡ record mid { idle = true } → o ≡ record { bytes = out.bytes ++ sent_end mid.line; gone = out.gone } → Fills mail old new o
+last_fills mail old mid new out o first busy none content bytes =
+    let e = end_fills mail mid new (record { bytes = sent_end mid.line; gone = 0 }) none first.placed content refl in
+    let left : unsent mail.content mid ≡ to_send mail.content mid = ap (λ (b : Bool). cond b [] (to_send mail.content mid)) busy in
+    record {
+      bytes = ap (λ (x : Outgoing). x.bytes ++ unsent mail.content new) bytes ∙ append_assoc out.bytes (sent_end mid.line) (unsent mail.content new)
+          ∙ ap (λ (xs : List ℕ). out.bytes ++ xs) (e.bytes ∙ sym left) ∙ first.bytes;
+      gone = ap (λ (x : Outgoing). x.gone) bytes ∙ first.gone;
+      placed = e.placed;
     }

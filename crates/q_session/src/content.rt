@@ -1,5 +1,5 @@
 //! The content, read from the queue file in pieces and sent line by line.
-ghost use Rattle.std.specs.Prelude.{◌≡◌, ◌<◌, ℕ, true, false, length, Ok, IfOk, IfSome, IsSome, IsTrue};
+ghost use Rattle.std.specs.Prelude.{◌≡◌, ◌<◌, ◌≤◌, ◌+◌, ◌++◌, ℕ, true, false, length, Ok, IfOk, IfSome, IsSome, IsTrue};
 ghost use Rattle.q_content.specs.Encoding.{line_start, sent_end};
 ghost use Rattle.q_host.specs.Calls.{Stays};
 ghost use Rattle.q_host.specs.Faults.{DiskCause};
@@ -12,7 +12,7 @@ use q_host::{Host, HostError};
 use q_model::{FileHead, Spot};
 
 /// How many bytes of the file are read at once.
-const PIECE: usize = 2_048;
+const PIECE: usize = 65_536;
 
 /// The part of the content that isn't sent yet.
 #[derive(Debug, Drop)]
@@ -57,7 +57,7 @@ impl Content {
         self.idle
     }
 
-    /// Puts the next piece into the outbox, in place of what was sent; behind the last one, the
+    /// Puts the next piece into the outbox, in place of what was sent, and with the last one the
     /// end. The answer is false where the file has fewer bytes than its head says.
     pub(crate) fn fill<H: Host>(
         &mut self,
@@ -71,7 +71,43 @@ impl Content {
         ensures filled { result ≡ Ok true → IsTrue H.tells → (mail : Mail)
             → StandsAt H.tells (H.view host.old) self.old.spot mail → IsPlaced mail self.old
             → Fills mail self.old self.new outbox.new }
+        ensures ended { result ≡ Ok true → self.new.left ≡ 0 → self.new.idle ≡ true }
         ensures fewer { result ≡ Ok true → pieces_left self.new < pieces_left self.old }
+        ensures short { result ≡ Ok false → IsTrue H.tells → (mail : Mail)
+            → StandsAt H.tells (H.view host.old) self.old.spot mail → IsPlaced mail self.old → ⊥ }
+        ensures kept { (result ≡ Ok true → ⊥) → self.new ≡ self.old }
+        ensures outbox_kept { (result ≡ Ok true → ⊥) → outbox.new ≡ outbox.old }
+        ensures stays { IsTrue H.tells → Stays (H.view host.old) (H.view host.new) }
+        ensures cause { DiskCause (H.faults host.old) (H.faults host.new) result }
+    {
+        if self.left == 0 {
+            outbox.clear();
+            self.end(outbox);
+            return Ok(true);
+        }
+        if !self.put_piece(host, outbox)? {
+            return Ok(false);
+        }
+        if self.left > 0 {
+            return Ok(true);
+        }
+        self.end(outbox);
+        Ok(true)
+    }
+
+    // Puts the next piece into the outbox, in place of what was sent.
+    fn put_piece<H: Host>(&mut self, host: &mut H, outbox: &mut Outbox) -> Result<bool, HostError>
+        requires busy { self.old.idle ≡ false }
+        requires some { 0 < self.old.left }
+        requires there { IsTrue H.tells
+            → (mail : Mail) × StandsAt H.tells (H.view host.old) self.old.spot mail }
+        ensures spot { self.new.spot ≡ self.old.spot }
+        ensures busy { self.new.idle ≡ false }
+        ensures filled { result ≡ Ok true → IsTrue H.tells → (mail : Mail)
+            → StandsAt H.tells (H.view host.old) self.old.spot mail → IsPlaced mail self.old
+            → Fills mail self.old self.new outbox.new }
+        ensures fewer { result ≡ Ok true → self.new.left < self.old.left }
+        ensures few { result ≡ Ok true → length outbox.new.bytes + 6 ≤ 131088 }
         ensures short { result ≡ Ok false → IsTrue H.tells → (mail : Mail)
             → StandsAt H.tells (H.view host.old) self.old.spot mail → IsPlaced mail self.old → ⊥ }
         ensures kept { (result ≡ Ok true → ⊥) → self.new ≡ self.old }
@@ -81,10 +117,6 @@ impl Content {
     {
         let mut buffer = [0; PIECE];
         let count = PIECE.min(self.left as usize);
-        if count == 0 {
-            self.end(outbox);
-            return Ok(true);
-        }
         let piece = &mut buffer[..count];
         if !read_whole(host, self.spot, self.at, piece)? {
             return Ok(false);
@@ -95,11 +127,16 @@ impl Content {
         Ok(true)
     }
 
+    // The end leaves by the same write as what is in the outbox, where the link takes all.
     fn end(&mut self, outbox: &mut Outbox)
+        requires room { length outbox.old.bytes + 6 ≤ 131088 }
         ensures content { self.new ≡ record self.old { idle = true } }
-        ensures bytes { outbox.new ≡ record { bytes = sent_end self.old.line; gone = 0 } }
+        ensures bytes { outbox.new ≡ record {
+          bytes = outbox.old.bytes ++ sent_end self.old.line;
+          gone = outbox.old.gone;
+        } }
     {
-        outbox.encode_end(self.line);
+        outbox.add_end(self.line);
         self.idle = true;
     }
 }

@@ -65,6 +65,7 @@ impl Delivery {
         let to = Vec::from_slice(alloc, to.as_slice())?;
         let dialogue = Dialogue::new(alloc, to.len())?;
         let inbox = Inbox::new(alloc)?;
+        let outbox = Outbox::new(alloc)?;
         let room = Vec::with_capacity(alloc, to.len())?;
         Ok(Delivery {
             alloc,
@@ -73,7 +74,7 @@ impl Delivery {
             opened,
             dialogue,
             inbox,
-            outbox: Outbox::new(),
+            outbox,
             content: Content::new(spot, file),
             room,
             outcomes: Outcomes::new(alloc),

@@ -1,5 +1,5 @@
 //! Bytes that are to be sent.
-ghost use Rattle.std.specs.Prelude.{◌≡◌, ◌≢◌, ◌≤◌, ◌+◌, ◌*◌, ◌++◌, [], length, take, drop};
+ghost use Rattle.std.specs.Prelude.{◌≡◌, ◌≢◌, ◌≤◌, ◌+◌, ◌*◌, ◌++◌, [], length, take, drop, IfOk};
 ghost use Rattle.q_content.specs.Encoding.{behind_bytes, sent_bytes, sent_end};
 ghost use Rattle.q_link.specs.declared.usage.Usage.TheVariants.{Misused, Open};
 ghost use Rattle.q_session.specs.Outgoing.{pending};
@@ -9,10 +9,12 @@ ghost use Rattle.q_session.specs.Uses.{SparesSent, UsesSent};
 
 use q_content::{ContentLine, encode, encode_end};
 use q_link::{Link, Put};
+use q_model::NoMemory;
+use std::alloc::Global;
 use std::marker::Model;
 
-/// How many bytes it holds: a piece of the content as it is sent, or a command.
-pub(crate) const ROOM: usize = 6_160;
+/// How many bytes it holds: a piece of the content as it is sent and the end, or a command.
+const ROOM: usize = 131_088;
 
 /// What came of sending.
 #[derive(Clone, Copy, Debug, PartialEq, Eq)]
@@ -28,7 +30,8 @@ pub(crate) enum Sent {
 /// Bytes that are to be sent. A contract sees it as the bytes and how many of them were sent.
 #[derive(Debug, Drop)]
 pub(crate) struct Outbox {
-    bytes: [u8; ROOM],
+    // in a box, so that who holds a session doesn't move them
+    bytes: Box<[u8; ROOM]>,
     from: usize,
     to: usize,
 }
@@ -39,20 +42,23 @@ impl Model for Outbox {
 
     ghost Value = { Outgoing };
 
-    ghost view = { λ o. record { bytes = take o.to o.bytes; gone = o.from } };
+    ghost view = { λ o. record { bytes = take o.to o.bytes.value; gone = o.from } };
 
-    ghost invariant = { λ o. (o.from ≤ o.to) × (o.to ≤ 6160) };
+    ghost invariant = { λ o. (o.from ≤ o.to) × (o.to ≤ 131088) };
 }
 
 impl Outbox {
-    pub(crate) fn new() -> Outbox
-        ensures { result ≡ record { bytes = []; gone = 0 } }
+    pub(crate) fn new(alloc: Global) -> Result<Outbox, NoMemory>
+        ensures { IfOk result (λ outbox. outbox ≡ record { bytes = []; gone = 0 }) }
     {
-        Outbox {
-            bytes: [0; ROOM],
+        let Ok(bytes) = Box::new(alloc, [0; ROOM]) else {
+            return Err(NoMemory);
+        };
+        Ok(Outbox {
+            bytes,
             from: 0,
             to: 0,
-        }
+        })
     }
 
     /// Forgets what was sent.
@@ -65,32 +71,38 @@ impl Outbox {
 
     /// Adds bytes at the end.
     pub(crate) fn add(&mut self, bytes: &[u8])
-        requires { length self.old.bytes + length bytes.now ≤ 6160 }
+        requires { length self.old.bytes + length bytes.now ≤ 131088 }
         ensures { self.new ≡ record { bytes = self.old.bytes ++ bytes.now; gone = self.old.gone } }
     {
-        write_at(&mut self.bytes, self.to, bytes);
+        write_at(&mut self.bytes[..], self.to, bytes);
         self.to += bytes.len();
     }
 
     /// Holds a piece of the content as it is sent, in place of what it held, and answers the line
     /// behind it.
     pub(crate) fn encode(&mut self, line: ContentLine, piece: &[u8]) -> ContentLine
-        requires few { 3 * length piece.now ≤ 6160 }
+        requires few { 2 * length piece.now + 2 ≤ 131088 }
+        ensures few { length self.new.bytes ≤ 2 * length piece.now + 1 }
         ensures line { result ≡ behind_bytes line piece.now }
         ensures bytes { self.new ≡ record { bytes = sent_bytes line piece.now; gone = 0 } }
     {
-        let encoded = encode(line, piece, &mut self.bytes);
+        let encoded = encode(line, piece, &mut self.bytes[..]);
         self.from = 0;
         self.to = encoded.count;
         encoded.line
     }
 
-    /// Holds the end of the content as it is sent, in place of what it held.
-    pub(crate) fn encode_end(&mut self, line: ContentLine)
-        ensures bytes { self.new ≡ record { bytes = sent_end line; gone = 0 } }
+    /// Adds the end of the content as it is sent.
+    pub(crate) fn add_end(&mut self, line: ContentLine)
+        requires { length self.old.bytes + 6 ≤ 131088 }
+        ensures { self.new ≡ record {
+          bytes = self.old.bytes ++ sent_end line;
+          gone = self.old.gone;
+        } }
     {
-        self.to = encode_end(line, &mut self.bytes);
-        self.from = 0;
+        let mut end = [0; 6];
+        let count = encode_end(line, &mut end);
+        self.add(&end[..count]);
     }
 
     /// Sends until nothing is left or the link isn't ready.

@@ -7,6 +7,6 @@ returns-clause-serves c = first_serves c.args.spot c.args.file.now _ (record {
   awaited = c.in_ok-dialogue.ensures.awaited;
   unused = c.in_ok-inbox.ensures.0;
   replies = c.in_ok-inbox.ensures.2;
-  outbox = c.new-3.ensures;
+  outbox = c.in_ok-outbox.ensures;
   content = c.new-4.ensures;
 })

@@ -1,17 +1,16 @@
 use Rattle.q_link.specs.declared.usage.Usage.TheVariants.{Open}
 use Rattle.q_link.specs.WaitsLeft.{Spares}
-use Rattle.std.proofs.Common.{◌-◌, ◌≡◌, ◌≤◌, length, take, drop}
+use Rattle.std.proofs.Common.{◌-◌, ◌≡◌, ◌≤◌, take, drop}
 use Rattle.q_session.specs.Outgoing.{pending}
 use Rattle.q_session.specs.Traffic.{Gave, GoesOn, Tells}
 use Rattle.q_session.proofs.outbox.Outbox.flush.Given as goal
 
 abbrev pub invariant-loop-self : goal.invariant-loop-self
 invariant-loop-self g l =
-    let left = drop l.self-inside.from (take l.self-inside.to l.self-inside.bytes) in
+    let left = drop l.self-inside.from (take l.self-inside.to l.self-inside.bytes.value) in
     record {
       order : l.self-inside.from ≤ l.self-inside.to;
-      within : l.self-inside.to ≤ 6160;
-      size : length l.self-inside.bytes ≡ 6160;
+      within : l.self-inside.to ≤ 131088;
       link : GoesOn (g.L.Link.view l.fn.link) (g.L.Link.view l.link);
       usable : (g.L.Link.view l.link).usage ≡ Open;
       spared : Spares 0 (g.L.Link.view l.fn.link).waits_left (g.L.Link.view l.link).waits_left;
