@@ -6,7 +6,9 @@ use Rattle.q_engine.specs.Stands.{EngineStands}
 use Rattle.q_engine.specs.declared.engine.Engine.{Engine}
 use Rattle.q_host.specs.Calls.{Stays}
 use Rattle.q_host.specs.View.{now, Remains, View}
-use Rattle.q_mem_host.specs.Left.{nothing}
+use Rattle.q_mem_host.specs.Event.{Event}
+use Rattle.q_mem_host.specs.Laws.{mem_only_now}
+use Rattle.q_mem_host.specs.Left.{nothing, view_of}
 use Rattle.q_model.proofs.StandLaws.{Stands-empty}
 use Rattle.q_model.specs.Book.{empty_book}
 use Rattle.q_model.specs.Crashes.{IsCrashOf}
@@ -32,6 +34,10 @@ new_stands u is only = record {
     stands = no_files c.files (ap (λ (r : Remains). r.files) (only c left));
   };
 }
+
+-- a crash leaves of a host in memory what it tells
+pub tells_crashes : (h : List Event) → TellsCrashes (view_of h)
+tells_crashes h = record { only = λ c left. mem_only_now h c left; told = λ c left. left.told }
 
 -- what was only looked at
 pub still_stands : (w : World) (engine : Engine) (l : Ledger) (u v : View) → TellsCrashes u → Stays u v → EngineStands w engine u l → EngineStands w engine v l

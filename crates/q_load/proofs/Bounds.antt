@@ -1,14 +1,17 @@
 -- The events of a load come to an end: what is due leaves fewer to come.
 use Rattle.std.proofs.Common.{◌+◌, ◌<◌, ◌-◌, ◌^◌, ◌≡◌, ◌≤◌, ◌∙◌, ◌∷◌, [], ap, arith, Bool, cond, false, if◌then◌else◌, length, List, ltb-true, None, Option, option_and_then, option_map, refl, Some, subst, sym, true, ℕ}
 use Rattle.std.proofs.lemmas.Bool.{and_parts}
+use Rattle.std.proofs.lemmas.List.{length-replicate}
 use Rattle.std.proofs.lemmas.List.Sums.{sum_by-cons}
 use Rattle.std.specs.Option.{option_or}
 use Rattle.std.specs.Prelude.{◌&&◌, ◌||◌, count_by, map, max, nat_lt, not, replicate}
 use Rattle.q_engine.specs.Heard.{is_moment}
+use Rattle.q_load.proofs.Counting.{few_recipients}
 use Rattle.q_load.proofs.Deliveries.{decisions_end_none, fewer_ended, mail_ends_none, moment_ends_none, reply_ends_one}
 use Rattle.q_load.specs.Due.{due, is_fresh, is_mail, is_reply, mail_due, next_reply, outcome_of, reply_due, reply_to, round_due}
 use Rattle.q_load.specs.Ended.{HasEnded}
 use Rattle.q_load.specs.Loads.{begun, behind, first, load_world}
+use Rattle.q_load.specs.Numbers.{number_of}
 use Rattle.q_laws.proofs.Living.{start_flights}
 use Rattle.q_laws.proofs.Tidied.{tidy_scan_is}
 use Rattle.q_model.specs.Book.{empty_book}
@@ -28,10 +31,11 @@ use Rattle.q_model.specs.Step.{after, after_all, change, noted}
 
 -- ---- what is due
 
--- a reply is to a delivery in flight, a mail is one of so many, and a moment one of 200
+-- a reply is to a delivery in flight and has as many outcomes as it has recipients, a mail is one of so
+-- many and within the limits, and a moment is one of 200
 abbrev pub IsDue : ℕ → List Event → Ledger → Event → Type 0
-IsDue mails heard l (events.Reply number site os) = (f : Delivery) × (flight_of l number ≡ Some f)
-IsDue mails heard l (events.Mail sender to content) = count_by is_mail heard < mails
+IsDue mails heard l (events.Reply number site os) = (f : Delivery) × (flight_of l number ≡ Some f) × (length os ≡ length f.row.positions)
+IsDue mails heard l (events.Mail sender to content) = (count_by is_mail heard < mails) × (length content ≤ 10240000) × (length to ≤ 50000)
 IsDue mails heard l (events.At t) = count_by is_moment heard < 200
 IsDue mails heard l (events.Trigger kind) = ⊥
 
@@ -51,7 +55,7 @@ module _ (mails : ℕ) (heard : List Event) (l : Ledger) where
   by_flight : (reply number : ℕ) (o : Option Delivery) → flight_of l number ≡ o
       → MayBeDue mails heard l (option_map (λ (f : Delivery). events.Reply number Up (replicate (length f.row.positions) (outcome_of reply))) o)
   by_flight reply number None is = tt
-  by_flight reply number (Some f) is = (f, is)
+  by_flight reply number (Some f) is = (f, is, length-replicate (length f.row.positions) (outcome_of reply))
 
   by_number : (reply : ℕ) (o : Option ℕ) → MayBeDue mails heard l (option_and_then (reply_to reply l) o)
   by_number reply None = tt
@@ -61,7 +65,7 @@ module _ (mails : ℕ) (heard : List Event) (l : Ledger) where
   reply_is = by_if (is_fresh heard || not (nat_lt (count_by is_mail heard) mails)) (next_reply heard l) (λ _. by_number (count_by is_reply heard + 1) (least nat_lt (map (λ (f : Delivery). f.number) l.flights)))
 
   mail_is : MayBeDue mails heard l (mail_due mails heard)
-  mail_is = by_if (nat_lt (count_by is_mail heard) mails) _ (λ h. ltb-true (count_by is_mail heard) mails h)
+  mail_is = by_if (nat_lt (count_by is_mail heard) mails) _ (λ h. let few = few_recipients (number_of mails (count_by is_mail heard + 1)) in (ltb-true (count_by is_mail heard) mails h, omega arith, omega (arith, few)))
 
   round_is : MayBeDue mails heard l (round_due heard l)
   round_is = by_if (nat_lt (count_by is_moment heard) 200 && not (has_none l.book.messages)) _ (λ h. ltb-true (count_by is_moment heard) 200 (and_parts (nat_lt (count_by is_moment heard) 200) (not (has_none l.book.messages)) h).0)
@@ -71,10 +75,10 @@ module _ (mails : ℕ) (heard : List Event) (l : Ledger) where
 
 -- ---- the ledger behind
 
-more : (p : Event → Bool) (e : Event) (es : List Event) → count_by p (e ∷ es) ≡ cond (p e) 1 0 + count_by p es
+pub more : (p : Event → Bool) (e : Event) (es : List Event) → count_by p (e ∷ es) ≡ cond (p e) 1 0 + count_by p es
 more p e es = sum_by-cons (λ x. cond (p x) 1 0) e es
 
-behind_is : (l : Ledger) (e : Event) → behind l e ≡ after_all load_world (after load_world l (event_entry l e)) (decisions load_world (after load_world l (event_entry l e)))
+pub behind_is : (l : Ledger) (e : Event) → behind l e ≡ after_all load_world (after load_world l (event_entry l e)) (decisions load_world (after load_world l (event_entry l e)))
 unfolding turn after_all
 behind_is l e = refl
 
@@ -113,7 +117,7 @@ fewer_by : (mails : ℕ) (heard : List Event) (l : Ledger) (e : Event) → IsDue
     → left_of mails (cond (is_reply e) 1 0 + count_by is_reply heard) (cond (is_mail e) 1 0 + count_by is_mail heard) (cond (is_moment e) 1 0 + count_by is_moment heard)
     < left_of mails (count_by is_reply heard) (count_by is_mail heard) (count_by is_moment heard)
 fewer_by mails heard l (events.At t) is h = omega (arith, is)
-fewer_by mails heard l (events.Mail sender to content) is h = omega (arith, is)
+fewer_by mails heard l (events.Mail sender to content) is h = let less = is.0 in omega (arith, less)
 fewer_by mails heard l (events.Reply number site os) is h = let few = fewer_ended l number is.0 (count_by is_reply heard) is.1 h in omega (arith, few)
 fewer_by mails heard l (events.Trigger kind) is h = absurd is
 
@@ -136,7 +140,7 @@ same_left mails a b c d e f a' b' c' d' e' f' p q r s t u h =
 within_by : (mails : ℕ) (heard : List Event) (l : Ledger) (e : Event) → IsDue mails heard l e → count_by is_mail heard ≤ mails → count_by is_moment heard ≤ 200
     → (cond (is_mail e) 1 0 + count_by is_mail heard ≤ mails) × (cond (is_moment e) 1 0 + count_by is_moment heard ≤ 200)
 within_by mails heard l (events.At t) is came rounds = (omega (arith, came), omega (arith, is))
-within_by mails heard l (events.Mail sender to content) is came rounds = (omega (arith, is), omega (arith, rounds))
+within_by mails heard l (events.Mail sender to content) is came rounds = let less = is.0 in (omega (arith, less), omega (arith, rounds))
 within_by mails heard l (events.Reply number site os) is came rounds = (omega (arith, came), omega (arith, rounds))
 within_by mails heard l (events.Trigger kind) is came rounds = absurd is
 

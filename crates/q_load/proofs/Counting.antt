@@ -1,5 +1,5 @@
 -- Mails and their recipients, counted.
-use Rattle.std.proofs.Common.{◌≡◌, ◌+◌, ◌∙◌, ◌≤◌, ap, arith, length, map, suc, sym, ℕ}
+use Rattle.std.proofs.Common.{◌≡◌, ◌%◌, ◌+◌, ◌/◌, ◌<◌, ◌∙◌, ◌≤◌, ap, arith, length, map, suc, sym, ℕ}
 use Rattle.std.proofs.lemmas.List.FromFn.{length-map-range_with_len, sum_by-map-range_with_len_more}
 use Rattle.std.specs.List.{range_with_len}
 use Rattle.std.specs.Prelude.{sum_by}
@@ -23,3 +23,9 @@ pub some_recipients : (x : ℕ) → 1 ≤ length (recipients x)
 some_recipients x =
     let e : length (recipients x) ≡ recipient_count x = length-map-range_with_len (recipient x) 0 (recipient_count x) in
     omega (arith, e)
+
+pub few_recipients : (x : ℕ) → length (recipients x) ≤ 20
+few_recipients x =
+    let e : length (recipients x) ≡ recipient_count x = length-map-range_with_len (recipient x) 0 (recipient_count x) in
+    let few : x / 65536 % 20 < 20 = omega arith in
+    omega (arith, e, few)

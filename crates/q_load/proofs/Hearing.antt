@@ -5,12 +5,15 @@ use Rattle.q_engine.specs.Heard.{is_moment}
 use Rattle.q_engine.specs.Stands.{EngineStands}
 use Rattle.q_engine.specs.declared.engine.Engine.{Engine}
 use Rattle.q_host.specs.View.{View}
+use Rattle.q_load.proofs.Accepted.{due_accepted}
 use Rattle.q_load.proofs.Bounds.{due_ends, due_fewer, due_within, left_of, same_left}
+use Rattle.q_load.proofs.Taken.{one_taken}
 use Rattle.q_load.specs.Due.{due, is_mail, is_reply}
 use Rattle.q_load.specs.Ended.{HasEnded}
-use Rattle.q_load.specs.Lives.{behind_all, HeardAll, IsUnended}
+use Rattle.q_load.specs.Lives.{behind_all, HeardAll, IsFirst, Takes}
 use Rattle.q_load.specs.Loads.{AreDue, begun, behind, first, IsSummary, ledger_of, load_world, summary_at}
 use Rattle.q_load.specs.Progress.{HasHeard, HasRoom}
+use Rattle.q_load.specs.Taken.{HasTaken}
 use Rattle.q_load.specs.declared.generator.Generator.{Generator}
 use Rattle.q_load.specs.declared.summary.Summary.{Summary}
 use Rattle.q_model.specs.Ledger.{Ledger}
@@ -85,18 +88,20 @@ sums_up mails engine v s all is = record {
 
 -- ---- how far it came
 
--- some ledger is on its way: no more replies came than deliveries ended, and no more mails and moments than may come
+-- Some ledger is on its way: no more replies came than deliveries ended, and no more mails and moments than
+-- may come. Each mail that came has arrived.
 pub record IsUnderWay (mails : ℕ) (g : Generator) (engine : Engine) (v : View) : Type 0 where
   pub ledger : Ledger
   pub heard : List Event
   pub stands : EngineStands load_world engine v ledger
   pub counts : HasHeard g heard
   pub ended : HasEnded (count_by is_reply heard) ledger
+  pub taken : HasTaken (count_by is_mail heard) ledger
   pub came : count_by is_mail heard ≤ mails
   pub moments : count_by is_moment heard ≤ 200
 
-pub way_begins : (mails : ℕ) (g : Generator) (engine : Engine) (v : View) → IsUnended engine v → HasHeard g [] → IsUnderWay mails g engine v
-way_begins mails g engine v h counts = record { ledger = h.0; heard = []; stands = h.1; counts = counts; ended = h.2; came = omega arith; moments = omega arith }
+pub way_begins : (mails : ℕ) (g : Generator) (engine : Engine) (v : View) → IsFirst engine v → HasHeard g [] → IsUnderWay mails g engine v
+way_begins mails g engine v h counts = record { ledger = h.0; heard = []; stands = h.1; counts = counts; ended = h.2; taken = h.3; came = omega arith; moments = omega arith }
 
 module _ (mails : ℕ) (g : Generator) (engine : Engine) (v : View) where
   -- its counts have room
@@ -124,9 +129,14 @@ module _ (mails : ℕ) (g : Generator) (engine : Engine) (v : View) where
           stands = stands;
           counts = counts;
           ended = due_ends mails h.heard h.ledger e (sym is) h.ended;
+          taken = one_taken h.ledger e h.heard h.taken;
           came = within.0;
           moments = within.1;
         }
+
+    -- it isn't refused
+    pub way_takes : (v' : View) → mails < 2 ^ 32 → Some e ≡ due mails h.heard h.ledger → EngineStands load_world engine v' h.ledger → Takes engine v' e
+    way_takes v' fits is stands = (h.ledger, stands, due_accepted mails h.heard h.ledger e fits (sym is) h.taken)
 
     -- fewer are left behind it
     pub fewer_left : Some e ≡ due mails h.heard h.ledger → HasHeard g' (e ∷ h.heard) → left_of mails g'.replies g'.came g'.rounds < left_of mails g.replies g.came g.rounds

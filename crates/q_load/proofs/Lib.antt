@@ -1,3 +1,4 @@
+pub mod Accepted
 pub mod Addresses
 pub mod Bounds
 pub mod Beginning
@@ -7,3 +8,5 @@ pub mod Deliveries
 pub mod Hearing
 pub mod Places
 pub mod Settled
+pub mod Taken
+pub mod Unfailing

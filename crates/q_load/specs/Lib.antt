@@ -2,7 +2,9 @@ pub mod Numbers
 pub mod Mails
 pub mod Due
 pub mod Ended
+pub mod Taken
 pub mod Loads
 pub mod Lives
 pub mod Progress
 pub mod SummaryTexts
+pub mod Unfailing

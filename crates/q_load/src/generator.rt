@@ -4,17 +4,17 @@ ghost use Rattle.q_engine.specs.Heard.{IsEventInForm};
 ghost use Rattle.q_engine.specs.Looks.{ForStands};
 ghost use Rattle.q_engine.specs.Refusals.{ForAgreed};
 ghost use Rattle.q_host.specs.Calls.{Stays};
-ghost use Rattle.q_host.specs.View.{Told};
 ghost use Rattle.q_load.specs.Due.{due, mail_due, next_reply, reply_due, round_due};
 ghost use Rattle.q_load.specs.Progress.{HasHeard, HasRoom};
+ghost use Rattle.q_mem_host.specs.Left.{view_of};
 ghost use Rattle.q_model.specs.declared.event.Event.{Event as Events};
 
 use crate::mails::mail;
 use crate::numbers::next_number;
 use crate::remaining::is_some_left;
 use crate::replies::reply;
+use crate::unfailing_host::UnfailingHost;
 use q_engine::Engine;
-use q_host::{Host, HostError};
 use q_model::{Event, LAST_MOMENT, Moment, NoMemory};
 use std::alloc::Global;
 
@@ -109,17 +109,16 @@ impl Generator {
     }
 
     /// The moment that is due, while a message is left.
-    fn round_due<H: Host>(
+    fn round_due(
         &self,
         alloc: Global,
         engine: &Engine,
-        host: &mut H,
-    ) -> Result<Option<Event>, HostError>
-        ensures exact { IfOk result (λ o. Told H.tells H.view host.old host.new (λ u v.
-            ForStands engine.now u (λ w l. (heard : List Events) → HasHeard self.now heard
-            → o ≡ round_due heard l))) }
+        host: &mut UnfailingHost,
+    ) -> Result<Option<Event>, NoMemory>
+        ensures exact { IfOk result (λ o. ForStands engine.now (view_of host.old)
+            (λ w l. (heard : List Events) → HasHeard self.now heard → o ≡ round_due heard l)) }
         ensures form { IfOk result (λ o. IfSome o IsEventInForm) }
-        ensures stays { Told H.tells H.view host.old host.new Stays }
+        ensures stays { Stays (view_of host.old) (view_of host.new) }
     {
         if self.rounds >= MOST_ROUNDS {
             return Ok(None);
@@ -132,18 +131,18 @@ impl Generator {
     }
 
     /// The event that is due. The host is only looked at.
-    pub(crate) fn due<H: Host>(
+    pub(crate) fn due(
         &self,
         alloc: Global,
         engine: &Engine,
-        host: &mut H,
-    ) -> Result<Option<Event>, HostError>
+        host: &mut UnfailingHost,
+    ) -> Result<Option<Event>, NoMemory>
         requires room { self.now.replies ≤ 2 ^ 60 }
-        ensures exact { IfOk result (λ o. Told H.tells H.view host.old host.new (λ u v.
-            ForStands engine.now u (λ w l. (heard : List Events) → HasHeard self.now heard
-            → o ≡ due self.now.mails heard l))) }
+        ensures exact { IfOk result (λ o. ForStands engine.now (view_of host.old)
+            (λ w l. (heard : List Events) → HasHeard self.now heard
+            → o ≡ due self.now.mails heard l)) }
         ensures form { IfOk result (λ o. IfSome o IsEventInForm) }
-        ensures stays { Told H.tells H.view host.old host.new Stays }
+        ensures stays { Stays (view_of host.old) (view_of host.new) }
     {
         if let Some(event) = self.reply_due(alloc, engine)? {
             return Ok(Some(event));

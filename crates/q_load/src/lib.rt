@@ -13,6 +13,7 @@ mod numbers;
 mod remaining;
 mod replies;
 mod summary;
+mod unfailing_host;
 
 ghost use Rattle.q_load.specs.Loads.{HasOneSummary};
 

@@ -1,11 +1,12 @@
 //! A load from its beginning to its summary.
-ghost use Rattle.std.specs.Prelude.{◌≡◌, IfOk, IsTrue};
+ghost use Rattle.std.specs.Prelude.{◌≡◌, IfOk};
 ghost use Rattle.q_books.specs.HostStands.{HostStands};
 ghost use Rattle.q_engine.specs.Heard.{IsEventInForm};
 ghost use Rattle.q_engine.specs.Stands.{EngineStands, IsReady};
-ghost use Rattle.q_host.specs.View.{Told};
-ghost use Rattle.q_load.specs.Lives.{Begins, HearsAll, HearsOne, IsOnLoad, IsUnended};
+ghost use Rattle.q_engine.specs.declared.error.EngineError.TheVariants as errors;
+ghost use Rattle.q_load.specs.Lives.{Begins, HearsAll, HearsOne, IsFirst, Takes};
 ghost use Rattle.q_load.specs.Loads.{IsSummary, load_world, summary_at};
+ghost use Rattle.q_mem_host.specs.Left.{view_of};
 ghost use Rattle.q_model.specs.Book.{empty_book};
 ghost use Rattle.q_model.specs.Ledger.{Ledger};
 
@@ -13,9 +14,8 @@ use crate::generator::Generator;
 use crate::mails::all_recipients;
 use crate::remaining::count_left;
 use crate::summary::Summary;
+use crate::unfailing_host::UnfailingHost;
 use q_engine::{Engine, EngineError, begin};
-use q_host::{Host, HostError};
-use q_mem_host::MemHost;
 use q_model::{Event, Mode, Moment, NoMemory};
 use q_settings::Params;
 use q_transport::Table;
@@ -24,62 +24,62 @@ use std::alloc::Global;
 /// The moment of the first event.
 const FIRST_MOMENT: Moment = 1_000;
 
-/// A refusal of the engine. No event of a load is refused: where one were, want of memory would be
-/// answered.
-fn fault_of(error: EngineError) -> HostError {
+/// The engine's refusal, which is want of memory: no call of the host fails otherwise, its spool is in
+/// order and can be read, and no event of a load is refused.
+fn want_of_memory(error: EngineError) -> NoMemory
+    requires { error ≡ errors.NoMemory }
+{
     match error {
-        EngineError::Disk => HostError::Disk,
-        EngineError::Tell => HostError::Tell,
-        _ => HostError::NoMemory,
+        EngineError::NoMemory => NoMemory,
+        _ => unreachable!(),
     }
 }
 
-/// Begins a life on the host of a load.
-fn begin_life<H: Host>(alloc: Global, host: &mut H) -> Result<Engine, HostError>
+/// Begins a life on the host of a load, whose spool is empty.
+fn begin_life(alloc: Global, host: &mut UnfailingHost) -> Result<Engine, NoMemory>
+    requires { HostStands (view_of host.old) empty_book }
     ensures ready { IfOk result IsReady }
-    ensures begins { IfOk result (λ engine. Told H.tells H.view host.old host.new
-        (Begins engine)) }
+    ensures begins { IfOk result (λ engine. Begins engine (view_of host.old) (view_of host.new)) }
 {
     let table = Table::empty(alloc);
     match begin(alloc, host, Params::defaults(), table, Mode::Deliver) {
         Ok(engine) => Ok(engine),
-        Err(error) => Err(fault_of(error)),
+        Err(error) => Err(want_of_memory(error)),
     }
 }
 
-/// The life hears an event.
-fn hear<H: Host>(
+/// The life hears an event that it doesn't refuse.
+fn hear(
     alloc: Global,
     engine: Engine,
-    host: &mut H,
+    host: &mut UnfailingHost,
     event: Event,
-) -> Result<Engine, HostError>
+) -> Result<Engine, NoMemory>
     requires ready { IsReady engine }
     requires form { IsEventInForm event }
-    requires stands { IsTrue H.tells → IsOnLoad engine (H.view host.old) }
+    requires accepted { Takes engine (view_of host.old) event }
     ensures ready { IfOk result IsReady }
-    ensures hears { IfOk result (λ next. Told H.tells H.view host.old host.new
-        (HearsOne engine event next)) }
+    ensures hears { IfOk result (λ next. HearsOne engine event next
+        (view_of host.old) (view_of host.new)) }
 {
     match engine.step(alloc, host, event) {
         Ok(next) => Ok(next),
-        Err(error) => Err(fault_of(error)),
+        Err(error) => Err(want_of_memory(error)),
     }
 }
 
-/// The life hears the events of a load behind the first, on a host that tells its files. They come to
-/// an end: each ends one of at most 2^48 deliveries, or is one of the mails and moments.
-fn hear_all<H: Host>(
+/// The life hears the events of a load behind the first. They come to an end: each ends one of at most
+/// 2^48 deliveries, or is one of the mails and moments.
+fn hear_all(
     alloc: Global,
     engine: Engine,
-    host: &mut H,
+    host: &mut UnfailingHost,
     mails: u32,
-) -> Result<Engine, HostError>
+) -> Result<Engine, NoMemory>
     requires ready { IsReady engine }
-    requires tells { IsTrue H.tells }
-    requires stands { IsUnended engine (H.view host.old) }
-    ensures hears { IfOk result (λ next. Told H.tells H.view host.old host.new
-        (HearsAll mails engine next)) }
+    requires stands { IsFirst engine (view_of host.old) }
+    ensures hears { IfOk result (λ next. HearsAll mails engine next
+        (view_of host.old) (view_of host.new)) }
 {
     let mut generator = Generator::new(mails);
     let mut engine = engine;
@@ -93,14 +93,14 @@ fn hear_all<H: Host>(
 }
 
 /// Counts what the life did, and ends it.
-fn conclude<H: Host>(
+fn conclude(
     alloc: Global,
     engine: Engine,
-    host: &mut H,
+    host: &mut UnfailingHost,
     mails: u32,
-) -> Result<Summary, HostError>
-    ensures { IfOk result (λ summary. IsTrue H.tells → (l : Ledger)
-        → EngineStands load_world engine (H.view host.old) l → summary ≡ summary_at mails l) }
+) -> Result<Summary, NoMemory>
+    ensures { IfOk result (λ summary. (l : Ledger)
+        → EngineStands load_world engine (view_of host.old) l → summary ≡ summary_at mails l) }
 {
     let summary = Summary {
         messages: mails,
@@ -111,14 +111,13 @@ fn conclude<H: Host>(
     };
     match engine.finish(alloc, host) {
         Ok(()) => Ok(summary),
-        Err(error) => Err(fault_of(error)),
+        Err(error) => Err(want_of_memory(error)),
     }
 }
 
-/// Runs a load on a host that tells its files and stands for an empty spool.
-fn run<H: Host>(alloc: Global, host: &mut H, mails: u32) -> Result<Summary, HostError>
-    requires tells { IsTrue H.tells }
-    requires stands { HostStands (H.view host.old) empty_book }
+/// Runs a load on a host that stands for an empty spool.
+fn run(alloc: Global, host: &mut UnfailingHost, mails: u32) -> Result<Summary, NoMemory>
+    requires { HostStands (view_of host.old) empty_book }
     ensures { IfOk result (IsSummary mails) }
 {
     let begun = begin_life(alloc, host)?;
@@ -133,14 +132,13 @@ fn run<H: Host>(alloc: Global, host: &mut H, mails: u32) -> Result<Summary, Host
 /// Runs a load of so many mails on a host in memory of its own, with the default parameters and a table
 /// without lines, and says what came of it.
 ///
-/// All refusals are want of memory: no call of that host is planned to fail, and none else does.
+/// `NoMemory` comes only where memory ran out. No call of that host fails otherwise, so the engine
+/// answers no fault; an empty spool is refused for nothing; and no event of a load is refused: it is due
+/// by the ledger, behind a first moment, and of fewer than 2^32 mails each has its serial.
 pub fn load(alloc: Global, mails: u32) -> Result<Summary, NoMemory>
     // The summary is that of the run of the events that are due, one behind another.
     ensures { IfOk result (IsSummary mails) }
 {
-    let mut host = MemHost::new(alloc);
-    match run(alloc, &mut host, mails) {
-        Ok(summary) => Ok(summary),
-        Err(_) => Err(NoMemory),
-    }
+    let mut host = UnfailingHost::new(alloc);
+    run(alloc, &mut host, mails)
 }
