@@ -104,6 +104,12 @@ def _stop(number, _frame):
     sys.exit(128 + number)
 
 
+def ends_by_signals():
+    """Lets a signal that ends this script end what it began first."""
+    for number in (signal.SIGTERM, signal.SIGHUP):
+        signal.signal(number, _stop)
+
+
 def main(measure, about, usual, most):
     """Measures with the number of messages, and in the folder, that the words of the script say."""
     parser = argparse.ArgumentParser(
@@ -129,8 +135,7 @@ def main(measure, about, usual, most):
     folder = words.folder or tempfile.gettempdir()
     if not os.path.isdir(folder):
         parser.error(f"{folder} is no folder")
-    for number in (signal.SIGTERM, signal.SIGHUP):
-        signal.signal(number, _stop)
+    ends_by_signals()
     try:
         need(QMGR, "`make build` leaves it there")
         measure(os.path.abspath(folder), words.messages)

@@ -1,7 +1,7 @@
-//! Folders of another user are no spool.
+//! Folders of another user are no spool, nor are those that can't be synced.
 use crate::fixture::System;
 use std::fs;
-use std::os::unix::fs::chown;
+use std::os::unix::fs::{chown, symlink};
 use std::test::Fail;
 
 /// A user that no process of a test is of.
@@ -28,5 +28,16 @@ fn folder_of_another_user(rt: HostRuntime) -> Result<(), Fail> {
     if chown(&rt, incoming.as_str(), Some(OTHER_USER), None).is_ok() {
         assert!(rt; refused(&system, "incoming belongs to user 54321, ")?);
     }
+    system.leave()
+}
+
+// A sync of a folder of the system's own processes is no call that there is.
+#[test]
+fn folder_that_cannot_be_synced(rt: HostRuntime) -> Result<(), Fail> {
+    let system = System::new(rt, "unsynced-spool")?;
+    let hold = format!(in rt.alloc(); "{}/hold", system.root)?;
+    fs::create_dir(&rt, system.root.as_str())?;
+    symlink(&rt, "/proc/self/task", hold.as_str())?;
+    assert!(rt; refused(&system, "folder hold: ")?);
     system.leave()
 }

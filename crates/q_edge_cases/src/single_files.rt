@@ -2,17 +2,32 @@
 use crate::fixture::{Spool, System, name};
 use q_host::{Host, HostError};
 use q_model::Area;
+use std::os::unix::fs::symlink;
 use std::process::Abort;
 use std::test::Fail;
 
-// A file of 12 bytes, written over in part and synced, comes from tmp to incoming.
-fn comes(host: &mut Spool<'_>) -> Result<(), Fail> {
+// A file of 12 bytes, written over in part and synced, comes from tmp to incoming. It is synced, and so
+// are both folders.
+fn comes(abort: &impl Abort, host: &mut Spool<'_>) -> Result<(), Fail> {
     let id = name("00000001-00000001")?;
+    let before = host.syncs();
     host.create(Area::Tmp, id)?;
     host.write_at(Area::Tmp, id, 0, b"hullo")?;
     host.write_at(Area::Tmp, id, 1, b"ello, world")?;
+    assert_eq!(abort; host.syncs(), before);
     host.sync(Area::Tmp, id)?;
+    assert_eq!(abort; host.syncs(), before.saturating_add(1));
     host.rename(Area::Tmp, id, Area::Incoming, id)?;
+    assert_eq!(abort; host.syncs(), before.saturating_add(3));
+    Ok(())
+}
+
+// A sync that the system refuses, as that of a device, is a fault of the disk.
+fn asks_the_system(rt: &impl Abort, host: &mut Spool<'_>, system: &System) -> Result<(), Fail> {
+    let id = name("00000001-00000003")?;
+    let device = format!(in system.rt.alloc(); "{}/incoming/{id}", system.root)?;
+    symlink(&system.rt, "/dev/null", device.as_str())?;
+    assert_eq!(rt; host.sync(Area::Incoming, id), Err(HostError::Disk));
     Ok(())
 }
 
@@ -27,12 +42,14 @@ fn is_read(rt: &impl Abort, host: &mut Spool<'_>) -> Result<(), Fail> {
     Ok(())
 }
 
-// A new file takes its place, and goes.
+// A new file takes its place, and goes: it is synced as it is made, and its folder each time.
 fn goes(rt: &impl Abort, host: &mut Spool<'_>) -> Result<(), Fail> {
     let id = name("00000001-00000001")?;
+    let before = host.syncs();
     host.create(Area::Incoming, id)?;
     assert_eq!(rt; host.size(Area::Incoming, id)?, 0);
     host.remove(Area::Incoming, id)?;
+    assert_eq!(rt; host.syncs(), before.saturating_add(3));
     assert!(rt; !host.has(Area::Incoming, id)?);
     Ok(())
 }
@@ -64,10 +81,11 @@ fn tells(rt: &impl Abort, host: &mut Spool<'_>, system: &System) -> Result<(), F
 }
 
 fn all_calls(rt: &impl Abort, host: &mut Spool<'_>, system: &System) -> Result<(), Fail> {
-    comes(host)?;
+    comes(rt, host)?;
     is_read(rt, host)?;
     goes(rt, host)?;
     misses(rt, host)?;
+    asks_the_system(rt, host, system)?;
     tells(rt, host, system)
 }
 

@@ -1,21 +1,24 @@
 //! The hops of a case, as processes of their own.
+use crate::room::Room;
 use anyhow::{Context, Result, bail};
 use q_serving::{ACCEPTANCE, Server, start};
-use std::env;
 use std::net::{Ipv4Addr, TcpListener};
 use std::process::Command;
+use std::{env, fs};
 
 /// Starts a hop by these words, and says its name.
 fn start_hop(
     rt: HostRuntime,
-    kind: &str,
+    words: &[&str],
     replies: &[&str],
     servers: &mut Vec<Server>,
 ) -> Result<String> {
     let alloc = rt.alloc();
     let program = env::args(&rt)?.next().context("the name of this program")?;
     let mut command = Command::new(alloc, program)?;
-    command.arg(kind)?;
+    for word in words {
+        command.arg(*word)?;
+    }
     for reply in replies {
         command.arg(*reply)?;
     }
@@ -32,13 +35,32 @@ fn nobody(rt: HostRuntime) -> Result<String> {
     Ok(format!(in rt.alloc(); "[127.0.0.1]:{port}")?)
 }
 
-/// The name of a next hop that takes the message (`accepts`), that answers 354 and then neither reads nor
-/// answers (`stuck`), or where nobody listens (`nobody`). Where it is a process, it is added to these.
-pub(crate) fn next_hop(rt: HostRuntime, kind: &str, servers: &mut Vec<Server>) -> Result<String> {
-    match kind {
-        "accepts" => start_hop(rt, "answer", &ACCEPTANCE, servers),
-        "stuck" => start_hop(rt, "stuck", &ACCEPTANCE[..5], servers),
-        "nobody" => nobody(rt),
+/// The name of a hop that takes the message once so many like it have a connection. Each leaves a name in
+/// the folder then.
+fn together(
+    rt: HostRuntime,
+    folder: &str,
+    wanted: &str,
+    servers: &mut Vec<Server>,
+) -> Result<String> {
+    fs::create_dir_all(&rt, folder)?;
+    start_hop(rt, &["together", folder, wanted], &ACCEPTANCE, servers)
+}
+
+/// The name of a next hop that takes the message (`accepts`), that takes it once so many like it have a
+/// connection (`together N`), that answers 354 and then neither reads nor answers (`stuck`), or where
+/// nobody listens (`nobody`). Where it is a process, it is added to these.
+pub(crate) fn next_hop(
+    rt: HostRuntime,
+    room: &Room,
+    kind: &str,
+    servers: &mut Vec<Server>,
+) -> Result<String> {
+    match kind.split_once(' ').unwrap_or((kind, "")) {
+        ("accepts", "") => start_hop(rt, &["answer"], &ACCEPTANCE, servers),
+        ("stuck", "") => start_hop(rt, &["stuck"], &ACCEPTANCE[..5], servers),
+        ("nobody", "") => nobody(rt),
+        ("together", wanted) => together(rt, room.inside("together")?.as_str(), wanted, servers),
         _ => bail!("no hop: {kind}"),
     }
 }

@@ -3,20 +3,22 @@
 //! numbers of processes as N, and ports as PORT, since they are others each time.
 //!
 //! The commands and the hops are processes of this program: `q_program_cases qmgr WORD..` does as
-//! `qmgr WORD..`, `q_program_cases answer REPLY..` as `q_hop REPLY..`, and `q_program_cases stuck
-//! REPLY..` reads nothing behind the last reply. It is an error to name a page that isn't there, or one
-//! with a line that is no step.
+//! `qmgr WORD..`, `q_program_cases answer REPLY..` as `q_hop REPLY..`; `q_program_cases stuck REPLY..`
+//! reads nothing behind the last reply, and `q_program_cases together FOLDER N REPLY..` answers once N
+//! of its kind have a connection. It is an error to name a page that isn't there, or one with a line that
+//! is no step.
 #![tactic(auto)]
 
 mod hop;
 mod hops;
+mod many;
 mod room;
 mod running;
 mod shown;
 mod stage;
 
 use anyhow::Result;
-use hop::{serve, serve_stuck};
+use hop::{serve, serve_stuck, serve_together};
 use q_program::program;
 use room::Room;
 use stage::Stage;
@@ -58,6 +60,7 @@ fn main(rt: HostRuntime) -> Result<ExitCode> {
             "qmgr" => return Ok(ExitCode::from(program(rt, behind))),
             "answer" => serve(rt, behind)?,
             "stuck" => serve_stuck(rt, behind)?,
+            "together" => serve_together(rt, behind)?,
             _ => run_pages(rt, &words)?,
         }
     }

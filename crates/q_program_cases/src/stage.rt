@@ -1,5 +1,6 @@
 //! The steps of a case.
 use crate::hops::next_hop;
+use crate::many::{add_bytes, make_files};
 use crate::room::Room;
 use crate::running::{Running, Streams, run};
 use anyhow::{Context, Result, bail};
@@ -92,6 +93,18 @@ impl Stage {
         Ok(())
     }
 
+    // A step that makes much of one kind.
+    fn make_many(&self, word: &str, text: &str) -> Result<()> {
+        let (name, behind) = cut(text);
+        let (count, behind) = cut(behind);
+        let path = self.room.inside(name)?;
+        let count = count.parse::<u32>()?;
+        match word {
+            "bytes" => add_bytes(self.rt, path.as_str(), count, behind),
+            _ => make_files(self.rt, path.as_str(), count),
+        }
+    }
+
     // The next command reads a line so many times.
     fn repeat(&mut self, count: &str, line: &str) -> Result<()> {
         let mut input = String::new(self.rt.alloc());
@@ -106,7 +119,7 @@ impl Stage {
     // Starts a hop that behaves so, and routes a domain to it by a line more of a table.
     fn route(&mut self, table: &str, text: &str) -> Result<()> {
         let (domain, kind) = cut(text);
-        let hop = next_hop(self.rt, kind, &mut self.servers)?;
+        let hop = next_hop(self.rt, &self.room, kind, &mut self.servers)?;
         let path = self.room.inside(table)?;
         let line = format!(in self.rt.alloc(); "{domain} smtp:{hop}\n")?;
         let mut file = OpenOptions::new()
@@ -160,6 +173,7 @@ impl Stage {
             "input-lines" => self.repeat(name, behind)?,
             "route" => self.route(name, behind)?,
             "names" => self.show_names(text)?,
+            "bytes" | "files" => self.make_many(word, text)?,
             "begin" | "send" | "hear" | "end" => self.go_on(word, text)?,
             _ => self.change(word, text)?,
         }
