@@ -13,6 +13,8 @@ use Rattle.q_model.specs.Values.{Spot, Taken}
 use Rattle.q_pending.proofs.FileLaws.{has_file}
 use Rattle.q_pending.specs.declared.pending.Pending.{Pending}
 use Rattle.q_pending.specs.Readings.{GivesPending, IsFileOfMessage, IsPendingAhead}
+use Rattle.q_shape.proofs.CountLaws.{counted_before}
+use Rattle.q_shape.specs.Counted.{CanBeCounted}
 use Rattle.q_shape.specs.Counts.{Count}
 use Rattle.q_shape.specs.declared.age_table.AgeTable.{AgeTable}
 use Rattle.q_shape.specs.Rows.{HasCounted}
@@ -20,10 +22,12 @@ use Rattle.q_shape.specs.Rows.{HasCounted}
 -- ---- one part behind another
 
 pub adds_none : (t : AgeTable) → Adds [] t t
-adds_none t o cs h = subst (λ (ds : List Count). HasCounted o ds t) (sym (append-nil cs)) h
+adds_none t o cs h fits = subst (λ (ds : List Count). HasCounted o ds t) (sym (append-nil cs)) h
 
 pub adds_on : (xs ys : List Count) (a b c : AgeTable) → Adds xs a b → Adds ys b c → Adds (xs ++ ys) a c
-adds_on xs ys a b c first second o cs h = subst (λ (ds : List Count). HasCounted o ds c) (append_assoc cs xs ys) (second o (cs ++ xs) (first o cs h))
+adds_on xs ys a b c first second o cs h fits =
+    let all : CanBeCounted ((cs ++ xs) ++ ys) = subst CanBeCounted (sym (append_assoc cs xs ys)) fits in
+    subst (λ (ds : List Count). HasCounted o ds c) (append_assoc cs xs ys) (second o (cs ++ xs) (first o cs h (counted_before (cs ++ xs) ys all)) all)
 
 -- ---- the file of a message
 

@@ -120,8 +120,8 @@ module _ (b : Book) (ms : List Message) (messages recipients : ℕ) (p q : Walk)
 pub same_total : (messages recipients : ℕ) (f : Files) (b : Book) → Stands f b → messages ≡ counted (length (listed all_queues b)) → recipients ≡ counted (recipient_count (listed all_queues b))
     → total_line messages recipients ≡ total_line (length (listed all_queues b)) (recipient_count (listed all_queues b))
 same_total messages recipients f b stands count sum =
-    let few = few_listed f b stands in
-    let fits = few_recipients f b stands in
+    let few = few_listed f b all_queues stands in
+    let fits = few_recipients f b all_queues stands in
     let first : messages ≡ length (listed all_queues b) = omega (arith, count, few) in
     let second : recipients ≡ recipient_count (listed all_queues b) = omega (arith, sum, fits) in
     ap (λ (n : ℕ). total_line n recipients) first ∙ ap (λ (n : ℕ). total_line (length (listed all_queues b)) n) second

@@ -64,7 +64,7 @@ module _ (f : Files) (b : Book) (walk walk' : Walk) (count : ℕ) (ms : List Mes
 -- all messages of a book are counted
 pub whole_count : (f : Files) (b : Book) (count : ℕ) → Stands f b → count ≡ counted (length (listed all_queues b)) → count ≡ length b.messages
 whole_count f b count stands is =
-    let few = few_listed f b stands in
+    let few = few_listed f b all_queues stands in
     let same = listed_length f b stands in
     omega (arith, is, few, same)
 

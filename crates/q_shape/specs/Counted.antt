@@ -1,8 +1,12 @@
 -- The numbers that are kept of what was counted.
-use Rattle.std.specs.Prelude.{◌<◌, ◌≡◌, List, replicate, slice_get, Some, ℕ}
+use Rattle.std.specs.Prelude.{◌<◌, ◌^◌, ◌≡◌, List, replicate, slice_get, Some, ℕ}
 use Rattle.q_shape.specs.declared.numbers.Numbers.{Numbers}
 use Rattle.q_shape.specs.declared.options.ShapeOptions.{ShapeOptions}
 use Rattle.q_shape.specs.Counts.{Count, in_bucket, total}
+
+-- all together is within 128 bits
+abbrev pub CanBeCounted : List Count → Type 0
+CanBeCounted cs = total cs < 2 ^ 128
 
 -- nothing is counted
 abbrev pub no_numbers : Numbers

@@ -2,6 +2,7 @@
 ghost use Rattle.std.specs.Prelude.{◌≡◌, ◌++◌, ◌∷◌, [], List, OnOk};
 ghost use Rattle.q_shape.specs.declared.options.ShapeOptions.{ShapeOptions as OptionsValue};
 ghost use Rattle.q_shape.specs.Buckets.{IsShape};
+ghost use Rattle.q_shape.specs.Counted.{CanBeCounted};
 ghost use Rattle.q_shape.specs.Counts.{Count};
 ghost use Rattle.q_shape.specs.Rows.{HasCounted, numbers_at};
 
@@ -36,7 +37,7 @@ impl AgeTable {
     }
 
     /// Counts so many of a domain and of an age in seconds. After an error the table is of no use.
-    /// Want of memory comes also where a number would pass 128 bits.
+    /// Numbers stay at the last value of 128 bits, so they are of use while all together fit.
     pub fn add(
         &mut self,
         alloc: Global,
@@ -45,12 +46,13 @@ impl AgeTable {
         number: u64,
     ) -> Result<(), NoMemory>
         ensures { OnOk result ((o : OptionsValue) (cs : List Count) → HasCounted o cs self.old
+            → CanBeCounted (cs ++ (domain.now, age, number) ∷ [])
             → HasCounted o (cs ++ (domain.now, age, number) ∷ []) self.new) }
     {
         let name = domain.bytes();
         let of_name = self.numbers_of(name);
-        let numbers = of_name.with(&self.options, age, number)?;
-        self.all = self.all.with(&self.options, age, number)?;
+        let numbers = of_name.with(&self.options, age, number);
+        self.all = self.all.with(&self.options, age, number);
         self.rows.insert(name.to_vec(alloc)?, numbers)?;
         Ok(())
     }

@@ -1,13 +1,12 @@
 //! How many there are in each bucket.
-ghost use Rattle.std.specs.Prelude.{◌≡◌, ◌++◌, ◌∷◌, ◌+◌, [], IfOk, List, ℕ};
+ghost use Rattle.std.specs.Prelude.{◌≡◌, ◌++◌, ◌∷◌, [], List, ℕ};
 ghost use Rattle.q_shape.specs.declared.options.ShapeOptions.{ShapeOptions as OptionsValue};
 ghost use Rattle.q_shape.specs.Buckets.{IsShape};
-ghost use Rattle.q_shape.specs.Counted.{AreNumbers, no_numbers};
+ghost use Rattle.q_shape.specs.Counted.{AreNumbers, CanBeCounted, no_numbers};
 ghost use Rattle.q_shape.specs.Counts.{Count};
 
 use crate::buckets::bucket_of;
 use crate::options::ShapeOptions;
-use q_model::NoMemory;
 
 /// The most buckets of a table.
 const MOST: usize = 20;
@@ -17,12 +16,6 @@ const MOST: usize = 20;
 pub(crate) struct Numbers {
     pub(crate) total: u128,
     pub(crate) buckets: [u128; MOST],
-}
-
-fn sum(count: u128, number: u64) -> Result<u128, NoMemory>
-    ensures { IfOk result (λ r. r ≡ count + number) }
-{
-    count.checked_add(u128::from(number)).ok_or(NoMemory)
 }
 
 impl Numbers {
@@ -37,23 +30,18 @@ impl Numbers {
         }
     }
 
-    /// The numbers with so many more of an age. Want of memory is answered where one of them would
-    /// pass 128 bits.
-    pub(crate) fn with(
-        self,
-        options: &ShapeOptions,
-        age: u64,
-        number: u64,
-    ) -> Result<Numbers, NoMemory>
+    /// The numbers with so many more of an age. Each stays at the last value of 128 bits.
+    pub(crate) fn with(self, options: &ShapeOptions, age: u64, number: u64) -> Numbers
         requires { IsShape options.now }
-        ensures { IfOk result (λ r. (name : List ℕ) (cs : List Count)
-            → AreNumbers options.now self cs
-            → AreNumbers options.now r (cs ++ (name, age, number) ∷ [])) }
+        ensures { (name : List ℕ) (cs : List Count) → AreNumbers options.now self cs
+            → CanBeCounted (cs ++ (name, age, number) ∷ [])
+            → AreNumbers options.now result (cs ++ (name, age, number) ∷ []) }
     {
         let bucket = bucket_of(options, age) as usize;
+        let more = u128::from(number);
         let mut numbers = self;
-        numbers.total = sum(self.total, number)?;
-        numbers.buckets[bucket] = sum(self.buckets[bucket], number)?;
-        Ok(numbers)
+        numbers.total = self.total.saturating_add(more);
+        numbers.buckets[bucket] = self.buckets[bucket].saturating_add(more);
+        numbers
     }
 }

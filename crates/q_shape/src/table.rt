@@ -11,7 +11,7 @@ use std::alloc::Global;
 /// The table of what was counted: a line with the limits of the buckets in minutes, one for all, and
 /// one for each domain, greater numbers first. Ages are in seconds, and a bucket has those below
 /// its limit and not below the one before. A name has 24 places and a number 6; a longer text is
-/// written whole. Want of memory comes also where a number would pass 128 bits.
+/// written whole.
 pub fn shape(alloc: Global, counted: &Counted, options: &ShapeOptions) -> Result<Bytes, NoMemory>
     requires { IsShape options.now }
     ensures { IfOk result (λ text. IsTable options.now counted.now text) }

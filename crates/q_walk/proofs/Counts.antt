@@ -23,7 +23,8 @@ use Rattle.q_model.specs.Message.{is_logged, Message, pending}
 use Rattle.q_model.specs.QueueFile.{FileRecipient}
 use Rattle.q_model.specs.Places.{is_active, is_corrupt, is_incoming}
 use Rattle.q_model.specs.SpoolFiles.{Files}
-use Rattle.q_walk.specs.Listed.{all_queues, comes_before, is_deferred, is_held, listed}
+use Rattle.q_model.specs.declared.queues.Queues.{Queues}
+use Rattle.q_walk.specs.Listed.{all_queues, comes_before, is_deferred, is_held, listed, of_queue}
 use Rattle.q_walk.specs.Orders.{in_order, put_in_order}
 use Rattle.q_walk.specs.Queues.{held_in}
 use Rattle.q_walk.specs.declared.queue.Queue.{Queue}
@@ -106,6 +107,28 @@ listed_length f b stands =
     let third = append_length (ordered is_deferred ms) (ordered is_held ms) in
     let all = all_queued f ms stands.messages in
     omega (arith, i, a, d, o, first, second, third, all)
+
+-- fewer queues have no more
+
+fewer_of_queue : (chosen : Bool) (queue : Place → Bool) (b : Book) → length (of_queue chosen queue b) ≤ length (of_queue true queue b)
+fewer_of_queue true queue b = omega arith
+fewer_of_queue false queue b = omega arith
+
+fewer_listed : (b : Book) (q : Queues) → length (listed q b) ≤ length (listed all_queues b)
+fewer_listed b q =
+    let i = fewer_of_queue q.incoming is_incoming b in
+    let a = fewer_of_queue q.active is_active b in
+    let d = fewer_of_queue q.deferred is_deferred b in
+    let o = fewer_of_queue q.hold is_held b in
+    let some = parts q.incoming q.active q.deferred q.hold in
+    let all = parts true true true true in
+    omega (arith, i, a, d, o, some, all)
+  where
+    parts : (i a d o : Bool) → length (of_queue i is_incoming b ++ (of_queue a is_active b ++ (of_queue d is_deferred b ++ of_queue o is_held b)))
+        ≡ length (of_queue i is_incoming b) + (length (of_queue a is_active b) + (length (of_queue d is_deferred b) + length (of_queue o is_held b)))
+    parts i a d o = append_length (of_queue i is_incoming b) (of_queue a is_active b ++ (of_queue d is_deferred b ++ of_queue o is_held b))
+        ∙ ap (λ (n : ℕ). length (of_queue i is_incoming b) + n) (append_length (of_queue a is_active b) (of_queue d is_deferred b ++ of_queue o is_held b)
+        ∙ ap (λ (n : ℕ). length (of_queue a is_active b) + n) (append_length (of_queue d is_deferred b) (of_queue o is_held b)))
 
 -- ---- ids
 
@@ -198,11 +221,12 @@ few_messages f b stands =
     let same = numbers_length f ms in
     omega (arith, few, same)
 
-pub few_listed : (f : Files) (b : Book) → Stands f b → length (listed all_queues b) ≤ 2 ^ 65
-few_listed f b stands =
+pub few_listed : (f : Files) (b : Book) (q : Queues) → Stands f b → length (listed q b) ≤ 2 ^ 65
+few_listed f b q stands =
+    let part = fewer_listed b q in
     let same = listed_length f b stands in
     let few = few_messages f b stands in
-    omega (arith, same, few)
+    omega (arith, part, same, few)
 
 -- ---- recipients
 
@@ -229,16 +253,16 @@ few_in f (m ∷ ms) each =
     let sum = sum_by-cons (λ (x : Message). length (pending x)) m ms in
     omega (arith, first, rest, sum)
 
-all_listed : (f : Files) (b : Book) → Stands f b → AllByRecursion (MessageStands f) (listed all_queues b)
-all_listed f b stands =
-    let held = λ (queue : Queue). each-same (IsHeld f queue) (MessageStands f) (held_in all_queues queue b) (λ m h. h.stands) (all_held f b stands all_queues queue) in
-    each-append (MessageStands f) (held_in all_queues queues.Incoming b) (held_in all_queues queues.Active b ++ (held_in all_queues queues.Deferred b ++ held_in all_queues queues.Hold b)) (held queues.Incoming)
-    (each-append (MessageStands f) (held_in all_queues queues.Active b) (held_in all_queues queues.Deferred b ++ held_in all_queues queues.Hold b) (held queues.Active)
-    (each-append (MessageStands f) (held_in all_queues queues.Deferred b) (held_in all_queues queues.Hold b) (held queues.Deferred) (held queues.Hold)))
+all_listed : (f : Files) (b : Book) (q : Queues) → Stands f b → AllByRecursion (MessageStands f) (listed q b)
+all_listed f b q stands =
+    let held = λ (queue : Queue). each-same (IsHeld f queue) (MessageStands f) (held_in q queue b) (λ m h. h.stands) (all_held f b stands q queue) in
+    each-append (MessageStands f) (held_in q queues.Incoming b) (held_in q queues.Active b ++ (held_in q queues.Deferred b ++ held_in q queues.Hold b)) (held queues.Incoming)
+    (each-append (MessageStands f) (held_in q queues.Active b) (held_in q queues.Deferred b ++ held_in q queues.Hold b) (held queues.Active)
+    (each-append (MessageStands f) (held_in q queues.Deferred b) (held_in q queues.Hold b) (held queues.Deferred) (held queues.Hold)))
 
 -- A listing has fewer pending recipients than a number of 128 bits can count.
-pub few_recipients : (f : Files) (b : Book) → Stands f b → sum_by (λ m. length (pending m)) (listed all_queues b) < 2 ^ 128
-few_recipients f b stands =
-    let sum = few_in f (listed all_queues b) (all_listed f b stands) in
-    let few = few_listed f b stands in
+pub few_recipients : (f : Files) (b : Book) (q : Queues) → Stands f b → sum_by (λ m. length (pending m)) (listed q b) < 2 ^ 128
+few_recipients f b q stands =
+    let sum = few_in f (listed q b) (all_listed f b q stands) in
+    let few = few_listed f b q stands in
     omega (arith, sum, few)
