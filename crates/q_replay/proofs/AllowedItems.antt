@@ -1,8 +1,7 @@
 -- The items that a life takes are allowed.
-use Rattle.std.proofs.Common.{◌≡◌, ◌+◌, ◌^◌, ◌<◌, ◌++◌, ℕ, Bool, true, false, List, [], ◌∷◌, Option, Some, None, if◌then◌else◌, max, not, refl, sym, ap, subst, ◌∙◌, arith}
-use Rattle.std.specs.Prelude.{nat_le, nat_lt, ◌-◌, ◌==◌, ◌||◌}
-use Rattle.std.proofs.lemmas.Bool.{and_from, eq-eqb, le-leb, lt-ltb, ltb-true, or_left, or_right}
-use Rattle.q_engine.specs.Heard.{is_moment}
+use Rattle.std.proofs.Common.{◌≡◌, ◌+◌, ◌^◌, ◌++◌, ℕ, Bool, true, false, List, [], ◌∷◌, Option, Some, None, if◌then◌else◌, max, not, refl, sym, ap, subst, ◌∙◌, arith}
+use Rattle.std.specs.Prelude.{nat_lt, ◌-◌}
+use Rattle.std.proofs.lemmas.Bool.{and_from, eq-eqb, le-leb, lt-ltb, ltb-true, or_right}
 use Rattle.q_engine.specs.Refusals.{refused_event}
 use Rattle.q_engine.specs.declared.error.EngineError.{EngineError}
 use Rattle.q_engine.specs.declared.error.EngineError.TheVariants as engine_errors
@@ -19,7 +18,7 @@ use Rattle.q_model.specs.Arrivals.{next_id}
 use Rattle.q_model.specs.Book.{Book}
 use Rattle.q_model.specs.Ledger.{Ledger, opening}
 use Rattle.q_model.specs.Lives.{may_life, mode_eq}
-use Rattle.q_model.specs.Past.{has_entries, is_end, is_life, is_living}
+use Rattle.q_model.specs.Past.{has_entries, is_end, is_living}
 use Rattle.q_model.specs.Run.{decisions, entry_of, event_entry, goes_on, run, turn}
 use Rattle.q_model.specs.Settings.{World}
 use Rattle.q_model.specs.Step.{after, after_all, allowed, may}
@@ -27,7 +26,7 @@ use Rattle.q_model.specs.declared.entry.Entry.TheVariants as entries
 use Rattle.q_model.specs.declared.event.Event.{Event}
 use Rattle.q_model.specs.declared.event.Event.TheVariants as events
 use Rattle.q_model.specs.declared.event.LifeEvent.{LifeEvent}
-use Rattle.q_model.specs.declared.event.LifeEvent.TheVariants.{Begin, Finish, Heard}
+use Rattle.q_model.specs.declared.event.LifeEvent.TheVariants.{Begin, Heard}
 use Rattle.q_model.specs.declared.event.Mode.{Mode}
 use Rattle.q_model.specs.declared.event.Mode.TheVariants.{Deliver, Intake}
 use Rattle.q_drain.proofs.Deciding.{AreDecisions, decisions_are, IsDecision}
@@ -39,7 +38,7 @@ use Rattle.q_replay.proofs.Readings.{comes_to_end, on, refused_item, taken_item}
 use Rattle.q_replay.proofs.Readings.{goes_on as goes_behind}
 use Rattle.q_replay.specs.AnyLists.{IsListInForm}
 use Rattle.q_replay.specs.Listings.{bad, gives, Listing, past_limit}
-use Rattle.q_replay.specs.Reading.{ended, event_of, faulty, is_spent, items_in, limited, read_items, reading_behind, refusal_at, refused_in, TakenItems}
+use Rattle.q_replay.specs.Reading.{ended, event_of, faulty, items_in, limited, read_items, reading_behind, refusal_at, refused_in, TakenItems}
 
 -- ---- lists
 

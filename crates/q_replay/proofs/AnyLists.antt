@@ -27,7 +27,7 @@ use Rattle.q_replay.specs.RunEnds.{IsFrontOf, IsTold, RunEnds}
 use Rattle.q_replay.specs.Takings.{list_error, NotTaken, TookItem}
 use Rattle.q_replay.specs.declared.error.ReplayError.{ReplayError}
 use Rattle.q_replay.specs.declared.error.ReplayError.TheVariants as errors
-use Rattle.q_replay.proofs.Readings.{behind_none, ledger_none, ledger_on}
+use Rattle.q_replay.proofs.Readings.{ledger_none, ledger_on}
 use Rattle.q_replay.proofs.RunSteps.{at_first, given_up, IsAt, last_ends, none_told, taken_next, untaken_ends}
 
 -- an item and the number of its line

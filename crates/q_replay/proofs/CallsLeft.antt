@@ -1,5 +1,5 @@
 -- What a call leaves that takes the items of a list, or hands a message in.
-use Rattle.std.proofs.Common.{◌≡◌, ◌≤◌, ◌++◌, ℕ, List, [], ◌∷◌, refl, sym, ap, ◌∙◌, subst}
+use Rattle.std.proofs.Common.{◌≡◌, ◌≤◌, ◌++◌, ℕ, List, [], ◌∷◌, ap, subst}
 use Rattle.std.specs.Prelude.{Err, Ok, Result}
 use Rattle.q_events.specs.Forms.{IsMailInForm}
 use Rattle.q_events.specs.declared.list_item.ListItem.TheVariants.{End, Step}

@@ -1,5 +1,5 @@
 -- What a call leaves that delivers by SMTP.
-use Rattle.std.proofs.Common.{◌≡◌, List, [], ◌∷◌, ◌++◌, refl, sym, subst}
+use Rattle.std.proofs.Common.{◌≡◌, List, [], ◌∷◌, ◌++◌, refl, sym}
 use Rattle.std.specs.Prelude.{Err, Ok, Result}
 use Rattle.q_drain.specs.Swept.{Outsides}
 use Rattle.q_host.specs.View.{View}

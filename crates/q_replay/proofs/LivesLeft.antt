@@ -1,5 +1,5 @@
 -- What a run that was told, whole or in part, leaves is what a life leaves.
-use Rattle.std.proofs.Common.{◌≡◌, ◌<◌, ◌≤◌, ◌+◌, ◌⊎◌, inl, inr, ⊎_elim, ℕ, zero, suc, Bool, List, [], ◌∷◌, ◌++◌, length, take, true, refl, sym, ap, ◌∙◌, subst, arith, append-nil, append_assoc}
+use Rattle.std.proofs.Common.{◌≡◌, ◌<◌, ◌⊎◌, inl, inr, ⊎_elim, ℕ, zero, suc, List, [], ◌∷◌, ◌++◌, length, take, true, refl, sym, ap, ◌∙◌, subst, arith, append-nil, append_assoc}
 use Rattle.std.proofs.lemmas.List.{take_at}
 use Rattle.q_books.specs.HostStands.{Between, HostStands, IsLeftOf, Takes}
 use Rattle.q_host.proofs.Moments.{leaves_on}
@@ -15,7 +15,6 @@ use Rattle.q_model.proofs.RunLaws.{after_all-append}
 use Rattle.q_model.proofs.CrashLaws.{is_lawful-crash, is_orderly-crash}
 use Rattle.q_model.specs.Book.{Book}
 use Rattle.q_model.specs.Crashes.{IsCrashOf}
-use Rattle.q_model.specs.FilesStand.{Stands}
 use Rattle.q_model.specs.Ledger.{Ledger, opening}
 use Rattle.q_model.specs.Ids.{are_distinct}
 use Rattle.q_model.specs.Orderly.{is_lawful}
@@ -28,7 +27,7 @@ use Rattle.q_model.specs.declared.event.LifeEvent.{LifeEvent}
 use Rattle.q_model.specs.declared.event.LifeEvent.TheVariants.{Begin}
 use Rattle.q_model.specs.declared.event.Mode.{Mode}
 use Rattle.q_replay.proofs.SureBooks.{crash_ids, sure_after}
-use Rattle.q_replay.specs.LivesLeft.{AreTold, IsLeft, LeavesLives, LeftAt, LeftAsItWas, LeftByLife}
+use Rattle.q_replay.specs.LivesLeft.{AreTold, IsLeft, LeavesLives, LeftAt}
 use Rattle.q_replay.specs.RunEnds.{entries_on}
 
 one_text : (t : Table) (e : Entry) → text t (e ∷ []) ≡ line t e

@@ -1,6 +1,6 @@
 -- What refusals name.
-use Rattle.std.proofs.Common.{◌≡◌, ◌<◌, ℕ, Bool, true, false, if◌then◌else◌, List, length, Option, Some, None, inl, inr, refl, sym, ap, ◌∙◌, subst, ltb-true}
-use Rattle.std.specs.Prelude.{◌||◌, ◌⊎◌, ◌==◌, ◌^◌, ◌-◌, Err, IfErr, nat_lt, not, Ok, Result}
+use Rattle.std.proofs.Common.{◌≡◌, ℕ, Bool, true, false, if◌then◌else◌, List, length, Option, Some, None, inl, inr, refl, sym, ap, ◌∙◌, subst, ltb-true}
+use Rattle.std.specs.Prelude.{◌||◌, ◌==◌, ◌^◌, ◌-◌, Err, IfErr, nat_lt, not, Ok, Result}
 use Rattle.q_drain.specs.Drained.{IsDrainError}
 use Rattle.q_engine.specs.Beginnings.{is_of_spool, IsRefusalOfSomeSpool}
 use Rattle.q_engine.specs.Refusals.{is_early, is_of_event, is_of_host as is_engine_host, is_unreadable, kind_refused_by, refused_by, refused_mail, refused_reply, told_count}

@@ -1,12 +1,11 @@
 -- Calls on one spool ran lives, one on what the other left.
-use Rattle.std.proofs.Common.{◌≡◌, ◌⊎◌, inl, inr, ℕ, Bool, true, false, List, [], ◌∷◌, ◌++◌, take, refl, sym, ap, ◌∙◌, subst, append_assoc, append-nil}
+use Rattle.std.proofs.Common.{◌≡◌, ◌⊎◌, inl, inr, ℕ, Bool, true, false, List, [], ◌∷◌, ◌++◌, take, refl, sym, ◌∙◌, subst, append_assoc, append-nil}
 use Rattle.q_books.specs.HostStands.{HostStands, IsLeftOf}
 use Rattle.q_host.specs.View.{Remains, View}
 use Rattle.q_lives.specs.Lives.{AreLives, IsLeftBy, IsLife, IsOrderly, last_book, ledger_of, Life, life_entries}
-use Rattle.q_model.specs.Book.{Book, empty_book}
+use Rattle.q_model.specs.Book.{Book}
 use Rattle.q_model.specs.Crashes.{IsCrashOf}
 use Rattle.q_model.specs.FilesStand.{Stands}
-use Rattle.q_model.specs.Orderly.{is_orderly}
 use Rattle.q_model.specs.Settings.{Table}
 use Rattle.q_model.specs.SpoolFiles.{Files}
 use Rattle.q_model.specs.Text.{text}

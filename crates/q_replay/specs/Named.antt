@@ -7,6 +7,8 @@ use Rattle.q_engine.specs.declared.error.EngineError.{EngineError}
 use Rattle.q_events.specs.declared.list_item.ListItem.{ListItem}
 use Rattle.q_events.specs.declared.list_item.ListItem.TheVariants.{End, Restart, Step}
 use Rattle.q_model.specs.declared.event.Event.{Event}
+use Rattle.q_model.specs.declared.event.Event.TheVariants as events
+use Rattle.q_model.specs.declared.limits.Bound.{Bound}
 use Rattle.q_model.specs.declared.limits.Bound.TheVariants as bounds
 use Rattle.q_model.specs.declared.spot.Area.{Area}
 use Rattle.q_replay.specs.Listings.{bad, gives, Listing, past_limit}
@@ -17,10 +19,11 @@ use Rattle.q_restart.specs.Judgements.{IsRefusalOfSome}
 use Rattle.q_restart.specs.declared.error.OpenError.TheVariants as open_errors
 
 -- A damage, and that no generation is left, are what some names of boot and some files of the queues
--- show.
+-- show. No list asks for more deliveries than a life may begin.
 abbrev pub IsNamed : ReplayError → Type 0
 IsNamed (errors.Damaged area name) = IsRefusalOfSome (open_errors.Damaged area name)
 IsNamed (errors.Limit bounds.Generation) = IsRefusalOfSome open_errors.Spent
+IsNamed (errors.Limit bounds.Deliveries) = ⊥
 IsNamed _ = Unit {0}
 
 -- it is one of the host, or one of its files
@@ -53,7 +56,7 @@ IsLetterRefusal to content (errors.Limit bounds.Input) = ⊥
 IsLetterRefusal to content (errors.Limit bounds.Deliveries) = ⊥
 IsLetterRefusal to content error = IsNamed error
 
--- no list is read to deliver
+-- No list is read to deliver; a life may have begun as many deliveries as it can.
 abbrev pub IsDeliveryRefusal : ReplayError → Type 0
 IsDeliveryRefusal (errors.BadEvent line) = ⊥
 IsDeliveryRefusal errors.Source = ⊥
@@ -61,6 +64,7 @@ IsDeliveryRefusal (errors.Limit bounds.Content) = ⊥
 IsDeliveryRefusal (errors.Limit bounds.Recipients) = ⊥
 IsDeliveryRefusal (errors.Limit bounds.Serial) = ⊥
 IsDeliveryRefusal (errors.Limit bounds.Input) = ⊥
+IsDeliveryRefusal (errors.Limit bounds.Deliveries) = Unit {0}
 IsDeliveryRefusal error = IsNamed error
 
 -- an event that may be refused: each but a moment
@@ -69,10 +73,24 @@ MayBeRefused (Step event line) = is_moment event ≡ false
 MayBeRefused Restart = ⊥
 MayBeRefused End = ⊥
 
--- a bad event is the item in this line
-abbrev pub IsBadItem : ListItem → ℕ → ReplayError → Type 0
-IsBadItem item line (errors.BadEvent n) = (n ≡ line) × MayBeRefused item
-IsBadItem item line error = Unit {0}
+-- The event passes the limit: it is a message with more than that allows; of serials, any message may.
+abbrev pub Passes : Event → Bound → Type 0
+Passes (events.Mail sender to content) bounds.Content = 10240000 < length content
+Passes (events.Mail sender to content) bounds.Recipients = 50000 < length to
+Passes (events.Mail sender to content) bounds.Serial = Unit {0}
+Passes event bound = ⊥
+
+-- the item passes it, or begins a life beyond the last generation
+abbrev pub ItemPasses : ListItem → Bound → Type 0
+ItemPasses (Step event line) bound = Passes event bound
+ItemPasses Restart bound = bound ≡ bounds.Generation
+ItemPasses End bound = ⊥
+
+-- An item in this line is refused: it is a bad event, or passes a limit.
+abbrev pub BlamesItem : ListItem → ℕ → ReplayError → Type 0
+BlamesItem item line (errors.BadEvent n) = (n ≡ line) × MayBeRefused item
+BlamesItem item line (errors.Limit bound) = ItemPasses item bound
+BlamesItem item line error = Unit {0}
 
 -- This line of the list is at fault: it is none that may stand there, or an event that may be refused.
 abbrev pub IsAtFault : ℕ → Listing → Type 0
@@ -80,7 +98,14 @@ IsAtFault n (gives item m more) = ((n ≡ m) × MayBeRefused item) ⊎ IsAtFault
 IsAtFault n (bad m) = n ≡ m
 IsAtFault n past_limit = ⊥
 
--- the line of a bad event is one of the list's
-abbrev pub IsLineOf : Listing → ReplayError → Type 0
-IsLineOf said (errors.BadEvent n) = IsAtFault n said
-IsLineOf said error = Unit {0}
+-- an item of the list passes the limit, or the list does by its length
+abbrev pub ListPasses : Listing → Bound → Type 0
+ListPasses (gives item m more) bound = ItemPasses item bound ⊎ ListPasses more bound
+ListPasses (bad m) bound = ⊥
+ListPasses past_limit bound = bound ≡ bounds.Input
+
+-- A bad event is a line of the list that is at fault. A limit is passed by the list, or by the first life.
+abbrev pub BlamesList : Listing → ReplayError → Type 0
+BlamesList said (errors.BadEvent n) = IsAtFault n said
+BlamesList said (errors.Limit bound) = (bound ≡ bounds.Generation) ⊎ ListPasses said bound
+BlamesList said error = Unit {0}

@@ -1,5 +1,5 @@
 //! Lives on a spool that take the events of a list.
-ghost use Rattle.std.specs.Prelude.{◌≡◌, Err, IfSome, IsTrue, IfErr, false};
+ghost use Rattle.std.specs.Prelude.{◌≡◌, Err, IfSome, IsTrue, IfErr, OnOk, false};
 ghost use Rattle.q_events.specs.Forms.{IsItemInForm};
 ghost use Rattle.q_host.specs.View.{Told};
 ghost use Rattle.q_model.specs.FaultCounts.{Rose};
@@ -7,7 +7,7 @@ ghost use Rattle.q_settings.specs.Ranges.{IsInRange};
 ghost use Rattle.q_replay.specs.AnyLists.{TakesList};
 ghost use Rattle.q_replay.specs.DamagedSpools.{FindsDamage, NamesOnlyDamage};
 ghost use Rattle.q_replay.specs.Listings.{listing_of};
-ghost use Rattle.q_replay.specs.Named.{IsLineOf, IsNamed};
+ghost use Rattle.q_replay.specs.Named.{BlamesList, IsNamed};
 ghost use Rattle.q_replay.specs.ReplayEnds.{ForOrderly, IsFitSpool, ReplayEnds};
 ghost use Rattle.q_replay.specs.Takings.{is_unreadable, ReplayCause};
 
@@ -56,12 +56,14 @@ pub fn replay<H: Host, S: Source>(
     ensures readable { IsTrue H.tells → IfErr result (λ error. is_unreadable error ≡ false) }
     // Of every host: a damage, and that no generation is left, are what some names and files show.
     ensures named { IfErr result IsNamed }
-    // Where the source tells, a bad event is a line of its text that is at fault.
+    // Where the source tells, a line of its text is at fault, or passes the limit.
     ensures line { IfErr result (λ error. IfSome (S.left source.old) (λ bytes.
-        IsLineOf (listing_of bytes) error)) }
+        BlamesList (listing_of bytes) error)) }
     ensures cause { ReplayCause (H.faults host.old) (H.faults host.new) result }
     ensures source { result ≡ Err ReplayError.Source
         → Rose (S.faults source.old) (S.faults source.new) }
+    // A list was read whole without a fault.
+    ensures faultless { OnOk result (S.faults source.new ≡ S.faults source.old) }
 {
     let Ok(mut events) = Events::new(alloc) else {
         return Err(ReplayError::NoMemory);

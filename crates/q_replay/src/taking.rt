@@ -9,7 +9,7 @@ ghost use Rattle.q_host.specs.View.{Told};
 ghost use Rattle.q_settings.specs.Ranges.{IsInRange};
 ghost use Rattle.q_restart.specs.Damages.{IsUndamaged};
 ghost use Rattle.q_replay.specs.DamagedSpools.{FindsDamage, NamesOnlyDamage};
-ghost use Rattle.q_replay.specs.Named.{is_of_host, IsBadItem, IsNamed, IsRefusedBy, IsUnbegun};
+ghost use Rattle.q_replay.specs.Named.{BlamesItem, is_of_host, IsNamed, IsRefusedBy, IsUnbegun};
 ghost use Rattle.q_replay.specs.Takings.{BeginsAnew, GivesUpItem, GivesUpNext, is_unreadable, NeverBegins, ReplayCause, TakesItem, TakesNext};
 
 use crate::error::{ReplayError, replay_error};
@@ -123,7 +123,7 @@ pub(crate) fn take<H: Host>(
     ensures no_source { IsErrOf result ReplayError.Source → ⊥ }
     ensures readable { IsTrue H.tells → IfErr result (λ error. is_unreadable error ≡ false) }
     ensures named { IfErr result IsNamed }
-    ensures bad { IfErr result (IsBadItem item line) }
+    ensures bad { IfErr result (BlamesItem item line) }
     ensures cause { ReplayCause (H.faults host.old) (H.faults host.new) result }
 {
     match item {

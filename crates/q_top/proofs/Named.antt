@@ -1,5 +1,5 @@
 -- What statuses name.
-use Rattle.std.proofs.Common.{◌≡◌, ℕ, ap, Bool, true, false, List, refl, subst, sym}
+use Rattle.std.proofs.Common.{◌≡◌, ℕ, ap, false, inl, inr, List, None, refl, Some, subst}
 use Rattle.std.specs.Prelude.{Err, IfErr, IfSome, Ok, Option, Result}
 use Rattle.q_conf.specs.Confs.{IsFaultOfSome}
 use Rattle.q_conf.specs.declared.error.ConfError.{ConfError}
@@ -8,12 +8,13 @@ use Rattle.q_conf.specs.declared.error.ConfFile.TheVariants as conf
 use Rattle.q_model.specs.declared.limits.Bound.{Bound}
 use Rattle.q_model.specs.declared.limits.Bound.TheVariants as bounds
 use Rattle.q_replay.specs.Listings.{listing_of}
-use Rattle.q_replay.specs.Named.{IsDeliveryRefusal, IsLetterRefusal, IsLineOf, IsNamed as IsReplayNamed}
+use Rattle.q_replay.specs.Named.{BlamesList, IsDeliveryRefusal, IsLetterRefusal, IsNamed as IsReplayNamed}
 use Rattle.q_replay.specs.declared.deliveries.Delivered.{Delivered}
 use Rattle.q_replay.specs.declared.deliveries.Delivered.TheVariants as deliveries
 use Rattle.q_replay.specs.declared.error.ReplayError.{ReplayError}
 use Rattle.q_replay.specs.declared.error.ReplayError.TheVariants as errors
-use Rattle.q_top.specs.Named.{IsNamed, NamesLine}
+use Rattle.q_top.specs.Contents.{HasRead, IsNoContent}
+use Rattle.q_top.specs.Named.{HasTooMuch, IsNamed, IsTooMuch}
 use Rattle.q_top.specs.Qmgr.{words_status}
 use Rattle.q_top.specs.Statuses.{conf_status, content_status, delivery_status, is_of_lives, replay_status, status_of}
 use Rattle.q_top.specs.declared.content.ContentError.{ContentError}
@@ -23,171 +24,180 @@ use Rattle.q_top.specs.declared.status.Status.{Status}
 use Rattle.q_top.specs.declared.status.Status.TheVariants as status
 use Rattle.q_words.specs.declared.error.WordsError.{WordsError}
 use Rattle.q_words.specs.declared.error.WordsError.TheVariants as words_errors
+use Rattle.q_words.specs.declared.request.Request.{Request}
+use Rattle.q_words.specs.declared.request.Request.TheVariants.{Drain, Replay, Submit}
 
 -- ---- a line of conf
 
-pub conf_named : (P : Type 0) (error : ConfError) → IsFaultOfSome error → IsNamed P (conf_status error)
-conf_named P conf_errors.Disk h = tt
-conf_named P conf_errors.NoMemory h = tt
-conf_named P (conf_errors.BadLine conf.Parameters line) h = h
-conf_named P (conf_errors.BadLine conf.Table line) h = h
+pub conf_named : (Asks : Request → Type 0) (text : Option (List ℕ)) (error : ConfError) → IsFaultOfSome error → IsNamed Asks text (conf_status error)
+conf_named Asks text conf_errors.Disk h = tt
+conf_named Asks text conf_errors.NoMemory h = tt
+conf_named Asks text (conf_errors.BadLine conf.Parameters line) h = h
+conf_named Asks text (conf_errors.BadLine conf.Table line) h = h
 
 -- ---- a list
 
-list_named : (error : ReplayError) → IsReplayNamed error → IsNamed (Unit {0}) (replay_status error)
-list_named errors.Disk h = tt
-list_named errors.Tell h = tt
-list_named errors.Source h = tt
-list_named errors.NoMemory h = tt
-list_named (errors.BadEvent line) h = tt
-list_named (errors.Limit bounds.Content) h = tt
-list_named (errors.Limit bounds.Recipients) h = tt
-list_named (errors.Limit bounds.Generation) h = h
-list_named (errors.Limit bounds.Serial) h = tt
-list_named (errors.Limit bounds.Input) h = tt
-list_named (errors.Limit bounds.Deliveries) h = tt
-list_named (errors.Damaged area name) h = h
-list_named (errors.Unreadable area name) h = tt
+-- a limit but that of generations is passed by the text
+passed : (bound : Bound) (text : Option (List ℕ)) → (bound ≡ bounds.Generation → ⊥) → IfSome text (λ bytes. BlamesList (listing_of bytes) (errors.Limit bound)) → HasTooMuch text bound
+passed bound None other h = tt
+passed bound (Some bytes) other (inl is) = absurd (other is)
+passed bound (Some bytes) other (inr too_much) = too_much
 
-pub replayed_named : (r : Result (Unit {0}) ReplayError) → IfErr r IsReplayNamed → IsNamed (Unit {0}) (status_of r)
-replayed_named (Ok done) h = tt
-replayed_named (Err error) h = list_named error h
+list_passes : (bound : Bound) (text : Option (List ℕ)) → (bound ≡ bounds.Generation → ⊥) → IfSome text (λ bytes. BlamesList (listing_of bytes) (errors.Limit bound)) → IsTooMuch (λ r. r ≡ Replay) text bound
+list_passes bound text other h = inl (refl, passed bound text other h)
+
+list_named : (text : Option (List ℕ)) (error : ReplayError) → IsReplayNamed error → IfSome text (λ bytes. BlamesList (listing_of bytes) error) → IsNamed (λ r. r ≡ Replay) text (replay_status error)
+list_named text errors.Disk h line = tt
+list_named text errors.Tell h line = tt
+list_named text errors.Source h line = tt
+list_named text errors.NoMemory h line = tt
+list_named text (errors.BadEvent n) h line = (refl, line)
+list_named text (errors.Limit bounds.Content) h line = list_passes bounds.Content text (λ is. cc) line
+list_named text (errors.Limit bounds.Recipients) h line = list_passes bounds.Recipients text (λ is. cc) line
+list_named text (errors.Limit bounds.Generation) h line = h
+list_named text (errors.Limit bounds.Serial) h line = list_passes bounds.Serial text (λ is. cc) line
+list_named text (errors.Limit bounds.Input) h line = list_passes bounds.Input text (λ is. cc) line
+list_named text (errors.Limit bounds.Deliveries) h line = absurd h
+list_named text (errors.Damaged area name) h line = h
+list_named text (errors.Unreadable area name) h line = tt
+
+pub replayed_named : (text : Option (List ℕ)) (r : Result (Unit {0}) ReplayError) → IfErr r IsReplayNamed → IfErr r (λ error. IfSome text (λ bytes. BlamesList (listing_of bytes) error)) → IsNamed (λ x. x ≡ Replay) text (status_of r)
+replayed_named text (Ok done) h line = tt
+replayed_named text (Err error) h line = list_named text error h line
 
 -- ---- a letter
 
-letter_named : (P : Type 0) (to : List (List ℕ)) (content : List ℕ) (error : ReplayError) → IsLetterRefusal to content error → IsNamed P (replay_status error)
-letter_named P to content errors.Disk h = tt
-letter_named P to content errors.Tell h = tt
-letter_named P to content errors.Source h = absurd h
-letter_named P to content errors.NoMemory h = tt
-letter_named P to content (errors.BadEvent line) h = absurd h
-letter_named P to content (errors.Limit bounds.Content) h = tt
-letter_named P to content (errors.Limit bounds.Recipients) h = tt
-letter_named P to content (errors.Limit bounds.Generation) h = h
-letter_named P to content (errors.Limit bounds.Serial) h = tt
-letter_named P to content (errors.Limit bounds.Input) h = absurd h
-letter_named P to content (errors.Limit bounds.Deliveries) h = absurd h
-letter_named P to content (errors.Damaged area name) h = h
-letter_named P to content (errors.Unreadable area name) h = tt
+module _ (sender : Option (List ℕ)) (to : List (List ℕ)) where
+  letter_named : (content : List ℕ) (error : ReplayError) → IsLetterRefusal to content error → IsNamed (λ r. r ≡ Submit sender to) (Some content) (replay_status error)
+  letter_named content errors.Disk h = tt
+  letter_named content errors.Tell h = tt
+  letter_named content errors.Source h = absurd h
+  letter_named content errors.NoMemory h = tt
+  letter_named content (errors.BadEvent line) h = absurd h
+  letter_named content (errors.Limit bounds.Content) h = inr (sender, to, refl, h)
+  letter_named content (errors.Limit bounds.Recipients) h = inr (sender, to, refl, h)
+  letter_named content (errors.Limit bounds.Generation) h = h
+  letter_named content (errors.Limit bounds.Serial) h = inr (sender, to, refl, tt)
+  letter_named content (errors.Limit bounds.Input) h = absurd h
+  letter_named content (errors.Limit bounds.Deliveries) h = absurd h
+  letter_named content (errors.Damaged area name) h = h
+  letter_named content (errors.Unreadable area name) h = tt
 
-pub submitted_named : (P : Type 0) (to : List (List ℕ)) (content : List ℕ) (r : Result (Unit {0}) ReplayError) → IfErr r (IsLetterRefusal to content) → IsNamed P (status_of r)
-submitted_named P to content (Ok done) h = tt
-submitted_named P to content (Err error) h = letter_named P to content error h
+  pub submitted_named : (content : List ℕ) (r : Result (Unit {0}) ReplayError) → IfErr r (IsLetterRefusal to content) → IsNamed (λ x. x ≡ Submit sender to) (Some content) (status_of r)
+  submitted_named content (Ok done) h = tt
+  submitted_named content (Err error) h = letter_named content error h
 
-pub content_named : (P : Type 0) (error : ContentError) → IsNamed P (content_status error)
-content_named P content_errors.TooLong = tt
-content_named P content_errors.Source = tt
-content_named P content_errors.NoMemory = tt
+  pub content_named : (text : Option (List ℕ)) (error : ContentError) → IsNoContent text error → IsNamed (λ r. r ≡ Submit sender to) text (content_status error)
+  content_named text content_errors.TooLong h = inr (sender, to, refl, h)
+  content_named text content_errors.Source h = tt
+  content_named text content_errors.NoMemory h = tt
+
+module _ (Asks : Request → Type 0) where
+  -- what is too much of the content is so whether the source tells it or not
+  untold : (content : List ℕ) (bound : Bound) → IsTooMuch Asks (Some content) bound → IsTooMuch Asks None bound
+  untold content bound (inl list) = inl (list.0, tt)
+  untold content bounds.Content (inr (sender, to, asks, h)) = inr (sender, to, asks, tt)
+  untold content bounds.Recipients (inr (sender, to, asks, h)) = inr (sender, to, asks, h)
+  untold content bounds.Serial (inr (sender, to, asks, h)) = inr (sender, to, asks, tt)
+  untold content bounds.Generation (inr (sender, to, asks, h)) = absurd h
+  untold content bounds.Input (inr (sender, to, asks, h)) = absurd h
+  untold content bounds.Deliveries (inr (sender, to, asks, h)) = absurd h
+
+  untold_named : (content : List ℕ) (s : Status) → IsNamed Asks (Some content) s → IsNamed Asks None s
+  untold_named content (status.BadInput Events line) h = (h.0, tt)
+  untold_named content (status.BadInput Parameters line) h = h
+  untold_named content (status.BadInput Table line) h = h
+  untold_named content (status.Damaged area name) h = h
+  untold_named content (status.Limit bounds.Content) h = untold content bounds.Content h
+  untold_named content (status.Limit bounds.Recipients) h = untold content bounds.Recipients h
+  untold_named content (status.Limit bounds.Generation) h = h
+  untold_named content (status.Limit bounds.Serial) h = untold content bounds.Serial h
+  untold_named content (status.Limit bounds.Input) h = untold content bounds.Input h
+  untold_named content (status.Limit bounds.Deliveries) h = h
+  untold_named content (status.Unreadable area name) h = tt
+  untold_named content status.Done h = tt
+  untold_named content status.Usage h = tt
+  untold_named content status.Disk h = tt
+  untold_named content status.Tell h = tt
+  untold_named content status.Source h = tt
+  untold_named content status.NoMemory h = tt
+  untold_named content (status.Unfinished n) h = tt
+
+  -- what a content that was read has too much of, the source has
+  pub of_source : (text : Option (List ℕ)) (content : List ℕ) (s : Status) → HasRead text content → IsNamed Asks (Some content) s → IsNamed Asks text s
+  of_source None content s read h = untold_named content s h
+  of_source (Some bytes) content s read h = subst (λ (x : List ℕ). IsNamed Asks (Some x) s) read.all h
 
 -- ---- a delivery
 
-delivery_named : (P : Type 0) (error : ReplayError) → IsDeliveryRefusal error → IsNamed P (replay_status error)
-delivery_named P errors.Disk h = tt
-delivery_named P errors.Tell h = tt
-delivery_named P errors.Source h = absurd h
-delivery_named P errors.NoMemory h = tt
-delivery_named P (errors.BadEvent line) h = absurd h
-delivery_named P (errors.Limit bounds.Content) h = absurd h
-delivery_named P (errors.Limit bounds.Recipients) h = absurd h
-delivery_named P (errors.Limit bounds.Generation) h = h
-delivery_named P (errors.Limit bounds.Serial) h = absurd h
-delivery_named P (errors.Limit bounds.Input) h = absurd h
-delivery_named P (errors.Limit bounds.Deliveries) h = tt
-delivery_named P (errors.Damaged area name) h = h
-delivery_named P (errors.Unreadable area name) h = tt
+module _ (rests : ℕ) (text : Option (List ℕ)) where
+  delivery_named : (error : ReplayError) → IsDeliveryRefusal error → IsNamed (λ r. r ≡ Drain rests) text (replay_status error)
+  delivery_named errors.Disk h = tt
+  delivery_named errors.Tell h = tt
+  delivery_named errors.Source h = absurd h
+  delivery_named errors.NoMemory h = tt
+  delivery_named (errors.BadEvent line) h = absurd h
+  delivery_named (errors.Limit bounds.Content) h = absurd h
+  delivery_named (errors.Limit bounds.Recipients) h = absurd h
+  delivery_named (errors.Limit bounds.Generation) h = h
+  delivery_named (errors.Limit bounds.Serial) h = absurd h
+  delivery_named (errors.Limit bounds.Input) h = absurd h
+  delivery_named (errors.Limit bounds.Deliveries) h = (rests, refl)
+  delivery_named (errors.Damaged area name) h = h
+  delivery_named (errors.Unreadable area name) h = tt
 
-pub delivered_named : (P : Type 0) (r : Result Delivered ReplayError) → IfErr r IsDeliveryRefusal → IsNamed P (delivery_status r)
-delivered_named P (Ok deliveries.All) h = tt
-delivered_named P (Ok (deliveries.Unfinished rests)) h = tt
-delivered_named P (Err error) h = delivery_named P error h
+  pub delivered_named : (r : Result Delivered ReplayError) → IfErr r IsDeliveryRefusal → IsNamed (λ x. x ≡ Drain rests) text (delivery_status r)
+  delivered_named (Ok deliveries.All) h = tt
+  delivered_named (Ok (deliveries.Unfinished n)) h = tt
+  delivered_named (Err error) h = delivery_named error h
 
 -- ---- other commands
 
-pub unnamed : (P : Type 0) (s : Status) → is_of_lives s ≡ false → IsNamed P s
-unnamed P (status.BadInput file line) h = absurd cc
-unnamed P (status.Damaged area name) h = absurd cc
-unnamed P (status.Limit bound) h = absurd cc
-unnamed P (status.Unreadable area name) h = absurd cc
-unnamed P status.Done h = tt
-unnamed P status.Usage h = tt
-unnamed P status.Disk h = tt
-unnamed P status.Tell h = tt
-unnamed P status.Source h = tt
-unnamed P status.NoMemory h = tt
-unnamed P (status.Unfinished n) h = tt
+pub unnamed : (Asks : Request → Type 0) (text : Option (List ℕ)) (s : Status) → is_of_lives s ≡ false → IsNamed Asks text s
+unnamed Asks text (status.BadInput file line) h = absurd cc
+unnamed Asks text (status.Damaged area name) h = absurd cc
+unnamed Asks text (status.Limit bound) h = absurd cc
+unnamed Asks text (status.Unreadable area name) h = absurd cc
+unnamed Asks text status.Done h = tt
+unnamed Asks text status.Usage h = tt
+unnamed Asks text status.Disk h = tt
+unnamed Asks text status.Tell h = tt
+unnamed Asks text status.Source h = tt
+unnamed Asks text status.NoMemory h = tt
+unnamed Asks text (status.Unfinished n) h = tt
 
-pub words_named : (P : Type 0) (error : WordsError) → IsNamed P (words_status error)
-words_named P words_errors.NoMemory = tt
-words_named P words_errors.NoCommand = tt
-words_named P (words_errors.Refused why) = tt
-words_named P words_errors.NoAddress = tt
-words_named P words_errors.NoQueue = tt
+pub words_named : (Asks : Request → Type 0) (text : Option (List ℕ)) (error : WordsError) → IsNamed Asks text (words_status error)
+words_named Asks text words_errors.NoMemory = tt
+words_named Asks text words_errors.NoCommand = tt
+words_named Asks text (words_errors.Refused why) = tt
+words_named Asks text words_errors.NoAddress = tt
+words_named Asks text words_errors.NoQueue = tt
 
--- where one reads the list, the other does
-pub reads_too : (P Q : Type 0) → (P → Q) → (s : Status) → IsNamed P s → IsNamed Q s
-reads_too P Q f (status.BadInput Events line) h = f h
-reads_too P Q f (status.BadInput Parameters line) h = h
-reads_too P Q f (status.BadInput Table line) h = h
-reads_too P Q f (status.Damaged area name) h = h
-reads_too P Q f (status.Limit bounds.Content) h = tt
-reads_too P Q f (status.Limit bounds.Recipients) h = tt
-reads_too P Q f (status.Limit bounds.Generation) h = h
-reads_too P Q f (status.Limit bounds.Serial) h = tt
-reads_too P Q f (status.Limit bounds.Input) h = f h
-reads_too P Q f (status.Limit bounds.Deliveries) h = tt
-reads_too P Q f (status.Unreadable area name) h = tt
-reads_too P Q f status.Done h = tt
-reads_too P Q f status.Usage h = tt
-reads_too P Q f status.Disk h = tt
-reads_too P Q f status.Tell h = tt
-reads_too P Q f status.Source h = tt
-reads_too P Q f status.NoMemory h = tt
-reads_too P Q f (status.Unfinished n) h = tt
+-- where the one asks for a command, the other does
+module _ (P Q : Request → Type 0) (f : (r : Request) → P r → Q r) (text : Option (List ℕ)) where
+  too_much : (bound : Bound) → IsTooMuch P text bound → IsTooMuch Q text bound
+  too_much bound (inl (asks, h)) = inl (f Replay asks, h)
+  too_much bound (inr (sender, to, asks, h)) = inr (sender, to, f (Submit sender to) asks, h)
 
--- ---- lines of a list
-
-line_of : (text : Option (List ℕ)) (error : ReplayError) → IfSome text (λ bytes. IsLineOf (listing_of bytes) error) → NamesLine text (replay_status error)
-line_of text errors.Disk h = tt
-line_of text errors.Tell h = tt
-line_of text errors.Source h = tt
-line_of text errors.NoMemory h = tt
-line_of text (errors.BadEvent line) h = h
-line_of text (errors.Limit bound) h = tt
-line_of text (errors.Damaged area name) h = tt
-line_of text (errors.Unreadable area name) h = tt
-
-pub replayed_line : (text : Option (List ℕ)) (r : Result (Unit {0}) ReplayError) → IfErr r (λ error. IfSome text (λ bytes. IsLineOf (listing_of bytes) error)) → NamesLine text (status_of r)
-replayed_line text (Ok done) h = tt
-replayed_line text (Err error) h = line_of text error h
-
-pub conf_line : (text : Option (List ℕ)) (error : ConfError) → NamesLine text (conf_status error)
-conf_line text conf_errors.Disk = tt
-conf_line text conf_errors.NoMemory = tt
-conf_line text (conf_errors.BadLine conf.Parameters line) = tt
-conf_line text (conf_errors.BadLine conf.Table line) = tt
-
-pub words_line : (text : Option (List ℕ)) (error : WordsError) → NamesLine text (words_status error)
-words_line text words_errors.NoMemory = tt
-words_line text words_errors.NoCommand = tt
-words_line text (words_errors.Refused why) = tt
-words_line text words_errors.NoAddress = tt
-words_line text words_errors.NoQueue = tt
-
--- who reads no list names no line of it
-pub no_line : (text : Option (List ℕ)) (s : Status) → IsNamed ⊥ s → NamesLine text s
-no_line text (status.BadInput Events line) h = absurd h
-no_line text (status.BadInput Parameters line) h = tt
-no_line text (status.BadInput Table line) h = tt
-no_line text (status.Damaged area name) h = tt
-no_line text (status.Limit bound) h = tt
-no_line text (status.Unreadable area name) h = tt
-no_line text status.Done h = tt
-no_line text status.Usage h = tt
-no_line text status.Disk h = tt
-no_line text status.Tell h = tt
-no_line text status.Source h = tt
-no_line text status.NoMemory h = tt
-no_line text (status.Unfinished n) h = tt
+  pub asked_too : (s : Status) → IsNamed P text s → IsNamed Q text s
+  asked_too (status.BadInput Events line) h = (f Replay h.0, h.1)
+  asked_too (status.BadInput Parameters line) h = h
+  asked_too (status.BadInput Table line) h = h
+  asked_too (status.Damaged area name) h = h
+  asked_too (status.Limit bounds.Content) h = too_much bounds.Content h
+  asked_too (status.Limit bounds.Recipients) h = too_much bounds.Recipients h
+  asked_too (status.Limit bounds.Generation) h = h
+  asked_too (status.Limit bounds.Serial) h = too_much bounds.Serial h
+  asked_too (status.Limit bounds.Input) h = too_much bounds.Input h
+  asked_too (status.Limit bounds.Deliveries) h = (h.0, f (Drain h.0) h.1)
+  asked_too (status.Unreadable area name) h = tt
+  asked_too status.Done h = tt
+  asked_too status.Usage h = tt
+  asked_too status.Disk h = tt
+  asked_too status.Tell h = tt
+  asked_too status.Source h = tt
+  asked_too status.NoMemory h = tt
+  asked_too (status.Unfinished n) h = tt
 
 -- ---- rests
 

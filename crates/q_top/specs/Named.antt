@@ -1,35 +1,50 @@
 -- What a status names, whether the host tells its files or not.
-use Rattle.std.specs.Prelude.{IfSome, List, Option, ℕ}
+use Rattle.std.specs.Prelude.{◌<◌, ◌⊎◌, IfSome, length, List, Option, ℕ}
 use Rattle.q_conf.specs.Confs.{at_fault, SaySo}
 use Rattle.q_conf.specs.declared.error.ConfFile.TheVariants as conf
+use Rattle.q_model.specs.declared.limits.Bound.{Bound}
 use Rattle.q_model.specs.declared.limits.Bound.TheVariants as bounds
 use Rattle.q_replay.specs.Listings.{listing_of}
-use Rattle.q_replay.specs.Named.{IsAtFault}
+use Rattle.q_replay.specs.Named.{IsAtFault, ListPasses}
 use Rattle.q_restart.specs.Judgements.{IsRefusalOfSome}
 use Rattle.q_restart.specs.declared.error.OpenError.TheVariants as open_errors
+use Rattle.q_top.specs.Contents.{most_content}
 use Rattle.q_top.specs.declared.status.InputFile.TheVariants.{Events, Parameters, Table}
 use Rattle.q_top.specs.declared.status.Status.{Status}
 use Rattle.q_top.specs.declared.status.Status.TheVariants.{BadInput, Damaged, Limit}
-use Rattle.q_words.specs.Requests.{IsRequest}
-use Rattle.q_words.specs.declared.request.Request.TheVariants as requests
+use Rattle.q_words.specs.declared.request.Request.{Request}
+use Rattle.q_words.specs.declared.request.Request.TheVariants.{Drain, Replay, Submit}
+
+-- the text is an event list with a line that is at fault, where it is told
+abbrev pub HasFault : Option (List ℕ) → ℕ → Type 0
+HasFault text line = IfSome text (λ bytes. IsAtFault line (listing_of bytes))
+
+-- the text is an event list that passes the limit
+abbrev pub HasTooMuch : Option (List ℕ) → Bound → Type 0
+HasTooMuch text bound = IfSome text (λ bytes. ListPasses (listing_of bytes) bound)
+
+-- A letter to these passes the limit, of which the text is the content; of serials, any may.
+abbrev pub LetterPasses : List (List ℕ) → Option (List ℕ) → Bound → Type 0
+LetterPasses to text bounds.Content = IfSome text (λ bytes. most_content < length bytes)
+LetterPasses to text bounds.Recipients = 50000 < length to
+LetterPasses to text bounds.Serial = Unit {0}
+LetterPasses to text bound = ⊥
+
+-- what is handed in passes the limit: a list or a letter
+abbrev pub IsTooMuch : (Request → Type 0) → Option (List ℕ) → Bound → Type 0
+IsTooMuch Asks text bound = (Asks Replay × HasTooMuch text bound)
+    ⊎ ((sender : Option (List ℕ)) × (to : List (List ℕ)) × Asks (Submit sender to) × LetterPasses to text bound)
 
 -- A line of conf is one at which some texts are at fault. A damage, and that no generation is left, are
--- what some names of boot and some files of the queues show. Only who reads an event list finds a line of
--- it at fault, or its end too far.
-abbrev pub IsNamed : (ReadsList : Type 0) → Status → Type 0
-IsNamed ReadsList (BadInput Events line) = ReadsList
-IsNamed ReadsList (BadInput Parameters line) = SaySo (at_fault conf.Parameters line)
-IsNamed ReadsList (BadInput Table line) = SaySo (at_fault conf.Table line)
-IsNamed ReadsList (Damaged area name) = IsRefusalOfSome (open_errors.Damaged area name)
-IsNamed ReadsList (Limit bounds.Generation) = IsRefusalOfSome open_errors.Spent
-IsNamed ReadsList (Limit bounds.Input) = ReadsList
-IsNamed ReadsList status = Unit {0}
-
--- a line of an event list that is named is one of the text that is at fault
-abbrev pub NamesLine : Option (List ℕ) → Status → Type 0
-NamesLine text (BadInput Events line) = IfSome text (λ bytes. IsAtFault line (listing_of bytes))
-NamesLine text status = Unit {0}
-
--- the words ask for a replay
-abbrev pub IsReplayOf : List (List ℕ) → Type 0
-IsReplayOf words = IsRequest words requests.Replay
+-- what some names of boot and some files of the queues show. A line of an event list, and the limits of
+-- what is handed in, are named for commands alone that take the source's text, and by that, where the
+-- source tells it; the limit of deliveries for a drain alone.
+abbrev pub IsNamed : (Asks : Request → Type 0) → (text : Option (List ℕ)) → Status → Type 0
+IsNamed Asks text (BadInput Events line) = Asks Replay × HasFault text line
+IsNamed Asks text (BadInput Parameters line) = SaySo (at_fault conf.Parameters line)
+IsNamed Asks text (BadInput Table line) = SaySo (at_fault conf.Table line)
+IsNamed Asks text (Damaged area name) = IsRefusalOfSome (open_errors.Damaged area name)
+IsNamed Asks text (Limit bounds.Generation) = IsRefusalOfSome open_errors.Spent
+IsNamed Asks text (Limit bounds.Deliveries) = (rests : ℕ) × Asks (Drain rests)
+IsNamed Asks text (Limit bound) = IsTooMuch Asks text bound
+IsNamed Asks text status = Unit {0}

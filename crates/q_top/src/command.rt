@@ -7,9 +7,9 @@ ghost use Rattle.q_top.specs.Causes.{HasHostCause, HasSourceCause};
 ghost use Rattle.q_top.specs.Courses.{Connections, Moments, Texts};
 ghost use Rattle.q_drain.specs.Drained.{AreTooFew, CountsRests};
 ghost use Rattle.q_top.specs.Qmgr.{asks_clock, AsksForLives, Does, HasForm, IsDrainOf, LeavesAlone, MayCarryOut, RefusesWords, runs_lives, takes_input, texts_of, uses_connections, words_status};
-ghost use Rattle.q_top.specs.Named.{IsNamed, IsReplayOf, NamesLine};
+ghost use Rattle.q_top.specs.Named.{IsNamed};
 ghost use Rattle.q_top.specs.Statuses.{is_of_lives, is_unreadable};
-ghost use Rattle.q_words.specs.declared.request.Request.TheVariants.{Drain, Replay};
+ghost use Rattle.q_words.specs.declared.request.Request.TheVariants.{Drain};
 ghost use Rattle.q_words.specs.Requests.{IsRequest};
 ghost use Rattle.q_words.specs.Usages.{is_usage};
 
@@ -52,8 +52,7 @@ fn carry_out<L: Link, H: Host, S: Source, C: Clock, N: Hops<Link = L>>(
         (record { before = N.view hops.old; after = N.view hops.new }) result) }
     ensures serves { Told H.tells H.view host.old host.new (Serves (runs_lives request)) }
     ensures readable { IsTrue H.tells → is_unreadable result ≡ false }
-    ensures named { IsNamed (request ≡ Replay) result }
-    ensures line { NamesLine (S.left source.old) result }
+    ensures named { IsNamed (λ r. r ≡ request) (S.left source.old) result }
     ensures host { HasHostCause (H.faults host.old) (H.faults host.new) result }
     ensures source { HasSourceCause (S.faults source.old) (S.faults source.new) result }
     ensures source_stays { takes_input request ≡ false → source.new ≡ source.old }
@@ -130,13 +129,12 @@ pub fn qmgr<L: Link, H: Host, S: Source, C: Clock, N: Hops<Link = L>>(
     // The input, the spool, one of its files and limits are at fault for commands alone that run lives.
     ensures lives { is_of_lives result ≡ true → AsksForLives (texts_of words.now) }
     // Of every host: a line of conf, a damage, and that no generation is left, are what some texts and
-    // files show; and only a replay finds a line of an event list at fault.
-    ensures named { IsNamed (IsReplayOf (texts_of words.now)) result }
-    // Where the source tells, that line is one of its text that is at fault.
-    ensures line { NamesLine (S.left source.old) result }
+    // files show; a line of an event list is at fault, and a limit passed, by what the words ask for
+    // and, where the source tells, by its text.
+    ensures named { IsNamed (IsRequest (texts_of words.now)) (S.left source.old) result }
     // Where the host tells its files, each queue file can be read.
     ensures readable { IsTrue H.tells → is_unreadable result ≡ false }
-    // A fault comes only where its count rose.
+    // A fault comes only where its count rose, and a command is done only where its source never failed.
     ensures host { HasHostCause (H.faults host.old) (H.faults host.new) result }
     ensures source { HasSourceCause (S.faults source.old) (S.faults source.new) result }
 {

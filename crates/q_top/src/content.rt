@@ -1,5 +1,5 @@
 //! The content of a message that is handed in.
-ghost use Rattle.std.specs.Prelude.{◌≡◌, ◌≤◌, IfErr, IfOk};
+ghost use Rattle.std.specs.Prelude.{◌≡◌, IfErr, IfOk};
 ghost use Rattle.q_model.specs.FaultCounts.{Rose};
 ghost use Rattle.q_top.specs.Contents.{HasRead, IsNoContent};
 
@@ -24,7 +24,8 @@ pub(crate) enum ContentError {
 pub(crate) fn read_content<S: Source>(alloc: Global, source: &mut S) -> Result<Bytes, ContentError>
     ensures whole { IfOk result (HasRead (S.left source.old)) }
     ensures error { IfErr result (IsNoContent (S.left source.old)) }
-    ensures later { S.faults source.old ≤ S.faults source.new }
+    // It was read without a fault: behind one nothing more is taken.
+    ensures faultless { IfOk result (λ _. S.faults source.new ≡ S.faults source.old) }
     ensures failed { IfErr result (λ e. e ≡ ContentError.Source
         → Rose (S.faults source.old) (S.faults source.new)) }
 {

@@ -1,5 +1,5 @@
 //! `drain`: a life that delivers by SMTP.
-ghost use Rattle.std.specs.Prelude.{◌≡◌, ◌≢◌, IsTrue, ℕ, false, true};
+ghost use Rattle.std.specs.Prelude.{◌≡◌, ◌≢◌, IsTrue, List, Option, ℕ, false, true};
 ghost use Rattle.q_host.specs.View.{Told};
 ghost use Rattle.q_drain.specs.Drained.{AreTooFew, CountsRests};
 ghost use Rattle.q_replay.specs.ReplayEnds.{IsFitSpool};
@@ -8,6 +8,7 @@ ghost use Rattle.q_top.specs.Named.{IsNamed};
 ghost use Rattle.q_top.specs.Statuses.{is_unreadable};
 ghost use Rattle.q_top.specs.Causes.{HasHostCause};
 ghost use Rattle.q_top.specs.Lives.{DrainsSpool};
+ghost use Rattle.q_words.specs.declared.request.Request.TheVariants.{Drain};
 
 use crate::status::{Status, conf_status, delivery_status};
 use q_conf::read_conf;
@@ -32,7 +33,7 @@ pub(crate) fn drain_spool<L: Link, H: Host, C: Clock, N: Hops<Link = L>>(
     }) u v result) }
     ensures serves { Told H.tells H.view host.old host.new (Serves true) }
     ensures readable { IsTrue H.tells → is_unreadable result ≡ false }
-    ensures named { IsNamed ⊥ result }
+    ensures named { (text : Option (List ℕ)) → IsNamed (λ r. r ≡ Drain rests) text result }
     ensures host { HasHostCause (H.faults host.old) (H.faults host.new) result }
     ensures no_source { result ≢ Status.Source }
     ensures no_usage { result ≢ Status.Usage }

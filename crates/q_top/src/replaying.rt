@@ -3,11 +3,12 @@ ghost use Rattle.std.specs.Prelude.{◌≢◌, IsTrue, ℕ, ◌≡◌, false, tr
 ghost use Rattle.q_host.specs.View.{Told};
 ghost use Rattle.q_replay.specs.ReplayEnds.{IsFitSpool};
 ghost use Rattle.q_replay.specs.Spools.{Serves};
-ghost use Rattle.q_top.specs.Named.{IsNamed, NamesLine};
+ghost use Rattle.q_top.specs.Named.{IsNamed};
 ghost use Rattle.q_top.specs.Statuses.{is_unreadable};
 ghost use Rattle.q_top.specs.Causes.{HasHostCause, HasSourceCause};
 ghost use Rattle.q_top.specs.Courses.{Texts};
 ghost use Rattle.q_top.specs.Lives.{Replays};
+ghost use Rattle.q_words.specs.declared.request.Request.TheVariants.{Replay};
 
 use crate::status::{Status, conf_status, status_of};
 use q_conf::read_conf;
@@ -23,8 +24,7 @@ pub(crate) fn replay_list<H: Host, S: Source>(alloc: Global, source: &mut S, hos
         (record { before = S.left source.old; after = S.left source.new }) u v result) }
     ensures serves { Told H.tells H.view host.old host.new (Serves true) }
     ensures readable { IsTrue H.tells → is_unreadable result ≡ false }
-    ensures named { IsNamed (Unit {0}) result }
-    ensures line { NamesLine (S.left source.old) result }
+    ensures named { IsNamed (λ r. r ≡ Replay) (S.left source.old) result }
     ensures host { HasHostCause (H.faults host.old) (H.faults host.new) result }
     ensures source { HasSourceCause (S.faults source.old) (S.faults source.new) result }
     ensures no_usage { result ≢ Status.Usage }

@@ -1,5 +1,5 @@
 //! `submit`: an intake life that takes one message.
-ghost use Rattle.std.specs.Prelude.{◌≡◌, ◌≢◌, ◌≤◌, IsTrue, ℕ, false, true};
+ghost use Rattle.std.specs.Prelude.{◌≡◌, ◌≢◌, ◌≤◌, IsTrue, ℕ, Some, false, true};
 ghost use Rattle.q_events.specs.Forms.{IsMailInForm};
 ghost use Rattle.q_host.specs.View.{Told};
 ghost use Rattle.q_replay.specs.ReplayEnds.{IsFitSpool};
@@ -10,6 +10,7 @@ ghost use Rattle.q_top.specs.Named.{IsNamed};
 ghost use Rattle.q_top.specs.Statuses.{content_status, is_unreadable};
 ghost use Rattle.q_top.specs.Courses.{Moments, Texts};
 ghost use Rattle.q_top.specs.Lives.{SubmitsAt, Submits};
+ghost use Rattle.q_words.specs.declared.request.Request.TheVariants.{Submit};
 
 use crate::content::{ContentError, read_content};
 use crate::status::{Status, conf_status, status_of};
@@ -44,7 +45,7 @@ fn submit_letter<H: Host>(alloc: Global, host: &mut H, moment: Moment, letter: L
         SubmitsAt moment letter u v result) }
     ensures serves { Told H.tells H.view host.old host.new (Serves true) }
     ensures readable { IsTrue H.tells → is_unreadable result ≡ false }
-    ensures named { IsNamed ⊥ result }
+    ensures named { IsNamed (λ r. r ≡ Submit letter.sender letter.to) (Some letter.content) result }
     ensures host { HasHostCause (H.faults host.old) (H.faults host.new) result }
     ensures no_source { result ≢ Status.Source }
     ensures no_usage { result ≢ Status.Usage }
@@ -72,7 +73,7 @@ pub(crate) fn submit_content<H: Host, S: Source, C: Clock>(
         (record { before = C.given clock.old; after = C.given clock.new }) u v result) }
     ensures serves { Told H.tells H.view host.old host.new (Serves true) }
     ensures readable { IsTrue H.tells → is_unreadable result ≡ false }
-    ensures named { IsNamed ⊥ result }
+    ensures named { IsNamed (λ r. r ≡ Submit sender to) (S.left source.old) result }
     ensures host { HasHostCause (H.faults host.old) (H.faults host.new) result }
     ensures source { HasSourceCause (S.faults source.old) (S.faults source.new) result }
     ensures no_usage { result ≢ Status.Usage }

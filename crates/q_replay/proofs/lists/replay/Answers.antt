@@ -1,14 +1,15 @@
 use Rattle.q_host.proofs.Stays.{stays_here}
-use Rattle.std.proofs.Common.{◌≡◌, ◌∙◌, ap, arith, false, None, Option, Some, subst, sym, true, ℕ}
+use Rattle.std.proofs.Common.{◌≡◌, ◌∙◌, ap, arith, false, refl, None, Option, Some, subst, sym, true, ℕ}
 use Rattle.std.specs.Prelude.{Err, is_none, Result, IfErr, IfSome}
 use Rattle.q_books.specs.HostStands.{TellsCrashes}
 use Rattle.q_engine.specs.declared.engine.Engine.{Engine}
 use Rattle.q_events.specs.Readings.{is_list_end}
 use Rattle.q_events.specs.declared.error.EventError.{EventError}
 use Rattle.q_events.specs.States.{EventsState, text_left, unread_list}
+use Rattle.q_model.specs.FaultCounts.{Rose}
 use Rattle.q_model.specs.Ledger.{opening}
 use Rattle.q_model.specs.declared.event.Mode.TheVariants.{Deliver}
-use Rattle.q_replay.specs.Named.{IsBadItem, IsLineOf, IsNamed}
+use Rattle.q_replay.specs.Named.{BlamesItem, BlamesList, IsNamed}
 use Rattle.q_replay.specs.Listings.{listing_of}
 use Rattle.q_replay.specs.ReplayEnds.{ReplayEnds}
 use Rattle.q_replay.specs.Takings.{list_error, NotTaken, ReplayCause, TookItem, is_unreadable}
@@ -20,7 +21,7 @@ use Rattle.q_replay.proofs.FaultyLines.{all_left, each_text, IsRestOf, line_bad,
 use Rattle.q_replay.proofs.Named.{list_named, named_begins}
 use Rattle.q_replay.proofs.Readings.{ledger_on}
 use Rattle.q_replay.proofs.Replaying.{delivers, ends_done, ends_unbegun, ends_unread, ends_untaken, for_each, for_text, IsGivenTo, may_begin, passed_as, same_new, some_given, went_begins, went_on}
-use Rattle.q_replay.proofs.Submitting.{cause_on, own_error, rose_later}
+use Rattle.q_replay.proofs.Submitting.{cause_on, own_error}
 use Rattle.q_replay.proofs.DamagedSpools.{none_only, only_passed, refused_passed, unread_only, untaken_only}
 use Rattle.q_replay.proofs.Readable.{list_readable}
 use Rattle.q_replay.proofs.lists.replay.Goals as goal
@@ -40,7 +41,7 @@ loop-item-init g c =
       going = ap (λ (e : EventsState). e.ended) new;
       disk_later = omega (arith, c.begin_life.ensures.cause.disk_later);
       tell_later = omega (arith, c.begin_life.ensures.cause.tell_later);
-      source_later = omega arith;
+      faultless = refl;
     }
 
 pub take-requires-clause-stands : goal.take-requires-clause-stands
@@ -73,7 +74,7 @@ loop-item-preserved g c =
       going = c.in-Ok-read_event.ensures.ended ∙ more;
       disk_later = omega (arith, old.invariant.disk_later, c.take.ensures.cause.disk_later);
       tell_later = omega (arith, old.invariant.tell_later, c.take.ensures.cause.tell_later);
-      source_later = omega (arith, old.invariant.source_later, c.read_event.ensures.later);
+      faultless = c.in-Ok-read_event.ensures.faultless ∙ old.invariant.faultless;
     }
 
 pub returns-in_err-engine-clause-ends : goal.returns-in_err-engine-clause-ends
@@ -231,7 +232,7 @@ pub returns-in-Err-clause-source : goal.returns-in-Err-clause-source
 returns-in-Err-clause-source g c is =
     let old = c.loop-item in
     let same = own_error c.list_error.result errors.Source is in
-    rose_later (g.S.Source.faults c.args.source.now) (g.S.Source.faults old.source) (g.S.Source.faults c.read_event.new.source) old.invariant.source_later
+    subst (λ (n : ℕ). Rose n (g.S.Source.faults c.read_event.new.source)) old.invariant.faultless
     (c.in-Err.ensures.source (ap (λ (e : EventError). Err e) (c.list_error.ensures.source same)))
 
 pub returns-in_err-next-clause-cause : goal.returns-in_err-next-clause-cause
@@ -271,7 +272,7 @@ returns-in-Err-clause-named g c =
 pub returns-in_err-engine-clause-line : goal.returns-in_err-engine-clause-line
 returns-in_err-engine-clause-line g c =
     let text = g.S.Source.left c.args.source.now in
-    passed_as c.from_residual.result c.in_err-engine.field-0.0 (λ (r : Result (Unit {0}) ReplayError). IfErr r (λ error. IfSome text (λ bytes. IsLineOf (listing_of bytes) error))) c.from_residual.ensures.1
+    passed_as c.from_residual.result c.in_err-engine.field-0.0 (λ (r : Result (Unit {0}) ReplayError). IfErr r (λ error. IfSome text (λ bytes. BlamesList (listing_of bytes) error))) c.from_residual.ensures.1
     (line_unbegun text c.in_err-engine.field-0.0 c.in_err-engine.ensures.named)
 
 pub returns-in_err-next-clause-line : goal.returns-in_err-next-clause-line
@@ -281,10 +282,10 @@ returns-in_err-next-clause-line g c =
     let text = left c.args.source.now in
     let error = c.in_err-next.field-0.0 in
     let item = c.in-Ok-read_event.item in
-    let bad_item = subst (λ (n : ℕ). IsBadItem item n error) c.lines.ensures c.in_err-next.ensures.bad in
-    passed_as c.from_residual-in_err-next.result error (λ (r : Result (Unit {0}) ReplayError). IfErr r (λ error. IfSome text (λ bytes. IsLineOf (listing_of bytes) error))) c.from_residual-in_err-next.ensures.1
-    (each_text (λ bytes. IsRestOf bytes old.events (text_left old.events.buffered (left old.source))) (λ bytes. IsLineOf (listing_of bytes) error) text
-    (λ bytes h. line_refused bytes old.events (text_left old.events.buffered (left old.source)) old.invariant.going c.read_event.new.self (text_left c.read_event.new.self.buffered (left c.read_event.new.source)) (left c.read_event.new.source) item error c.in-Ok-read_event.ensures.exact h bad_item) old.invariant.rest)
+    let blamed = subst (λ (n : ℕ). BlamesItem item n error) c.lines.ensures c.in_err-next.ensures.bad in
+    passed_as c.from_residual-in_err-next.result error (λ (r : Result (Unit {0}) ReplayError). IfErr r (λ error. IfSome text (λ bytes. BlamesList (listing_of bytes) error))) c.from_residual-in_err-next.ensures.1
+    (each_text (λ bytes. IsRestOf bytes old.events (text_left old.events.buffered (left old.source))) (λ bytes. BlamesList (listing_of bytes) error) text
+    (λ bytes h. line_refused bytes old.events (text_left old.events.buffered (left old.source)) old.invariant.going c.read_event.new.self (text_left c.read_event.new.self.buffered (left c.read_event.new.source)) (left c.read_event.new.source) item error c.in-Ok-read_event.ensures.exact h blamed) old.invariant.rest)
 
 pub returns-in-Err-clause-line : goal.returns-in-Err-clause-line
 returns-in-Err-clause-line g c =
@@ -292,5 +293,8 @@ returns-in-Err-clause-line g c =
     let left = g.S.Source.left in
     let text = left c.args.source.now in
     let error = c.in-Err.error in
-    rw c.list_error.ensures.exact (each_text (λ bytes. IsRestOf bytes old.events (text_left old.events.buffered (left old.source))) (λ bytes. IsLineOf (listing_of bytes) (list_error error)) text
+    rw c.list_error.ensures.exact (each_text (λ bytes. IsRestOf bytes old.events (text_left old.events.buffered (left old.source))) (λ bytes. BlamesList (listing_of bytes) (list_error error)) text
     (λ bytes h. line_bad bytes old.events (text_left old.events.buffered (left old.source)) old.invariant.going c.read_event.new.self (text_left c.read_event.new.self.buffered (left c.read_event.new.source)) (left c.read_event.new.source) error c.in-Err.ensures.exact h) old.invariant.rest)
+
+pub returns-in-None-clause-faultless : goal.returns-in-None-clause-faultless
+returns-in-None-clause-faultless g c = c.in-Ok-read_event.ensures.faultless ∙ c.loop-item.invariant.faultless

@@ -25,7 +25,7 @@ invariant-loop-item g l =
       going : l.events.ended ≡ false;
       disk_later : (faults l.fn.host).disk ≤ (faults l.host).disk;
       tell_later : (faults l.fn.host).tell ≤ (faults l.host).tell;
-      source_later : failed l.fn.source ≤ failed l.source;
+      faultless : failed l.source ≡ failed l.fn.source;
     }
 
 abbrev pub decreases-loop-item : goal.decreases-loop-item

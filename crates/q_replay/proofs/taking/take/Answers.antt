@@ -2,12 +2,12 @@ use Rattle.std.proofs.Common.{arith, None, Option, Some, ◌≡◌, false}
 use Rattle.std.specs.Prelude.{Result, IfErr}
 use Rattle.q_engine.specs.declared.engine.Engine.{Engine}
 use Rattle.q_events.specs.declared.list_item.ListItem.TheVariants.{End, Step}
-use Rattle.q_replay.proofs.FaultyLines.{end_bad, restart_bad, step_bad}
+use Rattle.q_replay.proofs.FaultyLines.{end_blamed, restart_blamed, step_blamed}
 use Rattle.q_replay.proofs.Named.{heard_named, host_named, named_begins}
 use Rattle.q_replay.proofs.Replaying.{passed_as}
 use Rattle.q_replay.proofs.Submitting.{cause_on, ok_lists}
 use Rattle.q_replay.proofs.Takings.{for_item, for_item_up, never_restarts, passed_on, restarts}
-use Rattle.q_replay.specs.Named.{IsBadItem, IsNamed}
+use Rattle.q_replay.specs.Named.{BlamesItem, IsNamed}
 use Rattle.q_replay.specs.Takings.{ReplayCause, is_unreadable}
 use Rattle.q_replay.specs.declared.error.ReplayError.{ReplayError}
 use Rattle.q_replay.proofs.taking.take.Goals as goal
@@ -102,12 +102,12 @@ returns-in_err-end-in-End-clause-named g c =
 
 pub returns-in_err-hear-in-Step-clause-bad : goal.returns-in_err-hear-in-Step-clause-bad
 returns-in_err-hear-in-Step-clause-bad g c =
-    passed_as c.from_residual.result c.in_err-hear-in-Step.field-0.0 (λ (r : Result (Option Engine) ReplayError). IfErr r (IsBadItem c.args.item c.args.line)) c.from_residual.ensures.1 (step_bad c.args.item c.in-Step.event c.in-Step.line c.args.line c.args.engine c.in_err-hear-in-Step.field-0.0 c.in-Step.is c.in_err-hear-in-Step.ensures.named)
+    passed_as c.from_residual.result c.in_err-hear-in-Step.field-0.0 (λ (r : Result (Option Engine) ReplayError). IfErr r (BlamesItem c.args.item c.args.line)) c.from_residual.ensures.1 (step_blamed c.args.item c.in-Step.event c.in-Step.line c.args.line c.args.engine c.in_err-hear-in-Step.field-0.0 c.in-Step.is c.in_err-hear-in-Step.ensures.named)
 
 pub returns-in_err-begin_life-in-Restart-clause-bad : goal.returns-in_err-begin_life-in-Restart-clause-bad
 returns-in_err-begin_life-in-Restart-clause-bad g c =
-    passed_as c.from_residual-in_err-begin_life-in-Restart.result c.in_err-begin_life-in-Restart.field-0.0 (λ (r : Result (Option Engine) ReplayError). IfErr r (IsBadItem c.args.item c.args.line)) c.from_residual-in_err-begin_life-in-Restart.ensures.1 (restart_bad c.args.item c.args.line c.in_err-begin_life-in-Restart.field-0.0 c.in_err-begin_life-in-Restart.ensures.named)
+    passed_as c.from_residual-in_err-begin_life-in-Restart.result c.in_err-begin_life-in-Restart.field-0.0 (λ (r : Result (Option Engine) ReplayError). IfErr r (BlamesItem c.args.item c.args.line)) c.from_residual-in_err-begin_life-in-Restart.ensures.1 (restart_blamed c.args.item c.args.line c.in_err-begin_life-in-Restart.field-0.0 c.in-Restart.is c.in_err-begin_life-in-Restart.ensures.named)
 
 pub returns-in_err-end-in-End-clause-bad : goal.returns-in_err-end-in-End-clause-bad
 returns-in_err-end-in-End-clause-bad g c =
-    passed_as c.from_residual-in_err-end-in-End.result c.in_err-end-in-End.field-0.0 (λ (r : Result (Option Engine) ReplayError). IfErr r (IsBadItem c.args.item c.args.line)) c.from_residual-in_err-end-in-End.ensures.1 (end_bad c.args.item c.args.line c.in_err-end-in-End.field-0.0 c.in_err-end-in-End.ensures.named)
+    passed_as c.from_residual-in_err-end-in-End.result c.in_err-end-in-End.field-0.0 (λ (r : Result (Option Engine) ReplayError). IfErr r (BlamesItem c.args.item c.args.line)) c.from_residual-in_err-end-in-End.ensures.1 (end_blamed c.args.item c.args.line c.in_err-end-in-End.field-0.0 c.in_err-end-in-End.ensures.named)

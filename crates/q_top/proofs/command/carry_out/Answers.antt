@@ -1,7 +1,7 @@
-use Rattle.std.proofs.Common.{◌≡◌}
-use Rattle.q_top.proofs.Named.{no_line, reads_too, unnamed}
+use Rattle.std.proofs.Common.{◌≡◌, ◌∙◌, sym}
+use Rattle.q_top.proofs.Named.{asked_too, unnamed}
 use Rattle.q_top.proofs.Readable.{no_lives_of}
-use Rattle.q_words.specs.declared.request.Request.TheVariants.{Replay}
+use Rattle.q_words.specs.declared.request.Request.TheVariants.{Drain, Replay, Submit}
 use Rattle.q_top.proofs.command.carry_out.Goals as goal
 
 pub returns-in-Replay-clause-unfinished : goal.returns-in-Replay-clause-unfinished
@@ -44,34 +44,21 @@ pub returns-in-Load-clause-few : goal.returns-in-Load-clause-few
 returns-in-Load-clause-few g c n is = absurd (c.tell_load.ensures.no_rests n is)
 
 pub returns-in-Replay-clause-named : goal.returns-in-Replay-clause-named
-returns-in-Replay-clause-named g c = reads_too (Unit {0}) (c.args.request ≡ Replay) (λ _. c.in-Replay.is) c.replay_list.result c.replay_list.ensures.named
+returns-in-Replay-clause-named g c = asked_too (λ r. r ≡ Replay) (λ r. r ≡ c.args.request) (λ r is. is ∙ sym c.in-Replay.is) (g.S.Source.left c.args.source.now) c.replay_list.result c.replay_list.ensures.named
 
 pub returns-in-Submit-clause-named : goal.returns-in-Submit-clause-named
-returns-in-Submit-clause-named g c = reads_too ⊥ (c.args.request ≡ Replay) (λ never. absurd never) c.submit_content.result c.submit_content.ensures.named
+returns-in-Submit-clause-named g c = asked_too (λ r. r ≡ Submit c.in-Submit.sender c.in-Submit.to) (λ r. r ≡ c.args.request) (λ r is. is ∙ sym c.in-Submit.is) (g.S.Source.left c.args.source.now) c.submit_content.result c.submit_content.ensures.named
 
 pub returns-in-Drain-clause-named : goal.returns-in-Drain-clause-named
-returns-in-Drain-clause-named g c = reads_too ⊥ (c.args.request ≡ Replay) (λ never. absurd never) c.drain_spool.result c.drain_spool.ensures.named
+returns-in-Drain-clause-named g c =
+    let text = g.S.Source.left c.args.source.now in
+    asked_too (λ r. r ≡ Drain c.in-Drain.rests) (λ r. r ≡ c.args.request) (λ r is. is ∙ sym c.in-Drain.is) text c.drain_spool.result (c.drain_spool.ensures.named text)
 
 pub returns-in-Qshape-clause-named : goal.returns-in-Qshape-clause-named
-returns-in-Qshape-clause-named g c = unnamed (c.args.request ≡ Replay) c.table_ages.result c.table_ages.ensures.no_lives
+returns-in-Qshape-clause-named g c = unnamed (λ r. r ≡ c.args.request) (g.S.Source.left c.args.source.now) c.table_ages.result c.table_ages.ensures.no_lives
 
 pub returns-in-Queue-clause-named : goal.returns-in-Queue-clause-named
-returns-in-Queue-clause-named g c = unnamed (c.args.request ≡ Replay) c.list_queues.result c.list_queues.ensures.no_lives
+returns-in-Queue-clause-named g c = unnamed (λ r. r ≡ c.args.request) (g.S.Source.left c.args.source.now) c.list_queues.result c.list_queues.ensures.no_lives
 
 pub returns-in-Load-clause-named : goal.returns-in-Load-clause-named
-returns-in-Load-clause-named g c = unnamed (c.args.request ≡ Replay) c.tell_load.result c.tell_load.ensures.no_lives
-
-pub returns-in-Submit-clause-line : goal.returns-in-Submit-clause-line
-returns-in-Submit-clause-line g c = no_line (g.S.Source.left c.args.source.now) c.submit_content.result c.submit_content.ensures.named
-
-pub returns-in-Drain-clause-line : goal.returns-in-Drain-clause-line
-returns-in-Drain-clause-line g c = no_line (g.S.Source.left c.args.source.now) c.drain_spool.result c.drain_spool.ensures.named
-
-pub returns-in-Qshape-clause-line : goal.returns-in-Qshape-clause-line
-returns-in-Qshape-clause-line g c = no_line (g.S.Source.left c.args.source.now) c.table_ages.result (unnamed ⊥ c.table_ages.result c.table_ages.ensures.no_lives)
-
-pub returns-in-Queue-clause-line : goal.returns-in-Queue-clause-line
-returns-in-Queue-clause-line g c = no_line (g.S.Source.left c.args.source.now) c.list_queues.result (unnamed ⊥ c.list_queues.result c.list_queues.ensures.no_lives)
-
-pub returns-in-Load-clause-line : goal.returns-in-Load-clause-line
-returns-in-Load-clause-line g c = no_line (g.S.Source.left c.args.source.now) c.tell_load.result (unnamed ⊥ c.tell_load.result c.tell_load.ensures.no_lives)
+returns-in-Load-clause-named g c = unnamed (λ r. r ≡ c.args.request) (g.S.Source.left c.args.source.now) c.tell_load.result c.tell_load.ensures.no_lives

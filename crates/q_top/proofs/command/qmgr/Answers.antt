@@ -1,12 +1,10 @@
-use Rattle.std.proofs.Common.{◌≡◌, inl, inr, refl, subst}
+use Rattle.std.proofs.Common.{◌≡◌, inl, inr, refl, subst, sym}
 use Rattle.q_top.proofs.Asked.{asked_form}
 use Rattle.q_top.specs.Qmgr.{texts_of, words_status}
 use Rattle.q_words.specs.declared.request.Request.{Request}
 use Rattle.q_words.specs.Requests.{IsRequest}
-use Rattle.q_top.proofs.Named.{reads_too, words_line, words_named}
+use Rattle.q_top.proofs.Named.{asked_too, words_named}
 use Rattle.q_top.proofs.Readable.{words_readable, no_lives_of, words_no_lives}
-use Rattle.q_top.specs.Named.{IsReplayOf}
-use Rattle.q_words.specs.declared.request.Request.TheVariants.{Replay}
 use Rattle.q_top.proofs.command.qmgr.Goals as goal
 
 pub carry_out-requires-clause-form : goal.carry_out-requires-clause-form
@@ -40,12 +38,9 @@ pub returns-in-Err-clause-lives : goal.returns-in-Err-clause-lives
 returns-in-Err-clause-lives g c = rw c.words_status.ensures (no_lives_of (words_status c.in-Err.error) (words_no_lives c.in-Err.error))
 
 pub returns-in-Err-clause-named : goal.returns-in-Err-clause-named
-returns-in-Err-clause-named g c = rw c.words_status.ensures (words_named (IsReplayOf (texts_of c.args.words.now)) c.in-Err.error)
+returns-in-Err-clause-named g c = rw c.words_status.ensures (words_named (IsRequest (texts_of c.args.words.now)) (g.S.Source.left c.args.source.now) c.in-Err.error)
 
 pub returns-in-Ok-clause-named : goal.returns-in-Ok-clause-named
 returns-in-Ok-clause-named g c =
-    reads_too (c.in-Ok.request ≡ Replay) (IsReplayOf (texts_of c.args.words.now))
-    (λ is. subst (IsRequest (texts_of c.args.words.now)) is c.in-Ok.ensures.1) c.carry_out.result c.carry_out.ensures.named
-
-pub returns-in-Err-clause-line : goal.returns-in-Err-clause-line
-returns-in-Err-clause-line g c = rw c.words_status.ensures (words_line (g.S.Source.left c.args.source.now) c.in-Err.error)
+    let words = texts_of c.args.words.now in
+    asked_too (λ r. r ≡ c.in-Ok.request) (IsRequest words) (λ r is. subst (IsRequest words) (sym is) c.in-Ok.ensures.1) (g.S.Source.left c.args.source.now) c.carry_out.result c.carry_out.ensures.named

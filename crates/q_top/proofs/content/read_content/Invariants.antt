@@ -6,7 +6,7 @@ abbrev pub invariant-loop-count : goal.invariant-loop-count
 invariant-loop-count g l = record {
   read : g.S.Source.left l.fn.source ≡ option_map (λ rest. l.content.items ++ rest) (g.S.Source.left l.source);
   few : length l.content.items ≤ 10240000;
-  later : g.S.Source.faults l.fn.source ≤ g.S.Source.faults l.source;
+  faultless : g.S.Source.faults l.source ≡ g.S.Source.faults l.fn.source;
 }
 
 -- each piece leaves fewer bytes to come to, up to the bound

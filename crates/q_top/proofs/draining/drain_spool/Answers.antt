@@ -1,4 +1,5 @@
-use Rattle.std.proofs.Common.{◌∙◌, subst, sym, ℕ}
+use Rattle.std.proofs.Common.{◌≡◌, ◌∙◌, subst, sym, ℕ}
+use Rattle.q_words.specs.declared.request.Request.TheVariants.{Drain}
 use Rattle.q_books.specs.HostStands.{TellsCrashes}
 use Rattle.q_top.proofs.Drains.{drained, never_of_source, unread_drain}
 use Rattle.q_top.proofs.RunsBehind.{still_fit}
@@ -56,10 +57,10 @@ returns-in-Err-clause-serves g c t =
     still_serves u (g.H.Host.view c.read_conf.new.host) lawful (c.read_conf.ensures.stays t)
 
 pub returns-in-Ok-clause-named : goal.returns-in-Ok-clause-named
-returns-in-Ok-clause-named g c = rw c.delivery_status.ensures.exact (delivered_named ⊥ c.deliver.result c.deliver.ensures.named)
+returns-in-Ok-clause-named g c text = rw c.delivery_status.ensures.exact (delivered_named c.args.rests text c.deliver.result c.deliver.ensures.named)
 
 pub returns-in-Err-clause-named : goal.returns-in-Err-clause-named
-returns-in-Err-clause-named g c = rw c.conf_status.ensures.exact (conf_named ⊥ c.in-Err.error c.in-Err.ensures.some_fault)
+returns-in-Err-clause-named g c text = rw c.conf_status.ensures.exact (conf_named (λ r. r ≡ Drain c.args.rests) text c.in-Err.error c.in-Err.ensures.some_fault)
 
 pub returns-in-Ok-clause-few : goal.returns-in-Ok-clause-few
 returns-in-Ok-clause-few g c n is =

@@ -1,9 +1,10 @@
-use Rattle.std.proofs.Common.{refl}
+use Rattle.std.proofs.Common.{◌≡◌, refl}
+use Rattle.q_words.specs.declared.request.Request.TheVariants.{Replay}
 use Rattle.q_books.specs.HostStands.{TellsCrashes}
 use Rattle.q_top.proofs.FirstRefusals.{replayed, unread_replay}
 use Rattle.q_top.proofs.RunsBehind.{still_fit}
 use Rattle.q_top.proofs.Serving.{replay_serves, still_serves}
-use Rattle.q_top.proofs.Named.{conf_line, conf_named, replayed_line, replayed_named}
+use Rattle.q_top.proofs.Named.{conf_named, replayed_named}
 use Rattle.q_top.proofs.Readable.{conf_readable, ended_readable}
 use Rattle.q_top.proofs.replaying.replay_list.Goals as goal
 
@@ -47,13 +48,7 @@ returns-in-Err-clause-serves g c t =
     still_serves u (g.H.Host.view c.read_conf.new.host) lawful (c.read_conf.ensures.stays t)
 
 pub returns-in-Ok-clause-named : goal.returns-in-Ok-clause-named
-returns-in-Ok-clause-named g c = rw c.status_of.ensures.exact (replayed_named c.replay.result c.replay.ensures.named)
+returns-in-Ok-clause-named g c = rw c.status_of.ensures.exact (replayed_named (g.S.Source.left c.args.source.now) c.replay.result c.replay.ensures.named c.replay.ensures.line)
 
 pub returns-in-Err-clause-named : goal.returns-in-Err-clause-named
-returns-in-Err-clause-named g c = rw c.conf_status.ensures.exact (conf_named (Unit {0}) c.in-Err.error c.in-Err.ensures.some_fault)
-
-pub returns-in-Ok-clause-line : goal.returns-in-Ok-clause-line
-returns-in-Ok-clause-line g c = rw c.status_of.ensures.exact (replayed_line (g.S.Source.left c.args.source.now) c.replay.result c.replay.ensures.line)
-
-pub returns-in-Err-clause-line : goal.returns-in-Err-clause-line
-returns-in-Err-clause-line g c = rw c.conf_status.ensures.exact (conf_line (g.S.Source.left c.args.source.now) c.in-Err.error)
+returns-in-Err-clause-named g c = rw c.conf_status.ensures.exact (conf_named (λ r. r ≡ Replay) (g.S.Source.left c.args.source.now) c.in-Err.error c.in-Err.ensures.some_fault)

@@ -1,8 +1,10 @@
+use Rattle.std.proofs.Common.{◌≡◌}
+use Rattle.q_words.specs.declared.request.Request.TheVariants.{Submit}
 use Rattle.q_books.specs.HostStands.{TellsCrashes}
 use Rattle.q_host.proofs.Stays.{stays_here}
 use Rattle.q_top.proofs.Serving.{still_serves}
 use Rattle.q_top.proofs.Submissions.{no_content, with_content}
-use Rattle.q_top.proofs.Named.{content_named}
+use Rattle.q_top.proofs.Named.{content_named, of_source}
 use Rattle.q_top.proofs.Readable.{content_readable}
 use Rattle.q_top.proofs.submitting.submit_content.Goals as goal
 
@@ -36,7 +38,8 @@ returns-in-Err-clause-serves g c t =
     still_serves u u lawful (stays_here u)
 
 pub returns-in-Ok-clause-named : goal.returns-in-Ok-clause-named
-returns-in-Ok-clause-named g c = c.submit_letter.ensures.named
+returns-in-Ok-clause-named g c =
+    of_source (λ r. r ≡ Submit c.args.sender c.args.to) (g.S.Source.left c.args.source.now) c.in-Ok.content c.submit_letter.result c.in-Ok.ensures.whole c.submit_letter.ensures.named
 
 pub returns-in-Err-clause-named : goal.returns-in-Err-clause-named
-returns-in-Err-clause-named g c = rw c.content_status.ensures.exact (content_named ⊥ c.in-Err.error)
+returns-in-Err-clause-named g c = rw c.content_status.ensures.exact (content_named c.args.sender c.args.to (g.S.Source.left c.args.source.now) c.in-Err.error c.in-Err.ensures.error)

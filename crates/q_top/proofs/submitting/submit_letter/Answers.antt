@@ -1,3 +1,5 @@
+use Rattle.std.proofs.Common.{◌≡◌, Some}
+use Rattle.q_words.specs.declared.request.Request.TheVariants.{Submit}
 use Rattle.q_books.specs.HostStands.{TellsCrashes}
 use Rattle.q_top.proofs.FirstRefusals.{never_source, submitted_so, unread_submission}
 use Rattle.q_top.proofs.RunsBehind.{still_fit}
@@ -47,7 +49,7 @@ returns-in-Err-clause-serves g c t =
     still_serves u (g.H.Host.view c.read_conf.new.host) lawful (c.read_conf.ensures.stays t)
 
 pub returns-in-Ok-clause-named : goal.returns-in-Ok-clause-named
-returns-in-Ok-clause-named g c = rw c.status_of.ensures.exact (submitted_named ⊥ c.args.letter.to c.args.letter.content c.submit.result c.submit.ensures.named)
+returns-in-Ok-clause-named g c = rw c.status_of.ensures.exact (submitted_named c.args.letter.sender c.args.letter.to c.args.letter.content c.submit.result c.submit.ensures.named)
 
 pub returns-in-Err-clause-named : goal.returns-in-Err-clause-named
-returns-in-Err-clause-named g c = rw c.conf_status.ensures.exact (conf_named ⊥ c.in-Err.error c.in-Err.ensures.some_fault)
+returns-in-Err-clause-named g c = rw c.conf_status.ensures.exact (conf_named (λ r. r ≡ Submit c.args.letter.sender c.args.letter.to) (Some c.args.letter.content) c.in-Err.error c.in-Err.ensures.some_fault)
