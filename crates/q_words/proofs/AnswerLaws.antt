@@ -22,12 +22,6 @@ pub answer-ok : {T : Type 0} (fault : Bool) (rows other : List Row) (bad : List 
 answer-ok fault rows other bad says (Ok x) whole same h = (ap (λ b. b || bad other) whole ∙ ap bad (sym same) ∙ h.0, subst (λ rs. says rs x) same h.1)
 answer-ok fault rows other bad says (Err e) whole same h = λ u. ap (λ b. b || bad other) whole ∙ ap bad (sym same) ∙ h u
 
--- and there is nothing else to refuse them for
-pub answer-plain : {T : Type 0} (fault : Bool) (rows other : List Row) (says : List Row → T → Type 0) (r : Result T WordsError) → fault ≡ false → rows ≡ other
-    → IsAnswer false (says rows) r → IsAnswer fault (says other) r
-answer-plain fault rows other says (Ok x) whole same h = (whole, subst (λ rs. says rs x) same h.1)
-answer-plain fault rows other says (Err e) whole same h = λ u. let t : false ≡ true = h u in cc
-
 -- clap refused them
 pub answer-err : {T : Type 0} (fault bad : Bool) (says : T → Type 0) (e : WordsError) → (IsUsageError e → fault ≡ true) → IsAnswer (fault || bad) says (Err e)
 answer-err fault bad says e h = λ u. ap (λ b. b || bad) (h u)

@@ -1,7 +1,7 @@
 -- The commands as clap reads their words.
 use Rattle.std.specs.Prelude.{◌∷◌, ◌-◌, ◌^◌, [], Bool, codes, length, List, nat_lt, pos, Some, true, ℕ}
 use Rattle.clap.specs.Words.{App, fault_of, new_app, new_rule, Rule, Text, with_rule}
-use Rattle.clap.specs.declared.builder.action.ArgAction.TheVariants.{SetTrue}
+use Rattle.clap.specs.declared.builder.action.ArgAction.TheVariants.{Set, SetTrue}
 use Rattle.clap.specs.declared.builder.value_parser.ValueParser.TheVariants.{Signed}
 
 -- `submit SENDER RECIPIENT..`
@@ -21,6 +21,7 @@ submit_app = with_rule (with_rule (new_app (codes "submit")) sender_rule) to_rul
 abbrev pub rests_rule : Rule
 rests_rule = record (new_rule (codes "rests")) {
   short = Some 110;
+  action = Some Set;
   parser = Some (Signed (pos 0) (pos 1000000000));
   defaults = codes "1000000" ∷ [];
 }
@@ -32,6 +33,7 @@ drain_app = with_rule (new_app (codes "drain")) rests_rule
 abbrev pub mails_rule : Rule
 mails_rule = record (new_rule (codes "mails")) {
   required = true;
+  action = Some Set;
   parser = Some (Signed (pos 1) (pos 2000));
 }
 
@@ -45,6 +47,7 @@ flag_rule id letter = record (new_rule id) { short = Some letter; action = Some 
 abbrev pub buckets_rule : Rule
 buckets_rule = record (new_rule (codes "buckets")) {
   short = Some 98;
+  action = Some Set;
   parser = Some (Signed (pos 2) (pos 20));
   defaults = codes "10" ∷ [];
 }
@@ -52,6 +55,7 @@ buckets_rule = record (new_rule (codes "buckets")) {
 abbrev pub minutes_rule : Rule
 minutes_rule = record (new_rule (codes "minutes")) {
   short = Some 116;
+  action = Some Set;
   parser = Some (Signed (pos 1) (pos 10000));
   defaults = codes "5" ∷ [];
 }

@@ -1,9 +1,10 @@
 //! The commands as clap reads their words.
-ghost use Rattle.std.specs.Prelude.{◌≡◌, false, map, IfOk, string_bytes};
+ghost use Rattle.std.specs.Prelude.{◌≡◌, codes, false, map, IfOk, string_bytes};
 ghost use Rattle.clap.specs.Words.{app_of, fault_of, FailsBy, found_of, matches_of, rows_of, rule_of, new_app};
 ghost use Rattle.q_words.specs.Commands.{drain_app, flags_app, load_app, qshape_app, submit_app};
 ghost use Rattle.q_words.specs.Commands.{flag_rule, mails_rule, rests_rule, sender_rule, to_rule};
 ghost use Rattle.q_words.specs.Commands.{buckets_rule, minutes_rule, queues_rule};
+ghost use Rattle.q_words.specs.Given.{HasNumber};
 
 use clap::{Arg, ArgAction, ArgMatches, Command, Error, value_parser};
 use std::alloc::{AllocError, Global};
@@ -36,6 +37,7 @@ fn rests<'a>(alloc: Global) -> Arg<'a>
 {
     Arg::new(alloc, "rests")
         .short('n')
+        .action(ArgAction::Set)
         .value_parser(value_parser!(u32).range(0..=1_000_000_000))
         .default_value("1000000")
 }
@@ -46,6 +48,7 @@ fn mails<'a>(alloc: Global) -> Arg<'a>
 {
     Arg::new(alloc, "mails")
         .required(true)
+        .action(ArgAction::Set)
         .value_parser(value_parser!(u32).range(1..=2000))
 }
 
@@ -55,6 +58,7 @@ fn buckets<'a>(alloc: Global) -> Arg<'a>
 {
     Arg::new(alloc, "buckets")
         .short('b')
+        .action(ArgAction::Set)
         .value_parser(value_parser!(u8).range(2..=20))
         .default_value("10")
 }
@@ -65,6 +69,7 @@ fn minutes<'a>(alloc: Global) -> Arg<'a>
 {
     Arg::new(alloc, "minutes")
         .short('t')
+        .action(ArgAction::Set)
         .value_parser(value_parser!(u32).range(1..=10_000))
         .default_value("5")
 }
@@ -133,6 +138,7 @@ pub(crate) fn drain_matches<'a>(alloc: Global, words: &'a [String]) -> Result<Ar
     ensures refused { FailsBy (fault_of drain_app (map string_bytes words.entry.now)) result }
     ensures found { IfOk result (λ m. rows_of (found_of m)
         ≡ matches_of drain_app (map string_bytes words.entry.now)) }
+    ensures rests { IfOk result (λ m. HasNumber m (codes "rests") 0 1000000000) }
 {
     let command = drain(alloc)?;
     command.try_get_matches_from(words)
@@ -143,6 +149,7 @@ pub(crate) fn load_matches<'a>(alloc: Global, words: &'a [String]) -> Result<Arg
     ensures refused { FailsBy (fault_of load_app (map string_bytes words.entry.now)) result }
     ensures found { IfOk result (λ m. rows_of (found_of m)
         ≡ matches_of load_app (map string_bytes words.entry.now)) }
+    ensures mails { IfOk result (λ m. HasNumber m (codes "mails") 1 2000) }
 {
     let command = load(alloc)?;
     command.try_get_matches_from(words)
@@ -156,6 +163,8 @@ pub(crate) fn qshape_matches<'a>(
     ensures refused { FailsBy (fault_of qshape_app (map string_bytes words.entry.now)) result }
     ensures found { IfOk result (λ m. rows_of (found_of m)
         ≡ matches_of qshape_app (map string_bytes words.entry.now)) }
+    ensures buckets { IfOk result (λ m. HasNumber m (codes "buckets") 2 20) }
+    ensures minutes { IfOk result (λ m. HasNumber m (codes "minutes") 1 10000) }
 {
     let command = qshape(alloc)?;
     command.try_get_matches_from(words)

@@ -1,7 +1,8 @@
 //! The words of `drain`.
-ghost use Rattle.std.specs.Prelude.{codes, false, IfSome, map, string_bytes};
+ghost use Rattle.std.specs.Prelude.{codes, map, string_bytes};
 ghost use Rattle.clap.specs.Words.{found_of, matches_of, rows_of};
 ghost use Rattle.q_words.specs.Commands.{drain_app};
+ghost use Rattle.q_words.specs.Given.{HasNumber};
 ghost use Rattle.q_words.specs.Requests.{IsDrain, IsNumber};
 ghost use Rattle.q_words.specs.Usages.{is_drain_usage, IsAnswer};
 
@@ -11,23 +12,21 @@ use crate::request::Request;
 use clap::ArgMatches;
 use std::alloc::Global;
 
-fn rests_of<'a>(matches: &ArgMatches<'a>) -> Option<u32>
-    ensures { IfSome result (IsNumber (rows_of (found_of matches.now)) (codes "rests")) }
+fn rests_of<'a>(matches: &ArgMatches<'a>) -> u32
+    requires { HasNumber matches.now (codes "rests") 0 1000000000 }
+    ensures { IsNumber (rows_of (found_of matches.now)) (codes "rests") result }
 {
-    matches.get_one::<u32>("rests")
+    matches.get_one::<u32>("rests").unwrap()
 }
 
-/// The drain that the words ask for. clap has let all words through, so that the number isn't missing:
-/// where it were, want of memory would be answered.
-fn drain_in<'a>(matches: &ArgMatches<'a>) -> Result<Request, WordsError>
-    ensures { IsAnswer false (IsDrain (rows_of (found_of matches.now))) result }
+/// The drain that the words ask for.
+fn drain_in<'a>(matches: &ArgMatches<'a>) -> Request
+    requires { HasNumber matches.now (codes "rests") 0 1000000000 }
+    ensures { IsDrain (rows_of (found_of matches.now)) result }
 {
-    let Some(rests) = rests_of(matches) else {
-        return Err(WordsError::NoMemory);
-    };
-    Ok(Request::Drain {
-        rests: u64::from(rests),
-    })
+    Request::Drain {
+        rests: u64::from(rests_of(matches)),
+    }
 }
 
 /// What the words of `drain` ask for, the command in front.
@@ -36,7 +35,7 @@ pub(crate) fn read_drain(alloc: Global, words: &[String]) -> Result<Request, Wor
         (IsDrain (matches_of drain_app (map string_bytes words.now))) result }
 {
     match drain_matches(alloc, words) {
-        Ok(matches) => drain_in(&matches),
+        Ok(matches) => Ok(drain_in(&matches)),
         Err(error) => Err(refused(error)),
     }
 }

@@ -1,8 +1,9 @@
 //! The words of `qshape`.
-ghost use Rattle.std.specs.Prelude.{◌≡◌, codes, IfSome, map, string_bytes};
+ghost use Rattle.std.specs.Prelude.{◌≡◌, ◌≤◌, codes, map, string_bytes};
 ghost use Rattle.clap.specs.Words.{found_of, matches_of, rows_of};
 ghost use Rattle.q_shape.specs.Buckets.{IsShape};
 ghost use Rattle.q_words.specs.Commands.{qshape_app};
+ghost use Rattle.q_words.specs.Given.{HasNumber};
 ghost use Rattle.q_words.specs.Requests.{IsFlag, IsNumber, IsTableRequest, words_of};
 ghost use Rattle.q_words.specs.Usages.{has_no_queue, is_qshape_usage, IsAnswer};
 
@@ -19,59 +20,45 @@ fn flag<'a>(matches: &ArgMatches<'a>, id: &str) -> bool
     matches.get_flag(id)
 }
 
-fn buckets<'a>(matches: &ArgMatches<'a>) -> Option<u8>
-    ensures { IfSome result (IsNumber (rows_of (found_of matches.now)) (codes "buckets")) }
+fn buckets<'a>(matches: &ArgMatches<'a>) -> u8
+    requires { HasNumber matches.now (codes "buckets") 2 20 }
+    ensures number { IsNumber (rows_of (found_of matches.now)) (codes "buckets") result }
+    ensures some { 2 ≤ result }
+    ensures few { result ≤ 20 }
 {
-    matches.get_one::<u8>("buckets")
+    matches.get_one::<u8>("buckets").unwrap()
 }
 
-fn minutes<'a>(matches: &ArgMatches<'a>) -> Option<u32>
-    ensures { IfSome result (IsNumber (rows_of (found_of matches.now)) (codes "minutes")) }
+fn minutes<'a>(matches: &ArgMatches<'a>) -> u32
+    requires { HasNumber matches.now (codes "minutes") 1 10000 }
+    ensures number { IsNumber (rows_of (found_of matches.now)) (codes "minutes") result }
+    ensures some { 1 ≤ result }
+    ensures few { result ≤ 10000 }
 {
-    matches.get_one::<u32>("minutes")
-}
-
-/// The options, where the numbers are within their ranges.
-fn options(linear: bool, buckets: u8, minutes: u32) -> Option<ShapeOptions>
-    ensures shape { IfSome result IsShape }
-    ensures linear { IfSome result (λ o. o.linear ≡ linear) }
-    ensures buckets { IfSome result (λ o. o.buckets ≡ buckets) }
-    ensures minutes { IfSome result (λ o. o.minutes ≡ minutes) }
-{
-    if buckets < 2 || buckets > 20 {
-        return None;
-    }
-    if minutes < 1 || minutes > 10_000 {
-        return None;
-    }
-    Some(ShapeOptions {
-        linear,
-        buckets,
-        minutes,
-    })
+    matches.get_one::<u32>("minutes").unwrap()
 }
 
 /// The options that the words give.
-fn shape_in<'a>(matches: &ArgMatches<'a>) -> Option<ShapeOptions>
-    ensures shape { IfSome result IsShape }
-    ensures linear { IfSome result (λ o. IsFlag (rows_of (found_of matches.now))
-        (codes "linear") o.linear) }
-    ensures buckets { IfSome result (λ o. IsNumber (rows_of (found_of matches.now))
-        (codes "buckets") o.buckets) }
-    ensures minutes { IfSome result (λ o. IsNumber (rows_of (found_of matches.now))
-        (codes "minutes") o.minutes) }
+fn shape_in<'a>(matches: &ArgMatches<'a>) -> ShapeOptions
+    requires buckets { HasNumber matches.now (codes "buckets") 2 20 }
+    requires minutes { HasNumber matches.now (codes "minutes") 1 10000 }
+    ensures shape { IsShape result }
+    ensures linear { IsFlag (rows_of (found_of matches.now)) (codes "linear") result.linear }
+    ensures buckets { IsNumber (rows_of (found_of matches.now)) (codes "buckets") result.buckets }
+    ensures minutes { IsNumber (rows_of (found_of matches.now)) (codes "minutes") result.minutes }
 {
-    options(
-        flag(matches, "linear"),
-        buckets(matches)?,
-        minutes(matches)?,
-    )
+    ShapeOptions {
+        linear: flag(matches, "linear"),
+        buckets: buckets(matches),
+        minutes: minutes(matches),
+    }
 }
 
-/// The table of the queues that these words name. clap has let all words through, so that no
-/// number is missing or outside its range: where one were, want of memory would be answered.
+/// The table of the queues that these words name.
 fn table_of<'a>(matches: &ArgMatches<'a>, words: &[&str]) -> Result<TableRequest, WordsError>
-    requires { map (λ w. w.now) words.now
+    requires buckets { HasNumber matches.now (codes "buckets") 2 20 }
+    requires minutes { HasNumber matches.now (codes "minutes") 1 10000 }
+    requires words { map (λ w. w.now) words.now
         ≡ words_of (codes "queues") (rows_of (found_of matches.now)) }
     ensures { IsAnswer (has_no_queue (rows_of (found_of matches.now)))
         (IsTableRequest (rows_of (found_of matches.now))) result }
@@ -79,18 +66,17 @@ fn table_of<'a>(matches: &ArgMatches<'a>, words: &[&str]) -> Result<TableRequest
     if !are_queues(words) {
         return Err(WordsError::NoQueue);
     }
-    let Some(shape) = shape_in(matches) else {
-        return Err(WordsError::NoMemory);
-    };
     Ok(TableRequest {
         senders: flag(matches, "senders"),
         queues: queues_of(words),
-        shape,
+        shape: shape_in(matches),
     })
 }
 
 /// The table that the words ask for.
 fn table_in<'a>(matches: &ArgMatches<'a>) -> Result<TableRequest, WordsError>
+    requires buckets { HasNumber matches.now (codes "buckets") 2 20 }
+    requires minutes { HasNumber matches.now (codes "minutes") 1 10000 }
     ensures { IsAnswer (has_no_queue (rows_of (found_of matches.now)))
         (IsTableRequest (rows_of (found_of matches.now))) result }
 {

@@ -7,18 +7,18 @@ use Rattle.q_words.proofs.tables.table_of.Goals as goal
 pub returns-then-not-are_queues : goal.returns-then-not-are_queues
 returns-then-not-are_queues c = λ u.
     let e : c.are_queues.result ≡ false = search rules in
-    ap not (sym (ap (list_all is_queue) c.requires) ∙ all-seen is_queue c.args.words.now ∙ sym c.are_queues.ensures ∙ e)
+    ap not (sym (ap (list_all is_queue) c.requires.words) ∙ all-seen is_queue c.args.words.now ∙ sym c.are_queues.ensures ∙ e)
 
 pub returns : goal.returns
 returns c =
     let e : c.are_queues.result ≡ true = search rules in (
-      ap not (sym (ap (list_all is_queue) c.requires) ∙ all-seen is_queue c.args.words.now ∙ sym c.are_queues.ensures ∙ e),
+      ap not (sym (ap (list_all is_queue) c.requires.words) ∙ all-seen is_queue c.args.words.now ∙ sym c.are_queues.ensures ∙ e),
       record {
         senders = c.flag.ensures;
-        linear = c.in-Some.ensures.linear;
-        buckets = c.in-Some.ensures.buckets;
-        minutes = c.in-Some.ensures.minutes;
-        shape = c.in-Some.ensures.shape;
-        queues = c.queues_of.ensures ∙ ap queues_of c.requires;
+        linear = c.shape_in.ensures.linear;
+        buckets = c.shape_in.ensures.buckets;
+        minutes = c.shape_in.ensures.minutes;
+        shape = c.shape_in.ensures.shape;
+        queues = c.queues_of.ensures ∙ ap queues_of c.requires.words;
       },
     )
