@@ -4,13 +4,29 @@ ghost use Rattle.q_core.specs.Facts.{IsDated};
 use q_core::{FileFacts, Found};
 use q_model::{Address, Batch, Hop, Id, Site, Taken};
 
+/// The recipients of a large message behind which jobs begin: more than fill the window of its next
+/// hop.
+const LARGE: u32 = 1_000;
+
+/// The next hops of the large message, of all second recipients, and of messages that can't begin.
+const LARGE_HOP: u32 = 0;
+
+pub(crate) const SHARED_HOP: u32 = 1;
+
+const LAST_HOP: u32 = 2;
+
+/// The next hops of messages that have one each follow these.
+const OWN_HOPS: u32 = 3;
+
 /// What the messages are like.
 #[derive(Clone, Copy, Debug)]
-pub(crate) struct Mail {
-    /// The recipients of the first message. Each other one has one.
-    pub(crate) first: u32,
-    /// The next hops, at which recipients are by turns.
-    pub(crate) hops: u32,
+pub(crate) enum Mail {
+    /// The first message has so many recipients, and each other one has one. They are at so many next
+    /// hops by turns.
+    Alike { first: u32, hops: u32 },
+    /// A large message; so many of two recipients, the first at a next hop of its own and the second
+    /// at one that they share; one with a next hop of its own; and small ones at one next hop.
+    Begun { jobs: u32 },
 }
 
 pub(crate) fn id_of(serial: u32) -> Id {
@@ -21,7 +37,31 @@ pub(crate) fn id_of(serial: u32) -> Id {
     }
 }
 
-fn hop(number: u32) -> Option<Hop> {
+/// The recipients of a message of such mail.
+fn begun_recipients(jobs: u32, serial: u32) -> u32 {
+    if serial == 1 {
+        LARGE
+    } else if serial <= jobs.saturating_add(1) {
+        2
+    } else {
+        1
+    }
+}
+
+/// The next hop of a recipient of such mail.
+fn begun_hop(jobs: u32, serial: u32, position: u32) -> u32 {
+    if serial == 1 {
+        LARGE_HOP
+    } else if position > 0 {
+        SHARED_HOP
+    } else if serial <= jobs.saturating_add(2) {
+        serial.saturating_add(OWN_HOPS)
+    } else {
+        LAST_HOP
+    }
+}
+
+pub(crate) fn hop(number: u32) -> Option<Hop> {
     let mut text = *b"mx00000.example";
     let mut rest = number;
     for place in 0..5 {
@@ -33,7 +73,18 @@ fn hop(number: u32) -> Option<Hop> {
 
 impl Mail {
     pub(crate) fn recipients(&self, serial: u32) -> u32 {
-        if serial == 1 { self.first } else { 1 }
+        match *self {
+            Mail::Alike { first, .. } => { if serial == 1 { first } else { 1 } }
+            Mail::Begun { jobs } => begun_recipients(jobs, serial),
+        }
+    }
+
+    /// The number of the next hop of the recipient at this position.
+    fn hop_number(&self, serial: u32, position: u32) -> u32 {
+        match *self {
+            Mail::Alike { hops, .. } => serial.saturating_add(position) % hops.max(1),
+            Mail::Begun { jobs } => begun_hop(jobs, serial, position),
+        }
     }
 
     /// What a look finds at the message of this serial.
@@ -59,10 +110,9 @@ impl Mail {
 
     /// The site of the recipient at this position.
     pub(crate) fn site(&self, serial: u32, position: u32) -> Option<Site> {
-        let number = serial.saturating_add(position) % self.hops.max(1);
         Some(Site {
             transport: 0,
-            hop: hop(number)?,
+            hop: hop(self.hop_number(serial, position))?,
         })
     }
 }

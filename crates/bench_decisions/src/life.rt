@@ -4,15 +4,12 @@ ghost use Rattle.std.specs.Prelude.{◌≡◌, IfOk, IfSome, true};
 ghost use Rattle.q_core.specs.Facts.{IsDated};
 ghost use Rattle.q_core.specs.Hearing.{has_log_code, HasLogCodes, IsInTime};
 
-use crate::files::{Mail, id_of, take_recipient};
+use crate::files::{Mail, SHARED_HOP, hop, id_of, take_recipient};
 use crate::scenario::Scenario;
 use q_core::{Core, Decision, Found, Heard};
-use q_model::{Batch, Cursor, Id, Mode, NoMemory, Outcome, Outcomes};
+use q_model::{Batch, Cursor, Hop, Id, Mode, NoMemory, Outcome, Outcomes};
 use q_params::read_params;
 use std::alloc::Global;
-
-/// The greatest room for messages and recipients.
-const LIMITS: &[u8] = b"qmgr_message_active_limit = 50000\nqmgr_message_recipient_limit = 100000\n";
 
 /// More decisions than follow one event, unless a site dies.
 const ENOUGH: u32 = 1_000;
@@ -39,8 +36,8 @@ fn boxed<T: Drop>(alloc: Global, value: T) -> Option<Box<T>> {
 }
 
 /// A core with no message.
-fn empty_core(alloc: Global) -> Option<Box<Core>> {
-    let params = read_params(LIMITS).ok()?;
+fn empty_core(alloc: Global, limits: &[u8]) -> Option<Box<Core>> {
+    let params = read_params(limits).ok()?;
     let core = Core::new(alloc, params, 1, Mode::Deliver).ok()?;
     boxed(alloc, core)
 }
@@ -61,10 +58,10 @@ impl Life {
     /// A life at the moment 1000, with nothing on disk.
     pub(crate) fn begin(alloc: Global, scenario: Scenario, mail: Mail) -> Option<Life> {
         let mut life = Life {
-            core: empty_core(alloc)?,
+            core: empty_core(alloc, scenario.limits())?,
             scenario,
             mail,
-            batch: Batch::new(alloc, mail.first).ok()?,
+            batch: Batch::new(alloc, scenario.recipients()).ok()?,
             came: 0,
             admitted: 0,
             decisions: 0,
@@ -227,9 +224,14 @@ impl Life {
     /// The delivery with the least number ends, where one is in flight. The decisions that follow
     /// aren't taken.
     fn reply(&mut self, alloc: Global) -> Option<()> {
-        let Some(number) = self.core.least_flight() else {
-            return Some(());
-        };
+        match self.core.least_flight() {
+            Some(number) => self.end(alloc, number),
+            None => Some(()),
+        }
+    }
+
+    /// The delivery of this number ends. The decisions that follow aren't taken.
+    fn end(&mut self, alloc: Global, number: u64) -> Option<()> {
         let outcomes = self.outcomes(alloc, number)?;
         let reply = Heard::Reply {
             number,
@@ -237,6 +239,44 @@ impl Life {
             outcomes: &outcomes,
         };
         self.take_event(reply)
+    }
+
+    /// Whether a delivery of this number goes to the next hop of this number.
+    fn goes_to(&self, number: u64, hop: Hop) -> bool {
+        match self.core.flight(number) {
+            Some(flight) => flight.site.hop == hop,
+            None => false,
+        }
+    }
+
+    /// A message comes and begins; its delivery to a next hop of its own ends. One to the next hop
+    /// that it shares with others goes on, or waits.
+    pub(crate) fn begin_job(&mut self, alloc: Global) -> Option<()> {
+        self.bring()?;
+        let last = self.core.last_number();
+        let number = if self.goes_to(last, hop(SHARED_HOP)?) {
+            last.saturating_sub(1)
+        } else {
+            last
+        };
+        self.end(alloc, number)?;
+        self.decide()?.then_some(())
+    }
+
+    /// The number of the delivery that began last, and the serial of its message; 0 where it is over.
+    pub(crate) fn last_delivery(&self) -> (u64, u32) {
+        let number = self.core.last_number();
+        let serial = match self.core.flight(number) {
+            Some(flight) => flight.id.serial,
+            None => 0,
+        };
+        (number, serial)
+    }
+
+    /// The oldest delivery ends, and a choice is made for the process that it had.
+    pub(crate) fn choose(&mut self, alloc: Global) -> Option<()> {
+        self.reply(alloc)?;
+        self.decide()?.then_some(())
     }
 
     /// A delivery ends, and a message comes in the place of the one that is gone.

@@ -11,6 +11,10 @@
 //!   its own, of ten seconds at most, tells how fast all that waits for it is put off. The new messages
 //!   behind that are put off as they come.
 //! - `sites`: there are N next hops, one for each message.
+//! - `begun`: N jobs begin a delivery each and wait with another one, behind a job that is served, and
+//!   three come that can't begin. Nothing is measured.
+//! - `chosen`: the same, and then the next delivery is chosen once. The script `bench/asked` counts how many
+//!   sites that asks.
 //!
 //! 50000 messages are the most, with the large one among them, and of `dead` 2 are the fewest.
 #![tactic(auto)]
@@ -24,6 +28,7 @@ use anyhow::{Result, bail};
 use lap::Lap;
 use life::Life;
 use scenario::Scenario;
+use std::alloc::Global;
 use std::env;
 
 /// How often a delivery ends and a message comes.
@@ -96,8 +101,40 @@ fn measure_death(rt: HostRuntime, life: &mut Life) -> Result<()> {
     Ok(())
 }
 
+/// The deliveries that are open while jobs begin: a large message's, as many as its next hop takes. N
+/// jobs begin behind it. One more delivery takes the last process, so three messages can't begin.
+fn begin_jobs(life: &mut Life, alloc: Global, jobs: u32) -> Option<()> {
+    life.bring()?;
+    for _i in 0..jobs {
+        life.begin_job(alloc)?;
+    }
+    for _i in 0..4 {
+        life.bring()?;
+    }
+    Some(())
+}
+
+/// Lets so many jobs begin, and makes a choice behind them.
+fn choose(rt: HostRuntime, scenario: Scenario, jobs: u32) -> Result<()> {
+    let Some(mut life) = Life::begin(rt.alloc(), scenario, scenario.mail(jobs)) else {
+        bail!("{STUCK}");
+    };
+    if begin_jobs(&mut life, rt.alloc(), jobs).is_none() {
+        bail!("{STUCK}");
+    }
+    if scenario == Scenario::Chosen && life.choose(rt.alloc()).is_none() {
+        bail!("{STUCK}");
+    }
+    let (number, serial) = life.last_delivery();
+    println!(rt; "{jobs} jobs: delivery {number} is of message {serial}")?;
+    Ok(())
+}
+
 /// Fills the memory, goes on and prints how fast.
 fn measure(rt: HostRuntime, scenario: Scenario, messages: u32) -> Result<()> {
+    if scenario.begins_jobs() {
+        return choose(rt, scenario, messages);
+    }
     let mut life = filled(rt, scenario, messages)?;
     if scenario == Scenario::Dead {
         return measure_death(rt, &mut life);
@@ -122,12 +159,13 @@ fn obey(rt: HostRuntime, words: &[String]) -> Result<()> {
         [] => {
             println!(rt; "bench_decisions N: takes decisions with N messages in memory")?;
             println!(rt; "bench_decisions plain|large|dead|sites N: the same of such mail")?;
+            println!(rt; "bench_decisions begun|chosen N: begins N jobs; and then chooses once")?;
             Ok(())
         }
         [number] => measure_word(rt, Scenario::Plain, number),
         [name, number] => match Scenario::named(name) {
             Some(scenario) => measure_word(rt, scenario, number),
-            None => bail!("{name} is none of plain, large, dead and sites"),
+            None => bail!("{name} is none of plain, large, dead, sites, begun and chosen"),
         },
         _ => bail!("too many words"),
     }

@@ -14,6 +14,16 @@ const HOPS: u32 = 40;
 /// So many messages come into memory by the greatest limit.
 const MOST: u32 = 50_000;
 
+/// The greatest room for messages and recipients.
+const LIMITS: &[u8] = b"qmgr_message_active_limit = 50000\nqmgr_message_recipient_limit = 100000\n";
+
+/// Processes for five deliveries of the large message, five to the next hop that is shared, and one
+/// more.
+const FEW_PROCESSES: &[u8] = b"default_process_limit = 11\n";
+
+/// The most jobs that begin, each with a next hop of its own.
+const MOST_BEGUN: u32 = 5_000;
+
 #[derive(Clone, Copy, Debug, PartialEq, Eq)]
 pub(crate) enum Scenario {
     /// Small messages at 40 next hops.
@@ -24,6 +34,10 @@ pub(crate) enum Scenario {
     Dead,
     /// Small messages, each with a next hop of its own.
     Sites,
+    /// Jobs that began and wait behind a large one, and three that didn't begin.
+    Begun,
+    /// The same, with a choice behind them.
+    Chosen,
 }
 
 impl Scenario {
@@ -33,6 +47,8 @@ impl Scenario {
             "large" => Some(Scenario::Large),
             "dead" => Some(Scenario::Dead),
             "sites" => Some(Scenario::Sites),
+            "begun" => Some(Scenario::Begun),
+            "chosen" => Some(Scenario::Chosen),
             _ => None,
         }
     }
@@ -56,7 +72,28 @@ impl Scenario {
 
     /// The most small messages.
     pub(crate) fn most(self) -> u32 {
-        MOST.saturating_sub(self.large_messages())
+        match self {
+            Scenario::Begun | Scenario::Chosen => MOST_BEGUN,
+            _ => MOST.saturating_sub(self.large_messages()),
+        }
+    }
+
+    /// Whether jobs begin behind a large one.
+    pub(crate) fn begins_jobs(self) -> bool {
+        matches!(self, Scenario::Begun | Scenario::Chosen)
+    }
+
+    /// The parameters that aren't the defaults.
+    pub(crate) fn limits(self) -> &'static [u8] {
+        match self {
+            Scenario::Begun | Scenario::Chosen => FEW_PROCESSES,
+            _ => LIMITS,
+        }
+    }
+
+    /// The most recipients of a message.
+    pub(crate) fn recipients(self) -> u32 {
+        RECIPIENTS
     }
 
     /// What the messages are like, of which so many are small.
@@ -66,8 +103,9 @@ impl Scenario {
             Scenario::Large => (RECIPIENTS, HOPS),
             Scenario::Dead => (1, 1),
             Scenario::Sites => (1, messages),
+            Scenario::Begun | Scenario::Chosen => return Mail::Begun { jobs: messages },
         };
-        Mail { first, hops }
+        Mail::Alike { first, hops }
     }
 
     /// What a delivery says of its site.
