@@ -12,6 +12,8 @@ fn stays(abort: &impl Abort, system: &System) -> Result<(), Fail> {
     };
     host.create(Area::Boot, name("00000001")?)?;
     host.create(Area::Incoming, id)?;
+    // The file of the last calls stays open for writing: that is another one then.
+    host.create(Area::Tmp, id)?;
     system.guarded.set(true);
     let fault = Err(HostError::Disk);
     assert_eq!(abort; host.rename(Area::Incoming, id, Area::Active, id), fault);

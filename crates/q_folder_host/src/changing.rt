@@ -39,14 +39,15 @@ impl<F: Files<File = File> + Clock + Drop> Spool<F> {
         self.system.files.monotonic().ok()
     }
 
-    /// Whether a line that is told now may be kept back.
+    /// Whether a line that is told now may be kept back. Of a look it may: it says nothing of the disk.
     pub(crate) fn may_keep_lines(&mut self) -> bool {
         let keeps_lines = matches!(
             self.access,
-            Access::Change {
-                syncs: Syncs::Grouped { keeps_lines: true },
-                ..
-            }
+            Access::Look
+                | Access::Change {
+                    syncs: Syncs::Grouped { keeps_lines: true },
+                    ..
+                }
         );
         if !keeps_lines {
             return false;
@@ -116,13 +117,27 @@ impl<F: Files<File = File> + Clock + Drop> Spool<F> {
         Ok(())
     }
 
+    // Whether the file of the last calls is that of a place, and is open for writing.
+    fn keeps_writable(&self, spot: Spot) -> bool {
+        match &self.kept {
+            Some(kept) => kept.is_of(spot, true),
+            None => false,
+        }
+    }
+
     // Forgets the file of the last calls, where it is that of a place.
-    fn forget(&mut self, spot: Spot) {
+    fn forget_kept(&mut self, spot: Spot) {
         if let Some(kept) = &self.kept {
             if kept.spot == spot {
                 self.kept = None;
             }
         }
+    }
+
+    // Forgets that and what was read.
+    fn forget(&mut self, spot: Spot) {
+        self.short.forget();
+        self.forget_kept(spot);
     }
 
     // An empty file was made. Where another one stood there, its bytes are gone for sure: nothing
@@ -157,6 +172,7 @@ impl<F: Files<File = File> + Clock + Drop> Spool<F> {
 
     // Writes all bytes from an offset on, over what is there. No file is made.
     fn write_over(&mut self, spot: Spot, path: &str, at: u64, bytes: &[u8]) -> io::Result<()> {
+        self.short.forget();
         self.keep(spot, path, true)?;
         match &self.kept {
             Some(kept) => kept.file.write_all_at(bytes, at),
@@ -205,6 +221,7 @@ impl<F: Files<File = File> + Clock + Drop> Spool<F> {
                 kept.spot = to;
             }
         }
+        self.short.follow(from, to);
         self.change(to.area)?;
         self.change(from.area)?;
         if self.is_grouped() && !self.late.come(to) {
@@ -223,10 +240,6 @@ impl<F: Files<File = File> + Clock + Drop> Spool<F> {
         self.ready_to(Call::Rename, area, name)?;
         let path = self.path(area, name)?;
         let onto = self.path(to, new)?;
-        // What can't be marked isn't delivered.
-        if to == Area::Active {
-            self.judge_writable(area, name, path.as_str())?;
-        }
         let (from, into) = (
             Spot { area, name },
             Spot {
@@ -234,7 +247,11 @@ impl<F: Files<File = File> + Clock + Drop> Spool<F> {
                 name: new,
             },
         );
-        self.forget(into);
+        // What can't be marked isn't delivered.
+        if to == Area::Active && !self.keeps_writable(from) {
+            self.judge_writable(area, name, path.as_str())?;
+        }
+        self.forget_kept(into);
         let moved = match fs::rename(&self.system.files, &path, &onto) {
             Ok(()) => self.note_moved(from, into),
             Err(error) => Err(failed(Call::Rename, area, name, error)),

@@ -14,6 +14,9 @@ use std::{fs, io};
 /// How many digits a generation has.
 const DIGITS: usize = 8;
 
+/// How many bytes stand before the id in a name of deferred.
+const DUE_LEN: usize = 13;
+
 // Whether an entry of the root is one of a spool; a file system has lost+found of its own.
 fn is_of_a_spool(name: &[u8]) -> bool {
     matches!(name, b"" | b"." | b".." | b"lost+found")
@@ -60,6 +63,19 @@ fn newest_of(area: Area, name: Name) -> Option<Newest> {
         area,
         name,
     })
+}
+
+// Whether a name, if it is an id's, has a greater generation. The digits are compared as they stand,
+// so that of many names few are read.
+fn may_be_newer(area: Area, name: &Name, newest: &Option<Newest>) -> bool {
+    let at = match area {
+        Area::Deferred => DUE_LEN,
+        _ => 0,
+    };
+    match (name.bytes().get(at..at + DIGITS), newest) {
+        (Some(digits), Some(newest)) => digits > newest.generation.bytes(),
+        (digits, _) => digits.is_some(),
+    }
 }
 
 // Whether a name of boot is a generation.
@@ -146,9 +162,13 @@ impl<F: Files<File = File> + Clock + Drop> Spool<F> {
 
     // The file of an area whose id has the greatest generation.
     fn newest(&self, area: Area) -> Option<Newest> {
-        let names = self.folders[area as usize].names.iter();
-        let ids = names.filter_map(|name| newest_of(area, *name));
-        ids.max_by_key(|newest| newest.generation)
+        let mut newest = None;
+        for name in self.folders[area as usize].names.iter() {
+            if may_be_newer(area, name, &newest) {
+                newest = newest_of(area, *name).or(newest);
+            }
+        }
+        newest
     }
 
     // The file of all areas whose id has the greatest generation.

@@ -5,10 +5,8 @@
 //! written only once all is durable.
 use q_model::{Area, Spot};
 use std::alloc::Global;
+use std::collections::BTreeSet;
 use std::time::Duration;
-
-/// How many moves may wait.
-const MOST_MOVES: usize = 64;
 
 /// How many milliseconds a change may wait.
 const WAIT_MILLIS: u64 = 50;
@@ -19,7 +17,7 @@ pub(crate) struct Late {
     // of each area, whether its folder changed
     changed: [bool; 10],
     // where files moved to
-    moves: Vec<Spot>,
+    moves: BTreeSet<Spot>,
     // whether a failure log came to its place
     log_came: bool,
     // since when something waits
@@ -33,7 +31,7 @@ impl Late {
     pub(crate) fn new(alloc: Global) -> Late {
         Late {
             changed: [false; 10],
-            moves: Vec::new(alloc),
+            moves: BTreeSet::new(alloc),
             log_came: false,
             since: None,
             is_lost: false,
@@ -70,7 +68,7 @@ impl Late {
     /// A file moved to a place. Whether that can be noted.
     pub(crate) fn come(&mut self, spot: Spot) -> bool {
         self.log_came |= spot.area == Area::Bounce;
-        self.moves.len() < MOST_MOVES && self.moves.push(spot).is_ok()
+        self.moves.insert(spot).is_ok()
     }
 
     /// Whether bytes of the file at a place may be written only once all is durable.

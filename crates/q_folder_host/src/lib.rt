@@ -38,6 +38,7 @@ mod looking;
 mod names;
 mod opening;
 mod reading;
+mod short;
 mod spool;
 mod system;
 

@@ -20,9 +20,19 @@ impl<F: Files<File = File> + Clock + Drop> Spool<F> {
                 return Ok(());
             }
         }
-        let file = self.system.open(path, writes)?;
+        let (file, writes) = self.open(path, writes)?;
         self.kept = Some(Kept { spot, file, writes });
         Ok(())
+    }
+
+    // Opens a file, for writing too where it may be: what is read of a message is mostly marked later,
+    // or is to be opened for writing before it comes into active.
+    fn open(&self, path: &str, writes: bool) -> io::Result<(File, bool)> {
+        match self.system.open(path, true) {
+            Ok(file) => Ok((file, true)),
+            Err(error) if writes => Err(error),
+            Err(_) => Ok((self.system.open(path, false)?, false)),
+        }
     }
 
     // The file of the last calls, where it is that of a place.
@@ -37,10 +47,11 @@ impl<F: Files<File = File> + Clock + Drop> Spool<F> {
         self.ready()?;
         let path = self.path(area, name)?;
         if self.access == Access::Look {
-            return self.sees(area, name, path.as_str());
+            return self.sees_now(area, name, path.as_str());
         }
-        if self.kept_at(Spot { area, name }).is_some() {
-            return Ok(true);
+        let folder = &self.folders[area as usize];
+        if folder.is_listed {
+            return Ok(folder.names.contains(&name));
         }
         said(
             Call::Find,
@@ -50,8 +61,23 @@ impl<F: Files<File = File> + Clock + Drop> Spool<F> {
         )
     }
 
+    // Whether one who looks sees a file. Logs are few, so those that aren't there aren't asked for one
+    // by one.
+    fn sees_now(&mut self, area: Area, name: Name, path: &str) -> Result<bool, Fault> {
+        if matches!(area, Area::Bounce | Area::Defer) {
+            self.list(area)?;
+            if !self.folders[area as usize].names.contains(&name) {
+                return Ok(false);
+            }
+        }
+        self.sees(area, name, path)
+    }
+
     pub(crate) fn size(&mut self, area: Area, name: Name) -> Result<u64, Fault> {
         self.ready()?;
+        if let Some(size) = self.short.size(Spot { area, name }) {
+            return Ok(size);
+        }
         let path = self.path(area, name)?;
         if self.access == Access::Look {
             return self.size_seen(area, name, path.as_str());
@@ -63,17 +89,10 @@ impl<F: Files<File = File> + Clock + Drop> Spool<F> {
         said(Call::Size, area, name, found.map(|file| file.len()))
     }
 
-    /// Reads from an offset on until the buffer is full or the file ends.
-    pub(crate) fn read(
-        &mut self,
-        area: Area,
-        name: Name,
-        at: u64,
-        buf: &mut [u8],
-    ) -> Result<usize, Fault>
+    // Reads from an offset on, by the system's calls.
+    fn read_file(&mut self, area: Area, name: Name, at: u64, buf: &mut [u8]) -> Result<usize, Fault>
         ensures within { IfOk result (λ count. count ≤ length buf.new) }
     {
-        self.ready()?;
         let path = self.path(area, name)?;
         if self.access == Access::Look {
             return self.read_seen(area, name, path.as_str(), at, buf);
@@ -92,5 +111,27 @@ impl<F: Files<File = File> + Clock + Drop> Spool<F> {
             },
             None => Ok(0),
         }
+    }
+
+    /// Reads from an offset on until the buffer is full or the file ends.
+    pub(crate) fn read(
+        &mut self,
+        area: Area,
+        name: Name,
+        at: u64,
+        buf: &mut [u8],
+    ) -> Result<usize, Fault>
+        ensures within { IfOk result (λ count. count ≤ length buf.new) }
+    {
+        self.ready()?;
+        let spot = Spot { area, name };
+        if let Some(count) = self.short.read(spot, at, buf) {
+            return Ok(count);
+        }
+        let count = self.read_file(area, name, at, buf)?;
+        if at == 0 && count < buf.len() {
+            self.short.know(spot, &buf[..count]);
+        }
+        Ok(count)
     }
 }

@@ -8,6 +8,7 @@ use crate::folders::Folder;
 use crate::kept::Kept;
 use crate::late::Late;
 use crate::names::list_names;
+use crate::short::Short;
 use crate::system::System;
 use q_model::{Area, Name, Names};
 use std::alloc::{AllocError, Global};
@@ -31,6 +32,8 @@ pub(crate) struct Spool<F: Files<File = File> + Clock + Drop> {
     pub(crate) late: Late,
     // the file of the last calls
     pub(crate) kept: Option<Kept>,
+    // the short file that was read last
+    pub(crate) short: Short,
     // holds the lock until it is closed
     pub(crate) lock: Option<File>,
     // who had the spool when it was opened to be looked at
@@ -105,6 +108,7 @@ impl<F: Files<File = File> + Clock + Drop> Spool<F> {
             folders,
             late: Late::new(alloc),
             kept: None,
+            short: Short::new(alloc),
             lock: None,
             user: None,
         })
