@@ -3,10 +3,14 @@ pub mod AnyLists
 pub mod CallsLeft
 pub mod DamagedSpools
 pub mod FaultyLines
+pub mod IntakeEnds
+pub mod IntakeEntries
+pub mod IntakeRuns
 pub mod Listings
 pub mod LivesLeft
 pub mod Modes
 pub mod Named
+pub mod NextEntries
 pub mod Readable
 pub mod Readings
 pub mod Replaying

@@ -154,7 +154,7 @@ still_left b orderly before told left is of = record { by = inr (record { told_i
 
 -- ---- runs
 
-leaves_wider : {u v : View} (P Q : Remains → Type 0) → LeavesOnly u v P → ((c : Remains) → P c → Q c) → LeavesOnly u v Q
+pub leaves_wider : {u v : View} (P Q : Remains → Type 0) → LeavesOnly u v P → ((c : Remains) → P c → Q c) → LeavesOnly u v Q
 leaves_wider P Q p f = record {
   later = p.later;
   each = λ c left. f c (p.each c left);

@@ -1,8 +1,8 @@
 -- A life keeps its mode: no decision begins a life, and a restart begins the next one in the same mode.
 use Rattle.std.proofs.Common.{◌≡◌, ℕ, zero, suc, ◌+◌, ◌++◌, ◌^◌, Bool, true, false, List, [], ◌∷◌, Option, Some, None, refl, sym, ap, ◌∙◌, if◌then◌else◌}
-use Rattle.std.specs.List.{AllByRecursion, cons_option, enumerate_from, filter_map}
-use Rattle.std.specs.Option.{option_map_or, option_or}
-use Rattle.std.specs.Prelude.{find, length, nat_le, nat_lt, not, option_and_then, option_map, replicate, slice_get}
+use Rattle.std.specs.List.{enumerate_from}
+use Rattle.std.specs.Option.{option_map_or}
+use Rattle.std.specs.Prelude.{find, length, nat_le, nat_lt, not, replicate, slice_get}
 use Rattle.q_laws.proofs.Loaded.{records_is}
 use Rattle.q_laws.proofs.Tidied.{tidy_scan_is}
 use Rattle.q_model.specs.Accounts.{job_left}
@@ -19,7 +19,6 @@ use Rattle.q_model.specs.Deliveries.{flight_of}
 use Rattle.q_model.specs.Leaving.{may_back, may_corrupt, may_defer, may_remove}
 use Rattle.q_model.specs.Ledger.{Ledger, opening}
 use Rattle.q_model.specs.Leftovers.{is_next_leftover, next_leftover, was_synced}
-use Rattle.q_model.specs.Lists.{first_of, first_some}
 use Rattle.q_model.specs.Loads.{loaded, may_read}
 use Rattle.q_model.specs.Memory.{free, is_idle}
 use Rattle.q_model.specs.Message.{Message, unmarked_logged}
@@ -58,99 +57,61 @@ use Rattle.q_model.specs.declared.rows.Request.TheVariants as requests
 use Rattle.q_model.specs.declared.rows.Row.{Row}
 use Rattle.q_model.specs.declared.rows.Scan.{Scan}
 use Rattle.q_model.specs.declared.rows.Unsettled.{Unsettled}
+use Rattle.q_replay.proofs.NextEntries.{and_then, choose, given, Has, if_so, map_or, mapped, or_else}
 
 -- ---- no decision begins a life
 
--- the entry, where there is one, begins no life
-abbrev Spares : Option Entry → Type 0
-Spares o = (e : Entry) → o ≡ Some e → is_life e ≡ false
-
-one : (x : Entry) → is_life x ≡ false → Spares (Some x)
-one x h e is = let same : x ≡ e = cc in ap is_life (sym same) ∙ h
-
-none : Spares None
-none e is = absurd cc
-
-mapped : {A : Type 0} (f : A → Entry) → ((x : A) → is_life (f x) ≡ false) → (o : Option A) → Spares (option_map f o)
-mapped f h None = none
-mapped f h (Some x) = one (f x) (h x)
-
-then_spares : {A : Type 0} (f : A → Option Entry) → ((x : A) → Spares (f x)) → (o : Option A) → Spares (option_and_then f o)
-then_spares f h None = none
-then_spares f h (Some x) = h x
-
-or_else : {A : Type 0} (f : A → Option Entry) (d : Option Entry) → ((x : A) → Spares (f x)) → Spares d → (o : Option A) → Spares (option_map_or f o d)
-or_else f d h k None = k
-or_else f d h k (Some x) = h x
-
-both : (o q : Option Entry) → Spares o → Spares q → Spares (option_or o q)
-both None q h k = k
-both (Some x) q h k = h
-
-choose : (cs : List (Bool × Entry)) → AllByRecursion (λ (c : Bool × Entry). is_life c.1 ≡ false) cs → Spares (first_of cs)
-choose [] h = none
-choose ((true, x) ∷ cs) h = one x h.0
-choose ((false, x) ∷ cs) h = choose cs h.1
-
-if_spares : (b : Bool) (o : Option Entry) → Spares o → Spares (if b then o else None)
-if_spares true o h = h
-if_spares false o h = none
-
-given_on : (o : Option Entry) (rest : List Entry) → Spares o → Spares (slice_get rest 0) → Spares (slice_get (cons_option o rest) 0)
-given_on None rest h k = k
-given_on (Some y) rest h k = h
-
-given : {A : Type 0} (f : A → Option Entry) → ((x : A) → Spares (f x)) → (xs : List A) → Spares (first_some f xs)
-given f h [] = none
-given f h (x ∷ xs) = given_on (f x) (filter_map f xs) (h x) (given f h xs)
+-- the entry begins no life
+abbrev Spares : Entry → Type 0
+Spares e = is_life e ≡ false
 
 needed_spares : (id : Id) (position : ℕ) (n : Need) → is_life (needed id position n) ≡ false
 needed_spares id position (needs.Log why code) = refl
 needed_spares id position needs.Mark = refl
 
-preempt_spares : (l : Ledger) (transport : ℕ) (parent child : Id) → Spares (preempt_by l transport parent child)
+preempt_spares : (l : Ledger) (transport : ℕ) (parent child : Id) → Has Spares (preempt_by l transport parent child)
 preempt_spares l transport parent child e is = let same : entries.Preempt child parent transport (job_left l child transport) ≡ e = cc in ap is_life (sym same)
 
-load_spares : (w : World) (l : Ledger) (a : Admitted) (m : Message) → Spares (load_entry w l a m)
+load_spares : (w : World) (l : Ledger) (a : Admitted) (m : Message) → Has Spares (load_entry w l a m)
 load_spares w l a m e is = let same : entries.Load a.id a.unread (load_end m a.unread (free w l)) ≡ e = cc in ap is_life (sym same)
 
 module _ (w : World) (l : Ledger) where
-  finished : (id : Id) (m : Message) → Spares (finish_message w l id m)
-  finished id m = choose ((may_defer w l id (due w l.now m), entries.Defer id (due w l.now m)) ∷ (may_bounce l id, entries.Bounce id) ∷ (may_remove l id, entries.Remove id) ∷ []) (refl, (refl, (refl, tt)))
+  finished : (id : Id) (m : Message) → Has Spares (finish_message w l id m)
+  finished id m = choose Spares ((may_defer w l id (due w l.now m), entries.Defer id (due w l.now m)) ∷ (may_bounce l id, entries.Bounce id) ∷ (may_remove l id, entries.Remove id) ∷ []) (refl, (refl, (refl, tt)))
 
-  cleared : (m : Message) → Spares (clear_leftover w l m)
-  cleared m = both (mark_logged m) (clear_marked l m) (mapped (λ p. entries.Mark m.id p) (λ p. refl) (slice_get (unmarked_logged m) 0))
-      (choose ((not (was_synced l m.id), entries.Sync m.id) ∷ (may_bounce l m.id, entries.Bounce m.id) ∷ (may_remove l m.id, entries.Remove m.id) ∷ (may_back l m.id, entries.Back m.id) ∷ []) (refl, (refl, (refl, (refl, tt)))))
+  cleared : (m : Message) → Has Spares (clear_leftover w l m)
+  cleared m = or_else Spares (mark_logged m) (clear_marked l m) (mapped Spares (λ p. entries.Mark m.id p) (λ p. refl) (slice_get (unmarked_logged m) 0))
+      (choose Spares ((not (was_synced l m.id), entries.Sync m.id) ∷ (may_bounce l m.id, entries.Bounce m.id) ∷ (may_remove l m.id, entries.Remove m.id) ∷ (may_back l m.id, entries.Back m.id) ∷ []) (refl, (refl, (refl, (refl, tt)))))
 
-  leftover : (id : Id) → Spares (leftover_decision w l id)
-  leftover id = or_else (clear_leftover w l) (clear_damaged w l id) cleared (choose ((may_corrupt w l id, entries.Corrupt id) ∷ []) (refl, tt)) (message_of l.book id)
+  leftover : (id : Id) → Has Spares (leftover_decision w l id)
+  leftover id = map_or Spares (clear_leftover w l) (clear_damaged w l id) cleared (choose Spares ((may_corrupt w l id, entries.Corrupt id) ∷ []) (refl, tt)) (message_of l.book id)
 
-  admitted : (p : Pick) → Spares (admit_or_corrupt w l p)
-  admitted p = choose ((may_admit w l (pick_id p), entries.Admit (pick_id p)) ∷ (may_corrupt w l (pick_id p), entries.Corrupt (pick_id p)) ∷ []) (refl, (refl, tt))
+  admitted : (p : Pick) → Has Spares (admit_or_corrupt w l p)
+  admitted p = choose Spares ((may_admit w l (pick_id p), entries.Admit (pick_id p)) ∷ (may_corrupt w l (pick_id p), entries.Corrupt (pick_id p)) ∷ []) (refl, (refl, tt))
 
-  loading : (a : Admitted) → Spares (load_of w l a)
-  loading a = then_spares (load_entry w l a) (λ m. load_spares w l a m) (message_of l.book a.id)
+  loading : (a : Admitted) → Has Spares (load_of w l a)
+  loading a = and_then Spares (load_entry w l a) (λ m. load_spares w l a m) (message_of l.book a.id)
 
-  chosen_by : (transport : ℕ) (parent : Id) → Spares (choice_by w l transport parent)
-  chosen_by transport parent = or_else (preempt_by l transport parent) (start_next w l transport parent) (λ child. preempt_spares l transport parent child) (mapped (start_of l) (λ r. refl) (next_row w l transport parent)) (best w l transport parent)
+  chosen_by : (transport : ℕ) (parent : Id) → Has Spares (choice_by w l transport parent)
+  chosen_by transport parent = map_or Spares (preempt_by l transport parent) (start_next w l transport parent) (λ child. preempt_spares l transport parent child) (mapped Spares (start_of l) (λ r. refl) (next_row w l transport parent)) (best w l transport parent)
 
-  choosing : (line : ℕ × List Id) → Spares (choice_of w l line)
-  choosing line = then_spares (choice_by w l line.0) (chosen_by line.0) (current w l line.0)
+  choosing : (line : ℕ × List Id) → Has Spares (choice_of w l line)
+  choosing line = and_then Spares (choice_by w l line.0) (chosen_by line.0) (current w l line.0)
 
-  rules_spare : Spares (first_rule w l)
+  rules_spare : Has Spares (first_rule w l)
   rules_spare =
-      both (settling_rule l) _ (mapped (λ (u : Unsettled). needed u.id u.position u.need) (λ u. needed_spares u.id u.position u.need) (slice_get l.unsettled 0))
-      (both (sync_rule w l) _ (mapped (λ (a : Admitted). entries.Sync a.id) (λ a. refl) (find (wants_sync w l) l.admitted))
-      (both (skip_rule l) _ (mapped skip_of (λ r. refl) (find (λ (r : Row). is_dead_site l r.site) l.waiting))
-      (both (finishing_rule w l) _ (then_spares (λ (a : Admitted). finish w l a.id) (λ a. then_spares (finish_message w l a.id) (finished a.id) (message_of l.book a.id)) (find (λ (a : Admitted). is_idle l a.id) l.admitted))
-      (both (leftover_rule w l) _ (then_spares (leftover_decision w l) leftover (next_leftover l))
-      (both (admission_rule w l) _ (if_spares (has_room w l) _ (then_spares (admit_or_corrupt w l) admitted (pick l)))
-      (both (load_rule w l) (start_rule w l) (then_spares (load_of w l) loading (find (may_read w l) l.admitted))
-      (if_spares (nat_lt (starts l) (2 ^ 48)) _ (given (choice_of w l) choosing (enumerate_from 0 l.lines)))))))))
+      or_else Spares (settling_rule l) _ (mapped Spares (λ (u : Unsettled). needed u.id u.position u.need) (λ u. needed_spares u.id u.position u.need) (slice_get l.unsettled 0))
+      (or_else Spares (sync_rule w l) _ (mapped Spares (λ (a : Admitted). entries.Sync a.id) (λ a. refl) (find (wants_sync w l) l.admitted))
+      (or_else Spares (skip_rule l) _ (mapped Spares skip_of (λ r. refl) (find (λ (r : Row). is_dead_site l r.site) l.waiting))
+      (or_else Spares (finishing_rule w l) _ (and_then Spares (λ (a : Admitted). finish w l a.id) (λ a. and_then Spares (finish_message w l a.id) (finished a.id) (message_of l.book a.id)) (find (λ (a : Admitted). is_idle l a.id) l.admitted))
+      (or_else Spares (leftover_rule w l) _ (and_then Spares (leftover_decision w l) leftover (next_leftover l))
+      (or_else Spares (admission_rule w l) _ (if_so Spares (has_room w l) _ (and_then Spares (admit_or_corrupt w l) admitted (pick l)))
+      (or_else Spares (load_rule w l) (start_rule w l) (and_then Spares (load_of w l) loading (find (may_read w l) l.admitted))
+      (if_so Spares (nat_lt (starts l) (2 ^ 48)) _ (given Spares (choice_of w l) choosing (enumerate_from 0 l.lines)))))))))
 
-  next_spares : Spares (next w l)
+  next_spares : Has Spares (next w l)
   unfolding next
-  next_spares = if_spares l.timed (first_rule w l) rules_spare
+  next_spares = if_so Spares l.timed (first_rule w l) rules_spare
 
 -- ---- an entry that begins no life keeps the mode
 
@@ -215,7 +176,7 @@ entry_mode w l e h = tidied_mode w l (noted e (change w l e)) ∙ change_mode w 
 
 -- ---- a turn keeps it
 
-decided_mode : (n : ℕ) (w : World) (l : Ledger) (o : Option Entry) → Spares o → ((k : Ledger) → (after_all w k (decide n w k)).mode ≡ k.mode) → (after_all w l (elim o [ None ↦ [] | Some e ↦ e ∷ decide n w (after w l e) ])).mode ≡ l.mode
+decided_mode : (n : ℕ) (w : World) (l : Ledger) (o : Option Entry) → Has Spares o → ((k : Ledger) → (after_all w k (decide n w k)).mode ≡ k.mode) → (after_all w l (elim o [ None ↦ [] | Some e ↦ e ∷ decide n w (after w l e) ])).mode ≡ l.mode
 unfolding after_all
 decided_mode n w l None h rest = refl
 decided_mode n w l (Some e) h rest = rest (after w l e) ∙ entry_mode w l e (h e refl)

@@ -1,4 +1,5 @@
 pub mod DamagedSpools
+pub mod IntakeSettings
 pub mod Listings
 pub mod Named
 pub mod Reading

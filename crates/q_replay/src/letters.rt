@@ -12,6 +12,7 @@ ghost use Rattle.q_replay.specs.Submissions.{submitted};
 ghost use Rattle.q_replay.specs.Takings.{is_unreadable, ReplayCause};
 
 use crate::error::ReplayError;
+use crate::intake::intake_params;
 use crate::taking::{begin_life, end, hear};
 use q_host::Host;
 use q_model::{Address, Addresses, Bytes, Event, Mode, Moment};
@@ -60,7 +61,7 @@ pub fn submit<H: Host>(
     ensures named { IfErr result (IsLetterRefusal letter.to letter.content) }
     ensures cause { ReplayCause (H.faults host.old) (H.faults host.new) result }
 {
-    let begun = begin_life(alloc, host, params, table, Mode::Intake, 0)?;
+    let begun = begin_life(alloc, host, intake_params(params), table, Mode::Intake, 0)?;
     let timed = hear(alloc, host, begun, Event::At { moment }, 1)?;
     let Letter {
         sender,

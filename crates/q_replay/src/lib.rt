@@ -11,6 +11,7 @@
 
 mod deliveries;
 mod error;
+mod intake;
 mod letters;
 mod lists;
 mod promises;
@@ -18,6 +19,7 @@ mod taking;
 
 pub use deliveries::{Delivered, deliver};
 pub use error::ReplayError;
+pub use intake::intake_params;
 pub use letters::{Letter, submit};
 pub use lists::replay;
 pub use promises::promises_hold;

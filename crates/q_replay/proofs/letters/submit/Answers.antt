@@ -11,15 +11,18 @@ use Rattle.q_replay.specs.RunEnds.{RunEnds}
 use Rattle.q_replay.specs.Submissions.{submitted}
 use Rattle.q_replay.specs.Takings.{ReplayCause, is_unreadable}
 use Rattle.q_replay.specs.declared.error.ReplayError.{ReplayError}
+use Rattle.q_replay.proofs.IntakeEnds.{given_intake, submitted_ends}
+use Rattle.q_replay.proofs.IntakeEntries.{intake_world}
 use Rattle.q_replay.proofs.Named.{each_ended, ended_letter, letter_begins, mail_letter, moment_letter}
 use Rattle.q_replay.proofs.Readings.{ledger_on}
-use Rattle.q_replay.proofs.Replaying.{IsGivenTo, may_begin, passed_as, some_given}
+use Rattle.q_replay.proofs.Replaying.{may_begin, passed_as, some_given}
 use Rattle.q_replay.proofs.Submitting.{cause_on, ends_so, gone_first, gone_further, gone_last, gone_up, never_gone, rose_later}
 use Rattle.q_replay.proofs.DamagedSpools.{ends_only, only_passed, refused_passed}
 use Rattle.q_replay.proofs.letters.submit.Goals as goal
 
 pub returns-in_err-begun-clause-ends : goal.returns-in_err-begun-clause-ends
-returns-in_err-begun-clause-ends g c t b h orderly w settings table_is =
+returns-in_err-begun-clause-ends g c t b h orderly asked settings table_is =
+    let w = intake_world asked in
     let view = g.H.Host.view in
     let u = view c.args.host.now in
     let lawful : TellsCrashes u = record { only = g.met.H.Host.only_now c.args.host.now; told = g.met.H.Host.told_stays c.args.host.now } in
@@ -27,14 +30,16 @@ returns-in_err-begun-clause-ends g c t b h orderly w settings table_is =
     let rest2 = gives End 3 (bad 4) in
     let rest1 = gives (Step mail 2) 2 rest2 in
     let rest0 = gives (Step (events.At c.args.moment) 1) 1 rest1 in
-    let given : IsGivenTo c.args.params c.args.table w b u = record { host = h; orderly = orderly; settings = settings; table_is = table_is } in
+    let given = given_intake c.args.params c.intake_params.result c.args.table asked b u c.intake_params.ensures.exact h orderly settings table_is in
     let taken = submitted w b c.args.moment c.args.letter in
     let error = c.in_err-begun.field-0.0 in
-    passed_as c.from_residual.result error (RunEnds w Intake b taken u (view c.begin_life.new.host)) c.from_residual.ensures.1
-    (never_gone w Intake b Restart 0 rest0 u (view c.begin_life.new.host) error lawful h (c.in_err-begun.ensures.err t w (opening Intake b) (may_begin c.args.params c.args.table Intake w b u given)))
+    submitted_ends asked b c.args.moment c.args.letter u (view c.begin_life.new.host) c.from_residual.result
+    (passed_as c.from_residual.result error (RunEnds w Intake b taken u (view c.begin_life.new.host)) c.from_residual.ensures.1
+    (never_gone w Intake b Restart 0 rest0 u (view c.begin_life.new.host) error lawful h (c.in_err-begun.ensures.err t w (opening Intake b) (may_begin c.intake_params.result c.args.table Intake w b u given))))
 
 pub returns-in_err-timed-clause-ends : goal.returns-in_err-timed-clause-ends
-returns-in_err-timed-clause-ends g c t b h orderly w settings table_is =
+returns-in_err-timed-clause-ends g c t b h orderly asked settings table_is =
+    let w = intake_world asked in
     let view = g.H.Host.view in
     let u = view c.args.host.now in
     let lawful : TellsCrashes u = record { only = g.met.H.Host.only_now c.args.host.now; told = g.met.H.Host.told_stays c.args.host.now } in
@@ -42,15 +47,17 @@ returns-in_err-timed-clause-ends g c t b h orderly w settings table_is =
     let rest2 = gives End 3 (bad 4) in
     let rest1 = gives (Step mail 2) 2 rest2 in
     let rest0 = gives (Step (events.At c.args.moment) 1) 1 rest1 in
-    let given : IsGivenTo c.args.params c.args.table w b u = record { host = h; orderly = orderly; settings = settings; table_is = table_is } in
+    let given = given_intake c.args.params c.intake_params.result c.args.table asked b u c.intake_params.ensures.exact h orderly settings table_is in
     let taken = submitted w b c.args.moment c.args.letter in
-    let gone_1 = gone_first w Intake b Restart (Step (events.At c.args.moment) 1) 0 1 rest1 c.in_ok-begun.begun u (view c.begin_life.new.host) lawful given.host refl (c.in_ok-begun.ensures.ok t w (opening Intake b) (may_begin c.args.params c.args.table Intake w b u given)) in
+    let gone_1 = gone_first w Intake b Restart (Step (events.At c.args.moment) 1) 0 1 rest1 c.in_ok-begun.begun u (view c.begin_life.new.host) lawful given.host refl (c.in_ok-begun.ensures.ok t w (opening Intake b) (may_begin c.intake_params.result c.args.table Intake w b u given)) in
     let error = c.in_err-timed.field-0.0 in
-    passed_as c.from_residual-in_err-timed.result error (RunEnds w Intake b taken u (view c.hear.new.host)) c.from_residual-in_err-timed.ensures.1
-    (gone_up w Intake b taken (Step (events.At c.args.moment) 1) 1 rest1 c.in_ok-begun.begun u (view c.begin_life.new.host) gone_1 (view c.hear.new.host) error (c.in_err-timed.ensures.err 1 t))
+    submitted_ends asked b c.args.moment c.args.letter u (view c.hear.new.host) c.from_residual-in_err-timed.result
+    (passed_as c.from_residual-in_err-timed.result error (RunEnds w Intake b taken u (view c.hear.new.host)) c.from_residual-in_err-timed.ensures.1
+    (gone_up w Intake b taken (Step (events.At c.args.moment) 1) 1 rest1 c.in_ok-begun.begun u (view c.begin_life.new.host) gone_1 (view c.hear.new.host) error (c.in_err-timed.ensures.err 1 t)))
 
 pub returns-in_err-taken-clause-ends : goal.returns-in_err-taken-clause-ends
-returns-in_err-taken-clause-ends g c t b h orderly w settings table_is =
+returns-in_err-taken-clause-ends g c t b h orderly asked settings table_is =
+    let w = intake_world asked in
     let view = g.H.Host.view in
     let u = view c.args.host.now in
     let lawful : TellsCrashes u = record { only = g.met.H.Host.only_now c.args.host.now; told = g.met.H.Host.told_stays c.args.host.now } in
@@ -58,16 +65,18 @@ returns-in_err-taken-clause-ends g c t b h orderly w settings table_is =
     let rest2 = gives End 3 (bad 4) in
     let rest1 = gives (Step mail 2) 2 rest2 in
     let rest0 = gives (Step (events.At c.args.moment) 1) 1 rest1 in
-    let given : IsGivenTo c.args.params c.args.table w b u = record { host = h; orderly = orderly; settings = settings; table_is = table_is } in
+    let given = given_intake c.args.params c.intake_params.result c.args.table asked b u c.intake_params.ensures.exact h orderly settings table_is in
     let taken = submitted w b c.args.moment c.args.letter in
-    let gone_1 = gone_first w Intake b Restart (Step (events.At c.args.moment) 1) 0 1 rest1 c.in_ok-begun.begun u (view c.begin_life.new.host) lawful given.host refl (c.in_ok-begun.ensures.ok t w (opening Intake b) (may_begin c.args.params c.args.table Intake w b u given)) in
+    let gone_1 = gone_first w Intake b Restart (Step (events.At c.args.moment) 1) 0 1 rest1 c.in_ok-begun.begun u (view c.begin_life.new.host) lawful given.host refl (c.in_ok-begun.ensures.ok t w (opening Intake b) (may_begin c.intake_params.result c.args.table Intake w b u given)) in
     let gone_2 = gone_further w Intake b taken (Step (events.At c.args.moment) 1) (Step mail 2) 1 2 rest2 c.in_ok-begun.begun c.in_ok-timed.timed u (view c.begin_life.new.host) (view c.hear.new.host) gone_1 refl (c.in_ok-timed.ensures.ok 1 t) in
     let error = c.in_err-taken.field-0.0 in
-    passed_as c.from_residual-in_err-taken.result error (RunEnds w Intake b taken u (view c.hear-2.new.host)) c.from_residual-in_err-taken.ensures.1
-    (gone_up w Intake b taken (Step mail 2) 2 rest2 c.in_ok-timed.timed u (view c.hear.new.host) gone_2 (view c.hear-2.new.host) error (c.in_err-taken.ensures.err 2 t))
+    submitted_ends asked b c.args.moment c.args.letter u (view c.hear-2.new.host) c.from_residual-in_err-taken.result
+    (passed_as c.from_residual-in_err-taken.result error (RunEnds w Intake b taken u (view c.hear-2.new.host)) c.from_residual-in_err-taken.ensures.1
+    (gone_up w Intake b taken (Step mail 2) 2 rest2 c.in_ok-timed.timed u (view c.hear.new.host) gone_2 (view c.hear-2.new.host) error (c.in_err-taken.ensures.err 2 t)))
 
 pub returns-clause-ends : goal.returns-clause-ends
-returns-clause-ends g c t b h orderly w settings table_is =
+returns-clause-ends g c t b h orderly asked settings table_is =
+    let w = intake_world asked in
     let view = g.H.Host.view in
     let u = view c.args.host.now in
     let lawful : TellsCrashes u = record { only = g.met.H.Host.only_now c.args.host.now; told = g.met.H.Host.told_stays c.args.host.now } in
@@ -75,14 +84,15 @@ returns-clause-ends g c t b h orderly w settings table_is =
     let rest2 = gives End 3 (bad 4) in
     let rest1 = gives (Step mail 2) 2 rest2 in
     let rest0 = gives (Step (events.At c.args.moment) 1) 1 rest1 in
-    let given : IsGivenTo c.args.params c.args.table w b u = record { host = h; orderly = orderly; settings = settings; table_is = table_is } in
+    let given = given_intake c.args.params c.intake_params.result c.args.table asked b u c.intake_params.ensures.exact h orderly settings table_is in
     let taken = submitted w b c.args.moment c.args.letter in
-    let gone_1 = gone_first w Intake b Restart (Step (events.At c.args.moment) 1) 0 1 rest1 c.in_ok-begun.begun u (view c.begin_life.new.host) lawful given.host refl (c.in_ok-begun.ensures.ok t w (opening Intake b) (may_begin c.args.params c.args.table Intake w b u given)) in
+    let gone_1 = gone_first w Intake b Restart (Step (events.At c.args.moment) 1) 0 1 rest1 c.in_ok-begun.begun u (view c.begin_life.new.host) lawful given.host refl (c.in_ok-begun.ensures.ok t w (opening Intake b) (may_begin c.intake_params.result c.args.table Intake w b u given)) in
     let gone_2 = gone_further w Intake b taken (Step (events.At c.args.moment) 1) (Step mail 2) 1 2 rest2 c.in_ok-begun.begun c.in_ok-timed.timed u (view c.begin_life.new.host) (view c.hear.new.host) gone_1 refl (c.in_ok-timed.ensures.ok 1 t) in
     let gone_3 = gone_further w Intake b taken (Step mail 2) End 2 3 (bad 4) c.in_ok-timed.timed c.in_ok-taken.taken u (view c.hear.new.host) (view c.hear-2.new.host) gone_2 refl (c.in_ok-taken.ensures.ok 2 t) in
     let x = view c.end.new.host in
-    ends_so c.end.result (RunEnds w Intake b taken u x) (λ done takes. gone_last w Intake b taken End 3 (bad 4) c.in_ok-taken.taken u (view c.hear-2.new.host) gone_3 x done refl (takes t))
-    (λ error up. gone_up w Intake b taken End 3 (bad 4) c.in_ok-taken.taken u (view c.hear-2.new.host) gone_3 x error (up t)) c.end.ensures.ok c.end.ensures.err
+    submitted_ends asked b c.args.moment c.args.letter u x c.end.result
+    (ends_so c.end.result (RunEnds w Intake b taken u x) (λ done takes. gone_last w Intake b taken End 3 (bad 4) c.in_ok-taken.taken u (view c.hear-2.new.host) gone_3 x done refl (takes t))
+    (λ error up. gone_up w Intake b taken End 3 (bad 4) c.in_ok-taken.taken u (view c.hear-2.new.host) gone_3 x error (up t)) c.end.ensures.ok c.end.ensures.err)
 
 pub hear-requires-clause-stands : goal.hear-requires-clause-stands
 hear-requires-clause-stands g c t =
@@ -93,8 +103,8 @@ hear-requires-clause-stands g c t =
     let rest2 = gives End 3 (bad 4) in
     let rest1 = gives (Step mail 2) 2 rest2 in
     let rest0 = gives (Step (events.At c.args.moment) 1) 1 rest1 in
-    let (w, b, given) = some_given c.args.params c.args.table u (c.requires.spool t) (c.in_ok-begun.ensures.undamaged t) in
-    let gone_1 = gone_first w Intake b Restart (Step (events.At c.args.moment) 1) 0 1 rest1 c.in_ok-begun.begun u (view c.begin_life.new.host) lawful given.host refl (c.in_ok-begun.ensures.ok t w (opening Intake b) (may_begin c.args.params c.args.table Intake w b u given)) in
+    let (w, b, given) = some_given c.intake_params.result c.args.table u (c.requires.spool t) (c.in_ok-begun.ensures.undamaged t) in
+    let gone_1 = gone_first w Intake b Restart (Step (events.At c.args.moment) 1) 0 1 rest1 c.in_ok-begun.begun u (view c.begin_life.new.host) lawful given.host refl (c.in_ok-begun.ensures.ok t w (opening Intake b) (may_begin c.intake_params.result c.args.table Intake w b u given)) in
     (w, ledger_on w Intake b gone_1.items, gone_1.stands)
 
 pub hear-requires-2-clause-stands : goal.hear-requires-2-clause-stands
@@ -106,9 +116,9 @@ hear-requires-2-clause-stands g c t =
     let rest2 = gives End 3 (bad 4) in
     let rest1 = gives (Step mail 2) 2 rest2 in
     let rest0 = gives (Step (events.At c.args.moment) 1) 1 rest1 in
-    let (w, b, given) = some_given c.args.params c.args.table u (c.requires.spool t) (c.in_ok-begun.ensures.undamaged t) in
+    let (w, b, given) = some_given c.intake_params.result c.args.table u (c.requires.spool t) (c.in_ok-begun.ensures.undamaged t) in
     let taken = submitted w b c.args.moment c.args.letter in
-    let gone_1 = gone_first w Intake b Restart (Step (events.At c.args.moment) 1) 0 1 rest1 c.in_ok-begun.begun u (view c.begin_life.new.host) lawful given.host refl (c.in_ok-begun.ensures.ok t w (opening Intake b) (may_begin c.args.params c.args.table Intake w b u given)) in
+    let gone_1 = gone_first w Intake b Restart (Step (events.At c.args.moment) 1) 0 1 rest1 c.in_ok-begun.begun u (view c.begin_life.new.host) lawful given.host refl (c.in_ok-begun.ensures.ok t w (opening Intake b) (may_begin c.intake_params.result c.args.table Intake w b u given)) in
     let gone_2 = gone_further w Intake b taken (Step (events.At c.args.moment) 1) (Step mail 2) 1 2 rest2 c.in_ok-begun.begun c.in_ok-timed.timed u (view c.begin_life.new.host) (view c.hear.new.host) gone_1 refl (c.in_ok-timed.ensures.ok 1 t) in
     (w, ledger_on w Intake b gone_2.items, gone_2.stands)
 
