@@ -25,3 +25,4 @@ bench: build
 	cd crates/q_hop && rt run
 	bench/spool
 	bench/drain
+	bench/marks

@@ -111,7 +111,7 @@ def ends_by_signals():
 
 
 def main(measure, about, usual, most):
-    """Measures with the number of messages, and in the folder, that the words of the script say."""
+    """Measures with the number, and in the folder, that the words of the script say."""
     parser = argparse.ArgumentParser(
         description=about, formatter_class=argparse.RawDescriptionHelpFormatter
     )
@@ -122,23 +122,23 @@ def main(measure, about, usual, most):
         help="where the spools are made, by default the folder for temporary files",
     )
     parser.add_argument(
-        "messages",
-        metavar="MESSAGES",
+        "number",
+        metavar="NUMBER",
         nargs="?",
         type=int,
         default=usual,
         help=f"1 to {most}, by default {usual}",
     )
     words = parser.parse_args()
-    if not 1 <= words.messages <= most:
-        parser.error(f"MESSAGES is no number from 1 to {most}")
+    if not 1 <= words.number <= most:
+        parser.error(f"{words.number} is no number from 1 to {most}")
     folder = words.folder or tempfile.gettempdir()
     if not os.path.isdir(folder):
         parser.error(f"{folder} is no folder")
     ends_by_signals()
     try:
         need(QMGR, "`make build` leaves it there")
-        measure(os.path.abspath(folder), words.messages)
+        measure(os.path.abspath(folder), words.number)
     except (Failed, OSError) as error:
         sys.exit(f"{parser.prog}: {error}")
     except KeyboardInterrupt:

@@ -24,6 +24,8 @@ pub(crate) enum Mail {
     /// The first message has so many recipients, and each other one has one. They are at so many next
     /// hops by turns.
     Alike { first: u32, hops: u32 },
+    /// So many next hops have two messages each, by turns. Each message behind these has one of its own.
+    Rested { hops: u32 },
     /// A large message; so many of two recipients, the first at a next hop of its own and the second
     /// at one that they share; one with a next hop of its own; and small ones at one next hop.
     Begun { jobs: u32 },
@@ -61,6 +63,15 @@ fn begun_hop(jobs: u32, serial: u32, position: u32) -> u32 {
     }
 }
 
+/// The next hop of a message of mail to next hops that rest, and to others behind it.
+fn rested_hop(hops: u32, serial: u32) -> u32 {
+    if serial <= hops.saturating_mul(2) {
+        serial % hops.max(1)
+    } else {
+        serial.saturating_sub(hops)
+    }
+}
+
 pub(crate) fn hop(number: u32) -> Option<Hop> {
     let mut text = *b"mx00000.example";
     let mut rest = number;
@@ -75,6 +86,7 @@ impl Mail {
     pub(crate) fn recipients(&self, serial: u32) -> u32 {
         match *self {
             Mail::Alike { first, .. } => { if serial == 1 { first } else { 1 } }
+            Mail::Rested { .. } => 1,
             Mail::Begun { jobs } => begun_recipients(jobs, serial),
         }
     }
@@ -83,6 +95,7 @@ impl Mail {
     fn hop_number(&self, serial: u32, position: u32) -> u32 {
         match *self {
             Mail::Alike { hops, .. } => serial.saturating_add(position) % hops.max(1),
+            Mail::Rested { hops } => rested_hop(hops, serial),
             Mail::Begun { jobs } => begun_hop(jobs, serial, position),
         }
     }

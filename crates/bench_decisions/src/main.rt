@@ -11,6 +11,9 @@
 //!   its own, of ten seconds at most, tells how fast all that waits for it is put off. The new messages
 //!   behind that are put off as they come.
 //! - `sites`: there are N next hops, one for each message.
+//! - `rests`: N next hops were sent to and rest, and for each a message waits. Behind these come messages
+//!   with a next hop each that was never sent to, which go on and are measured.
+//! - `awake`: the same mail, where no next hop rests.
 //! - `begun`: N jobs begin a delivery each and wait with another one, behind a job that is served, and
 //!   three come that can't begin. Nothing is measured.
 //! - `chosen`: the same, and then the next delivery is chosen once. The script `bench/asked` counts how many
@@ -34,6 +37,9 @@ use std::env;
 /// How often a delivery ends and a message comes.
 const TURNS: u32 = 2_000;
 
+/// More messages than there are processes.
+const FRESH: u32 = 200;
+
 const STUCK: &str = "the core takes no more: memory ran out, or an answer didn't fit";
 
 /// A life with so many small messages in memory.
@@ -49,6 +55,24 @@ fn filled(rt: HostRuntime, scenario: Scenario, messages: u32) -> Result<Life> {
     }
     lap.report(rt, "filling", &life)?;
     Ok(life)
+}
+
+/// Each next hop is sent its first message, and its second one comes. Then messages come to others, of
+/// which some wait until a process is free.
+fn wait_again(rt: HostRuntime, life: &mut Life, messages: u32) -> Result<()> {
+    let lap = Lap::begin(rt, life)?;
+    for _i in 0..messages {
+        if life.turn(rt.alloc()).is_none() {
+            bail!("{STUCK}");
+        }
+    }
+    lap.report(rt, "first messages", life)?;
+    for _i in 0..FRESH {
+        if life.bring().is_none() {
+            bail!("{STUCK}");
+        }
+    }
+    Ok(())
 }
 
 /// Takes the decisions that follow the death of a site. Whether none is left.
@@ -139,6 +163,9 @@ fn measure(rt: HostRuntime, scenario: Scenario, messages: u32) -> Result<()> {
     if scenario == Scenario::Dead {
         return measure_death(rt, &mut life);
     }
+    if scenario.waits_again() {
+        wait_again(rt, &mut life, messages)?;
+    }
     let name = format!(in rt.alloc(); "{messages} messages")?;
     measure_turns(rt, &mut life, &name)
 }
@@ -159,13 +186,18 @@ fn obey(rt: HostRuntime, words: &[String]) -> Result<()> {
         [] => {
             println!(rt; "bench_decisions N: takes decisions with N messages in memory")?;
             println!(rt; "bench_decisions plain|large|dead|sites N: the same of such mail")?;
+            println!(rt;
+                "bench_decisions rests|awake N: the same behind N next hops that rest, or don't"
+            )?;
             println!(rt; "bench_decisions begun|chosen N: begins N jobs; and then chooses once")?;
             Ok(())
         }
         [number] => measure_word(rt, Scenario::Plain, number),
         [name, number] => match Scenario::named(name) {
             Some(scenario) => measure_word(rt, scenario, number),
-            None => bail!("{name} is none of plain, large, dead, sites, begun and chosen"),
+            None => bail!(
+                "{name} is none of plain, large, dead, sites, rests, awake, begun and chosen"
+            ),
         },
         _ => bail!("too many words"),
     }

@@ -17,9 +17,19 @@ const MOST: u32 = 50_000;
 /// The greatest room for messages and recipients.
 const LIMITS: &[u8] = b"qmgr_message_active_limit = 50000\nqmgr_message_recipient_limit = 100000\n";
 
+/// The same, with a delay behind which no next hop comes while this is measured.
+const LIMITS_AND_DELAY: &[u8] = b"\
+qmgr_message_active_limit = 50000
+qmgr_message_recipient_limit = 100000
+default_destination_rate_delay = 9999999
+";
+
 /// Processes for five deliveries of the large message, five to the next hop that is shared, and one
 /// more.
 const FEW_PROCESSES: &[u8] = b"default_process_limit = 11\n";
+
+/// The most next hops that rest.
+const MOST_RESTING: u32 = 40_000;
 
 /// The most jobs that begin, each with a next hop of its own.
 const MOST_BEGUN: u32 = 5_000;
@@ -34,6 +44,10 @@ pub(crate) enum Scenario {
     Dead,
     /// Small messages, each with a next hop of its own.
     Sites,
+    /// Next hops that rest, for each of which a message waits, and messages to others.
+    Rests,
+    /// The same mail, where none rests.
+    Awake,
     /// Jobs that began and wait behind a large one, and three that didn't begin.
     Begun,
     /// The same, with a choice behind them.
@@ -47,6 +61,8 @@ impl Scenario {
             "large" => Some(Scenario::Large),
             "dead" => Some(Scenario::Dead),
             "sites" => Some(Scenario::Sites),
+            "rests" => Some(Scenario::Rests),
+            "awake" => Some(Scenario::Awake),
             "begun" => Some(Scenario::Begun),
             "chosen" => Some(Scenario::Chosen),
             _ => None,
@@ -73,6 +89,7 @@ impl Scenario {
     /// The most small messages.
     pub(crate) fn most(self) -> u32 {
         match self {
+            Scenario::Rests | Scenario::Awake => MOST_RESTING,
             Scenario::Begun | Scenario::Chosen => MOST_BEGUN,
             _ => MOST.saturating_sub(self.large_messages()),
         }
@@ -83,9 +100,15 @@ impl Scenario {
         matches!(self, Scenario::Begun | Scenario::Chosen)
     }
 
+    /// Whether mail waits for next hops that were sent to.
+    pub(crate) fn waits_again(self) -> bool {
+        matches!(self, Scenario::Rests | Scenario::Awake)
+    }
+
     /// The parameters that aren't the defaults.
     pub(crate) fn limits(self) -> &'static [u8] {
         match self {
+            Scenario::Rests => LIMITS_AND_DELAY,
             Scenario::Begun | Scenario::Chosen => FEW_PROCESSES,
             _ => LIMITS,
         }
@@ -103,6 +126,7 @@ impl Scenario {
             Scenario::Large => (RECIPIENTS, HOPS),
             Scenario::Dead => (1, 1),
             Scenario::Sites => (1, messages),
+            Scenario::Rests | Scenario::Awake => return Mail::Rested { hops: messages },
             Scenario::Begun | Scenario::Chosen => return Mail::Begun { jobs: messages },
         };
         Mail::Alike { first, hops }

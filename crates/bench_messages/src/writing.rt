@@ -1,14 +1,26 @@
 //! A large queue file.
+ghost use Rattle.q_message.specs.NewFile.{is_receiver};
+ghost use Rattle.std.specs.List.{list_all};
+ghost use Rattle.std.specs.Prelude.{◌≡◌, true, IfOk};
+
 use q_message::write_message;
-use q_model::{Address, Addresses, Bytes, Head, MOST_CONTENT_BYTES, MOST_RECIPIENTS, NoMemory};
+use q_model::{
+    Address, Addresses, Bytes, Head, MOST_CONTENT_BYTES, MOST_RECIPIENTS, NoMemory, Receiver,
+};
 use std::alloc::Global;
 
-fn recipients(alloc: Global, count: u16) -> Result<Addresses, NoMemory> {
+fn recipients(alloc: Global, count: u16) -> Result<Addresses, NoMemory>
+    ensures { IfOk result (λ to. list_all is_receiver to ≡ true) }
+{
     let mut to = Addresses::new(alloc);
+    let Some(address) = Address::new(b"somebody@destination.example") else {
+        return Ok(to);
+    };
     for _i in 0..count {
-        if let Some(address) = Address::new(b"somebody@destination.example") {
-            to.push(address)?;
-        }
+        to.push(Receiver {
+            address,
+            original: None,
+        })?;
     }
     Ok(to)
 }

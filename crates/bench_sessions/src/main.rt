@@ -7,7 +7,7 @@ mod running;
 mod server;
 
 use q_message::read_head;
-use q_model::{Address, Addresses, Area, Head, MOST_CONTENT_BYTES, Name, Spot};
+use q_model::{Address, Addresses, Area, Head, MOST_CONTENT_BYTES, Name, Receiver, Spot};
 use q_silent_host::{FIRST, SilentHost};
 use round::{Counts, Message, deliver};
 use std::alloc::Global;
@@ -36,7 +36,11 @@ fn message(alloc: Global, host: &mut SilentHost) -> Option<Message> {
         arrival: 1000,
     };
     let mut to = Addresses::new(alloc);
-    to.push(Address::new(b"b@y.example")?).ok()?;
+    to.push(Receiver {
+        address: Address::new(b"b@y.example")?,
+        original: None,
+    })
+    .ok()?;
     if content.len() > MOST_CONTENT_BYTES as usize {
         return None;
     }

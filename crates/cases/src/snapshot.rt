@@ -1,5 +1,6 @@
 //! All that stands on a spool in memory, and all that was told there.
 use crate::flaw::Flaw;
+use crate::places::QUEUES;
 use q_host::Host;
 use q_model::{Area, Names, Spot};
 use q_silent_host::SilentHost;
@@ -38,7 +39,34 @@ fn add_files(
     Ok(())
 }
 
+/// The lines by which a file of a queue came there; none for another file.
+fn arrival(alloc: Global, spot: Spot) -> Result<String, Flaw> {
+    let name = format!(in alloc; "{}", spot.name)?;
+    if !QUEUES.contains(&spot.area) {
+        return Ok(String::new(alloc));
+    }
+    if spot.area != Area::Deferred {
+        return Ok(format!(in alloc; "arrive {name}\n")?);
+    }
+    match name.split_once('-') {
+        Some((due, id)) => Ok(format!(in alloc; "arrive {id}\ndefer {id} {due}\n")?),
+        None => Err(Flaw::NoStep("no name of a deferred file")),
+    }
+}
+
 impl Snapshot {
+    /// What stands there, and as what was told the lines by which its messages came.
+    pub(crate) fn with_arrivals(alloc: Global, host: &mut SilentHost) -> Result<Snapshot, Flaw> {
+        let mut spool = Snapshot::of(alloc, host, "")?;
+        let mut told = String::new(alloc);
+        for file in &spool.files {
+            let lines = arrival(alloc, file.spot)?;
+            told = format!(in alloc; "{told}{lines}")?;
+        }
+        spool.told = told;
+        Ok(spool)
+    }
+
     /// What stands there, of at most 64 files an area, and all that was told: this before, and that of
     /// the host.
     pub(crate) fn of(alloc: Global, host: &mut SilentHost, told: &str) -> Result<Snapshot, Flaw> {

@@ -82,7 +82,7 @@ impl Stage {
         };
         let input = bytes_of(alloc, step.below.as_slice(), b"\n")?;
         let list = format!(in alloc; "at {moment}\nend\n")?;
-        let spool = Snapshot::of(alloc, &mut self.host, "")?;
+        let spool = Snapshot::with_arrivals(alloc, &mut self.host)?;
         let sweep = Sweep {
             alloc,
             spool: &spool,

@@ -4,8 +4,9 @@
 //! Behind each stop comes a crash, with what wasn't synced kept, lost, and made another byte. The next
 //! life is stopped after each of its first twelve calls, with a crash of the same kind, and a third life
 //! runs to its end. In each state that is left the messages stand that have to (`judge_standing`), and
-//! what was told is the first part of what the life would have told without a stop. Where two stops one
-//! behind the other leave the same, what follows is the same, and is tried once.
+//! what was told is the first part of what the life would have told without a stop. Messages that the
+//! spool has from the beginning have to stand too. Where two stops one behind the other leave the same,
+//! what follows is the same, and is tried once.
 use crate::command::run_on;
 use crate::flaw::{Flaw, same};
 use crate::snapshot::Snapshot;
@@ -46,6 +47,11 @@ struct Stopped<'a> {
     life: Life<'a>,
     whole: &'a str,
     rot: Rot,
+}
+
+/// What was told behind this.
+fn told_behind<'a>(told: &'a str, before: &str) -> &'a str {
+    told.strip_prefix(before).unwrap_or("")
 }
 
 /// How a life ended, as it is shown.
@@ -106,10 +112,7 @@ impl<'a> Sweep<'a> {
         whole: &str,
         due: &str,
     ) -> Result<(), Flaw> {
-        let told = match behind.told.strip_prefix(left.told.as_str()) {
-            Some(told) => told,
-            None => "",
-        };
+        let told = told_behind(behind.told.as_str(), left.told.as_str());
         let second = line_due(whole, told);
         self.end(behind, Due { first: due, second })
     }
@@ -144,7 +147,8 @@ impl<'a> Sweep<'a> {
         for call in 0..=calls {
             let left = self.stop(self.spool, stopped, call)?;
             if before.as_ref() != Some(&left) {
-                let due = line_due(stopped.whole, left.told.as_str());
+                let told = told_behind(left.told.as_str(), self.spool.told.as_str());
+                let due = line_due(stopped.whole, told);
                 self.stop_next(&left, stopped.rot, due)?;
             }
             before = Some(left);

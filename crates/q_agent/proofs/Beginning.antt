@@ -1,11 +1,12 @@
 -- What a delivery begins with.
-use Rattle.std.proofs.Common.{◌≡◌, ℕ, Bool, IsTrue, true, List, length, Some, refl, ap, ◌∙◌}
+use Rattle.std.proofs.Common.{◌≡◌, ℕ, Bool, IsTrue, true, List, length, map, Some, refl, ap, ◌∙◌}
+use Rattle.std.proofs.lemmas.List.{length-map}
 use Rattle.q_host.specs.View.{View as HostView}
 use Rattle.q_link.specs.Records.{HopsView, IsFresh}
 use Rattle.q_link.specs.Routes.{has_route}
 use Rattle.q_link.specs.Views.{Told, View}
 use Rattle.q_link.specs.WaitsLeft.{Spares, waits_sum}
-use Rattle.q_model.specs.Values.{Spot}
+use Rattle.q_model.specs.Values.{Receiver, Spot}
 use Rattle.q_session.specs.Deliveries.{Serves}
 use Rattle.q_session.specs.Mails.{IsHeadOf, Mail}
 use Rattle.q_session.specs.Polls.{IsNew, IsUnused}
@@ -18,7 +19,7 @@ fresh_unused : (hop : List ℕ) (hops : HopsView) (v : View) → IsFresh hop hop
 fresh_unused hop hops v f t told = let is = (f.told t told).2 in (ap (λ (x : Told). x.received) is, ap (λ (x : Told). x.sent) is)
 
 pub begins_by : {L : Type 0} (view : L → View) (tells : Bool) (host : HostView) (spot : Spot) (hop positions : List ℕ) (now : ℕ) (old new : HopsView) (l : Letter) (w : Work L)
-    → IsLetter tells host spot positions l → IsFresh hop new (view w.link) × (has_route hop ≡ true) → IsNew spot l.to now w.session
+    → IsLetter tells host spot positions l → IsFresh hop new (view w.link) × (has_route hop ≡ true) → IsNew spot (map (λ r. r.address) l.to) now w.session
     → Spares 0 old.waits_left (waits_sum new.waits_left (view w.link).waits_left)
     → ((tells : Bool) (mail : Mail) (v : View) → (IsTrue tells → IsHeadOf mail l.file) → IsUnused v → Serves tells mail w.session v)
     → MayBegin view tells host spot hop positions now old new (Some w)
@@ -34,7 +35,7 @@ begins_by view tells host spot hop positions now old new l w letter connected is
     goes_on = is.over;
     linked = connected.0.ended;
     usable = connected.0.usage;
-    addresses = ap length is.to_is ∙ letter.count;
+    addresses = ap length is.to_is ∙ length-map l.to (λ (r : Receiver). r.address) ∙ letter.count;
   };
   spares = spares;
 }

@@ -7,12 +7,12 @@ use Rattle.std.specs.Prelude.{All, IfSome, IsErrOf}
 use Rattle.q_host.specs.Calls.{Stays}
 use Rattle.q_host.specs.View.{View}
 use Rattle.q_message.specs.FileHeads.{IsFault, IsHead, head_of}
-use Rattle.q_message.specs.Names.{AreNames, address_in}
+use Rattle.q_message.specs.Names.{AreNames, receiver_in}
 use Rattle.q_message.specs.declared.error.MessageError.{MessageError}
 use Rattle.q_message.specs.declared.error.MessageError.TheVariants.{Disk, NoMemory, NotAMessage}
 use Rattle.q_model.specs.QueueFile.{FileMessage, FileRecipient, queue_file}
 use Rattle.q_model.specs.SpoolFiles.{Files}
-use Rattle.q_model.specs.Values.{FileHead, Spot}
+use Rattle.q_model.specs.Values.{FileHead, Receiver, Spot}
 use Rattle.q_session.specs.Mails.{IsHeadOf, Mail, mail_of}
 use Rattle.q_session.proofs.ContentPlaces.{head_of_mail}
 use Rattle.q_agent.specs.Readings.{IsLetter, readable}
@@ -78,26 +78,34 @@ all_below n count positions same each = λ k d within. let below : get_or positi
 
 -- ---- the addresses at positions of it
 
-address_mapped : (rs : List FileRecipient) (p : ℕ) → option_map_or (λ (r : FileRecipient). r.address) (slice_get rs p) [] ≡ unwrap_or (slice_get (map (λ (r : FileRecipient). r.address) rs) p) []
+-- a recipient without its mark, or none
+abbrev found_in : List FileRecipient → ℕ → Receiver
+found_in rs p = option_map_or (λ (r : FileRecipient). record { address = r.address; original = r.original }) (slice_get rs p) (record { address = []; original = None })
+
+address_mapped : (rs : List FileRecipient) (p : ℕ) → (found_in rs p).address ≡ unwrap_or (slice_get (map (λ (r : FileRecipient). r.address) rs) p) []
 address_mapped [] zero = refl
 address_mapped [] (suc p) = refl
 address_mapped (r ∷ rs) zero = refl
 address_mapped (r ∷ rs) (suc p) = address_mapped rs p
 
-addresses_mapped : (m : FileMessage) (positions : List ℕ) → map (address_in m) positions ≡ addresses_at (mail_of m) positions
+-- their addresses
+abbrev addresses : List Receiver → List (List ℕ)
+addresses to = map (λ r. r.address) to
+
+addresses_mapped : (m : FileMessage) (positions : List ℕ) → addresses (map (receiver_in m) positions) ≡ addresses_at (mail_of m) positions
 addresses_mapped m [] = refl
 addresses_mapped m (p ∷ ps) =
-    ap (λ (a : List ℕ). a ∷ map (address_in m) ps) (address_mapped m.recipients p)
+    ap (λ (a : List ℕ). a ∷ addresses (map (receiver_in m) ps)) (address_mapped m.recipients p)
     ∙ ap (λ (others : List (List ℕ)). unwrap_or (slice_get (mail_of m).addresses p) [] ∷ others) (addresses_mapped m ps)
 
-pub names_say : (found : Option (List ℕ)) (mail : Mail) (positions : List ℕ) (to : List (List ℕ)) → Says found mail → IfSome found (AreNames positions to) → to ≡ addresses_at mail positions
+pub names_say : (found : Option (List ℕ)) (mail : Mail) (positions : List ℕ) (to : List Receiver) → Says found mail → IfSome found (AreNames positions to) → addresses to ≡ addresses_at mail positions
 names_say found mail positions to s h =
     let named = subst (λ (o : Option (List ℕ)). IfSome o (AreNames positions to)) s.here h in
-    subst (λ (o : Option FileMessage). IfSome o (λ (m : FileMessage). to ≡ map (address_in m) positions)) s.reads named
+    ap addresses (subst (λ (o : Option FileMessage). IfSome o (λ (m : FileMessage). to ≡ map (receiver_in m) positions)) s.reads named)
     ∙ addresses_mapped s.message positions
     ∙ ap (λ (x : Mail). addresses_at x positions) s.is
 
-pub letter_of : (tells : Bool) (v w : View) (spot : Spot) (positions : List ℕ) (file : FileHead) (to : List (List ℕ))
+pub letter_of : (tells : Bool) (v w : View) (spot : Spot) (positions : List ℕ) (file : FileHead) (to : List Receiver)
     → (IsTrue tells → IfSome (v.files spot.area spot.name) (IsHead file)) → (IsTrue tells → Stays v w) → (IsTrue tells → IfSome (w.files spot.area spot.name) (AreNames positions to)) → length to ≡ length positions
     → IsLetter tells v spot positions (record { file = file; to = to })
 letter_of tells v w spot positions file to head stays names count = record {

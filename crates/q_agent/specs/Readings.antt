@@ -1,5 +1,5 @@
 -- What is read of a queue file before its delivery begins.
-use Rattle.std.specs.Prelude.{◌≡◌, Bool, IsTrue, Err, length, List, None, Ok, Option, Result, Some, ℕ}
+use Rattle.std.specs.Prelude.{◌≡◌, Bool, IsTrue, Err, length, List, map, None, Ok, Option, Result, Some, ℕ}
 use Rattle.q_host.specs.View.{View as HostView}
 use Rattle.q_host.specs.declared.error.HostError.{HostError}
 use Rattle.q_host.specs.declared.error.HostError.TheVariants as faults
@@ -21,4 +21,4 @@ readable (Err (errors.NotAMessage place)) = Ok None
 pub record IsLetter (tells : Bool) (host : HostView) (spot : Spot) (positions : List ℕ) (l : Letter) : Type 0 where
   pub count : length l.to ≡ length positions
   pub head : (mail : Mail) → StandsAt tells host spot mail → IsTrue tells → IsHeadOf mail l.file
-  pub addresses : (mail : Mail) → StandsAt tells host spot mail → IsTrue tells → l.to ≡ addresses_at mail positions
+  pub addresses : (mail : Mail) → StandsAt tells host spot mail → IsTrue tells → map (λ r. r.address) l.to ≡ addresses_at mail positions

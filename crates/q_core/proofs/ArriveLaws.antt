@@ -1,6 +1,7 @@
 -- A message arrives.
 use Rattle.std.proofs.Common.{◌≡◌, ℕ, true, false, List, map, not, Option, refl, sym, ap, ◌∙◌, subst}
 use Rattle.std.proofs.lemmas.Bool.{and_parts}
+use Rattle.q_model.specs.Values.{Receiver}
 use Rattle.q_core.proofs.DueLaws.{is_deferred}
 use Rattle.q_core.proofs.AddedLaws.{added_left, added_same, added_still}
 use Rattle.q_core.proofs.ChangeLaws.{seen_same}
@@ -31,7 +32,7 @@ use Rattle.q_model.specs.declared.id.Id.{Id}
 no_bounce : (l : Ledger) (i : Id) → id_eq (next_id l) (bounce_of i) ≡ false
 no_bounce l i = not_bool (id_eq (next_id l) (bounce_of i)) (λ e. let bad : false ≡ true = ap (λ (x : Id). x.bounce) (id_eq-true (next_id l) (bounce_of i) e) in absurd cc)
 
-arrive_next : {w : World} {c : Core} {l : Ledger} (sender : Option (List ℕ)) (to : List (List ℕ)) (content : List ℕ) → HoldsRaw w c l → IsConsistent w l → HoldsRaw w (record c { incoming = Unknown }) (after_arrive l (next_id l) sender to content)
+arrive_next : {w : World} {c : Core} {l : Ledger} (sender : Option (List ℕ)) (to : List Receiver) (content : List ℕ) → HoldsRaw w c l → IsConsistent w l → HoldsRaw w (record c { incoming = Unknown }) (after_arrive l (next_id l) sender to content)
 arrive_next {w = w} {c = c} {l = l} sender to content r k =
     let h = r.parts in
     let x = new_message l sender to content in
@@ -43,7 +44,7 @@ arrive_next {w = w} {c = c} {l = l} sender to content r k =
     same i (placed_listed is_active l.book i (in_filtered (λ j. not (is_admitted l j)) i (ids_at is_active l.book) inside).0))) h.active in
     files_law b l.admitted r refl (all_left l next (added_left l x refl)) slots active tt (added_still c.deferred l x refl (λ i inside. same i (placed_listed is_deferred l.book i inside)) r.seen)
 
-pub arrive_law : {w : World} {c : Core} {l : Ledger} (id : Id) (sender : Option (List ℕ)) (to : List (List ℕ)) (content : List ℕ) → HoldsRaw w c l → IsConsistent w l → may_arrive l id ≡ true → HoldsRaw w (record c { incoming = Unknown }) (after_arrive l id sender to content)
+pub arrive_law : {w : World} {c : Core} {l : Ledger} (id : Id) (sender : Option (List ℕ)) (to : List Receiver) (content : List ℕ) → HoldsRaw w c l → IsConsistent w l → may_arrive l id ≡ true → HoldsRaw w (record c { incoming = Unknown }) (after_arrive l id sender to content)
 arrive_law {w = w} {c = c} {l = l} id sender to content r k may =
     let same : id ≡ next_id l = id_eq-true id (next_id l) (and_parts l.timed (id_eq id (next_id l)) may).1 in
     subst (λ i. HoldsRaw w (record c { incoming = Unknown }) (after_arrive l i sender to content)) (sym same) (arrive_next sender to content r k)

@@ -16,7 +16,7 @@ use Rattle.q_held.specs.Held.{AreHeldBy, HeldRow, released, rows_of}
 use Rattle.q_model.proofs.EachLaws.{each-both, each-map, each-same}
 use Rattle.q_model.proofs.IdLaws.{site_eq-refl, site_eq-true}
 use Rattle.q_model.specs.Lists.{drop_first}
-use Rattle.q_model.specs.SiteRecords.{is_alive}
+use Rattle.q_model.specs.SiteRecords.{is_alive, is_resting}
 use Rattle.q_model.specs.Sites.{site_eq}
 use Rattle.q_model.specs.Values.{Site}
 use Rattle.q_model.specs.declared.rows.Row.{Row}
@@ -59,9 +59,9 @@ dead_mapped f same ds s =
 pub alike_changed : (site : Site) (g : Dest → Dest) → ((d : Dest) → (g d).known ≡ d.known) → (ds : List Dest) → AreAlike ds (map (changed_at site g) ds)
 alike_changed site g same ds = λ r. alike_at ds (map (changed_at site g) ds) r (dead_mapped (changed_at site g) (λ d. known_step g same d (is_at site d)) ds r.site)
 
-alive_step : (alive unused : Bool) → not (alive && unused) ≡ false → nat_of (not alive) ≡ 0
-alive_step true unused h = refl
-alive_step false unused h = cc
+alive_step : (alive resting unused : Bool) → not ((alive && not resting) && unused) ≡ false → nat_of (not alive) ≡ 0
+alive_step true resting unused h = refl
+alive_step false resting unused h = cc
 
 -- the site that was changed goes behind all others, or out, where it is unused
 pub alike_settled : (site : Site) (g : Dest → Dest) → ((d : Dest) → (g d).known ≡ d.known) → (ds : List Dest) → AreApart ds → AreAlike ds (filter is_kept (settled site g ds))
@@ -72,7 +72,7 @@ alike_settled site g same ds apart = λ r.
     let changed = map f ds in
     let keyed = keyed_mapped site_eq site_of site_eq-true site_eq-refl f (λ d. ap (λ k. k.site) (stays d)) ds apart in
     alike_at ds (filter is_kept (settled site g ds)) r
-    (tally_filter site_eq site_of site_eq-true site_eq-refl one_dead is_kept (λ d h. alive_step (is_alive d.known.health) (is_unused d) h) r.site (moved_back test changed) (keyed_moved site_eq site_of site_eq-true site_eq-refl test changed keyed)
+    (tally_filter site_eq site_of site_eq-true site_eq-refl one_dead is_kept (λ d h. alive_step (is_alive d.known.health) (is_resting d.known) (is_unused d) h) r.site (moved_back test changed) (keyed_moved site_eq site_of site_eq-true site_eq-refl test changed keyed)
     ∙ moved_by site_eq site_of site_eq-true site_eq-refl one_dead test r.site changed (find test changed) keyed refl
     ∙ dead_mapped f stays ds r.site)
 

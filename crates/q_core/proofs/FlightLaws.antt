@@ -15,7 +15,7 @@ use Rattle.q_model.specs.Ledger.{Ledger}
 use Rattle.q_model.specs.Settings.{World}
 use Rattle.q_model.specs.SiteRecords.{change_site, is_alive}
 use Rattle.q_model.specs.Values.{Site, SiteRecord}
-use Rattle.q_model.specs.Windows.{after_down, after_state, after_up, down_alive, grown, more_cohorts, narrowed, revived, up_alive}
+use Rattle.q_model.specs.Windows.{after_down, after_state, after_up, down_alive, grown, more_cohorts, narrowed, rested, revived, up_alive}
 use Rattle.q_model.specs.declared.outcome.SiteState.{SiteState}
 use Rattle.q_model.specs.declared.outcome.SiteState.TheVariants.{Down, Up}
 use Rattle.q_model.specs.declared.rows.Delivery.{Delivery}
@@ -70,6 +70,9 @@ down_site w now r =
     let live = either _ _ (narrowed w more) r.site refl thin in
     either (is_alive r.health) (down_alive w now r) r r.site live refl
 
+rested_site : (w : World) (now : ℕ) (r : SiteRecord) → (rested w now r).site ≡ r.site
+rested_site w now r = either (w.settings.rate_delay == 0) r (record r { rest = Some (now + w.settings.rate_delay) }) r.site refl refl
+
 at_site : (site : Site) (change : SiteRecord → SiteRecord) → ((r : SiteRecord) → (change r).site ≡ r.site) → (r : SiteRecord) → (if site_eq r.site site then change r else r).site ≡ r.site
 at_site site change keeps r = either (site_eq r.site site) (change r) r r.site (keeps r) refl
 
@@ -85,5 +88,5 @@ apart_change rs site change keeps = apart_map (λ r. if site_eq r.site site then
 
 -- no site gets a second record
 pub apart_state : (w : World) (l : Ledger) (site : Site) (state : SiteState) → are_apart (after_state w l site state) ≡ are_apart l.sites
-apart_state w l site Up = apart_change l.sites site (after_up w _) (up_site w _)
-apart_state w l site Down = apart_change l.sites site (after_down w l.now) (down_site w l.now)
+apart_state w l site Up = apart_change l.sites site (λ r. rested w l.now (after_up w _ r)) (λ r. rested_site w l.now (after_up w _ r) ∙ up_site w _ r)
+apart_state w l site Down = apart_change l.sites site (λ r. rested w l.now (after_down w l.now r)) (λ r. rested_site w l.now (after_down w l.now r) ∙ down_site w l.now r)

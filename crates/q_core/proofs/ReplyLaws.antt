@@ -3,6 +3,7 @@ use Rattle.std.proofs.Common.{◌≡◌, ℕ, ◌+◌, ◌-◌, ◌≤◌, Bool,
 use Rattle.std.proofs.lemmas.Bool.{eqb-true}
 use Rattle.std.specs.Option.{option_map_or}
 use Rattle.std.specs.Prelude.{◌&&◌, ◌||◌, ◌==◌, filter, find, not}
+use Rattle.q_laws.proofs.Sites.{limit_is}
 use Rattle.q_core.proofs.DroppedLaws.{other_site}
 use Rattle.q_core.proofs.FlightLaws.{apart_state, sum_by-removed}
 use Rattle.q_core.proofs.ListLaws.{find-all, find-passes}
@@ -74,7 +75,7 @@ reply_raw {w = w} {c = c} {u = u} {v = v} {d = d} {l = l} h k ds number state os
     ∙ ap (λ (x : List SiteRecord). map (heard_at c.params site (busy l site) c.clock.seconds state) x) h.parts.sites
     ∙ ap (λ n. map (heard_at c.params site (busy l site) n state) l.sites) h.parts.clock
     ∙ ap (λ (x : Settings). map (heard_at x site (busy l site) l.now state) l.sites) h.parts.settings
-    ∙ heard_law w l site ds.settings.concurrency_limit.1 ds.windows state in
+    ∙ heard_law w l site (limit_is w ds.settings).1 ds.windows state in
     let between : Core = record c { sites = v.sites } in
     let raw : HoldsRaw w between (record l { sites = after_state w l site state }) = sites_law {w = w} {c = c} {d = between} {l = l} (after_state w l site state) h refl heard in
     let middle : v ≡ record c { unsettled = u.unsettled; in_memory = u.in_memory; sites = v.sites } = hears.rest ∙ ap (λ (x : Core). record x { sites = v.sites }) replies.rest in

@@ -17,7 +17,7 @@ use Rattle.q_dest.proofs.Hearing.{heard_in_site}
 use Rattle.q_model.proofs.IdLaws.{site_eq-refl, site_eq-true}
 use Rattle.q_model.specs.Lists.{drop_first}
 use Rattle.q_model.specs.Settings.{Settings}
-use Rattle.q_model.specs.SiteRecords.{is_alive}
+use Rattle.q_model.specs.SiteRecords.{is_alive, is_awake}
 use Rattle.q_model.specs.Sites.{site_eq}
 use Rattle.q_model.specs.Values.{Site}
 use Rattle.q_model.specs.declared.outcome.SiteState.{SiteState}
@@ -48,14 +48,14 @@ spent_step true w b h = unused_parts w b (turned ((w == 0) && (b == 0)) h)
 spent_step false w b h = cc
 
 spent_none : (d : Dest) → is_kept d ≡ false → (d.waiting ≡ 0) × (d.busy ≡ 0)
-spent_none d h = spent_step (is_alive d.known.health) d.waiting d.busy h
+spent_none d h = spent_step (is_awake d.known) d.waiting d.busy h
 
 remembered_step : (dead : Bool) (w b : ℕ) → (dead && ((w == 0) && (b == 0))) ≡ true → (w ≡ 0) × (b ≡ 0)
 remembered_step true w b h = unused_parts w b h
 remembered_step false w b h = cc
 
 pub remembered_none : (d : Dest) → is_remembered d ≡ true → (d.waiting ≡ 0) × (d.busy ≡ 0)
-remembered_none d h = remembered_step (not (is_alive d.known.health)) d.waiting d.busy h
+remembered_none d h = remembered_step (not (is_awake d.known)) d.waiting d.busy h
 
 module _ (rows : List Row) (fs : List Delivery) where
   -- changes that leave sites and counts

@@ -11,12 +11,12 @@ use Rattle.q_core.proofs.Tallies.{tally_here}
 use Rattle.q_core.specs.Known.{forgotten, known_records, site_of}
 use Rattle.q_core.specs.Lists.{moved_back}
 use Rattle.q_core.specs.Ties.{AreSitesTied}
-use Rattle.q_core.specs.UsedSites.{busy_in, forget_in, is_dead_with, is_kept_dead_in, is_kept_in, is_left_in, is_unused_in, used_in, waits_at_in}
+use Rattle.q_core.specs.UsedSites.{busy_in, forget_in, is_dead_with, is_remembered_in, is_kept_in, is_left_in, is_unused_in, used_in, waits_at_in}
 use Rattle.q_dest.specs.declared.dest.Dest.{Dest}
 use Rattle.q_dest.specs.Dests.{AreApart, is_at, is_dead_waiting, is_kept, is_remembered, is_unused}
 use Rattle.q_model.proofs.IdLaws.{site_eq-refl, site_eq-true}
 use Rattle.q_model.specs.Lists.{drop_first}
-use Rattle.q_model.specs.SiteRecords.{is_alive}
+use Rattle.q_model.specs.SiteRecords.{is_alive, is_awake}
 use Rattle.q_model.specs.Sites.{site_eq}
 use Rattle.q_model.specs.Values.{Site, SiteRecord}
 use Rattle.q_model.specs.declared.rows.Delivery.{Delivery}
@@ -93,7 +93,7 @@ module _ (rows : List Row) (fs : List Delivery) (d : Dest) (waits : d.waiting �
       ∙ ap (λ n. (d.waiting == 0) && (n == 0)) (sym flies)
 
   kept_is : is_kept_in rows fs d.known ≡ is_kept d
-  kept_is = ap (λ b. not (b && not (not (is_alive d.known.health)))) unused_is ∙ either (is_unused d) (is_alive d.known.health)
+  kept_is = ap (λ b. not (b && not (not (is_awake d.known)))) unused_is ∙ either (is_unused d) (is_awake d.known)
     where
       either : (u a : Bool) → not (u && not (not a)) ≡ not (a && u)
       either true true = refl
@@ -101,8 +101,8 @@ module _ (rows : List Row) (fs : List Delivery) (d : Dest) (waits : d.waiting �
       either false true = refl
       either false false = refl
 
-  remembered_is : is_kept_dead_in rows fs d.known ≡ is_remembered d
-  remembered_is = ap (λ b. b && not (is_alive d.known.health)) unused_is ∙ either (is_unused d) (not (is_alive d.known.health))
+  remembered_is : is_remembered_in rows fs d.known ≡ is_remembered d
+  remembered_is = ap (λ b. b && not (is_awake d.known)) unused_is ∙ either (is_unused d) (not (is_awake d.known))
     where
       either : (u a : Bool) → (u && a) ≡ (a && u)
       either true true = refl
@@ -205,11 +205,11 @@ module _ (rows : List Row) (fs : List Delivery) (ds : List Dest) (counts : AreOf
 
   pub forgotten_is : (limit : ℕ) → forget_in rows fs limit (known_records ds) ≡ known_records (forgotten limit ds)
   forgotten_is limit =
-      let alike = alike_from rows fs (is_kept_dead_in rows fs) is_remembered (remembered_is rows fs) ds counts in
-      let many : length (filter (is_kept_dead_in rows fs) (known_records ds)) ≡ length (filter is_remembered ds) =
-      ap length (kept_alike (is_kept_dead_in rows fs) is_remembered ds alike) ∙ length-map (filter is_remembered ds) (λ (d : Dest). d.known) in
-      ap (λ n. cond (nat_lt limit n) (drop_first (is_kept_dead_in rows fs) (known_records ds)) (known_records ds)) many
-      ∙ ap (λ xs. cond (nat_lt limit (length (filter is_remembered ds))) xs (known_records ds)) (dropped_alike (is_kept_dead_in rows fs) is_remembered ds alike)
+      let alike = alike_from rows fs (is_remembered_in rows fs) is_remembered (remembered_is rows fs) ds counts in
+      let many : length (filter (is_remembered_in rows fs) (known_records ds)) ≡ length (filter is_remembered ds) =
+      ap length (kept_alike (is_remembered_in rows fs) is_remembered ds alike) ∙ length-map (filter is_remembered ds) (λ (d : Dest). d.known) in
+      ap (λ n. cond (nat_lt limit n) (drop_first (is_remembered_in rows fs) (known_records ds)) (known_records ds)) many
+      ∙ ap (λ xs. cond (nat_lt limit (length (filter is_remembered ds))) xs (known_records ds)) (dropped_alike (is_remembered_in rows fs) is_remembered ds alike)
       ∙ either (nat_lt limit (length (filter is_remembered ds)))
     where
       either : (b : Bool) → cond b (known_records (drop_first is_remembered ds)) (known_records ds) ≡ known_records (cond b (drop_first is_remembered ds) ds)

@@ -4,7 +4,8 @@ use Rattle.std.proofs.lemmas.List.{append_assoc}
 use Rattle.std.proofs.lemmas.List.Folds.{list_any-append}
 use Rattle.std.specs.List.{list_any}
 use Rattle.std.specs.Option.{option_map_or}
-use Rattle.std.specs.Prelude.{◌&&◌, ◌||◌, ◌++◌, filter, find, nat_lt, not, slice_get}
+use Rattle.std.specs.Prelude.{◌&&◌, ◌||◌, ◌++◌, filter, find, if◌then◌else◌, nat_lt, not, slice_get}
+use Rattle.q_dest.proofs.Hearing.{woken_due_site}
 use Rattle.q_core.proofs.ListLaws.{find-map, list_any-map}
 use Rattle.q_core.proofs.SiteChanges.{known_stays, known_step, sites_moved, sites_same}
 use Rattle.q_core.proofs.SiteTies.{AreOf, counts_of, left_back, used_is}
@@ -15,15 +16,15 @@ use Rattle.q_core.specs.Lists.{moved_back}
 use Rattle.q_core.specs.Loading.{has_record, with_site}
 use Rattle.q_core.specs.Queries.{record_behind, records_behind}
 use Rattle.q_core.specs.Ties.{AreBusyTied, AreSitesTied}
-use Rattle.q_core.specs.UsedSites.{busy_in, is_left_in, revive_dead_in, revive_due_in, used_in}
+use Rattle.q_core.specs.UsedSites.{busy_in, is_left_in, revive_dead_in, wake_due_in, used_in}
 use Rattle.q_dest.specs.declared.dest.Dest.{Dest}
-use Rattle.q_dest.specs.Dests.{AreApart, AreKept, behind_dests, changed_at, first_dest, has_space, heard, is_at, is_dead, is_kept, is_unused, revived_when_dead, revived_when_due, settled}
+use Rattle.q_dest.specs.Dests.{AreApart, AreKept, behind_dests, changed_at, first_dest, has_space, heard, is_at, is_dead, is_kept, is_unused, revived_when_dead, woken_when_due, settled, woken, woken_in, is_due_at}
 use Rattle.q_dest.specs.Windows.{heard_in}
 use Rattle.q_model.proofs.IdLaws.{site_eq-refl, site_eq-true}
-use Rattle.q_model.specs.Revival.{is_due}
+use Rattle.q_model.specs.Revival.{is_due, is_rest_over, rest_ended}
 use Rattle.q_model.specs.Routes.{world_without_table}
 use Rattle.q_model.specs.Settings.{Settings}
-use Rattle.q_model.specs.SiteRecords.{is_alive, new_record}
+use Rattle.q_model.specs.SiteRecords.{is_alive, new_record, is_awake}
 use Rattle.q_model.specs.Sites.{site_eq}
 use Rattle.q_model.specs.Values.{Site, SiteRecord}
 use Rattle.q_model.specs.Windows.{revived}
@@ -55,17 +56,29 @@ module _ (rows : List Row) (fs : List Delivery) (ds : List Dest) (apart : AreApa
   alike p d true = (refl, refl, refl)
   alike p d false = (refl, refl, refl)
 
-  pub due_used : (p : Settings) (moment : ℕ) → known_records (filter is_kept (map (revived_when_due p moment) ds)) ≡ used_in rows fs (map (revive_due_in p fs moment) (known_records ds))
+  -- sites that wake where it is time
+  woken_each : (p : Settings) (moment : ℕ) (d : Dest) → d.busy ≡ busy_in fs d.known.site → (a b : Bool) → is_due moment d.known.health ≡ a → is_rest_over moment d.known ≡ b → (cond (a || b) (woken p moment d) d).known ≡ wake_due_in p fs moment d.known
+  woken_each p moment d e true b h k = ap (λ n. woken_in p n moment d.known) e
+  woken_each p moment d e false true h k = ap (λ n. woken_in p n moment d.known) e
+  woken_each p moment d e false false h k =
+      sym (ap (λ t. rest_ended moment (if t then revived (world_without_table p) (busy_in fs d.known.site) d.known else d.known)) h
+      ∙ ap (λ t. if t then record d.known { rest = None } else d.known) k)
+
+  woken_waits : (p : Settings) (moment : ℕ) (d : Dest) (b : Bool) → ((cond b (woken p moment d) d).waiting ≡ d.waiting) × ((cond b (woken p moment d) d).busy ≡ d.busy)
+  woken_waits p moment d true = (refl, refl)
+  woken_waits p moment d false = (refl, refl)
+
+  pub due_used : (p : Settings) (moment : ℕ) → known_records (filter is_kept (map (woken_when_due p moment) ds)) ≡ used_in rows fs (map (wake_due_in p fs moment) (known_records ds))
   due_used p moment =
-      changed_used (revived_when_due p moment) (revive_due_in p fs moment) (λ d e. due_each p moment d e (is_due moment d.known.health))
-      (λ d. (alike p d (is_due moment d.known.health)).0) (λ d. (alike p d (is_due moment d.known.health)).1) (λ d. (alike p d (is_due moment d.known.health)).2)
+      changed_used (woken_when_due p moment) (wake_due_in p fs moment) (λ d e. woken_each p moment d e (is_due moment d.known.health) (is_rest_over moment d.known) refl refl)
+      (woken_due_site p moment) (λ d. (woken_waits p moment d (is_due_at moment d)).0) (λ d. (woken_waits p moment d (is_due_at moment d)).1)
 
-  pub due_tied : (p : Settings) (moment : ℕ) → AreSitesTied (map (revived_when_due p moment) ds) rows fs
+  pub due_tied : (p : Settings) (moment : ℕ) → AreSitesTied (map (woken_when_due p moment) ds) rows fs
   due_tied p moment =
-      sites_same rows fs (revived_when_due p moment) (λ d. (alike p d (is_due moment d.known.health)).0) (λ d. (alike p d (is_due moment d.known.health)).1) (λ d. (alike p d (is_due moment d.known.health)).2) ds tie
+      sites_same rows fs (woken_when_due p moment) (woken_due_site p moment) (λ d. (woken_waits p moment d (is_due_at moment d)).0) (λ d. (woken_waits p moment d (is_due_at moment d)).1) ds tie
 
-  pub due_apart : (p : Settings) (moment : ℕ) → AreApart (map (revived_when_due p moment) ds)
-  due_apart p moment = keyed_mapped site_eq site_of site_eq-true site_eq-refl (revived_when_due p moment) (λ d. (alike p d (is_due moment d.known.health)).0) ds apart
+  pub due_apart : (p : Settings) (moment : ℕ) → AreApart (map (woken_when_due p moment) ds)
+  due_apart p moment = keyed_mapped site_eq site_of site_eq-true site_eq-refl (woken_when_due p moment) (woken_due_site p moment) ds apart
 
   pub dead_used : (p : Settings) → known_records (filter is_kept (map (revived_when_dead p) ds)) ≡ used_in rows fs (map (revive_dead_in p fs) (known_records ds))
   dead_used p =
@@ -90,15 +103,15 @@ module _ (rows : List Row) (fs : List Delivery) (ds : List Dest) (apart : AreApa
 
 -- what is known of a site
 room_step : (fs : List Delivery) (site : Site) (o : Option Dest) → option_map_or (λ (d : Dest). d.busy) o 0 ≡ busy_in fs site →
-    option_map_or has_space o false ≡ option_map_or (λ (r : SiteRecord). is_alive r.health && nat_lt (busy_in fs site) r.window) (option_map (λ (d : Dest). d.known) o) false
+    option_map_or has_space o false ≡ option_map_or (λ (r : SiteRecord). is_awake r && nat_lt (busy_in fs site) r.window) (option_map (λ (d : Dest). d.known) o) false
 room_step fs site None e = refl
-room_step fs site (Some d) e = ap (λ n. is_alive d.known.health && nat_lt n d.known.window) e
+room_step fs site (Some d) e = ap (λ n. is_awake d.known && nat_lt n d.known.window) e
 
 pub room_known : (fs : List Delivery) (site : Site) (ds : List Dest) → AreBusyTied ds fs →
-    option_map_or has_space (find (is_at site) ds) false ≡ option_map_or (λ (r : SiteRecord). is_alive r.health && nat_lt (busy_in fs site) r.window) (find (λ (r : SiteRecord). site_eq r.site site) (known_records ds)) false
+    option_map_or has_space (find (is_at site) ds) false ≡ option_map_or (λ (r : SiteRecord). is_awake r && nat_lt (busy_in fs site) r.window) (find (λ (r : SiteRecord). site_eq r.site site) (known_records ds)) false
 room_known fs site ds tie =
     room_step fs site (find (is_at site) ds) (tie site)
-    ∙ ap (λ o. option_map_or (λ (r : SiteRecord). is_alive r.health && nat_lt (busy_in fs site) r.window) o false) (sym (find-map (λ (r : SiteRecord). site_eq r.site site) (λ (d : Dest). d.known) ds))
+    ∙ ap (λ o. option_map_or (λ (r : SiteRecord). is_awake r && nat_lt (busy_in fs site) r.window) o false) (sym (find-map (λ (r : SiteRecord). site_eq r.site site) (λ (d : Dest). d.known) ds))
 
 dead_step : (o : Option Dest) → option_map_or is_dead o false ≡ option_map_or (λ (r : SiteRecord). not (is_alive r.health)) (option_map (λ (d : Dest). d.known) o) false
 dead_step None = refl

@@ -34,7 +34,7 @@ use Rattle.q_model.specs.Next.{start_rule}
 use Rattle.q_model.specs.Past.{starts}
 use Rattle.q_model.specs.Places.{is_active}
 use Rattle.q_model.specs.Settings.{Settings, World}
-use Rattle.q_model.specs.SiteRecords.{is_alive}
+use Rattle.q_model.specs.SiteRecords.{is_alive, is_awake}
 use Rattle.q_model.specs.Startable.{can_start, current, is_startable, line_of}
 use Rattle.q_model.specs.Values.{Served, Site, SiteRecord}
 use Rattle.q_model.specs.declared.entry.Entry.{Entry}
@@ -49,7 +49,7 @@ abbrev rows_of : World → Ledger → Id → ℕ → Row → Bool
 rows_of w l id t r = id_eq r.id id && (r.site.transport == t) && is_startable w l r
 
 abbrev room_of : List Delivery → Site → Option SiteRecord → Bool
-room_of fs site o = option_map_or (λ d. is_alive d.health && nat_lt (count_by (λ f. site_eq f.row.site site) fs) d.window) o false
+room_of fs site o = option_map_or (λ d. is_awake d && nat_lt (count_by (λ f. site_eq f.row.site site) fs) d.window) o false
 
 same_startable : {w : World} {c : Core} {l : Ledger} → AgreesButScan w c l → (r : Row) → is_startable_in c r ≡ is_startable w l r
 same_startable {w = w} {c = c} {l = l} h r =

@@ -3,7 +3,7 @@ use Rattle.std.proofs.Common.{◌≡◌, ℕ, ◌+◌, Bool, true, false, List, 
 use Rattle.std.specs.Prelude.{◌||◌, nat_le, if◌then◌else◌, is_none}
 use Rattle.q_core.specs.Agrees.{Matches, AgreesButScan, IsScan, IsSeenScan, found_deferred}
 use Rattle.q_core.specs.Changes.{IsWoken, asked_scan, asked_when_due, is_known, is_looked_at, request_by}
-use Rattle.q_core.specs.UsedSites.{busy_in, revive_due_in}
+use Rattle.q_core.specs.UsedSites.{busy_in, wake_due_in}
 use Rattle.q_core.specs.Scanning.{scan_after, scan_at}
 use Rattle.q_core.specs.declared.state.Core.{Core}
 use Rattle.q_core.specs.declared.state.Seen.{Seen}
@@ -11,7 +11,7 @@ use Rattle.q_core.specs.declared.state.Seen.TheVariants.{Known, Unknown}
 use Rattle.q_model.specs.Book.{Book}
 use Rattle.q_model.specs.Clock.{woken}
 use Rattle.q_model.specs.Ledger.{Ledger}
-use Rattle.q_model.specs.Revival.{is_due, revive_due}
+use Rattle.q_model.specs.Revival.{is_due, wake_due, rest_ended}
 use Rattle.q_model.specs.Routes.{world_without_table}
 use Rattle.q_model.specs.Scans.{ask_scan, joined_request, scan_next}
 use Rattle.q_model.specs.Settings.{Settings, World}
@@ -70,11 +70,11 @@ pub wake_law : {w : World} {c d : Core} {l : Ledger} {t : ℕ} → Matches w c l
 wake_law {w = w} {c = c} {d = d} {l = l} {t = t} a t' wakes =
     let h = a.parts in
     let scan = looked a.scan t' in
-    let sites : d.sites ≡ revive_due w (record l { now = t }) =
+    let sites : d.sites ≡ wake_due w (record l { now = t }) =
     wakes.sites
-    ∙ ap (λ (fs : List Delivery). map (revive_due_in c.params fs t) c.sites) h.flights
-    ∙ ap (map (revive_due_in c.params l.flights t)) h.sites
-    ∙ ap (λ (s : Settings). map (λ (r : SiteRecord). if is_due t r.health then revived (world_without_table s) (busy_in l.flights r.site) r else r) l.sites) h.settings in
+    ∙ ap (λ (fs : List Delivery). map (wake_due_in c.params fs t) c.sites) h.flights
+    ∙ ap (map (wake_due_in c.params l.flights t)) h.sites
+    ∙ ap (λ (s : Settings). map (λ (r : SiteRecord). rest_ended t (if is_due t r.health then revived (world_without_table s) (busy_in l.flights r.site) r else r)) l.sites) h.settings in
     let later : Ledger = woken w l t in
     let kept : AgreesButScan w (record c { clock = d.clock; timed = true; sites = d.sites }) later = record {
       settings = h.settings;
@@ -100,7 +100,7 @@ wake_law {w = w} {c = c} {d = d} {l = l} {t = t} a t' wakes =
       incoming = h.incoming;
     } in
     let raw : HoldsRaw w (record c { clock = d.clock; timed = true; sites = d.sites }) later =
-    record { parts = kept; scan = scan.0; asked = scan.1; seen = still_later c.deferred l t true (revive_due w (record l { now = t })) scan.2 } in
+    record { parts = kept; scan = scan.0; asked = scan.1; seen = still_later c.deferred l t true (wake_due w (record l { now = t })) scan.2 } in
     subst (λ k. HoldsRaw w k later) (sym wakes.rest) raw
 
 -- the ledger, with what the core says of the scan

@@ -22,7 +22,7 @@ use Rattle.q_model.specs.Ledger.{Ledger}
 use Rattle.q_model.specs.Memory.{unread_of}
 use Rattle.q_model.specs.Scans.{scan_next, tidy_scan, tidy_scan_at}
 use Rattle.q_model.specs.Settings.{Settings, World}
-use Rattle.q_model.specs.SiteRecords.{is_alive}
+use Rattle.q_model.specs.SiteRecords.{is_alive, is_awake}
 use Rattle.q_model.specs.Startable.{line_of}
 use Rattle.q_model.specs.Step.{tidy_line, tidied, stays}
 use Rattle.q_model.specs.UnusedSites.{forget_oldest, is_unused, tidied_sites}
@@ -113,7 +113,7 @@ ordered_same l =
     ∙ append-nil l.sites
 
 abbrev pub kept_alive : Ledger → List SiteRecord → List SiteRecord
-kept_alive l rs = filter (λ r. not (is_unused l r && is_alive r.health)) rs
+kept_alive l rs = filter (λ r. not (is_unused l r && is_awake r)) rs
 
 sites_tidied : {w : World} {c : Core} {l : Ledger} → AgreesButScan w c l →
     forget_in c.waiting c.flights c.params.recipient_limit (used_in c.waiting c.flights c.sites) ≡ forget_oldest w l (kept_alive l l.sites)
@@ -123,7 +123,7 @@ sites_tidied {w = w} {c = c} {l = l} h =
     ∙ ap (λ (ss : List SiteRecord). forget_in l.waiting l.flights c.params.recipient_limit (used_in l.waiting l.flights ss)) h.sites
     ∙ ap (λ (x : Settings). forget_in l.waiting l.flights x.recipient_limit (used_in l.waiting l.flights l.sites)) h.settings
     ∙ ap (forget_in l.waiting l.flights w.settings.recipient_limit)
-    (filter-same (is_kept_in l.waiting l.flights) (λ r. not (is_unused l r && is_alive r.health)) (λ r. twice_not (is_unused l r) (is_alive r.health)) l.sites)
+    (filter-same (is_kept_in l.waiting l.flights) (λ r. not (is_unused l r && is_awake r)) (λ r. twice_not (is_unused l r) (is_awake r)) l.sites)
 
 -- the ledger after its scan, lines, served rows and sites are tidied, where no row left its site
 abbrev pub tidied_by : World → Ledger → List SiteRecord → Ledger

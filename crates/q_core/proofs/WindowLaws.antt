@@ -11,10 +11,10 @@ use Rattle.q_model.specs.Deliveries.{busy}
 use Rattle.q_model.specs.Sites.{site_eq}
 use Rattle.q_model.specs.Feedbacks.{amount, parts, unit}
 use Rattle.q_model.specs.Ledger.{Ledger}
-use Rattle.q_model.specs.Settings.{World}
+use Rattle.q_model.specs.Settings.{World, window_limit}
 use Rattle.q_model.specs.SiteRecords.{change_site, is_alive}
 use Rattle.q_model.specs.Values.{Site, SiteRecord}
-use Rattle.q_model.specs.Windows.{after_down, after_state, after_up, revived}
+use Rattle.q_model.specs.Windows.{after_down, after_state, after_up, rested, revived}
 use Rattle.q_model.specs.declared.outcome.SiteState.{SiteState}
 use Rattle.q_model.specs.declared.outcome.SiteState.TheVariants.{Down, Up}
 use Rattle.q_model.specs.declared.rows.Health.TheVariants as healths
@@ -49,19 +49,19 @@ pub down_law : (w : World) (now : ℕ) (r : SiteRecord) → 1 ≤ r.window → r
 down_law w now r low high = ap (λ n. down_at w now n r) (open_same r.window low high)
 
 -- what is said of windows that are open holds of those within the limit
-heard_each : (w : World) (site : Site) (f g : SiteRecord → SiteRecord) → w.settings.concurrency_limit ≤ 40 → ((r : SiteRecord) → 1 ≤ r.window → r.window ≤ 40 → f r ≡ g r) →
+heard_each : (w : World) (site : Site) (f g : SiteRecord → SiteRecord) → window_limit w.settings ≤ 40 → ((r : SiteRecord) → 1 ≤ r.window → r.window ≤ 40 → f r ≡ g r) →
     (rs : List SiteRecord) → list_all (is_window w) rs ≡ true → map (λ r. if site_eq r.site site then f r else r) rs ≡ change_site rs site g
 heard_each w site f g limit same [] all = refl
 heard_each w site f g limit same (r ∷ rs) all =
     let parts = and_true_parts (is_window w r) (list_all (is_window w) rs) all in
-    let bounds = and_true_parts (nat_le 1 r.window) (nat_le r.window w.settings.concurrency_limit) parts.0 in
+    let bounds = and_true_parts (nat_le 1 r.window) (nat_le r.window (window_limit w.settings)) parts.0 in
     let low = leb-true 1 r.window bounds.0 in
-    let high = leb-true r.window w.settings.concurrency_limit bounds.1 in
+    let high = leb-true r.window (window_limit w.settings) bounds.1 in
     ap (λ x. (if site_eq r.site site then x else r) ∷ map (λ r. if site_eq r.site site then f r else r) rs) (same r low (omega (arith, high, limit)))
     ∙ ap (λ xs. (if site_eq r.site site then g r else r) ∷ xs) (heard_each w site f g limit same rs parts.1)
 
 -- the records of sites after a reply
-pub heard_law : (w : World) (l : Ledger) (site : Site) → w.settings.concurrency_limit ≤ 40 → list_all (is_window w) l.sites ≡ true → (state : SiteState) →
+pub heard_law : (w : World) (l : Ledger) (site : Site) → window_limit w.settings ≤ 40 → list_all (is_window w) l.sites ≡ true → (state : SiteState) →
     map (heard_at w.settings site (busy l site) l.now state) l.sites ≡ after_state w l site state
-heard_law w l site limit all Up = heard_each w site (up_in w.settings (busy l site)) (after_up w (busy l site)) limit (up_law w (busy l site)) l.sites all
-heard_law w l site limit all Down = heard_each w site (down_in w.settings l.now) (after_down w l.now) limit (down_law w l.now) l.sites all
+heard_law w l site limit all Up = heard_each w site (λ r. rested w l.now (up_in w.settings (busy l site) r)) (λ r. rested w l.now (after_up w (busy l site) r)) limit (λ r low high. ap (rested w l.now) (up_law w (busy l site) r low high)) l.sites all
+heard_law w l site limit all Down = heard_each w site (λ r. rested w l.now (down_in w.settings l.now r)) (λ r. rested w l.now (after_down w l.now r)) limit (λ r low high. ap (rested w l.now) (down_law w l.now r low high)) l.sites all

@@ -9,7 +9,7 @@ use Rattle.q_model.specs.Ids.{id_eq}
 use Rattle.q_model.specs.Scans.{joined_request, new_scan}
 use Rattle.q_model.specs.Values.{Served, Site, SiteRecord}
 use Rattle.q_model.specs.declared.rows.Request.TheVariants as requests
-use Rattle.q_core.specs.UsedSites.{forget_in, is_left_in, revive_dead_in, revive_due_in, used_in}
+use Rattle.q_core.specs.UsedSites.{forget_in, is_left_in, revive_dead_in, wake_due_in, used_in}
 use Rattle.q_core.specs.Facts.{is_nothing}
 use Rattle.q_core.specs.Lists.{moved_back}
 use Rattle.q_core.specs.Tidied.{tidied_line, tidied_served}
@@ -100,9 +100,9 @@ used_sites c sites = used_in c.waiting c.flights sites
 abbrev pub left_sites : Core → List SiteRecord → Site → List SiteRecord
 left_sites c sites site = used_sites c (moved_back (is_left_in c.waiting c.flights site) sites)
 
--- the dead sites whose time has come are alive
-abbrev pub revived_by : ℕ → Core → List SiteRecord
-revived_by moment c = map (revive_due_in c.params c.flights moment) c.sites
+-- the dead sites whose time has come are alive, and the rests that are over end
+abbrev pub woken_by : ℕ → Core → List SiteRecord
+woken_by moment c = map (wake_due_in c.params c.flights moment) c.sites
 
 -- all dead sites are alive
 abbrev pub all_revived : Core → List SiteRecord
@@ -112,7 +112,7 @@ all_revived c = map (revive_dead_in c.params c.flights) c.sites
 pub record IsWoken (old new : Core) (moment : ℕ) : Type 0 where
   pub rest : new ≡ record old { clock = new.clock; timed = true; sites = new.sites }
   pub seconds : new.clock.seconds ≡ moment
-  pub sites : new.sites ≡ revived_by moment old
+  pub sites : new.sites ≡ woken_by moment old
 
 -- all dead sites are alive
 pub record IsRevived (old new : Core) : Type 0 where

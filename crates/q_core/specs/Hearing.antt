@@ -4,6 +4,7 @@ use Rattle.std.specs.List.{list_all}
 use Rattle.q_model.specs.FailureLog.{is_log_code}
 use Rattle.q_model.specs.declared.outcome.Outcome.{Outcome}
 use Rattle.q_model.specs.declared.outcome.Outcome.TheVariants as outcomes
+use Rattle.q_model.specs.Values.{Receiver}
 use Rattle.q_model.specs.declared.entry.Entry.{Entry}
 use Rattle.q_model.specs.Ledger.{Ledger}
 use Rattle.q_model.specs.Settings.{World}
@@ -17,7 +18,7 @@ use Rattle.q_core.specs.declared.event.Heard.TheVariants.{At, Mail, Reply, Trigg
 -- the entry of an event; that of a mail has its texts besides
 abbrev pub IsHeard : Heard → Entry → Type 0
 IsHeard (At moment) e = e ≡ entries.At moment
-IsHeard (Mail id) e = (sender : Option (List ℕ)) × (to : List (List ℕ)) × (content : List ℕ)
+IsHeard (Mail id) e = (sender : Option (List ℕ)) × (to : List Receiver) × (content : List ℕ)
     × (e ≡ entries.Arrive id sender to content)
 IsHeard (Reply number site outcomes) e = e ≡ entries.Reply number site outcomes.now
 IsHeard (Trigger kind) e = e ≡ entries.Trigger kind

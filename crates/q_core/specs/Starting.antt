@@ -8,7 +8,7 @@ use Rattle.q_model.specs.declared.rows.Row.{Row}
 use Rattle.q_model.specs.Sites.{site_eq}
 use Rattle.q_model.specs.Ids.{id_eq}
 use Rattle.q_model.specs.Lists.{least}
-use Rattle.q_model.specs.SiteRecords.{is_alive}
+use Rattle.q_model.specs.SiteRecords.{is_awake}
 use Rattle.q_model.specs.Values.{Served, Site}
 use Rattle.q_core.specs.UsedSites.{busy_in}
 use Rattle.q_core.specs.Held.{record_in}
@@ -20,9 +20,9 @@ use Rattle.q_core.specs.declared.decision.Decision.TheVariants.{Start}
 abbrev pub flights_at : Core → ℕ → ℕ
 flights_at c transport = count_by (λ f. f.row.site.transport == transport) c.flights
 
--- the site is alive and has room in its window
+-- the site is alive, doesn't rest and has room in its window
 abbrev pub has_room_in : Core → Site → Bool
-has_room_in c site = option_map_or (λ d. is_alive d.health
+has_room_in c site = option_map_or (λ d. is_awake d
     && nat_lt (busy_in c.flights site) d.window)
     (record_in c site) false
 

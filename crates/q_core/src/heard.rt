@@ -1,7 +1,7 @@
 //! Events without a row: the clock and the triggers (qmgr(8)).
 ghost use Rattle.std.specs.Prelude.{◌≡◌, ◌≤◌, IsTrue, true};
 ghost use Rattle.q_core.specs.Agrees.{ForLedgers, Matches};
-ghost use Rattle.q_core.specs.Changes.{IsRevived, IsWoken, all_revived, asked_when_due, is_looked_at, revived_by, used_sites, with_sites};
+ghost use Rattle.q_core.specs.Changes.{IsRevived, IsWoken, all_revived, asked_when_due, is_looked_at, woken_by, used_sites, with_sites};
 ghost use Rattle.q_model.specs.Step.{after};
 
 use crate::clock::Clock;
@@ -25,13 +25,13 @@ impl Core {
     /// Sets the clock, and revives the sites whose time has come.
     fn wake(&mut self, moment: Moment)
         requires { moment ≤ 999990000000 }
-        ensures woken { IsWoken self.old (with_sites (revived_by moment self.old) self.new) moment }
-        ensures used { self.new.sites ≡ used_sites self.new (revived_by moment self.old) }
+        ensures woken { IsWoken self.old (with_sites (woken_by moment self.old) self.new) moment }
+        ensures used { self.new.sites ≡ used_sites self.new (woken_by moment self.old) }
     {
         self.clock = Clock::new(moment);
         self.timed = true;
         self.sites.stand_apart();
-        self.sites.revive_due(&self.params, moment);
+        self.sites.wake_due(&self.params, moment);
         hold_dead(&mut self.waiting, &self.sites);
     }
 

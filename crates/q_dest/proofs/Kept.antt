@@ -5,7 +5,7 @@ use Rattle.q_dest.proofs.Changes.{at_head, behind, changed_none, changed_same, e
 use Rattle.q_dest.proofs.Settling.{settled_none, settled_unused, settled_used}
 use Rattle.q_dest.specs.Dests.{AreApart, AreKept, changed_at, is_at, is_kept, is_unused, settled}
 use Rattle.q_dest.specs.declared.dest.Dest.{Dest}
-use Rattle.q_model.specs.SiteRecords.{is_alive}
+use Rattle.q_model.specs.SiteRecords.{is_awake}
 use Rattle.q_model.specs.Values.{Site}
 
 -- all are kept
@@ -81,7 +81,7 @@ module _ (site : Site) (f : Dest → Dest) (found : Dest) (ds : List Dest) (stay
   settled_out out =
       sym (none_more (filter (is_else site) ds))
       ∙ sym (last_step (filter (is_else site) ds) (f found) (kept_left (is_else site) ds kept) false out)
-      ∙ ap (filter is_kept) (settled_unused site f found ds stays (unused_out (is_alive (f found).known.health) (is_unused (f found)) out) apart there)
+      ∙ ap (filter is_kept) (settled_unused site f found ds stays (unused_out (is_awake (f found).known) (is_unused (f found)) out) apart there)
 
   pub settled_last : is_kept (f found) ≡ true → is_unused (f found) ≡ true → filter (is_else site) ds ++ f found ∷ [] ≡ filter is_kept (settled site f ds)
   settled_last keep unused =

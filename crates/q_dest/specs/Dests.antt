@@ -1,16 +1,16 @@
 -- What a contract sees of the sites, and what becomes of them.
 use Rattle.std.specs.List.{list_any}
 use Rattle.std.specs.Option.{option_map_or}
-use Rattle.std.specs.Prelude.{◌≡◌, ◌&&◌, ◌+◌, ◌++◌, ◌-◌, ◌==◌, [], ◌∷◌, Bool, find, if◌then◌else◌, List, map, nat_lt, None, not, Option, slice_get, true, ℕ}
+use Rattle.std.specs.Prelude.{◌≡◌, ◌&&◌, ◌+◌, ◌++◌, ◌-◌, ◌==◌, [], ◌∷◌, Bool, find, if◌then◌else◌, List, map, nat_lt, None, not, Option, slice_get, true, ◌||◌, ℕ}
 use Rattle.q_dest.specs.declared.dest.Dest.{Dest}
 use Rattle.q_dest.specs.Records.{IsBounded}
 use Rattle.q_dest.specs.Windows.{heard_in}
 use Rattle.q_model.specs.declared.outcome.SiteState.{SiteState}
 use Rattle.q_model.specs.Lists.{drop_first}
-use Rattle.q_model.specs.Revival.{is_due}
+use Rattle.q_model.specs.Revival.{is_due, is_rest_over, rest_ended}
 use Rattle.q_model.specs.Routes.{world_without_table}
 use Rattle.q_model.specs.Settings.{Settings}
-use Rattle.q_model.specs.SiteRecords.{is_alive, new_record}
+use Rattle.q_model.specs.SiteRecords.{is_alive, is_awake, new_record}
 use Rattle.q_model.specs.Sites.{site_eq}
 use Rattle.q_model.specs.Values.{Site, SiteRecord}
 use Rattle.q_model.specs.Windows.{revived}
@@ -32,25 +32,29 @@ is_unused d = (d.waiting == 0) && (d.busy == 0)
 abbrev pub is_dead : Dest → Bool
 is_dead d = not (is_alive d.known.health)
 
--- it is dead, and only remembered
+-- no delivery to it may begin: it is dead, or rests
+abbrev pub is_asleep : Dest → Bool
+is_asleep d = not (is_awake d.known)
+
+-- it is dead or rests, and is only remembered
 abbrev pub is_remembered : Dest → Bool
-is_remembered d = is_dead d && is_unused d
+is_remembered d = is_asleep d && is_unused d
 
 -- it is dead, and rows wait for it
 abbrev pub is_dead_waiting : Dest → Bool
 is_dead_waiting d = is_dead d && nat_lt 0 d.waiting
 
--- it is dead, and its time has come
+-- it is dead and its time has come, or its rest is over
 abbrev pub is_due_at : ℕ → Dest → Bool
-is_due_at moment d = is_due moment d.known.health
+is_due_at moment d = is_due moment d.known.health || is_rest_over moment d.known
 
--- a site that is alive and unused is none that has to be known
+-- a site that is unused, is alive and doesn't rest is none that has to be known
 abbrev pub is_kept : Dest → Bool
-is_kept d = not (is_alive d.known.health && is_unused d)
+is_kept d = not (is_awake d.known && is_unused d)
 
--- it is alive, and more deliveries to it may be in flight
+-- it is alive and doesn't rest, and more deliveries to it may be in flight
 abbrev pub has_space : Dest → Bool
-has_space d = is_alive d.known.health && nat_lt d.busy d.known.window
+has_space d = is_awake d.known && nat_lt d.busy d.known.window
 
 -- no two are one site
 abbrev pub AreApart : List Dest → Type 0
@@ -62,7 +66,7 @@ abbrev pub AreBounded : List Dest → Type 0
 AreBounded [] = Unit {0}
 AreBounded (d ∷ ds) = IsBounded d.known × AreBounded ds
 
--- none is alive and unused
+-- each is one that has to be known
 abbrev pub AreKept : List Dest → Type 0
 AreKept [] = Unit {0}
 AreKept (d ∷ ds) = (is_kept d ≡ true) × AreKept ds
@@ -125,9 +129,17 @@ heard p now state d = with_known (heard_in p d.busy now state d.known) d
 abbrev pub revived_now : Settings → Dest → Dest
 revived_now p d = with_known (revived (world_without_table p) d.busy d.known) d
 
--- it is alive again where its time has come
-abbrev pub revived_when_due : Settings → ℕ → Dest → Dest
-revived_when_due p now d = if is_due_at now d then revived_now p d else d
+-- its record, alive again where its time has come, with its rest ended where that is over
+abbrev pub woken_in : Settings → ℕ → ℕ → SiteRecord → SiteRecord
+woken_in p busy now r =
+    rest_ended now (if is_due now r.health then revived (world_without_table p) busy r else r)
+
+abbrev pub woken : Settings → ℕ → Dest → Dest
+woken p now d = with_known (woken_in p d.busy now d.known) d
+
+-- it wakes where it is time
+abbrev pub woken_when_due : Settings → ℕ → Dest → Dest
+woken_when_due p now d = if is_due_at now d then woken p now d else d
 
 -- it is alive again where it was dead
 abbrev pub revived_when_dead : Settings → Dest → Dest

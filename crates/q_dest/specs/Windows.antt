@@ -4,10 +4,10 @@ use Rattle.std.specs.Prelude.{◌&&◌, ◌*◌, ◌+◌, ◌-◌, ◌/◌, ◌=
 use Rattle.q_model.specs.declared.outcome.SiteState.{SiteState}
 use Rattle.q_model.specs.Feedbacks.{amount, parts, unit}
 use Rattle.q_model.specs.Routes.{world_without_table}
-use Rattle.q_model.specs.Settings.{Settings}
+use Rattle.q_model.specs.Settings.{Settings, window_limit}
 use Rattle.q_model.specs.SiteRecords.{is_alive}
 use Rattle.q_model.specs.Values.{SiteRecord}
-use Rattle.q_model.specs.Windows.{revived}
+use Rattle.q_model.specs.Windows.{rested, revived}
 use Rattle.q_model.specs.declared.rows.Health.TheVariants as healths
 use Rattle.q_model.specs.declared.outcome.SiteState.TheVariants.{Down, Up}
 
@@ -17,8 +17,8 @@ open_window window = max 1 (min window 40)
 
 -- the window may grow: it is below the limit, and deliveries fill it
 abbrev pub may_widen_in : Settings → ℕ → SiteRecord → Bool
-may_widen_in p busy r = nat_lt r.window p.concurrency_limit && nat_lt r.window
-    (busy + min p.initial_concurrency p.concurrency_limit)
+may_widen_in p busy r = nat_lt r.window (window_limit p) && nat_lt r.window
+    (busy + min p.initial_concurrency (window_limit p))
 
 -- the success so far, with one more
 abbrev pub more_success : Settings → SiteRecord → ℕ
@@ -82,7 +82,7 @@ down_alive_in p now r = if is_too_much p (more_cohorts_in p r)
 abbrev pub down_in : Settings → ℕ → SiteRecord → SiteRecord
 down_in p now r = if is_alive r.health then down_alive_in p now r else r
 
--- a delivery reached its site, or did not
+-- a delivery reached its site, or did not; the site rests then for the delay, where there is one
 abbrev pub heard_in : Settings → ℕ → ℕ → SiteState → SiteRecord → SiteRecord
-heard_in p busy now Up r = up_in p busy r
-heard_in p busy now Down r = down_in p now r
+heard_in p busy now Up r = rested (world_without_table p) now (up_in p busy r)
+heard_in p busy now Down r = rested (world_without_table p) now (down_in p now r)

@@ -1,7 +1,7 @@
 //! A site with its counts.
 ghost use Rattle.std.specs.Prelude.{◌≡◌, ◌+◌, ◌<◌, ◌≤◌, ◌^◌};
-ghost use Rattle.q_dest.specs.Dests.{begun, gained, has_space, heard, is_dead, is_dead_waiting, is_kept, is_remembered, is_unused, landed, left, new_dest, revived_now, with_known};
-ghost use Rattle.q_dest.specs.Ranks.{dead_rank, time_rank};
+ghost use Rattle.q_dest.specs.Dests.{begun, gained, has_space, heard, is_dead, is_dead_waiting, is_kept, is_remembered, is_unused, landed, left, new_dest, revived_now, with_known, woken};
+ghost use Rattle.q_dest.specs.Ranks.{dead_rank, remembered_rank, rest_rank_in, time_rank, time_rank_in};
 
 use crate::site_record::WideSiteRecord;
 use q_keyed::HasKey;
@@ -80,11 +80,11 @@ impl Dest {
         self.known.is_dead()
     }
 
-    /// Whether it is dead, and only remembered.
+    /// Whether it is dead or rests, and is only remembered.
     pub(crate) fn is_remembered(&self) -> bool
         ensures { result ≡ is_remembered self.now }
     {
-        self.is_dead() && self.is_unused()
+        !self.known.is_awake() && self.is_unused()
     }
 
     /// Whether it is dead, and rows wait for it.
@@ -94,14 +94,14 @@ impl Dest {
         self.is_dead() && self.waiting > 0
     }
 
-    /// Whether it is dead or used, as each site is that has to be known.
+    /// Whether it is used, is dead or rests, as each site is that has to be known.
     pub(crate) fn is_kept(&self) -> bool
         ensures { result ≡ is_kept self.now }
     {
-        self.is_dead() || !self.is_unused()
+        !self.known.is_awake() || !self.is_unused()
     }
 
-    /// Whether it is alive, and more deliveries to it may be in flight.
+    /// Whether it is alive and doesn't rest, and more deliveries to it may be in flight.
     pub(crate) fn has_space(&self) -> bool
         ensures { result ≡ has_space self.now }
     {
@@ -109,8 +109,8 @@ impl Dest {
     }
 
     /// The rank by the moment until which it is dead.
-    pub(crate) fn time_rank(&self) -> u64
-        ensures { result ≡ time_rank self.now }
+    fn dead_until(&self) -> u64
+        ensures { result ≡ time_rank_in self.now.known.health }
     {
         match self.known.health() {
             Health::Alive => u64::MAX,
@@ -118,17 +118,35 @@ impl Dest {
         }
     }
 
-    /// The rank by whether it is remembered, or dead.
+    /// The rank by the moment up to which it rests.
+    fn rests_until(&self) -> u64
+        ensures { result ≡ rest_rank_in self.now.known.rest }
+    {
+        match self.known.rest() {
+            None => u64::MAX,
+            Some(until) => until,
+        }
+    }
+
+    /// The rank by the moment at which it is to be looked at: the earlier of the two.
+    pub(crate) fn time_rank(&self) -> u64
+        ensures { result ≡ time_rank self.now }
+    {
+        self.dead_until().min(self.rests_until())
+    }
+
+    /// The rank by whether it is dead.
     pub(crate) fn dead_rank(&self) -> u64
         ensures { result ≡ dead_rank self.now }
     {
-        if !self.is_dead() {
-            u64::MAX
-        } else if self.is_unused() {
-            0
-        } else {
-            1
-        }
+        if self.is_dead() { 0 } else { u64::MAX }
+    }
+
+    /// The rank by whether it is remembered.
+    pub(crate) fn remembered_rank(&self) -> u64
+        ensures { result ≡ remembered_rank self.now }
+    {
+        if self.is_remembered() { 0 } else { u64::MAX }
     }
 
     fn with_known(&self, known: WideSiteRecord) -> Dest
@@ -157,6 +175,18 @@ impl Dest {
     {
         let mut known = self.known;
         known.revive(params, u64::from(self.busy));
+        self.with_known(known)
+    }
+
+    /// It wakes: it is alive again where its time has come, and its rest ends where that is over.
+    pub(crate) fn woken(&self, params: &Params, moment: Moment) -> Dest
+        ensures { result ≡ woken params.now moment self.now }
+    {
+        let mut known = self.known;
+        if known.is_due(moment) {
+            known.revive(params, u64::from(self.busy));
+        }
+        known.end_rest(moment);
         self.with_known(known)
     }
 

@@ -1,9 +1,9 @@
 //! What is known of a site.
 ghost use Rattle.std.specs.Prelude.{◌≡◌, ◌<◌, ◌&&◌, nat_lt, not};
 ghost use Rattle.q_dest.specs.Records.{IsBounded};
-ghost use Rattle.q_model.specs.Revival.{is_due};
+ghost use Rattle.q_model.specs.Revival.{is_due, is_rest_over, rest_ended};
 ghost use Rattle.q_model.specs.Routes.{world_without_table};
-ghost use Rattle.q_model.specs.SiteRecords.{is_alive, new_record};
+ghost use Rattle.q_model.specs.SiteRecords.{is_alive, is_awake, new_record};
 ghost use Rattle.q_model.specs.Windows.{revived};
 
 use q_model::{Health, Moment, Site};
@@ -20,6 +20,7 @@ pub struct WideSiteRecord {
     pub(crate) failure: u128,
     pub(crate) cohorts: u128,
     pub(crate) health: Health,
+    pub(crate) rest: Option<Moment>,
 }
 
 impl Model for WideSiteRecord {
@@ -37,6 +38,7 @@ impl Model for WideSiteRecord {
       failure = d.failure;
       cohorts = d.cohorts;
       health = d.health;
+      rest = d.rest;
     } };
 
     ghost invariant = { λ d. (d.success ≤ 2 ^ 64) × (d.failure ≤ 2 ^ 64) × (d.cohorts ≤ 2 ^ 64)
@@ -49,6 +51,7 @@ impl Model for WideSiteRecord {
       failure = r.failure;
       cohorts = r.cohorts;
       health = r.health;
+      rest = r.rest;
     } };
 }
 
@@ -59,7 +62,7 @@ impl WideSiteRecord {
     {
         let initial = params
             .initial_destination_concurrency
-            .min(params.default_destination_concurrency_limit);
+            .min(params.window_limit());
         WideSiteRecord {
             site,
             window: u64::from(initial),
@@ -67,6 +70,7 @@ impl WideSiteRecord {
             failure: 0,
             cohorts: 0,
             health: Health::Alive,
+            rest: None,
         }
     }
 
@@ -107,11 +111,25 @@ impl WideSiteRecord {
         }
     }
 
-    /// Whether it is alive, and more than so many deliveries may be in flight.
-    pub fn has_space(&self, busy: u64) -> bool
-        ensures { result ≡ (is_alive self.now.health && nat_lt busy self.now.window) }
+    /// The moment up to which it rests, where it does.
+    pub fn rest(&self) -> Option<Moment>
+        ensures { result ≡ self.now.rest }
     {
-        !self.is_dead() && busy < self.window
+        self.rest
+    }
+
+    /// Whether it is alive, and doesn't rest.
+    pub fn is_awake(&self) -> bool
+        ensures { result ≡ is_awake self.now }
+    {
+        !self.is_dead() && self.rest.is_none()
+    }
+
+    /// Whether it is alive and doesn't rest, and more than so many deliveries may be in flight.
+    pub fn has_space(&self, busy: u64) -> bool
+        ensures { result ≡ (is_awake self.now && nat_lt busy self.now.window) }
+    {
+        self.is_awake() && busy < self.window
     }
 
     /// Whether it is dead, and its time has come.
@@ -124,13 +142,32 @@ impl WideSiteRecord {
         }
     }
 
+    /// Whether its rest is over.
+    pub fn is_rest_over(&self, moment: Moment) -> bool
+        ensures { result ≡ is_rest_over moment self.now }
+    {
+        match self.rest {
+            Some(until) => until <= moment,
+            None => false,
+        }
+    }
+
+    /// Ends a rest that is over.
+    pub fn end_rest(&mut self, moment: Moment)
+        ensures { self.new ≡ rest_ended moment self.old }
+    {
+        if self.is_rest_over(moment) {
+            self.rest = None;
+        }
+    }
+
     /// Makes it alive again, with so many deliveries in flight.
     pub fn revive(&mut self, params: &Params, busy: u64)
         ensures { self.new ≡ revived (world_without_table params.now) busy self.old }
     {
         let initial = params
             .initial_destination_concurrency
-            .min(params.default_destination_concurrency_limit);
+            .min(params.window_limit());
         self.window = if busy == 0 { u64::from(initial) } else { busy };
         self.success = 0;
         self.failure = 0;

@@ -14,10 +14,12 @@ use std::marker::Model;
 #[derive(Debug, Drop)]
 pub(crate) struct Table {
     pub(crate) dests: Keyed<Dest>,
-    /// Their numbers, by the moment until which each is dead.
+    /// Their numbers, by the moment until which each is dead or rests.
     pub(crate) times: Register<u32, ()>,
-    /// Their numbers, by whether each is remembered, or dead.
+    /// Their numbers, by whether each is dead.
     pub(crate) dead: Register<u32, ()>,
+    /// Their numbers, by whether each is remembered.
+    pub(crate) remembered: Register<u32, ()>,
 }
 
 impl Model for Table {
@@ -29,7 +31,7 @@ impl Model for Table {
 
     ghost view = { λ a. record { items = values_of a.dests.items; room = a.dests.room } };
 
-    ghost invariant = { λ a. IsSound a.dests a.times a.dead };
+    ghost invariant = { λ a. IsSound a.dests a.times a.dead a.remembered };
 }
 
 /// The member of a number.
@@ -62,7 +64,13 @@ impl Table {
         let dests = Keyed::new(alloc, room)?;
         let times = Register::new(alloc, room)?;
         let dead = Register::new(alloc, room)?;
-        Ok(Table { dests, times, dead })
+        let remembered = Register::new(alloc, room)?;
+        Ok(Table {
+            dests,
+            times,
+            dead,
+            remembered,
+        })
     }
 
     /// This does nothing, and is there for callers whose proofs want to know it.
@@ -114,9 +122,11 @@ impl Table {
         dest.known.stay_bounded();
         let time_rank = dest.time_rank();
         let dead_rank = dest.dead_rank();
+        let remembered_rank = dest.remembered_rank();
         let number = self.dests.push(dest);
         self.times.push(member(number, time_rank));
         self.dead.push(member(number, dead_rank));
+        self.remembered.push(member(number, remembered_rank));
     }
 
     /// Puts another in the place of the one that was found.
@@ -130,6 +140,12 @@ impl Table {
             self.dests.put(number, dest);
             rank_at(&mut self.times, number, found.time_rank(), dest.time_rank());
             rank_at(&mut self.dead, number, found.dead_rank(), dest.dead_rank());
+            rank_at(
+                &mut self.remembered,
+                number,
+                found.remembered_rank(),
+                dest.remembered_rank(),
+            );
         }
     }
 
@@ -141,10 +157,11 @@ impl Table {
             let _dest = self.dests.remove(number);
             let _time = self.times.remove(&number);
             let _dead = self.dead.remove(&number);
+            let _remembered = self.remembered.remove(&number);
         }
     }
 
-    /// The first that is dead, and whose time has come.
+    /// The first that is dead and whose time has come, or whose rest is over.
     pub(crate) fn first_due(&self, moment: Moment) -> Option<Dest>
         requires { moment < 2 ^ 64 - 1 }
         ensures { result ≡ find (is_due_at moment) self.now.items }
@@ -158,7 +175,7 @@ impl Table {
         ensures { result ≡ find is_dead self.now.items }
     {
         self.dests.stand_apart();
-        let member = self.dead.first_within(1)?;
+        let member = self.dead.first_within(0)?;
         self.dests.get(member.key).copied()
     }
 
@@ -166,7 +183,7 @@ impl Table {
         ensures { result ≡ find is_remembered self.now.items }
     {
         self.dests.stand_apart();
-        let member = self.dead.first_within(0)?;
+        let member = self.remembered.first_within(0)?;
         self.dests.get(member.key).copied()
     }
 }

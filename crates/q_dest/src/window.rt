@@ -2,7 +2,10 @@
 //! "Concurrency scheduling").
 ghost use Rattle.std.specs.Prelude.{◌≡◌, ◌≤◌, ◌+◌, min, nat_lt, true};
 ghost use Rattle.q_dest.specs.Windows.{down_in, heard_in, is_too_much, more_cohorts_in, narrowed_in, open_window, up_in, widened_in};
+ghost use Rattle.q_model.specs.Routes.{world_without_table};
+ghost use Rattle.q_model.specs.Settings.{window_limit};
 ghost use Rattle.q_model.specs.SiteRecords.{is_alive};
+ghost use Rattle.q_model.specs.Windows.{rested};
 
 use crate::site_record::WideSiteRecord;
 use q_model::{Health, Moment, SiteState};
@@ -24,11 +27,11 @@ impl WideSiteRecord {
     /// Whether so many deliveries in flight fill the window.
     fn is_filled(&self, params: &Params, busy: u64) -> bool
         ensures { result ≡ nat_lt self.now.window
-            (busy + min params.now.initial_concurrency params.now.concurrency_limit) }
+            (busy + min params.now.initial_concurrency (window_limit params.now)) }
     {
         let initial = params
             .initial_destination_concurrency
-            .min(params.default_destination_concurrency_limit);
+            .min(params.window_limit());
         u128::from(self.window) < u128::from(busy) + u128::from(initial)
     }
 
@@ -58,7 +61,7 @@ impl WideSiteRecord {
             return;
         }
         self.cohorts = 0;
-        let limit = u64::from(params.default_destination_concurrency_limit);
+        let limit = u64::from(params.window_limit());
         if self.window < limit && self.is_filled(params, busy) {
             self.widen(params);
         }
@@ -109,6 +112,17 @@ impl WideSiteRecord {
         }
     }
 
+    /// Rests for the delay between deliveries, where there is one.
+    fn rest_from(&mut self, params: &Params, moment: Moment)
+        requires { moment ≤ 999990000000 }
+        ensures { self.new ≡ rested (world_without_table params.now) moment self.old }
+    {
+        let delay = params.default_destination_rate_delay;
+        if delay != 0 {
+            self.rest = Some(moment + u64::from(delay));
+        }
+    }
+
     /// Hears that a delivery reached it, with so many in flight, or didn't.
     pub fn hear(&mut self, params: &Params, busy: u64, moment: Moment, state: SiteState)
         requires { moment ≤ 999990000000 }
@@ -118,6 +132,7 @@ impl WideSiteRecord {
             SiteState::Up => self.hear_up(params, busy),
             SiteState::Down => self.hear_down(params, moment),
         }
+        self.rest_from(params, moment);
     }
 }
 

@@ -69,7 +69,7 @@ entry_like w l e f m c k h there = found_like w l e f m k h (after_like w l e f.
 -- ---- decisions
 
 pub like_like : (a b c : Message) → IsLike a b → IsLike b c → IsLike a c
-like_like a b c h k = record { sender = k.sender ∙ h.sender; arrival = k.arrival ∙ h.arrival; recipients = k.recipients ∙ h.recipients; content = k.content ∙ h.content }
+like_like a b c h k = record { version = k.version ∙ h.version; sender = k.sender ∙ h.sender; arrival = k.arrival ∙ h.arrival; recipients = k.recipients ∙ h.recipients; content = k.content ∙ h.content }
 
 decision_flights : (w : World) (l : Ledger) (e : Entry) (f : Delivery) → IsDecision l e → IsIn f l.flights → IsIn f (after w l e).flights
 decision_flights w l e f d h = subst (IsIn f) (sym (inside_flights w l 0 e (is_inside l e d))) (in_left f l.flights (map flight (begun_of 0 e)) h)
@@ -77,7 +77,7 @@ decision_flights w l e f d h = subst (IsIn f) (sym (inside_flights w l 0 e (is_i
 -- behind decisions a message like it stands
 pub decided_like : (w : World) (l : Ledger) (es : List Entry) (f : Delivery) (m : Message) → IsConsistent w l → AreDecisions w l es → IsIn f l.flights → message_of l.book f.row.id ≡ Some m → HasLike m (after_all w l es).book f.row.id
 unfolding after_all
-decided_like w l [] f m c d h there = (m, there, record { sender = refl; arrival = refl; recipients = refl; content = refl })
+decided_like w l [] f m c d h there = (m, there, record { version = refl; sender = refl; arrival = refl; recipients = refl; content = refl })
 decided_like w l (e ∷ es) f m c d h there =
     let k : Ledger = after w l e in
     let ck : IsConsistent w k = entry_consistent w l e c (inr d.0) in

@@ -18,12 +18,12 @@ use Rattle.q_model.specs.declared.rows.Delivery.{Delivery}
 use Rattle.q_model.specs.declared.rows.Place.{Place}
 use Rattle.q_model.specs.declared.rows.Place.TheVariants as places
 use Rattle.q_model.specs.declared.spot.Area.TheVariants as areas
-use Rattle.q_model.specs.FilesStand.{MessageStands, file_message}
+use Rattle.q_model.specs.FilesStand.{MessageStands, file_message, file_recipient}
+use Rattle.q_model.specs.QueueFileBytes.{content_at}
 use Rattle.q_model.specs.IdTexts.{id_text}
 use Rattle.q_model.specs.Ledger.{Ledger}
 use Rattle.q_model.specs.Memory.{is_admitted}
 use Rattle.q_model.specs.Message.{Message, Recipient}
-use Rattle.q_model.specs.Marks.{is_marked}
 use Rattle.q_model.specs.Past.{starts}
 use Rattle.q_model.specs.Places.{is_active}
 use Rattle.q_model.proofs.QueueFileLaws.{queue_file_again}
@@ -57,17 +57,13 @@ cases_nothing w l connects old = record {
 
 -- ---- files
 
--- a recipient as a file says it
-abbrev as_said : Recipient → FileRecipient
-as_said r = record { address = r.address; marked = is_marked r.mark }
-
-addresses_said : (rs : List Recipient) → map (λ (r : FileRecipient). r.address) (map as_said rs) ≡ map (λ (r : Recipient). r.address) rs
+addresses_said : (rs : List Recipient) → map (λ (r : FileRecipient). r.address) (map file_recipient rs) ≡ map (λ (r : Recipient). r.address) rs
 addresses_said [] = refl
 addresses_said (r ∷ rs) = ap (λ (xs : List (List ℕ)). r.address ∷ xs) (addresses_said rs)
 
 -- a mail to these addresses
 abbrev mail_to : Message → List (List ℕ) → Mail
-mail_to m to = record { sender = m.sender; addresses = to; content = m.content }
+mail_to m to = record { sender = m.sender; addresses = to; content_at = content_at (file_message m); content = m.content }
 
 -- a message in active stands at its file there
 in_active : (v : Files) (m : Message) (id : Id) (place : Place) → is_active place ≡ true → m.place ≡ place → m.id ≡ id → (bytes : List ℕ) → file_at v m.place m.id ≡ Some bytes → v areas.Active (id_text id) ≡ Some bytes

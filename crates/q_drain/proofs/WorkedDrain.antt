@@ -13,17 +13,16 @@ use Rattle.q_model.specs.declared.outcome.Outcome.{Outcome}
 use Rattle.q_model.specs.declared.outcome.Outcome.TheVariants as outcomes
 use Rattle.q_model.specs.declared.outcome.SiteState.TheVariants.{Up, Down}
 use Rattle.q_model.specs.declared.outcome.Why.TheVariants.{Refused}
-use Rattle.q_model.specs.declared.rows.Mark.TheVariants.{Unmarked}
 use Rattle.q_model.specs.declared.rows.Place.TheVariants.{Incoming, Active}
 use Rattle.q_model.specs.Book.{Book, message_of}
 use Rattle.q_model.specs.IdTexts.{hex}
 use Rattle.q_model.specs.Ledger.{Ledger, opening}
-use Rattle.q_model.specs.Message.{Message}
+use Rattle.q_model.specs.Message.{Message, new_recipient}
 use Rattle.q_model.specs.Next.{next}
 use Rattle.q_model.specs.Run.{run, turn, decisions, decide}
 use Rattle.q_model.specs.Settings.{World, defaults}
 use Rattle.q_model.specs.Step.{after, after_all, allowed}
-use Rattle.q_model.specs.Values.{Site}
+use Rattle.q_model.specs.Values.{Receiver, Site}
 use Rattle.q_link.specs.Records.{Closed}
 use Rattle.q_link.specs.Routes.{has_route}
 use Rattle.q_numbers.specs.Pieces.{cut}
@@ -54,13 +53,17 @@ mail = record { generation = 1; serial = 1; bounce = false }
 abbrev bounce : Id
 bounce = record { generation = 1; serial = 1; bounce = true }
 
+abbrev plain : List ℕ → Receiver
+plain address = record { address = address; original = None }
+
 abbrev message : Message
 message = record {
   id = mail;
+  version = 2;
   sender = Some (codes "a@x.example");
   arrival = 1000;
   content = codes "Hello" ++ 10 ∷ [];
-  recipients = record { address = codes "b@y.example"; mark = Unmarked } ∷ record { address = codes "c@y.example"; mark = Unmarked } ∷ [];
+  recipients = new_recipient (plain (codes "b@y.example")) ∷ new_recipient (plain (codes "c@y.example")) ∷ [];
   failures = [];
   place = Incoming;
 }

@@ -9,18 +9,32 @@ use Rattle.q_drain.specs.Works.{IsWorkOf, mail_of}
 use Rattle.q_lives.proofs.AsArrived.{IsLike}
 use Rattle.q_lives.proofs.Done.{got_mapped}
 use Rattle.q_link.specs.Views.{Told}
-use Rattle.q_model.specs.Message.{Message, Recipient, address_at}
+use Rattle.q_model.specs.Message.{Message, receiver_of, Recipient, address_at}
+use Rattle.q_model.specs.FilesStand.{file_message}
+use Rattle.q_model.specs.QueueFileBytes.{content_at}
+use Rattle.q_model.specs.Values.{Receiver}
+use Rattle.q_engine.proofs.Layouts.{same_content_at}
 use Rattle.q_session.specs.Mails.{Mail}
 use Rattle.q_session.specs.Deliveries.{Serves}
 
+abbrev mail_with : Option (List ℕ) → List (List ℕ) → ℕ → List ℕ → Mail
+mail_with sender addresses at content = record { sender = sender; addresses = addresses; content_at = at; content = content }
+
+-- the addresses of recipients
+abbrev addresses : List Recipient → List (List ℕ)
+addresses rs = map (λ r. r.address) rs
+
+addresses_of : (rs : List Recipient) → map (λ (r : Receiver). r.address) (map receiver_of rs) ≡ addresses rs
+addresses_of [] = refl
+addresses_of (r ∷ rs) = ap (λ (xs : List (List ℕ)). r.address ∷ xs) (addresses_of rs)
+
 same_mail : (m n : Message) → IsLike m n → mail_of n ≡ mail_of m
 same_mail m n h =
-    ap (λ (x : Option (List ℕ)). the (record { sender = x; addresses = map (λ (r : Recipient). r.address) n.recipients; content = n.content })) h.sender
-    ∙ ap (λ (x : List (List ℕ)). the (record { sender = m.sender; addresses = x; content = n.content })) h.recipients
-    ∙ ap (λ (x : List ℕ). the (record { sender = m.sender; addresses = map (λ (r : Recipient). r.address) m.recipients; content = x })) h.content
-  where
-    the : Mail → Mail
-    the x = x
+    let same : addresses n.recipients ≡ addresses m.recipients = sym (addresses_of n.recipients) ∙ ap (map (λ (r : Receiver). r.address)) h.recipients ∙ addresses_of m.recipients in
+    ap (λ (x : Option (List ℕ)). mail_with x (addresses n.recipients) (content_at (file_message n)) n.content) h.sender
+    ∙ ap (λ (x : List (List ℕ)). mail_with m.sender x (content_at (file_message n)) n.content) same
+    ∙ ap (λ (k : ℕ). mail_with m.sender (addresses m.recipients) k n.content) (same_content_at m n h)
+    ∙ ap (λ (x : List ℕ). mail_with m.sender (addresses m.recipients) (content_at (file_message m)) x) h.content
 
 -- the address of a position, where the mail is known
 address_is : (m : Message) (position : ℕ) → unwrap_or (slice_get (mail_of m).addresses position) [] ≡ address_at m position

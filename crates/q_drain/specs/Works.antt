@@ -3,7 +3,9 @@ use Rattle.std.specs.Prelude.{◌++◌, ◌∷◌, ◌≡◌, ◌≤◌, [], IfS
 use Rattle.q_model.specs.declared.entry.Entry.{Entry}
 use Rattle.q_model.specs.declared.rows.Delivery.{Delivery}
 use Rattle.q_model.specs.Book.{Book, message_of}
+use Rattle.q_model.specs.FilesStand.{file_message}
 use Rattle.q_model.specs.Message.{Message, address_at}
+use Rattle.q_model.specs.QueueFileBytes.{content_at}
 use Rattle.q_link.specs.Routes.{has_route}
 use Rattle.q_link.specs.Views.{Told}
 use Rattle.q_session.specs.Deliveries.{Serves}
@@ -16,7 +18,12 @@ use Rattle.q_drain.specs.Waits.{Waits, WaitsBetween}
 
 -- what a message says to a session
 abbrev pub mail_of : Message → Mail
-mail_of m = record { sender = m.sender; addresses = map (λ r. r.address) m.recipients; content = m.content }
+mail_of m = record {
+  sender = m.sender;
+  addresses = map (λ r. r.address) m.recipients;
+  content_at = content_at (file_message m);
+  content = m.content;
+}
 
 -- the rests and moments so far, and up to which number the sessions were polled in this sweep
 pub record Counts : Type 0 where

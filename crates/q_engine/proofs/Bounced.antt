@@ -5,7 +5,6 @@ use Rattle.std.specs.Prelude.{Err, is_none, Ok, OnErr, OnOk, Result, unwrap_or}
 use Rattle.std.proofs.lemmas.Bool.{and_parts, not-true}
 use Rattle.q_model.specs.declared.entry.Entry.TheVariants as entries
 use Rattle.q_model.specs.declared.id.Id.{Id}
-use Rattle.q_model.specs.declared.rows.Mark.TheVariants as marks
 use Rattle.q_model.specs.declared.rows.Place.TheVariants as places
 use Rattle.q_model.specs.Book.{Book, message_of, stands}
 use Rattle.q_model.specs.BookChanges.{add_message}
@@ -16,14 +15,14 @@ use Rattle.q_model.specs.IdTexts.{id_text, IsId}
 use Rattle.q_model.specs.declared.spot.Area.TheVariants as areas
 use Rattle.q_model.specs.Ledger.{Ledger}
 use Rattle.q_model.specs.Lists.{has_none}
-use Rattle.q_model.specs.Message.{Message}
+use Rattle.q_model.specs.Message.{Message, new_recipient}
 use Rattle.q_model.specs.Next.{next}
 use Rattle.q_model.specs.Notices.{bounce_message, notice}
 use Rattle.q_model.specs.Places.{is_active}
 use Rattle.q_model.specs.Settings.{World}
 use Rattle.q_model.specs.SpoolFiles.{file_at, Files}
 use Rattle.q_model.specs.Step.{change}
-use Rattle.q_model.specs.Values.{FileHead, Head, Spot}
+use Rattle.q_model.specs.Values.{FileHead, Head, Receiver, Spot}
 use Rattle.q_model.proofs.StandChanges.{Stands-message}
 use Rattle.q_host.specs.View.{View}
 use Rattle.q_laws.specs.Consistency.{IsConsistent}
@@ -41,7 +40,7 @@ use Rattle.q_message.specs.FileHeads.{IsHead}
 use Rattle.q_message.specs.Told.{bytes_at}
 use Rattle.q_engine.specs.BounceTexts.{AddsBounce, IsNoBounce, TellsNotice}
 use Rattle.q_engine.proofs.Unread.{not_unread}
-use Rattle.q_model.specs.QueueFile.{queue_file}
+use Rattle.q_model.specs.QueueFile.{new_version, queue_file}
 use Rattle.q_engine.specs.Stands.{HasDecided}
 use Rattle.q_engine.specs.declared.engine.Engine.{Engine}
 use Rattle.q_engine.proofs.ContentFronts.{head_is}
@@ -56,19 +55,24 @@ sender_read v b id m s head h file reading =
     let there : bytes_at v s ≡ Some bytes = ap (λ (t : Spot). v.files t.area t.name) file.spot ∙ sym (ap (file_at v.files m.place) old.1) ∙ old.0.there in
     ap (λ (x : FileHead). x.head.sender) (head_is bytes head (file_message m) (subst (λ (o : Option (List ℕ)). IfSome o (IsHead head)) there reading) old.0.reads)
 
+-- a recipient by its address alone
+abbrev pub plain : List ℕ → Receiver
+plain address = record { address = address; original = None }
+
 abbrev stored : Id → ℕ → List ℕ → List ℕ → Message
 stored id arrival content address = record {
   id = bounce_of id;
+  version = new_version;
   sender = None;
   arrival = arrival;
   content = content;
-  recipients = record { address = address; mark = marks.Unmarked } ∷ [];
+  recipients = new_recipient (plain address) ∷ [];
   failures = [];
   place = places.Incoming;
 }
 
 -- the message that is stored is the bounce
-bounce_is : (m : Message) (id : Id) (arrival : ℕ) (sender text : List ℕ) → m.id ≡ id → m.sender ≡ Some sender → text ≡ notice m → bounce_message arrival m ≡ submitted (bounce_of id) (record { sender = None; arrival = arrival }) (sender ∷ []) text
+bounce_is : (m : Message) (id : Id) (arrival : ℕ) (sender text : List ℕ) → m.id ≡ id → m.sender ≡ Some sender → text ≡ notice m → bounce_message arrival m ≡ submitted (bounce_of id) (record { sender = None; arrival = arrival }) (plain sender ∷ []) text
 bounce_is m id arrival sender text same has is =
     ap (λ (i : Id). stored i arrival (notice m) (unwrap_or m.sender [])) same
     ∙ ap (λ (c : List ℕ). stored id arrival c (unwrap_or m.sender [])) (sym is)
@@ -76,7 +80,7 @@ bounce_is m id arrival sender text same has is =
 
 -- what is submitted is the bounce of the message
 pub bounce_adds : (v : View) (files : Files) (b k : Book) (s : Spot) (id : Id) (arrival : ℕ) (head : FileHead) (sender text : List ℕ) → files ≡ v.files → HostStands v b → IfSome (bytes_at v s) (IsHead head) → head.head.sender ≡ Some sender
-    → TellsNotice v s id sender text → AddsBounce v.files s id arrival b k → AddsMessage files (bounce_of id) (record { sender = None; arrival = arrival }) (sender ∷ []) text b k
+    → TellsNotice v s id sender text → AddsBounce v.files s id arrival b k → AddsMessage files (bounce_of id) (record { sender = None; arrival = arrival }) (plain sender ∷ []) text b k
 bounce_adds v files b k s id arrival head sender text same h reading some tells adds =
     let m = adds.message in
     let has : m.sender ≡ Some sender = sender_read v b id m s head h adds.file reading ∙ some in
@@ -155,10 +159,10 @@ unsent_bounce v s id arrival head reading none b k h adds =
 -- ---- the calls
 
 -- the same by other names of the id, the list and the content
-pub adds_by : (f : Files) (i j : Id) (head : Head) (to list : List (List ℕ)) (content bytes : List ℕ) (b k : Book) → j ≡ i → list ≡ to → bytes ≡ content → AddsMessage f i head to content b k → AddsMessage f j head list bytes b k
+pub adds_by : (f : Files) (i j : Id) (head : Head) (to list : List Receiver) (content bytes : List ℕ) (b k : Book) → j ≡ i → list ≡ to → bytes ≡ content → AddsMessage f i head to content b k → AddsMessage f j head list bytes b k
 adds_by f i j head to list content bytes b k same listed is h =
     subst (λ (x : Id). AddsMessage f x head list bytes b k) (sym same)
-    (subst (λ (x : List (List ℕ)). AddsMessage f i head x bytes b k) (sym listed)
+    (subst (λ (x : List Receiver). AddsMessage f i head x bytes b k) (sym listed)
     (subst (λ (x : List ℕ). AddsMessage f i head to x b k) (sym is) h))
 
 -- a call that was carried out was tried

@@ -8,19 +8,19 @@ use Rattle.std.proofs.lemmas.Option.{same_Some}
 use Rattle.q_host.specs.Reads.{IsRead}
 use Rattle.q_message.specs.FileHeads.{head_of, IsHead}
 use Rattle.q_model.specs.QueueFile.{FileMessage, FileRecipient, queue_file}
-use Rattle.q_model.specs.QueueFileBytes.{content_at, file_bytes, first_at, head_bytes, IsFileOf, recipients_bytes}
+use Rattle.q_model.specs.QueueFileBytes.{content_at, file_bytes, first_at, head_bytes, IsFileOf, recipient_bytes, recipient_size, recipients_bytes}
 use Rattle.q_model.specs.Records.{record_bytes}
 use Rattle.q_model.specs.Values.{FileHead}
-use Rattle.q_model.proofs.MarkLaws.{AreMarks-length, record_size}
+use Rattle.q_model.proofs.MarkLaws.{AreMarks-length, length-recipient}
 use Rattle.q_model.proofs.QueueFileLaws.{queue_file_again}
 use Rattle.q_engine.specs.BounceTexts.{IsContentFront}
 
-records_size : (rs : List FileRecipient) (marks : List ℕ) → length marks ≡ length rs → length (recipients_bytes marks rs) ≡ sum_by record_size rs
-records_size [] [] len = refl
-records_size [] (mark ∷ marks) len = absurd (omega arith)
-records_size (r ∷ rs) [] len = absurd (omega arith)
-records_size (r ∷ rs) (mark ∷ marks) len =
-    omega (arith, length-append (record_bytes 82 (mark ∷ r.address)) (recipients_bytes marks rs), sum_by-cons record_size r rs, records_size rs marks (omega arith))
+records_size : (version : ℕ) (rs : List FileRecipient) (marks : List ℕ) → length marks ≡ length rs → length (recipients_bytes version marks rs) ≡ sum_by (recipient_size version) rs
+records_size version [] [] len = refl
+records_size version [] (mark ∷ marks) len = absurd (omega arith)
+records_size version (r ∷ rs) [] len = absurd (omega arith)
+records_size version (r ∷ rs) (mark ∷ marks) len =
+    omega (arith, length-append (recipient_bytes version mark r) (recipients_bytes version marks rs), length-recipient version mark r, sum_by-cons (recipient_size version) r rs, records_size version rs marks (omega arith))
 
 head_size : (m : FileMessage) → length (head_bytes m) ≡ first_at m
 head_size m = omega arith
@@ -28,11 +28,11 @@ head_size m = omega arith
 content_behind : (m : FileMessage) (marks : List ℕ) → length marks ≡ length m.recipients → drop (content_at m) (file_bytes m marks) ≡ m.content ++ record_bytes 69 []
 unfolding file_bytes
 content_behind m marks len =
-    let front = head_bytes m ++ recipients_bytes marks m.recipients in
+    let front = head_bytes m ++ recipients_bytes m.version marks m.recipients in
     let n = record_bytes 78 m.content in
     let e = record_bytes 69 [] in
-    let all : sum_by record_size (take (length m.recipients) m.recipients) ≡ sum_by record_size m.recipients = ap (sum_by record_size) (take-length m.recipients) in
-    let at : content_at m ≡ length front + 5 = omega (arith, all, length-append (head_bytes m) (recipients_bytes marks m.recipients), head_size m, records_size m.recipients marks len) in
+    let all : sum_by (recipient_size m.version) (take (length m.recipients) m.recipients) ≡ sum_by (recipient_size m.version) m.recipients = ap (sum_by (recipient_size m.version)) (take-length m.recipients) in
+    let at : content_at m ≡ length front + 5 = omega (arith, all, length-append (head_bytes m) (recipients_bytes m.version marks m.recipients), head_size m, records_size m.version m.recipients marks len) in
     ap (drop (content_at m)) (append_assoc front n e)
     ∙ ap (λ (k : ℕ). drop k (front ++ (n ++ e))) at
     ∙ drop-append-add front (n ++ e) 5

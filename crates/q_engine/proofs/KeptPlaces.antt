@@ -10,7 +10,7 @@ use Rattle.q_model.specs.declared.entry.Entry.TheVariants as entries
 use Rattle.q_model.specs.declared.id.Id.{Id}
 use Rattle.q_model.proofs.IdLaws.{id_eq-true}
 use Rattle.q_model.specs.Book.{Book, message_of}
-use Rattle.q_model.specs.FilesStand.{file_message}
+use Rattle.q_model.specs.FilesStand.{file_recipient, file_message}
 use Rattle.q_model.specs.Ledger.{Ledger}
 use Rattle.q_model.specs.Message.{Message}
 use Rattle.q_model.specs.QueueFile.{FileMessage, queue_file}
@@ -27,7 +27,7 @@ use Rattle.q_places.specs.declared.places.KeptFile.{KeptFile}
 use Rattle.q_places.specs.declared.places.Places.{Places}
 use Rattle.q_places.specs.declared.places.Progress.{Progress}
 use Rattle.q_engine.specs.KeptPlaces.{ArePlaced, HasProgress, IsReadTo, OfMessage}
-use Rattle.q_engine.proofs.Layouts.{as_filed, same_mark_at, same_progress}
+use Rattle.q_engine.proofs.Layouts.{same_mark_at, same_progress}
 
 pub same_some : {A : Type 0} (x y : A) → Some x ≡ Some y → x ≡ y
 same_some x y h = cc
@@ -105,9 +105,9 @@ read_to p m bytes reads h =
     let same : h.message ≡ file_message m = same_some h.message (file_message m) (sym h.reads ∙ reads) in
     let by = subst (λ (x : FileMessage). IsRead p x) same (record { count = h.count; place = h.place; within = h.within }) in
     record {
-      count = by.count ∙ length-map m.recipients as_filed;
+      count = by.count ∙ length-map m.recipients file_recipient;
       place = by.place;
-      within = subst (λ (n : ℕ). p.next.position ≤ n) (length-map m.recipients as_filed) by.within;
+      within = subst (λ (n : ℕ). p.next.position ≤ n) (length-map m.recipients file_recipient) by.within;
     }
 
 -- and the other way round
@@ -115,9 +115,9 @@ pub progress_of : (p : Progress) (m : Message) (bytes : List ℕ) → queue_file
 progress_of p m bytes reads h = record {
   message = file_message m;
   reads = reads;
-  count = h.count ∙ sym (length-map m.recipients as_filed);
+  count = h.count ∙ sym (length-map m.recipients file_recipient);
   place = h.place;
-  within = subst (λ (n : ℕ). p.next.position ≤ n) (sym (length-map m.recipients as_filed)) h.within;
+  within = subst (λ (n : ℕ). p.next.position ≤ n) (sym (length-map m.recipients file_recipient)) h.within;
 }
 
 -- what holds of what is kept holds of what was asked for

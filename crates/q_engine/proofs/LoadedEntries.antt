@@ -14,7 +14,7 @@ use Rattle.q_model.specs.declared.rows.Need.TheVariants as needs
 use Rattle.q_model.specs.declared.rows.Unsettled.{Unsettled}
 use Rattle.q_model.specs.Batches.{load_end, load_positions, pending_from}
 use Rattle.q_model.specs.Book.{Book, message_of}
-use Rattle.q_model.specs.FilesStand.{file_message}
+use Rattle.q_model.specs.FilesStand.{file_message, file_recipient}
 use Rattle.q_model.specs.Ledger.{Ledger}
 use Rattle.q_model.specs.Lists.{places_from}
 use Rattle.q_model.specs.Loads.{may_load, may_load_of}
@@ -99,19 +99,16 @@ pending_places logged n (r ∷ rs) h =
     pending_one (is_marked r.mark) (logged n) n (places_from (n + 1) (λ i r. not (is_marked r.mark) && logged i) rs) (places_from (n + 1) (λ i r. not (is_marked r.mark || logged i)) rs) (places_from (n + 1) (λ i r. not (is_marked r.mark)) rs)
     (pending_places logged (n + 1) rs) h
 
-abbrev to_file : Recipient → FileRecipient
-to_file r = record { address = r.address; marked = is_marked r.mark }
-
 pending_is : (m : Message) → unmarked_logged m ≡ [] → pending m ≡ unmarked_from (file_message m) 0
-pending_is m h = pending_places (is_logged m) 0 m.recipients h ∙ sym (places_mapped (λ i (r : FileRecipient). not r.marked) to_file 0 m.recipients)
+pending_is m h = pending_places (is_logged m) 0 m.recipients h ∙ sym (places_mapped (λ i (r : FileRecipient). not r.marked) file_recipient 0 m.recipients)
 
 pending_open : (m : Message) (from : ℕ) → unmarked_logged m ≡ [] → pending_from m from ≡ open_from (file_message m) from
 pending_open m from h = ap (filter (nat_le from)) (pending_is m h)
 
 same_address : (m : Message) (p : ℕ) → address_in (file_message m) p ≡ address_at m p
-same_address m p = ap (λ (o : Option FileRecipient). option_map_or (λ r. r.address) o []) (slice_get-map to_file m.recipients p) ∙ by (slice_get m.recipients p)
+same_address m p = ap (λ (o : Option FileRecipient). option_map_or (λ r. r.address) o []) (slice_get-map file_recipient m.recipients p) ∙ by (slice_get m.recipients p)
   where
-    by : (o : Option Recipient) → option_map_or (λ (r : FileRecipient). r.address) (option_map to_file o) [] ≡ option_map_or (λ (r : Recipient). r.address) o []
+    by : (o : Option Recipient) → option_map_or (λ (r : FileRecipient). r.address) (option_map file_recipient o) [] ≡ option_map_or (λ (r : Recipient). r.address) o []
     by None = refl
     by (Some r) = refl
 
@@ -178,7 +175,7 @@ module _ (w : World) (l : Ledger) (id : Id) (m : Message) (engine : Engine) (fro
   these = ap (take max) (sym (pending_open m from h.settled)) ∙ sym (load_takes m from max read.some)
 
   pub ends : to ≡ load_end m from max
-  ends = read.end ∙ ap (λ (n : ℕ). option_map_or (λ p. p + 1) (slice_get (open_from (file_message m) from) (max - 1)) n) (length-map m.recipients to_file) ∙ ap (λ (ps : List ℕ). option_map_or (λ p. p + 1) (slice_get ps (max - 1)) (length m.recipients)) (sym (pending_open m from h.settled))
+  ends = read.end ∙ ap (λ (n : ℕ). option_map_or (λ p. p + 1) (slice_get (open_from (file_message m) from) (max - 1)) n) (length-map m.recipients file_recipient) ∙ ap (λ (ps : List ℕ). option_map_or (λ p. p + 1) (slice_get ps (max - 1)) (length m.recipients)) (sym (pending_open m from h.settled))
 
   pub taken_are : taken ≡ map (taken_at (file_message m)) (load_positions m from to)
   taken_are = read.taken_are ∙ ap (map (taken_at (file_message m))) (these ∙ ap (load_positions m from) (sym ends))

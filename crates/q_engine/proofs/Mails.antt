@@ -12,7 +12,7 @@ use Rattle.q_model.specs.Message.{Message}
 use Rattle.q_model.specs.Settings.{World}
 use Rattle.q_model.specs.SpoolFiles.{Files}
 use Rattle.q_model.specs.Step.{change}
-use Rattle.q_model.specs.Values.{Head}
+use Rattle.q_model.specs.Values.{Head, Receiver}
 use Rattle.q_model.specs.declared.entry.Entry.TheVariants as entries
 use Rattle.q_model.specs.declared.id.Id.{Id}
 use Rattle.q_model.proofs.IdLaws.{id_eq-refl, id_eq-true}
@@ -49,7 +49,7 @@ not_standing b id absent = or_from (is_some (message_of b id)) (is_some (damaged
     no_damaged (Some d) e = absurd (absent (in_right id (map (λ (x : Message). x.id) b.messages) (map (λ (x : Damaged). x.id) b.damaged) (damaged_in b.damaged id d e)))
 
 -- the same by other names of the head and the content
-pub adds_as : (f : Files) (i : Id) (head other : Head) (to : List (List ℕ)) (content bytes : List ℕ) (b k : Book) → other ≡ head → bytes ≡ content → AddsMessage f i head to content b k → AddsMessage f i other to bytes b k
+pub adds_as : (f : Files) (i : Id) (head other : Head) (to : List Receiver) (content bytes : List ℕ) (b k : Book) → other ≡ head → bytes ≡ content → AddsMessage f i head to content b k → AddsMessage f i other to bytes b k
 adds_as f i head other to content bytes b k same is h = subst (λ (x : Head). AddsMessage f i x to bytes b k) (sym same) (subst (λ (x : List ℕ). AddsMessage f i head to x b k) (sym is) h)
 
 module _ (w : World) (l : Ledger) (engine : Engine) (v : View) (h : EngineStands w engine v l) where
@@ -60,7 +60,7 @@ module _ (w : World) (l : Ledger) (engine : Engine) (v : View) (h : EngineStands
   pub mail_next : mail_id ≡ next_id l
   mail_next = ap (λ (g : ℕ). record { generation = g; serial = engine.arrivals + 1; bounce = false }) h.counts.generation ∙ ap (λ (n : ℕ). record { generation = l.book.generation; serial = n + 1; bounce = false }) h.counts.arrivals
 
-  module _ (sender : Option (List ℕ)) (to : List (List ℕ)) (content : List ℕ) where
+  module _ (sender : Option (List ℕ)) (to : List Receiver) (content : List ℕ) where
     pub mail_allowed : engine.core.value.timed ≡ true → allowed w l (entries.Arrive mail_id sender to content) ≡ true
     mail_allowed timed = allowed_by w l (entries.Arrive mail_id sender to content) h.core.living
         (and_from l.timed (id_eq mail_id (next_id l)) (sym h.core.matches.parts.timed ∙ timed) (subst (λ (i : Id). id_eq mail_id i ≡ true) mail_next (id_eq-refl mail_id)))

@@ -8,7 +8,7 @@ use Rattle.q_books.specs.Spots.{IsFileAt}
 use Rattle.q_host.specs.View.{View}
 use Rattle.q_host.specs.declared.error.HostError.{HostError}
 use Rattle.q_message.specs.FileHeads.{IsFault, IsHead, head_of}
-use Rattle.q_message.specs.Names.{AreNames, address_in}
+use Rattle.q_message.specs.Names.{AreNames, receiver_in}
 use Rattle.q_message.specs.Told.{bytes_at}
 use Rattle.q_message.specs.declared.error.MessageError.{MessageError}
 use Rattle.q_message.specs.declared.error.MessageError.TheVariants as errors
@@ -19,7 +19,7 @@ use Rattle.q_model.specs.FilesStand.{file_message}
 use Rattle.q_model.specs.Message.{Message}
 use Rattle.q_model.specs.QueueFile.{FileMessage, queue_file}
 use Rattle.q_model.specs.SpoolFiles.{file_at}
-use Rattle.q_model.specs.Values.{FileHead, Spot}
+use Rattle.q_model.specs.Values.{FileHead, Receiver, Spot}
 use Rattle.q_model.specs.declared.id.Id.{Id}
 use Rattle.q_engine.specs.ReadFaults.{unless_damaged}
 
@@ -58,10 +58,10 @@ if_none None P h = h refl
 if_none (Some x) P h = tt
 
 -- there are as many names as positions
-many_in : (q : Option FileMessage) (head : FileHead) (positions : List ℕ) (names : List (List ℕ)) → option_map head_of q ≡ Some head → IfSome q (λ m. names ≡ map (address_in m) positions) → length names ≡ length positions
+many_in : (q : Option FileMessage) (head : FileHead) (positions : List ℕ) (names : List Receiver) → option_map head_of q ≡ Some head → IfSome q (λ m. names ≡ map (receiver_in m) positions) → length names ≡ length positions
 many_in None head positions names some are = absurd cc
-many_in (Some m) head positions names some are = ap length are ∙ length-map positions (address_in m)
+many_in (Some m) head positions names some are = ap length are ∙ length-map positions (receiver_in m)
 
-pub as_many : (o : Option (List ℕ)) (head : FileHead) (positions : List ℕ) (names : List (List ℕ)) → IsSome o → IfSome o (IsHead head) → IfSome o (AreNames positions names) → length names ≡ length positions
+pub as_many : (o : Option (List ℕ)) (head : FileHead) (positions : List ℕ) (names : List Receiver) → IsSome o → IfSome o (IsHead head) → IfSome o (AreNames positions names) → length names ≡ length positions
 as_many None head positions names there some are = absurd cc
 as_many (Some bytes) head positions names there some are = many_in (queue_file bytes) head positions names some are

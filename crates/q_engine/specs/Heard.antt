@@ -13,6 +13,7 @@ use Rattle.q_model.specs.Step.{after}
 use Rattle.q_host.specs.declared.error.HostError.{HostError}
 use Rattle.q_host.specs.View.{View}
 use Rattle.q_core.specs.Hearing.{has_log_code}
+use Rattle.q_message.specs.NewFile.{is_receiver}
 use Rattle.q_entries.specs.Entries.{DoesEntry, StopsEntry}
 use Rattle.q_engine.specs.KeptNotes.{StoresNotes}
 use Rattle.q_engine.specs.Looks.{ForStands}
@@ -46,6 +47,6 @@ is_moment (events.Trigger kind) = false
 -- that fit the state of the site, with codes of replies.
 abbrev pub IsEventInForm : Event → Type 0
 IsEventInForm (events.At t) = t ≤ 999990000000
-IsEventInForm (events.Mail sender to content) = 1 ≤ length to
+IsEventInForm (events.Mail sender to content) = (list_all is_receiver to ≡ true) × (1 ≤ length to)
 IsEventInForm (events.Reply number state os) = (fits_state state os && list_all has_log_code os) ≡ true
 IsEventInForm (events.Trigger kind) = Unit {0}

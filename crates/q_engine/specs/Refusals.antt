@@ -8,6 +8,7 @@ use Rattle.q_model.specs.Deliveries.{flight_of}
 use Rattle.q_model.specs.Ledger.{Ledger}
 use Rattle.q_model.specs.Past.{arrivals}
 use Rattle.q_model.specs.Settings.{World}
+use Rattle.q_model.specs.Values.{Receiver}
 use Rattle.q_model.specs.declared.limits.Bound.TheVariants as bounds
 use Rattle.q_model.specs.FaultCounts.{Rose}
 use Rattle.q_host.specs.Faults.{Faults}
@@ -49,7 +50,7 @@ refused_reply number os (Some f) = if length os == length f.row.positions then N
     else Some (errors.WrongCount number (told_count (length f.row.positions)) (told_count (length os)))
 
 -- a message is within the limits, and has a serial left
-abbrev pub refused_mail : ℕ → List (List ℕ) → List ℕ → Option EngineError
+abbrev pub refused_mail : ℕ → List Receiver → List ℕ → Option EngineError
 refused_mail arrived to content = if nat_lt 10240000 (length content) then Some (errors.Limit bounds.Content)
     else (if nat_lt 50000 (length to) then Some (errors.Limit bounds.Recipients)
     else (if nat_lt arrived (2 ^ 32 - 1) then None else Some (errors.Limit bounds.Serial)))
@@ -91,7 +92,7 @@ abbrev pub Flies : Engine → ℕ → Type 0
 Flies engine number = IsSome (flight_in engine.core.value number)
 
 -- a message is within the limits, and has a serial left
-pub record MayArrive (arrived : ℕ) (to : List (List ℕ)) (content : List ℕ) : Type 0 where
+pub record MayArrive (arrived : ℕ) (to : List Receiver) (content : List ℕ) : Type 0 where
   pub short : length content ≤ 10240000
   pub few : length to ≤ 50000
   pub serial : arrived < 2 ^ 32 - 1

@@ -8,7 +8,7 @@ ghost use Rattle.q_model.specs.Deliveries.{flight_of};
 
 use crate::engine::Engine;
 use crate::error::EngineError;
-use q_model::{Address, Bound, Event, MOST_MAIL_BYTES, MOST_RECIPIENTS, Outcome, Outcomes};
+use q_model::{Bound, Event, MOST_MAIL_BYTES, MOST_RECIPIENTS, Outcome, Outcomes, Receiver};
 
 /// A count, of which no more than 2^32 - 1 is told.
 fn counted(count: usize) -> u32
@@ -20,7 +20,7 @@ fn counted(count: usize) -> u32
     count as u32
 }
 
-fn mail_refusal(arrived: u32, to: &[Address], content: &[u8]) -> Option<EngineError>
+fn mail_refusal(arrived: u32, to: &[Receiver], content: &[u8]) -> Option<EngineError>
     ensures exact { result ≡ refused_mail arrived to.now content.now }
     ensures possible { IfNone result (MayArrive arrived to.now content.now) }
     ensures kind { IfSome result (λ error. is_of_event error ≡ true) }

@@ -20,7 +20,9 @@ use q_books::file_spot;
 use q_entries::tell;
 use q_files::remove;
 use q_host::{Host, HostError};
-use q_model::{Address, Addresses, Entry, FileHead, Head, Id, Moment, NoMemory, Place, Spot};
+use q_model::{
+    Address, Addresses, Entry, FileHead, Head, Id, Moment, NoMemory, Place, Receiver, Spot,
+};
 use std::alloc::Global;
 
 fn bounce_of(id: Id) -> Id
@@ -35,12 +37,15 @@ fn sender_of(head: &FileHead) -> Option<Address>
     head.head.sender
 }
 
-/// A list of one address.
+/// A list of one recipient, with this address.
 fn alone(alloc: Global, address: &Address) -> Result<Addresses, NoMemory>
-    ensures { IfOk result (λ to. to ≡ address.now ∷ []) }
+    ensures { IfOk result (λ to. to ≡ record { address = address.now; original = None } ∷ []) }
 {
     let mut to = Addresses::new(alloc);
-    to.push(*address)?;
+    to.push(Receiver {
+        address: *address,
+        original: None,
+    })?;
     Ok(to)
 }
 

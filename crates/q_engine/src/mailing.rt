@@ -11,6 +11,8 @@ ghost use Rattle.q_host.specs.Faults.{DiskCause};
 ghost use Rattle.q_model.specs.declared.event.Event.TheVariants as events;
 ghost use Rattle.q_books.specs.HostStands.{KeepsNotes, TakesBy, TriesBy};
 ghost use Rattle.q_files.specs.Submissions.{AddsMessage};
+ghost use Rattle.q_message.specs.NewFile.{is_receiver};
+ghost use Rattle.std.specs.List.{list_all};
 
 use crate::engine::Engine;
 use q_core::Heard;
@@ -32,7 +34,8 @@ pub(crate) fn store<H: Host>(
     requires arrival { head.now.arrival ≤ 999990000000 }
     requires some { 1 ≤ length to.now }
     requires few { length to.now ≤ 50000 }
-    requires short { length content.now ≤ 20000000 }
+    requires others { list_all is_receiver to.now ≡ true }
+    requires short { length content.now ≤ 40000000 }
     ensures ok { OnOk result (TakesBy (AddsMessage (H.view host.old).files id head.now to.now content.now)
         H.tells H.view host.old host.new) }
     ensures err { OnErr result (TriesBy (AddsMessage (H.view host.old).files id head.now to.now content.now)
@@ -70,6 +73,7 @@ impl Engine {
         requires ready { IsReady self.old }
         requires timed { self.old.core.value.timed ≡ true }
         requires some { 1 ≤ length to }
+        requires others { list_all is_receiver to ≡ true }
         requires possible { MayArrive self.old.arrivals to content }
         ensures ok { OnOk result (Told H.tells H.view host.old host.new
             (HearsEvent (events.Mail sender to content) self.old self.new)) }

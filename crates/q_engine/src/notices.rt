@@ -61,7 +61,7 @@ pub(crate) fn notice_at<H: Host>(
     ensures notice { IfOk result (λ o. IfSome o (λ text. IsTrue H.tells
         → TellsNotice (H.view host.old) spot id sender.now text)) }
     ensures read { IfOk result (λ o. IfNone o (IsTrue H.tells → ⊥)) }
-    ensures short { IfOk result (λ o. IfSome o (λ text. length text ≤ 20000000)) }
+    ensures short { IfOk result (λ o. IfSome o (λ text. length text ≤ 40000000)) }
     ensures stays { IsTrue H.tells → Stays (H.view host.old) (H.view host.new) }
     ensures cause { DiskCause (H.faults host.old) (H.faults host.new) result }
 {

@@ -1,7 +1,11 @@
 //! Recipients that come into memory by batches, where there is room for ten.
+ghost use Rattle.q_message.specs.NewFile.{is_receiver};
+ghost use Rattle.std.specs.List.{list_all};
+ghost use Rattle.std.specs.Prelude.{◌≡◌, true, IfOk};
+
 use crate::drive::{Stop, deliver_all, live};
 use q_message::write_message;
-use q_model::{Address, Addresses, Area, Bytes, Head, MOST_RECIPIENTS, Name, NoMemory};
+use q_model::{Address, Addresses, Area, Bytes, Head, MOST_RECIPIENTS, Name, NoMemory, Receiver};
 use q_silent_host::SilentHost;
 use q_stream::MemSource;
 use std::alloc::Global;
@@ -36,7 +40,9 @@ start 2 00000001-00000001 smtp z.example 10 11
 ";
 
 /// The twelve recipients, the last two at another domain.
-fn at_two_domains(alloc: Global) -> Result<Addresses, Stop> {
+fn at_two_domains(alloc: Global) -> Result<Addresses, Stop>
+    ensures { IfOk result (λ to. list_all is_receiver to ≡ true) }
+{
     let mut to = Addresses::new(alloc);
     for i in 0..12u32 {
         let domain = if i < 10 { "y" } else { "z" };
@@ -44,13 +50,18 @@ fn at_two_domains(alloc: Global) -> Result<Addresses, Stop> {
         let Some(address) = Address::new(text.as_bytes()) else {
             return Err(Stop::Conf);
         };
-        to.push(address)?;
+        to.push(Receiver {
+            address,
+            original: None,
+        })?;
     }
     Ok(to)
 }
 
 /// The queue file of the mail, with these recipients.
-fn file_to(alloc: Global, to: &Addresses) -> Result<Bytes, NoMemory> {
+fn file_to(alloc: Global, to: &Addresses) -> Result<Bytes, NoMemory>
+    requires { list_all is_receiver to.now ≡ true }
+{
     let head = Head {
         sender: Address::new(b"a@x.example"),
         arrival: 1000,

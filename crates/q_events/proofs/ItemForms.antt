@@ -1,5 +1,5 @@
 -- The items of an event list have their form.
-use Rattle.std.proofs.Common.{◌≡◌, ◌≤◌, ◌&&◌, ℕ, Bool, true, false, if◌then◌else◌, length, List, [], ◌∷◌, drop, Option, Some, None, refl, subst, sym, arith}
+use Rattle.std.proofs.Common.{◌≡◌, ◌≤◌, ◌&&◌, ℕ, Bool, true, false, if◌then◌else◌, length, List, [], ◌∷◌, drop, Option, Some, None, ap, not, refl, subst, sym, arith}
 use Rattle.std.specs.List.{AllByRecursion, list_all}
 use Rattle.std.specs.Option.{ok_or, option_map_or}
 use Rattle.std.specs.Prelude.{bytes_eq, codes, IfOk, IfSome, nat_le, option_and_then, option_map, ◌^◌, ◌-◌}
@@ -9,16 +9,19 @@ use Rattle.std.proofs.lemmas.Bool.Decides.{nat_tests}
 use Rattle.q_model.specs.declared.outcome.Outcome.{Outcome}
 use Rattle.q_model.specs.declared.outcome.SiteState.{SiteState}
 use Rattle.q_model.specs.Lists.{has_none}
+use Rattle.q_model.specs.QueueFile.{new_version}
+use Rattle.q_model.specs.QueueFileBytes.{is_original}
 use Rattle.q_model.specs.Texts.{is_address}
+use Rattle.q_model.specs.Values.{Receiver}
 use Rattle.q_model.specs.declared.event.Event.TheVariants as events
 use Rattle.q_numbers.specs.Numbers.{is_number, number_within}
-use Rattle.q_numbers.specs.Pieces.{each_some, one_or_more, words_in}
+use Rattle.q_numbers.specs.Pieces.{cut, each_some, one_or_more, words_in}
 use Rattle.q_text.specs.ValueForms.{HasAddressForm, IsListOf, IsOutcomeAt}
-use Rattle.q_text.specs.ValueTexts.{address_of, outcome_of, sender_of_text, state_of_text, trigger_of}
+use Rattle.q_text.specs.ValueTexts.{address_of, mapped_from, mapped_of, outcome_of, plain_of, receiver_of, sender_of_text, state_of_text, trigger_of}
 use Rattle.q_text.proofs.OutcomeReads.{exact_outcome}
 use Rattle.q_events.specs.EventLines.{command_of, has_front, is_body, is_passed, meaning_of_line, mail_in, moment_of, reply_in, reply_to, single_of, trigger_command}
 use Rattle.q_events.specs.EventList.{item_of}
-use Rattle.q_events.specs.Forms.{IsInForm, IsItemInForm, IsMailInForm}
+use Rattle.q_events.specs.Forms.{IsInForm, IsItemInForm, IsMailInForm, is_receiver}
 use Rattle.q_events.specs.declared.error.EventError.{EventError}
 use Rattle.q_events.specs.declared.list_item.ListItem.{ListItem}
 use Rattle.q_events.specs.declared.line.ListLine.{ListLine}
@@ -57,9 +60,6 @@ any (Some a) = tt
 
 -- ---- words
 
-abbrev AreAddresses : List (List ℕ) → Type 0
-AreAddresses to = list_all is_address to ≡ true
-
 address_form : (text : List ℕ) → IfSome (address_of text) HasAddressForm
 address_form text = by (is_address text) refl
   where
@@ -67,22 +67,53 @@ address_form text = by (is_address text) refl
     by true e = e
     by false e = tt
 
-addresses_form : (texts : List (List ℕ)) → IfSome (each_some address_of texts) AreAddresses
-addresses_form [] = refl
-addresses_form (text ∷ texts) =
-    by_first HasAddressForm AreAddresses _ (address_of text) (address_form text)
-    (λ a is. by_map AreAddresses AreAddresses _ (each_some address_of texts) (addresses_form texts)
-    (λ others are. and_from (is_address a) (list_all is_address others) is are))
+abbrev IsReceiver : Receiver → Type 0
+IsReceiver r = is_receiver r ≡ true
 
-abbrev AreRecipients : List (List ℕ) → Type 0
-AreRecipients to = AreAddresses to × (1 ≤ length to)
+plain_form : (text : List ℕ) → IfSome (plain_of text) IsReceiver
+plain_form text =
+    by_map HasAddressForm IsReceiver (λ address. record { address = address; original = None }) (address_of text) (address_form text)
+    (λ a is. and_from (is_address a) (is_original new_version a None) is refl)
 
-recipients_form : (texts : List (List ℕ)) → IfSome (one_or_more address_of texts) AreRecipients
+mapped_from_form : (original address : List ℕ) → is_address address ≡ true → is_address original ≡ true → IsReceiver (mapped_from original address)
+mapped_from_form original address is other = by (bytes_eq original address) refl
+  where
+    by : (t : Bool) → bytes_eq original address ≡ t → IsReceiver (record { address = address; original = if t then None else Some original })
+    by true e = and_from (is_address address) (is_original new_version address None) is refl
+    by false e = and_from (is_address address) (is_original new_version address (Some original)) is (and_from (is_address original) (not (bytes_eq original address)) other (ap not e))
+
+mapped_form : (parts : List ℕ × List ℕ) → IfSome (mapped_of parts) IsReceiver
+mapped_form parts =
+    by_first HasAddressForm IsReceiver _ (address_of parts.0) (address_form parts.0)
+    (λ address is. by_map HasAddressForm IsReceiver (λ original. mapped_from original address) (address_of parts.1) (address_form parts.1)
+    (λ original other. mapped_from_form original address is other))
+
+receiver_form : (text : List ℕ) → IfSome (receiver_of text) IsReceiver
+receiver_form text = by (cut 44 text)
+  where
+    by : (o : Option (List ℕ × List ℕ)) → IfSome (option_map_or mapped_of o (plain_of text)) IsReceiver
+    by None = plain_form text
+    by (Some parts) = mapped_form parts
+
+abbrev AreReceivers : List Receiver → Type 0
+AreReceivers to = list_all is_receiver to ≡ true
+
+receivers_form : (texts : List (List ℕ)) → IfSome (each_some receiver_of texts) AreReceivers
+receivers_form [] = refl
+receivers_form (text ∷ texts) =
+    by_first IsReceiver AreReceivers _ (receiver_of text) (receiver_form text)
+    (λ r is. by_map AreReceivers AreReceivers _ (each_some receiver_of texts) (receivers_form texts)
+    (λ others are. and_from (is_receiver r) (list_all is_receiver others) is are))
+
+abbrev AreRecipients : List Receiver → Type 0
+AreRecipients to = AreReceivers to × (1 ≤ length to)
+
+recipients_form : (texts : List (List ℕ)) → IfSome (one_or_more receiver_of texts) AreRecipients
 recipients_form [] = tt
 recipients_form (text ∷ texts) =
-    by_first HasAddressForm AreRecipients _ (address_of text) (address_form text)
-    (λ a is. by_map AreAddresses AreRecipients _ (each_some address_of texts) (addresses_form texts)
-    (λ others are. (and_from (is_address a) (list_all is_address others) is are, omega arith)))
+    by_first IsReceiver AreRecipients _ (receiver_of text) (receiver_form text)
+    (λ r is. by_map AreReceivers AreRecipients _ (each_some receiver_of texts) (receivers_form texts)
+    (λ others are. (and_from (is_receiver r) (list_all is_receiver others) is are, omega arith)))
 
 abbrev HasForm : Option (List ℕ) → Type 0
 HasForm sender = option_map_or is_address sender true ≡ true
@@ -96,7 +127,7 @@ mail_form : (texts : List (List ℕ)) → IfSome (mail_in texts) CommandInForm
 mail_form [] = tt
 mail_form (text ∷ texts) =
     by_first HasForm CommandInForm _ (sender_of_text text) (sender_form text)
-    (λ sender is. by_map AreRecipients CommandInForm _ (one_or_more address_of texts) (recipients_form texts) (λ to are. (is, are.0, are.1)))
+    (λ sender is. by_map AreRecipients CommandInForm _ (one_or_more receiver_of texts) (recipients_form texts) (λ to are. (is, are.0, are.1)))
 
 outcome_form : (state : SiteState) (text : List ℕ) → IfSome (outcome_of state text) (IsOutcomeAt state)
 outcome_form state text = by (outcome_of state text) refl

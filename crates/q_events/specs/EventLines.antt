@@ -6,7 +6,7 @@ use Rattle.q_model.specs.declared.outcome.Outcome.{Outcome}
 use Rattle.q_model.specs.declared.outcome.SiteState.{SiteState}
 use Rattle.q_numbers.specs.Numbers.{number_within}
 use Rattle.q_numbers.specs.Pieces.{one_or_more, words_in}
-use Rattle.q_text.specs.ValueTexts.{address_of, outcome_of, sender_of_text, state_of_text, trigger_of}
+use Rattle.q_text.specs.ValueTexts.{outcome_of, receiver_of, sender_of_text, state_of_text, trigger_of}
 use Rattle.q_events.specs.declared.line.ListLine.{ListLine}
 use Rattle.q_events.specs.declared.line.ListLine.TheVariants.{Body, Passed, Told}
 use Rattle.q_events.specs.declared.line.Command.{Command}
@@ -16,11 +16,11 @@ use Rattle.q_events.specs.declared.line.Command.TheVariants as commands
 abbrev pub has_front : List ℕ → List ℕ → Bool
 has_front front text = starts_with nat_eq text front
 
--- `SENDER RECIPIENT ..`, at least one recipient
+-- `SENDER RECIPIENT ..`, at least one recipient, which is `ADDRESS` or `ADDRESS,ORIGINAL`
 abbrev pub mail_in : List (List ℕ) → Option Command
 mail_in [] = None
 mail_in (sender ∷ to) =
-    option_and_then (λ sender. option_map (commands.Mail sender) (one_or_more address_of to))
+    option_and_then (λ sender. option_map (commands.Mail sender) (one_or_more receiver_of to))
     (sender_of_text sender)
 
 -- the reply to a delivery of a site in this state

@@ -5,7 +5,7 @@ ghost use Rattle.q_events.specs.EventLines.{command_of, is_body, is_passed, mean
 
 use q_model::{Address, Addresses, Event, LAST_MOMENT, NoMemory};
 use q_numbers::{first_word, read_number};
-use q_text::{read_addresses, read_outcomes, read_sender, read_state, read_trigger};
+use q_text::{read_outcomes, read_receivers, read_sender, read_state, read_trigger};
 use std::alloc::Global;
 
 /// What a line says.
@@ -42,7 +42,7 @@ fn mail(alloc: Global, text: &[u8]) -> Result<Option<Command>, NoMemory>
     let Some(list) = more else {
         return Ok(None);
     };
-    let Some(to) = read_addresses(alloc, list)? else {
+    let Some(to) = read_receivers(alloc, list)? else {
         return Ok(None);
     };
     Ok(Some(Command::Mail { sender, to }))

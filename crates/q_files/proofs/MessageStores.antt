@@ -2,7 +2,6 @@
 use Rattle.std.proofs.Common.{◌≡◌, ◌≢◌, ◌⊎◌, ⊎_elim, ℕ, true, false, List, [], ◌∷◌, length, map, is_some, Option, Some, None, refl, sym, ap, subst, ◌∙◌, inl, inr}
 use Rattle.std.specs.Option.{option_map_or}
 use Rattle.q_model.specs.declared.id.Id.{Id}
-use Rattle.q_model.specs.declared.rows.Mark.TheVariants as marks
 use Rattle.q_model.specs.declared.spot.Area.{Area}
 use Rattle.q_model.specs.declared.spot.Area.TheVariants as areas
 use Rattle.q_model.specs.Arrivals.{arrived}
@@ -10,15 +9,14 @@ use Rattle.q_model.specs.Book.{Book, stands}
 use Rattle.q_model.specs.BookChanges.{add_message}
 use Rattle.q_model.specs.Crashes.{EachTo, MessageAfter, RecipientAfter}
 use Rattle.q_model.specs.FailureLog.{failures_of, log_records}
-use Rattle.q_model.specs.FilesStand.{file_message, MessageStands, Stands}
+use Rattle.q_model.specs.FilesStand.{file_message, file_recipient, MessageStands, Stands}
 use Rattle.q_model.specs.IdTexts.{id_text, IsId}
 use Rattle.q_model.specs.Ledger.{Ledger}
-use Rattle.q_model.specs.Marks.{is_marked}
-use Rattle.q_model.specs.Message.{Message, Recipient}
-use Rattle.q_model.specs.QueueFile.{FileRecipient}
+use Rattle.q_model.specs.Message.{Message, new_recipient}
+use Rattle.q_model.specs.QueueFile.{FileRecipient, new_version}
 use Rattle.q_model.specs.QueueFileBytes.{IsFileOf}
 use Rattle.q_model.specs.SpoolFiles.{Files}
-use Rattle.q_model.specs.Values.{Head}
+use Rattle.q_model.specs.Values.{Head, Receiver}
 use Rattle.q_model.proofs.CrashChanges.{crash-add}
 use Rattle.q_model.proofs.CrashLaws.{stands-crash}
 use Rattle.q_model.proofs.StandLaws.{IsSameBut, Stands-add}
@@ -36,32 +34,26 @@ use Rattle.q_files.proofs.OtherPlaces.{other_place}
 
 -- ---- the message
 
-abbrev pending : List ℕ → Recipient
-pending address = record { address = address; mark = marks.Unmarked }
-
-all_sure : (to : List (List ℕ)) → EachTo RecipientAfter (map pending to) (map pending to)
+all_sure : (to : List Receiver) → EachTo RecipientAfter (map new_recipient to) (map new_recipient to)
 all_sure [] = tt
-all_sure (a ∷ to) = (record { address = refl; mark = refl }, all_sure to)
+all_sure (r ∷ to) = (record { address = refl; original = refl; mark = refl }, all_sure to)
 
 -- no crash changes it
-stays_submitted : (id : Id) (head : Head) (to : List (List ℕ)) (content : List ℕ) → MessageAfter (submitted id head to content) (submitted id head to content)
-stays_submitted id head to content = record { id = refl; sender = refl; arrival = refl; content = refl; place = refl; recipients = all_sure to; failures = refl }
+stays_submitted : (id : Id) (head : Head) (to : List Receiver) (content : List ℕ) → MessageAfter (submitted id head to content) (submitted id head to content)
+stays_submitted id head to content = record { id = refl; version = refl; sender = refl; arrival = refl; content = refl; place = refl; recipients = all_sure to; failures = refl }
 
-abbrev unmarked : List ℕ → FileRecipient
-unmarked address = record { address = address; marked = false }
+abbrev unmarked : Receiver → FileRecipient
+unmarked r = record { address = r.address; original = r.original; marked = false }
 
-abbrev to_file : Recipient → FileRecipient
-to_file r = record { address = r.address; marked = is_marked r.mark }
-
-same_recipients : (to : List (List ℕ)) → map unmarked to ≡ map to_file (map pending to)
+same_recipients : (to : List Receiver) → map unmarked to ≡ map file_recipient (map new_recipient to)
 same_recipients [] = refl
-same_recipients (a ∷ to) = ap (λ (rs : List FileRecipient). unmarked a ∷ rs) (same_recipients to)
+same_recipients (r ∷ to) = ap (λ (rs : List FileRecipient). unmarked r ∷ rs) (same_recipients to)
 
-file_submitted : (id : Id) (head : Head) (to : List (List ℕ)) (content bytes : List ℕ) → IsFileOf bytes (new_message head to content) → IsFileOf bytes (file_message (submitted id head to content))
-file_submitted id head to content bytes h = subst (λ (rs : List FileRecipient). IsFileOf bytes (record { sender = head.sender; arrival = head.arrival; content = content; recipients = rs })) (same_recipients to) h
+file_submitted : (id : Id) (head : Head) (to : List Receiver) (content bytes : List ℕ) → IsFileOf bytes (new_message head to content) → IsFileOf bytes (file_message (submitted id head to content))
+file_submitted id head to content bytes h = subst (λ (rs : List FileRecipient). IsFileOf bytes (record { version = new_version; sender = head.sender; arrival = head.arrival; content = content; recipients = rs })) (same_recipients to) h
 
 -- it is the message that an arrival adds
-pub submitted-arrived : (l : Ledger) (id : Id) (head : Head) (to : List (List ℕ)) (content : List ℕ) → head.arrival ≡ l.now → submitted id head to content ≡ arrived l id head.sender to content
+pub submitted-arrived : (l : Ledger) (id : Id) (head : Head) (to : List Receiver) (content : List ℕ) → head.arrival ≡ l.now → submitted id head to content ≡ arrived l id head.sender to content
 submitted-arrived l id head to content e = ap (λ (t : ℕ). submitted id (record head { arrival = t }) to content) e
 
 -- ---- files that differ in tmp, or in one file more
@@ -83,7 +75,7 @@ no_bounce e = cc
 no_defer : areas.Defer ≢ areas.Tmp
 no_defer e = cc
 
-module _ (t : List ℕ) (id : Id) (head : Head) (to : List (List ℕ)) (content bytes : List ℕ) (form : IsId id) (file : IsFileOf bytes (new_message head to content)) where
+module _ (t : List ℕ) (id : Id) (head : Head) (to : List Receiver) (content bytes : List ℕ) (form : IsId id) (file : IsFileOf bytes (new_message head to content)) where
   abbrev m : Message
   m = submitted id head to content
 
@@ -158,7 +150,7 @@ module _ (t : List ℕ) (id : Id) (head : Head) (to : List (List ℕ)) (content 
 
 -- ---- the call
 
-module _ (t : List ℕ) (id : Id) (head : Head) (to : List (List ℕ)) (content bytes : List ℕ) (file : IsFileOf bytes (new_message head to content)) (b k : Book) (v w : View) (lawful : TellsCrashes v) (names : (c : Remains) → v.may_leave c → SameNames v.files c.files)
+module _ (t : List ℕ) (id : Id) (head : Head) (to : List Receiver) (content bytes : List ℕ) (file : IsFileOf bytes (new_message head to content)) (b k : Book) (v w : View) (lawful : TellsCrashes v) (names : (c : Remains) → v.may_leave c → SameNames v.files c.files)
     (ch : AddsMessage v.files id head to content b k) (h : HostStands v b) where
   pub adds : Holds t areas.Incoming (id_text id) bytes v w → Takes b k v w
   adds d = subst (λ (x : Book). Takes b x v w) (sym ch.changed) (held t id head to content bytes ch.form file b v w lawful names ch.fresh ch.no_log h d)

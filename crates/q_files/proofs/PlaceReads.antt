@@ -7,7 +7,7 @@ use Rattle.std.proofs.lemmas.Bool.{eq-eqb, eqb-true, not-true, or_cases, or_left
 use Rattle.std.proofs.lemmas.List.{length-drop, length-map}
 use Rattle.std.proofs.lemmas.Option.{slice_get-map, slice_get_past, slice_get_within}
 use Rattle.q_model.specs.declared.file_head.Cursor.{Cursor}
-use Rattle.q_model.specs.FilesStand.{file_message}
+use Rattle.q_model.specs.FilesStand.{file_message, file_recipient}
 use Rattle.q_model.specs.Lists.{places_from}
 use Rattle.q_model.specs.Marking.{is_unmarked_at}
 use Rattle.q_model.specs.Marks.{is_marked}
@@ -254,9 +254,6 @@ found-now p (x ∷ xs) (suc i) t none here same = by x xs i (x.position == p) no
 
 -- ---- in the words of a book
 
-abbrev to_file : Recipient → FileRecipient
-to_file r = record { address = r.address; marked = is_marked r.mark }
-
 -- the file of a message of the book reads as the message
 pub finds-mark : (f : Files) (spot : Spot) (p : ℕ) (found : Option ℕ) → IfSome (f spot.area spot.name) (IsMarkPlace p found) → FindsMark f spot p found
 finds-mark f spot p found is b id m h file =
@@ -275,7 +272,7 @@ mark-found m p at e = by (slice_get (file_message m).recipients p) refl
     inside : (r : FileRecipient) (t : Bool) → slice_get (file_message m).recipients p ≡ Some r → r.marked ≡ t → IsMarkAt m p at
     inside r true here k = absurd (some_none at (sym (place_if (file_message m) p r true here k) ∙ e))
     inside r false here k = record {
-      here = omega (arith, slice_get_within (file_message m).recipients p r here, length-map m.recipients to_file);
+      here = omega (arith, slice_get_within (file_message m).recipients p r here, length-map m.recipients file_recipient);
       offset = some_same at (mark_at (file_message m) p) (sym e ∙ place_if (file_message m) p r false here k);
     }
 
@@ -291,4 +288,4 @@ unmarked-found m p h = by (slice_get m.recipients p) refl
     by None here = absurd (true_false (is_unmarked_at m p) h (ap (λ (o : Option Recipient). option_map_or (λ (r : Recipient). not (is_marked r.mark)) o false) here))
     by (Some r) here =
         let open_mark : is_marked r.mark ≡ false = not-true (is_marked r.mark) (sym (ap (λ (o : Option Recipient). option_map_or (λ (x : Recipient). not (is_marked x.mark)) o false) here) ∙ h) in
-        place_if (file_message m) p (to_file r) false (slice_get-map to_file m.recipients p ∙ ap (option_map to_file) here) open_mark
+        place_if (file_message m) p (file_recipient r) false (slice_get-map file_recipient m.recipients p ∙ ap (option_map file_recipient) here) open_mark

@@ -16,8 +16,8 @@ pub enum FileError {
     /// Memory ran out.
     #[error("no memory")]
     NoMemory = 2,
-    /// The content has more than 20,000,000 bytes.
-    #[error("more than 20,000,000 bytes of content")]
+    /// The content has more than 40,000,000 bytes.
+    #[error("more than 40,000,000 bytes of content")]
     TooBig = 3,
     /// There are more than 50,000 recipients.
     #[error("more than 50,000 recipients")]

@@ -1,6 +1,8 @@
 //! Taking a new message.
-ghost use Rattle.std.specs.Prelude.{◌≡◌, ◌≤◌, ◌<◌, ◌↔◌, length, IsErrOf, IsTrue, OnErr, OnOk};
+ghost use Rattle.std.specs.Prelude.{◌≡◌, ◌≤◌, ◌<◌, ◌↔◌, length, true, IsErrOf, IsTrue, OnErr, OnOk};
+ghost use Rattle.std.specs.List.{list_all};
 ghost use Rattle.q_host.specs.Faults.{DiskCause};
+ghost use Rattle.q_message.specs.NewFile.{is_receiver};
 ghost use Rattle.q_books.specs.HostStands.{KeepsNotes, TakesBy, TriesBy};
 ghost use Rattle.q_files.specs.Causes.{SubmitCause};
 ghost use Rattle.q_files.specs.Submissions.{AddsMessage};
@@ -25,7 +27,8 @@ fn store_new<H: Host>(
     requires arrival { head.now.arrival ≤ 999990000000 }
     requires some { 1 ≤ length to.now }
     requires few { length to.now ≤ 50000 }
-    requires short { length content.now ≤ 20000000 }
+    requires others { list_all is_receiver to.now ≡ true }
+    requires short { length content.now ≤ 40000000 }
     ensures ok { OnOk result (TakesBy
         (AddsMessage (H.view host.old).files id head.now to.now content.now)
         H.tells H.view host.old host.new) }
@@ -47,8 +50,8 @@ fn store_new<H: Host>(
 /// tmp under the id's name, synced and renamed.
 ///
 /// The content is judged first, then the number of recipients, both before the disk is touched. It
-/// is an error to call it with no recipient, with an arrival above 999,990,000,000, or with an id
-/// that stands in the spool already.
+/// is an error to call it with no recipient, with one whose original address is its own, with an
+/// arrival above 999,990,000,000, or with an id that stands in the spool already.
 pub fn submit<H: Host>(
     alloc: Global,
     host: &mut H,
@@ -59,6 +62,7 @@ pub fn submit<H: Host>(
 ) -> Result<(), FileError>
     requires arrival { head.now.arrival ≤ 999990000000 }
     requires some { 1 ≤ length to.now }
+    requires others { list_all is_receiver to.now ≡ true }
     ensures ok { OnOk result (TakesBy
         (AddsMessage (H.view host.old).files id head.now to.now content.now)
         H.tells H.view host.old host.new) }
@@ -66,11 +70,11 @@ pub fn submit<H: Host>(
         (AddsMessage (H.view host.old).files id head.now to.now content.now)
         H.tells H.view host.old host.new) }
     ensures notes { IsTrue H.tells → KeepsNotes (H.view host.old) (H.view host.new) }
-    ensures big { IsErrOf result TooBig ↔ (20000000 < length content.now) }
+    ensures big { IsErrOf result TooBig ↔ (40000000 < length content.now) }
     ensures many { IsErrOf result TooMany
-        ↔ (length content.now ≤ 20000000) × (50000 < length to.now) }
+        ↔ (length content.now ≤ 40000000) × (50000 < length to.now) }
     // Nothing was done then.
-    ensures big_untouched { 20000000 < length content.now → host.new ≡ host.old }
+    ensures big_untouched { 40000000 < length content.now → host.new ≡ host.old }
     ensures many_untouched { 50000 < length to.now → host.new ≡ host.old }
     ensures cause { SubmitCause (H.faults host.old) (H.faults host.new) result }
 {

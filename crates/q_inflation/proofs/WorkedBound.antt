@@ -4,16 +4,16 @@ use Rattle.std.specs.Fmt.{digits}
 use Rattle.std.specs.Prelude.{codes}
 use Rattle.q_inflation.proofs.Inflation.{run_inflation}
 use Rattle.q_inflation.specs.Bounds.{Call, IsBounded, IsCall, IsInMemory, call_entries}
-use Rattle.q_model.proofs.RowWords.{at, id, mail, many, own_domain, up}
+use Rattle.q_model.proofs.RowWords.{at, id, mail, many, own_domain, up, plain}
 use Rattle.q_model.specs.Book.{empty_book}
-use Rattle.q_model.specs.Message.{Message}
+use Rattle.q_model.specs.Message.{Message, new_recipient}
 use Rattle.q_model.specs.Next.{next}
 use Rattle.q_model.specs.PreemptingStarts.{preempting_starts, starts_through}
 use Rattle.q_model.specs.Routes.{world_without_table}
 use Rattle.q_model.specs.Run.{decide, decisions, run, run_of, turn}
 use Rattle.q_model.specs.Settings.{defaults}
 use Rattle.q_model.specs.Step.{after, after_all, allowed}
-use Rattle.q_model.specs.Values.{Site}
+use Rattle.q_model.specs.Values.{Receiver, Site}
 use Rattle.q_model.specs.declared.entry.Entry.{Entry}
 use Rattle.q_model.specs.declared.event.LifeEvent.{LifeEvent}
 use Rattle.q_model.specs.declared.event.LifeEvent.TheVariants.{Finish}
@@ -22,7 +22,6 @@ use Rattle.q_model.specs.declared.outcome.Outcome.{Outcome}
 use Rattle.q_model.specs.declared.outcome.SiteState.TheVariants.{Up}
 use Rattle.q_model.specs.declared.entry.Entry.TheVariants as entries
 use Rattle.q_model.specs.declared.outcome.Outcome.TheVariants as outcomes
-use Rattle.q_model.specs.declared.rows.Mark.TheVariants as marks
 use Rattle.q_model.specs.declared.rows.Place.TheVariants as places
 
 abbrev letter : ℕ → List ℕ → LifeEvent
@@ -44,8 +43,8 @@ call = record {
 abbrev site : List ℕ → Site
 site hop = record { transport = 0; hop = hop }
 
-abbrev to : ℕ → List ℕ → List (List ℕ)
-to n name = many n 0 (own_domain name)
+abbrev to : ℕ → List ℕ → List Receiver
+to n name = map plain (many n 0 (own_domain name))
 
 abbrev arrives : ℕ → ℕ → List ℕ → Entry
 arrives serial n name = entries.Arrive (id serial) (Some (codes "a@x.example")) (to n name) []
@@ -79,10 +78,11 @@ later = entries.Reply 4 Up ok ∷ entries.Mark (id 3) 1 ∷ entries.Sync (id 3) 
 abbrev of_four : Message
 of_four = record {
   id = id 2;
+  version = 2;
   sender = Some (codes "a@x.example");
   arrival = 1000;
   content = [];
-  recipients = map (λ address. record { address = address; mark = marks.Unmarked }) (to 4 (codes "d"));
+  recipients = map new_recipient (to 4 (codes "d"));
   failures = [];
   place = places.Incoming;
 }

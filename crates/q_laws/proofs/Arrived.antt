@@ -21,7 +21,7 @@ use Rattle.q_model.specs.Finishing.{has_bounce, is_at_rest, is_done, wants_bounc
 use Rattle.q_model.specs.Ids.{bounce_of, cause_of, id_eq}
 use Rattle.q_model.specs.Ledger.{Ledger}
 use Rattle.q_model.specs.Lists.{has_none}
-use Rattle.q_model.specs.Message.{Logged, Recipient, is_logged, Message, unmarked_logged, written_marks}
+use Rattle.q_model.specs.Message.{Logged, Recipient, is_logged, Message, unmarked_logged, written_marks, new_recipient}
 use Rattle.q_model.specs.Notices.{bounce_message}
 use Rattle.q_model.specs.Orderly.{has_firm_failures, is_paired, is_sealed, is_sound}
 use Rattle.q_model.specs.Past.{arrivals, is_arrive}
@@ -35,6 +35,7 @@ use Rattle.q_laws.proofs.Besides.{add_ready}
 use Rattle.q_laws.proofs.Places.{IsPlaceOf, got_in, nothing_in, place_is}
 use Rattle.q_model.specs.Marks.{is_written}
 use Rattle.q_model.specs.declared.rows.Mark.TheVariants as marks
+use Rattle.q_model.specs.Values.{Receiver}
 
 -- ---- a message without failures and marks has nothing to settle
 
@@ -60,26 +61,26 @@ not_later g n h = elim (or_cases (nat_lt g g) (nat_le (n + 1) n) h) [
   | inr b ↦ let bad : n + 1 ≤ n = leb-true (n + 1) n b in absurd (omega (arith, bad))
 ]
 
-arrivals_more : (l : Ledger) (id : Id) (sender : Option (List ℕ)) (to : List (List ℕ)) (content : List ℕ) → arrivals (noted (entries.Arrive id sender to content) l) ≡ 1 + arrivals l
+arrivals_more : (l : Ledger) (id : Id) (sender : Option (List ℕ)) (to : List Receiver) (content : List ℕ) → arrivals (noted (entries.Arrive id sender to content) l) ≡ 1 + arrivals l
 arrivals_more l id sender to content = sum_by-cons (λ (e : Entry). if is_arrive e then 1 else 0) (entries.Arrive id sender to content) l.past
 
-abbrev pub new_message : Ledger → Option (List ℕ) → List (List ℕ) → List ℕ → Message
+abbrev pub new_message : Ledger → Option (List ℕ) → List Receiver → List ℕ → Message
 new_message l sender to content = arrived l (next_id l) sender to content
 
-pub new_addable : (l : Ledger) (sender : Option (List ℕ)) (to : List (List ℕ)) (content : List ℕ) → IsBookConsistent l → IsAddable l.book (new_message l sender to content)
+pub new_addable : (l : Ledger) (sender : Option (List ℕ)) (to : List Receiver) (content : List ℕ) → IsBookConsistent l → IsAddable l.book (new_message l sender to content)
 new_addable l sender to content h = record {
   new = λ inside. not_later l.book.generation (arrivals l) (all_at (has_come l) (next_id l) (all_ids l.book) h.come inside);
   generation = le-leb l.book.generation l.book.generation (le_refl l.book.generation);
   incoming = refl;
   sound = fresh_sound (new_message l sender to content) refl (λ r inside.
-      let one = in_unmap (λ (address : List ℕ). record { address = address; mark = marks.Unmarked }) r to inside in
+      let one = in_unmap new_recipient r to inside in
       ap (λ (x : Recipient). is_written x.mark) (sym one.2));
   childless = λ i inside bounce same.
       not_later l.book.generation (arrivals l) (ap (λ (j : Id). nat_lt j.generation l.book.generation || nat_le j.serial (arrivals l)) (sym same) ∙ all_at (has_come l) i (all_ids l.book) h.come inside);
   cause = λ bounce. absurd cc;
 }
 
-arrive_ready : (w : World) (l : Ledger) (sender : Option (List ℕ)) (to : List (List ℕ)) (content : List ℕ) → IsConsistent w l → IsReady w (noted (entries.Arrive (next_id l) sender to content) (after_arrive l (next_id l) sender to content))
+arrive_ready : (w : World) (l : Ledger) (sender : Option (List ℕ)) (to : List Receiver) (content : List ℕ) → IsConsistent w l → IsReady w (noted (entries.Arrive (next_id l) sender to content) (after_arrive l (next_id l) sender to content))
 arrive_ready w l sender to content c =
     let e = entries.Arrive (next_id l) sender to content in
     let n = arrivals_more l (next_id l) sender to content in
@@ -87,7 +88,7 @@ arrive_ready w l sender to content c =
     (or_right (nat_lt l.book.generation l.book.generation) (nat_le (arrivals l + 1) (arrivals (noted e l))) (le-leb (arrivals l + 1) (arrivals (noted e l)) (omega (arith, n)))) refl
 
 -- a message arrives
-pub arrive_consistent : (w : World) (l : Ledger) (id : Id) (sender : Option (List ℕ)) (to : List (List ℕ)) (content : List ℕ) → IsConsistent w l → may_arrive l id ≡ true → IsConsistent w (after w l (entries.Arrive id sender to content))
+pub arrive_consistent : (w : World) (l : Ledger) (id : Id) (sender : Option (List ℕ)) (to : List Receiver) (content : List ℕ) → IsConsistent w l → may_arrive l id ≡ true → IsConsistent w (after w l (entries.Arrive id sender to content))
 arrive_consistent w l id sender to content c may =
     let same : id ≡ next_id l = id_eq-true id (next_id l) (and_parts l.timed (id_eq id (next_id l)) may).1 in
     subst (λ i. IsConsistent w (after w l (entries.Arrive i sender to content))) (sym same) (after_consistent w l (entries.Arrive (next_id l) sender to content) (arrive_ready w l sender to content c))

@@ -7,7 +7,7 @@ use Rattle.q_laws.proofs.Tidied.{IsReady, after_consistent}
 use Rattle.q_laws.specs.Consistency.{IsConsistent}
 use Rattle.q_model.specs.Clock.{scheduled, woken}
 use Rattle.q_model.specs.Ledger.{Ledger}
-use Rattle.q_model.specs.Revival.{revive_all, revive_due}
+use Rattle.q_model.specs.Revival.{revive_all, wake_due}
 use Rattle.q_model.specs.Scans.{ask_scan, joined_request, new_scan}
 use Rattle.q_model.specs.Settings.{World}
 use Rattle.q_model.specs.Step.{after, noted}
@@ -30,10 +30,10 @@ ask_ready : (w : World) (l : Ledger) (e : Entry) → IsReady w (noted e l) → I
 ask_ready w l e h = asked_ready w l e (if l.ignores then requests.All else requests.Due) l.scan h
 
 woken_ready : (w : World) (l : Ledger) (e : Entry) (t : ℕ) → IsReady w (noted e l) → IsReady w (noted e (woken w l t))
-woken_ready w l e t h = otherwise_ready w (noted e l) t true l.next_run l.scan l.asked l.ignores l.deferred_follows l.served (revive_due w (record l { now = t })) h
+woken_ready w l e t h = otherwise_ready w (noted e l) t true l.next_run l.scan l.asked l.ignores l.deferred_follows l.served (wake_due w (record l { now = t })) h
 
 scheduled_ready : (w : World) (l : Ledger) (e : Entry) (t : ℕ) → IsReady w (noted e l) → IsReady w (noted e (scheduled w l t))
-scheduled_ready w l e t h = otherwise_ready w (noted e l) t true (scheduled w l t).next_run l.scan l.asked l.ignores l.deferred_follows l.served (revive_due w (record l { now = t })) h
+scheduled_ready w l e t h = otherwise_ready w (noted e l) t true (scheduled w l t).next_run l.scan l.asked l.ignores l.deferred_follows l.served (wake_due w (record l { now = t })) h
 
 at_ready : (w : World) (l : Ledger) (e : Entry) (t : ℕ) (b : Bool) → IsReady w (noted e l) → IsReady w (noted e (if b then ask_scan (scheduled w l t) else woken w l t))
 at_ready w l e t true h = ask_ready w (scheduled w l t) e (scheduled_ready w l e t h)

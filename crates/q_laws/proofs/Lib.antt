@@ -48,3 +48,4 @@ pub mod SiteEntries
 pub mod Living
 pub mod Standing
 pub mod JobsLeft
+pub mod Resting

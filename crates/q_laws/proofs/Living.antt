@@ -112,7 +112,7 @@ pub inner_now : (w : World) (l : Ledger) (e : Entry) → is_inner e ≡ true →
 unfolding after
 inner_now w l e h = tidied_now w l (noted e (change w l e)) ∙ change_now w l e h
 
-at_change : (w : World) (l : Ledger) (t : ℕ) → (after_at w l t).now ≡ t
+pub at_change : (w : World) (l : Ledger) (t : ℕ) → (after_at w l t).now ≡ t
 at_change w l t = if_now (nat_le l.next_run t) (ask_scan (scheduled w l t)) (woken w l t) (woken w l t) (ask_now (scheduled w l t)) refl
 
 -- an `at` sets it

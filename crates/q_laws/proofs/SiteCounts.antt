@@ -8,7 +8,7 @@ use Rattle.q_laws.specs.SitesConsistency.{are_apart}
 use Rattle.q_model.proofs.IdLaws.{site_eq-refl, site_eq-true}
 use Rattle.q_model.specs.Lists.{drop_first}
 use Rattle.q_model.specs.Sites.{site_eq}
-use Rattle.q_model.specs.SiteRecords.{is_alive}
+use Rattle.q_model.specs.SiteRecords.{is_awake}
 use Rattle.q_model.specs.Values.{Site, SiteRecord}
 use Rattle.q_model.specs.declared.rows.Delivery.{Delivery}
 use Rattle.q_model.specs.declared.rows.Row.{Row}
@@ -152,7 +152,7 @@ unused_in rows fs r = not (waits_in rows r.site) && (busy_in fs r.site == 0)
 
 -- such a record that is dead
 abbrev pub kept_dead_in : List Row → List Delivery → SiteRecord → Bool
-kept_dead_in rows fs r = unused_in rows fs r && not (is_alive r.health)
+kept_dead_in rows fs r = unused_in rows fs r && not (is_awake r)
 
 dropped_waits : (r : Row) (few rows : List Row) (site : Site) (b : Bool) → (b ≡ true → site_eq r.site site ≡ false) → waits_in few site ≡ waits_in rows site → waits_in (if b then rows else r ∷ few) site ≡ waits_in (r ∷ rows) site
 dropped_waits r few rows site true apart rest = ap (λ t. t || waits_in rows site) (sym (apart refl))

@@ -20,7 +20,7 @@ use Rattle.q_model.specs.Ledger.{Ledger}
 use Rattle.q_model.specs.Loads.{loaded}
 use Rattle.q_model.specs.Message.{Message}
 use Rattle.q_model.specs.Scans.{ask_scan, joined_request, new_scan}
-use Rattle.q_model.specs.Settings.{World}
+use Rattle.q_model.specs.Settings.{window_limit, World}
 use Rattle.q_model.specs.Starts.{after_start, may_start}
 use Rattle.q_model.specs.declared.id.Id.{Id}
 use Rattle.q_model.specs.Step.{after, allowed, change, may}
@@ -38,7 +38,7 @@ use Rattle.q_model.specs.Replies.{landed, replied}
 use Rattle.q_model.specs.Settling.{needs_of}
 use Rattle.q_model.specs.Skips.{after_skip, unqueued}
 use Rattle.q_model.specs.Triggers.{after_trigger}
-use Rattle.q_model.specs.UnusedSites.{is_kept_dead}
+use Rattle.q_model.specs.UnusedSites.{is_remembered}
 use Rattle.q_model.specs.Alternation.{Pick, from_deferred, from_incoming, passed, pick, after_pick}
 use Rattle.q_model.specs.declared.entry.Entry.{Entry}
 use Rattle.q_model.specs.declared.event.Mode.{Mode}
@@ -58,8 +58,8 @@ unchanged w l k sites waiting flights h = record {
   settings = h.settings;
   apart = ap are_apart sites ∙ h.apart;
   windows = ap (list_all (is_window w)) sites ∙ h.windows;
-  busy = λ site. subst (λ fs. busy_in fs site ≤ w.settings.concurrency_limit) (sym flights) (h.busy site);
-  few = subst (λ rs. tally (is_kept_dead k) rs ≤ w.settings.recipient_limit + 1) (sym sites)
+  busy = λ site. subst (λ fs. busy_in fs site ≤ window_limit w.settings) (sym flights) (h.busy site);
+  few = subst (λ rs. tally (is_remembered k) rs ≤ w.settings.recipient_limit + 1) (sym sites)
       (subst (λ rows. tally (kept_dead_in rows k.flights) l.sites ≤ w.settings.recipient_limit + 1) (sym waiting)
       (subst (λ fs. tally (kept_dead_in l.waiting fs) l.sites ≤ w.settings.recipient_limit + 1) (sym flights) h.few));
 }
@@ -130,7 +130,7 @@ load_sites w l id from to (Some m) h =
     let rows = load_rows w m from to in
     let known = records_is w rows l in
     good_sites w l (loaded w l id to rows) h (records_good w rows l h.settings (good_of h))
-    (λ site. subst (λ (k : Ledger). busy_in k.flights site ≤ w.settings.concurrency_limit) (sym known.1) (h.busy site)) (load_few w l rows h)
+    (λ site. subst (λ (k : Ledger). busy_in k.flights site ≤ window_limit w.settings) (sym known.1) (h.busy site)) (load_few w l rows h)
 
 start_sites : (w : World) (l : Ledger) (number : ℕ) (id : Id) (site : Site) (ps : List ℕ) → IsSitesConsistent w l → may_start w l number id site ps ≡ true → IsSitesReady w (after_start l number id site ps)
 start_sites w l number id site ps h may = good_sites w l (after_start l number id site ps) h (good_of h) (start_busy w l (record { number = number; row = record { id = id; site = site; positions = ps } }) h (start_room w l number id site ps h may)) (start_few w l number id site ps h)

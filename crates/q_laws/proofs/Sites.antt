@@ -16,17 +16,17 @@ use Rattle.q_model.specs.Sites.{site_eq}
 use Rattle.q_model.specs.Feedbacks.{amount, parts, unit}
 use Rattle.q_model.specs.Ledger.{Ledger}
 use Rattle.q_model.specs.Loads.{with_records}
-use Rattle.q_model.specs.Revival.{is_due, revive_all, revive_due}
-use Rattle.q_model.specs.Settings.{World}
-use Rattle.q_model.specs.SiteRecords.{initial_window, is_alive, new_record, record_of, with_record}
+use Rattle.q_model.specs.Revival.{is_due, is_rest_over, rest_ended, revive_all, wake_due}
+use Rattle.q_model.specs.Settings.{window_limit, World}
+use Rattle.q_model.specs.SiteRecords.{initial_window, is_alive, is_awake, new_record, record_of, with_record}
 use Rattle.q_model.specs.Past.{starts}
 use Rattle.q_model.specs.Startable.{is_startable}
 use Rattle.q_model.specs.Starts.{is_row, may_start}
 use Rattle.q_model.specs.declared.id.Id.{Id}
 use Rattle.q_model.specs.Step.{may}
-use Rattle.q_model.specs.UnusedSites.{is_kept_dead}
+use Rattle.q_model.specs.UnusedSites.{is_remembered}
 use Rattle.q_model.specs.Values.{Site, SiteRecord}
-use Rattle.q_model.specs.Windows.{after_down, after_state, after_up, down_alive, grown, more_cohorts, narrowed, revived, up_alive}
+use Rattle.q_model.specs.Windows.{after_down, after_state, after_up, down_alive, grown, more_cohorts, narrowed, rested, revived, up_alive}
 use Rattle.q_model.specs.declared.outcome.SiteState.{SiteState}
 use Rattle.q_model.specs.declared.outcome.SiteState.TheVariants.{Down, Up}
 use Rattle.q_model.specs.declared.rows.Delivery.{Delivery}
@@ -37,31 +37,39 @@ use Rattle.q_model.specs.declared.rows.Health.TheVariants as healths
 
 -- a window that is open and within the limit
 abbrev pub IsWindow : World → SiteRecord → Type 0
-IsWindow w r = (1 ≤ r.window) × (r.window ≤ w.settings.concurrency_limit)
+IsWindow w r = (1 ≤ r.window) × (r.window ≤ window_limit w.settings)
 
 window_of : (w : World) (r : SiteRecord) → is_window w r ≡ true → IsWindow w r
-window_of w r h = let two = and_parts (nat_le 1 r.window) (nat_le r.window w.settings.concurrency_limit) h in (leb-true 1 r.window two.0, leb-true r.window w.settings.concurrency_limit two.1)
+window_of w r h = let two = and_parts (nat_le 1 r.window) (nat_le r.window (window_limit w.settings)) h in (leb-true 1 r.window two.0, leb-true r.window (window_limit w.settings) two.1)
 
 window_from : (w : World) (r : SiteRecord) → IsWindow w r → is_window w r ≡ true
-window_from w r h = and_from (nat_le 1 r.window) (nat_le r.window w.settings.concurrency_limit) (le-leb 1 r.window h.0) (le-leb r.window w.settings.concurrency_limit h.1)
+window_from w r h = and_from (nat_le 1 r.window) (nat_le r.window (window_limit w.settings)) (le-leb 1 r.window h.0) (le-leb r.window (window_limit w.settings) h.1)
 
-initial_is : (w : World) → IsOpen w → (1 ≤ initial_window w) × (initial_window w ≤ w.settings.concurrency_limit)
+-- no window is wider than 40, and one is open at least
+pub limit_is : (w : World) → IsOpen w → (1 ≤ window_limit w.settings) × (window_limit w.settings ≤ 40)
+limit_is w h = which (w.settings.rate_delay == 0)
+  where
+    which : (b : Bool) → (1 ≤ (if b then w.settings.concurrency_limit else 1)) × ((if b then w.settings.concurrency_limit else 1) ≤ 40)
+    which true = h.concurrency_limit
+    which false = (omega arith, omega arith)
+
+initial_is : (w : World) → IsOpen w → (1 ≤ initial_window w) × (initial_window w ≤ window_limit w.settings)
 initial_is w h =
     let a : 1 ≤ w.settings.initial_concurrency = h.initial_concurrency in
-    let b : 1 ≤ w.settings.concurrency_limit = h.concurrency_limit.0 in
+    let b : 1 ≤ window_limit w.settings = (limit_is w h).0 in
     (omega (arith, a, b), omega (arith, a, b))
 
 -- a window that grows by one where it was below the limit, or stays
-grown_window : (w : World) (r : SiteRecord) → (1 ≤ r.window) × (r.window + 1 ≤ w.settings.concurrency_limit) → (b : Bool) (success failure : ℕ) → IsWindow w (if b then record r { window = r.window + 1; success = success; failure = failure } else r)
+grown_window : (w : World) (r : SiteRecord) → (1 ≤ r.window) × (r.window + 1 ≤ window_limit w.settings) → (b : Bool) (success failure : ℕ) → IsWindow w (if b then record r { window = r.window + 1; success = success; failure = failure } else r)
 grown_window w r h true success failure = (let a : 1 ≤ r.window = h.0 in omega (arith, a), h.1)
-grown_window w r h false success failure = (h.0, let a : r.window + 1 ≤ w.settings.concurrency_limit = h.1 in omega (arith, a))
+grown_window w r h false success failure = (h.0, let a : r.window + 1 ≤ window_limit w.settings = h.1 in omega (arith, a))
 
 positive : (n : ℕ) → (n == 0) ≡ false → 1 ≤ n
 positive zero e = absurd cc
 positive (suc n) e = omega arith
 
 -- of a record that is alive again
-revived_window : (w : World) (n : ℕ) (r : SiteRecord) → IsOpen w → n ≤ w.settings.concurrency_limit → IsWindow w (revived w n r)
+revived_window : (w : World) (n : ℕ) (r : SiteRecord) → IsOpen w → n ≤ window_limit w.settings → IsWindow w (revived w n r)
 revived_window w n r h k = which (n == 0) refl
   where
     which : (b : Bool) → (n == 0) ≡ b → IsWindow w (record r { window = if b then initial_window w else n; success = 0; failure = 0; cohorts = 0; health = healths.Alive })
@@ -69,18 +77,18 @@ revived_window w n r h k = which (n == 0) refl
     which false e = (positive n e, k)
 
 up_window : (w : World) (n : ℕ) (r : SiteRecord) → IsWindow w r → IsWindow w (up_alive w n r)
-up_window w n r h = which (nat_lt r.window w.settings.concurrency_limit && nat_lt r.window (n + initial_window w)) refl
+up_window w n r h = which (nat_lt r.window (window_limit w.settings) && nat_lt r.window (n + initial_window w)) refl
   where
-    which : (b : Bool) → (nat_lt r.window w.settings.concurrency_limit && nat_lt r.window (n + initial_window w)) ≡ b → IsWindow w (if b then grown w (record r { cohorts = 0; success = r.success + amount w.settings.positive r.window }) else record r { cohorts = 0 })
+    which : (b : Bool) → (nat_lt r.window (window_limit w.settings) && nat_lt r.window (n + initial_window w)) ≡ b → IsWindow w (if b then grown w (record r { cohorts = 0; success = r.success + amount w.settings.positive r.window }) else record r { cohorts = 0 })
     which false e = h
     which true e =
-        let below : r.window < w.settings.concurrency_limit = ltb-true r.window w.settings.concurrency_limit (and_parts (nat_lt r.window w.settings.concurrency_limit) (nat_lt r.window (n + initial_window w)) e).0 in
+        let below : r.window < window_limit w.settings = ltb-true r.window (window_limit w.settings) (and_parts (nat_lt r.window (window_limit w.settings)) (nat_lt r.window (n + initial_window w)) e).0 in
         grown_window w (record r { cohorts = 0; success = r.success + amount w.settings.positive r.window }) (h.0, omega (arith, below))
         (nat_le (unit w.settings.positive) (r.success + amount w.settings.positive r.window)) (r.success + amount w.settings.positive r.window - unit w.settings.positive) 0
 
 -- a window that narrows by one, or stays
 narrow_window : (w : World) (r : SiteRecord) → IsWindow w r → (b : Bool) (failure less : ℕ) → IsWindow w (if b then record r { window = max 1 (r.window - 1); failure = failure; success = 0 } else record r { failure = less })
-narrow_window w r h true failure less = (omega arith, let a : 1 ≤ r.window = h.0 in let b : r.window ≤ w.settings.concurrency_limit = h.1 in omega (arith, a, b))
+narrow_window w r h true failure less = (omega arith, let a : 1 ≤ r.window = h.0 in let b : r.window ≤ window_limit w.settings = h.1 in omega (arith, a, b))
 narrow_window w r h false failure less = h
 
 narrowed_window : (w : World) (r : SiteRecord) → IsWindow w r → IsWindow w (narrowed w r)
@@ -101,7 +109,7 @@ record KeepsWindow (w : World) (f : SiteRecord → SiteRecord) : Type 0 where
   window : (r : SiteRecord) → IsWindow w r → IsWindow w (f r)
 
 up_site : (w : World) (n : ℕ) (r : SiteRecord) → (up_alive w n r).site ≡ r.site
-up_site w n r = which (nat_lt r.window w.settings.concurrency_limit && nat_lt r.window (n + initial_window w)) (nat_le (unit w.settings.positive) (r.success + amount w.settings.positive r.window))
+up_site w n r = which (nat_lt r.window (window_limit w.settings) && nat_lt r.window (n + initial_window w)) (nat_le (unit w.settings.positive) (r.success + amount w.settings.positive r.window))
   where
     which : (a b : Bool) → (if a then (if b then record r { window = r.window + 1; cohorts = 0; success = r.success + amount w.settings.positive r.window - unit w.settings.positive; failure = 0 } else record r { cohorts = 0; success = r.success + amount w.settings.positive r.window }) else record r { cohorts = 0 }).site ≡ r.site
     which true true = refl
@@ -139,11 +147,20 @@ keeps_if w test f g h k = record {
 keeps_all : (w : World) → KeepsWindow w (λ r. r)
 keeps_all w = record { site = λ r. refl; window = λ r h. h }
 
-up_keeps : (w : World) (n : ℕ) → IsOpen w → n ≤ w.settings.concurrency_limit → KeepsWindow w (after_up w n)
+up_keeps : (w : World) (n : ℕ) → IsOpen w → n ≤ window_limit w.settings → KeepsWindow w (after_up w n)
 up_keeps w n h k = keeps_if w (λ r. is_alive r.health) (up_alive w n) (revived w n) (record { site = up_site w n; window = up_window w n }) (record { site = λ r. refl; window = λ r o. revived_window w n r h k })
 
 down_keeps : (w : World) (now : ℕ) → KeepsWindow w (after_down w now)
 down_keeps w now = keeps_if w (λ r. is_alive r.health) (down_alive w now) (λ r. r) (record { site = down_site w now; window = down_window w now }) (keeps_all w)
+
+then_keeps : (w : World) (f g : SiteRecord → SiteRecord) → KeepsWindow w f → KeepsWindow w g → KeepsWindow w (λ r. g (f r))
+then_keeps w f g h k = record { site = λ r. k.site (f r) ∙ h.site r; window = λ r o. k.window (f r) (h.window r o) }
+
+rested_keeps : (w : World) (now : ℕ) → KeepsWindow w (rested w now)
+rested_keeps w now = keeps_if w (λ r. w.settings.rate_delay == 0) (λ r. r) (λ r. record r { rest = Some (now + w.settings.rate_delay) }) (keeps_all w) (record { site = λ r. refl; window = λ r h. h })
+
+ended_keeps : (w : World) (now : ℕ) → KeepsWindow w (rest_ended now)
+ended_keeps w now = keeps_if w (is_rest_over now) (λ r. record r { rest = None }) (λ r. r) (record { site = λ r. refl; window = λ r h. h }) (keeps_all w)
 
 -- the records after such a change
 pub record AreGood (w : World) (rs : List SiteRecord) : Type 0 where
@@ -162,20 +179,26 @@ pub good_of : {w : World} {l : Ledger} → IsSitesConsistent w l → AreGood w l
 good_of h = record { apart = h.apart; windows = h.windows }
 
 -- the ledger with records that are good, no more deliveries, and at most one more dead site unused
-pub good_sites : (w : World) (l k : Ledger) → IsSitesConsistent w l → AreGood w k.sites → ((site : Site) → busy k site ≤ w.settings.concurrency_limit) → tally (is_kept_dead k) k.sites ≤ w.settings.recipient_limit + 1 → IsSitesReady w k
+pub good_sites : (w : World) (l k : Ledger) → IsSitesConsistent w l → AreGood w k.sites → ((site : Site) → busy k site ≤ window_limit w.settings) → tally (is_remembered k) k.sites ≤ w.settings.recipient_limit + 1 → IsSitesReady w k
 good_sites w l k h g busy few = record { settings = h.settings; apart = g.apart; windows = g.windows; busy = busy; few = few }
 
 -- ---- reply
 
 pub state_good : (w : World) (l : Ledger) (site : Site) (state : SiteState) → IsSitesConsistent w l → AreGood w (after_state w l site state)
-state_good w l site Up h = good_map w (λ r. if site_eq r.site site then after_up w (busy l site) r else r) l.sites (keeps_if w (λ r. site_eq r.site site) (after_up w (busy l site)) (λ r. r) (up_keeps w (busy l site) h.settings (h.busy site)) (keeps_all w)) (good_of h)
-state_good w l site Down h = good_map w (λ r. if site_eq r.site site then after_down w l.now r else r) l.sites (keeps_if w (λ r. site_eq r.site site) (after_down w l.now) (λ r. r) (down_keeps w l.now) (keeps_all w)) (good_of h)
+state_good w l site Up h =
+    let keeps = then_keeps w (after_up w (busy l site)) (rested w l.now) (up_keeps w (busy l site) h.settings (h.busy site)) (rested_keeps w l.now) in
+    good_map w (λ r. if site_eq r.site site then rested w l.now (after_up w (busy l site) r) else r) l.sites (keeps_if w (λ r. site_eq r.site site) (λ r. rested w l.now (after_up w (busy l site) r)) (λ r. r) keeps (keeps_all w)) (good_of h)
+state_good w l site Down h =
+    let keeps = then_keeps w (after_down w l.now) (rested w l.now) (down_keeps w l.now) (rested_keeps w l.now) in
+    good_map w (λ r. if site_eq r.site site then rested w l.now (after_down w l.now r) else r) l.sites (keeps_if w (λ r. site_eq r.site site) (λ r. rested w l.now (after_down w l.now r)) (λ r. r) keeps (keeps_all w)) (good_of h)
 
 -- ---- revival
 
-pub due_good : (w : World) (l : Ledger) (t : ℕ) → IsSitesConsistent w l → AreGood w (revive_due w (record l { now = t }))
-due_good w l t h = good_map w (λ r. if is_due t r.health then revived w (busy l r.site) r else r) l.sites
-    (keeps_if w (λ r. is_due t r.health) (λ r. revived w (busy l r.site) r) (λ r. r) (record { site = λ r. refl; window = λ r o. revived_window w (busy l r.site) r h.settings (h.busy r.site) }) (keeps_all w)) (good_of h)
+pub due_good : (w : World) (l : Ledger) (t : ℕ) → IsSitesConsistent w l → AreGood w (wake_due w (record l { now = t }))
+due_good w l t h =
+    let revives = keeps_if w (λ r. is_due t r.health) (λ r. revived w (busy l r.site) r) (λ r. r) (record { site = λ r. refl; window = λ r o. revived_window w (busy l r.site) r h.settings (h.busy r.site) }) (keeps_all w) in
+    good_map w (λ r. rest_ended t (if is_due t r.health then revived w (busy l r.site) r else r)) l.sites
+    (then_keeps w (λ r. if is_due t r.health then revived w (busy l r.site) r else r) (rest_ended t) revives (ended_keeps w t)) (good_of h)
 
 pub all_good : (w : World) (l : Ledger) → IsSitesConsistent w l → AreGood w (revive_all w l)
 all_good w l h = good_map w (λ r. if is_alive r.health then r else revived w (busy l r.site) r) l.sites
@@ -206,28 +229,28 @@ records_good w (r ∷ rows) l o h = records_good w rows (record l { sites = with
 
 -- ---- start
 
-busy_one : (w : World) (l : Ledger) (f : Delivery) (site : Site) → IsSitesConsistent w l → busy l f.row.site + 1 ≤ w.settings.concurrency_limit → (b : Bool) → site_eq f.row.site site ≡ b → busy_in l.flights site + cond b 1 0 ≤ w.settings.concurrency_limit
+busy_one : (w : World) (l : Ledger) (f : Delivery) (site : Site) → IsSitesConsistent w l → busy l f.row.site + 1 ≤ window_limit w.settings → (b : Bool) → site_eq f.row.site site ≡ b → busy_in l.flights site + cond b 1 0 ≤ window_limit w.settings
 busy_one w l f site h room false e = let k = h.busy site in omega (arith, k)
-busy_one w l f site h room true e = subst (λ s. busy_in l.flights s + 1 ≤ w.settings.concurrency_limit) (site_eq-true f.row.site site e) room
+busy_one w l f site h room true e = subst (λ s. busy_in l.flights s + 1 ≤ window_limit w.settings) (site_eq-true f.row.site site e) room
 
-pub start_busy : (w : World) (l : Ledger) (f : Delivery) → IsSitesConsistent w l → busy l f.row.site + 1 ≤ w.settings.concurrency_limit → (site : Site) → busy_in (l.flights ++ f ∷ []) site ≤ w.settings.concurrency_limit
+pub start_busy : (w : World) (l : Ledger) (f : Delivery) → IsSitesConsistent w l → busy l f.row.site + 1 ≤ window_limit w.settings → (site : Site) → busy_in (l.flights ++ f ∷ []) site ≤ window_limit w.settings
 start_busy w l f h room site = let a = busy_more site l.flights f in let b = busy_one w l f site h room (site_eq f.row.site site) refl in omega (arith, a, b)
 
-room_on : (w : World) (l : Ledger) (site : Site) (o : Option SiteRecord) → IsSitesConsistent w l → find (λ (r : SiteRecord). site_eq r.site site) l.sites ≡ o → option_map_or (λ (s : SiteRecord). is_alive s.health && nat_lt (busy l site) s.window) o false ≡ true → busy l site + 1 ≤ w.settings.concurrency_limit
+room_on : (w : World) (l : Ledger) (site : Site) (o : Option SiteRecord) → IsSitesConsistent w l → find (λ (r : SiteRecord). site_eq r.site site) l.sites ≡ o → option_map_or (λ (s : SiteRecord). is_awake s && nat_lt (busy l site) s.window) o false ≡ true → busy l site + 1 ≤ window_limit w.settings
 room_on w l site None h e k = absurd cc
 room_on w l site (Some s) h e k =
     let inside = (find_in (λ (r : SiteRecord). site_eq r.site site) s l.sites e).0 in
     let fits = (window_of w s (all_at (is_window w) s l.sites h.windows inside)).1 in
-    let below : busy l site < s.window = ltb-true (busy l site) s.window (and_parts (is_alive s.health) (nat_lt (busy l site) s.window) k).1 in
+    let below : busy l site < s.window = ltb-true (busy l site) s.window (and_parts (is_awake s) (nat_lt (busy l site) s.window) k).1 in
     omega (arith, fits, below)
 
 -- where a delivery may begin, its site has room
-pub start_room : (w : World) (l : Ledger) (number : ℕ) (id : Id) (site : Site) (ps : List ℕ) → IsSitesConsistent w l → may_start w l number id site ps ≡ true → busy l site + 1 ≤ w.settings.concurrency_limit
+pub start_room : (w : World) (l : Ledger) (number : ℕ) (id : Id) (site : Site) (ps : List ℕ) → IsSitesConsistent w l → may_start w l number id site ps ≡ true → busy l site + 1 ≤ window_limit w.settings
 start_room w l number id site ps h may =
     let two = and_parts (number == starts l + 1) (list_any (λ r. is_row id site ps r && is_startable w l r) l.waiting) may in
     let one = any_in (λ r. is_row id site ps r && is_startable w l r) l.waiting two.1 in
     let r = one.0 in
     let parts = and_parts (is_row id site ps r) (is_startable w l r) one.2 in
-    let room : Bool = option_map_or (λ (s : SiteRecord). is_alive s.health && nat_lt (busy l r.site) s.window) (record_of l r.site) false in
-    subst (λ s. busy l s + 1 ≤ w.settings.concurrency_limit) (this_row id site ps r parts.0).at
+    let room : Bool = option_map_or (λ (s : SiteRecord). is_awake s && nat_lt (busy l r.site) s.window) (record_of l r.site) false in
+    subst (λ s. busy l s + 1 ≤ window_limit w.settings) (this_row id site ps r parts.0).at
     (room_on w l r.site (record_of l r.site) h refl (and_parts (nat_lt (flights_of l r.site.transport) w.settings.process_limit) room parts.1).1)

@@ -8,9 +8,9 @@ use Rattle.q_laws.proofs.SiteLists.{busy_cons, busy_in}
 use Rattle.q_laws.specs.SitesConsistency.{IsSitesConsistent, are_apart, is_kept}
 use Rattle.q_model.specs.Ledger.{Ledger}
 use Rattle.q_model.specs.Settings.{World}
-use Rattle.q_model.specs.SiteRecords.{is_alive}
+use Rattle.q_model.specs.SiteRecords.{is_awake}
 use Rattle.q_model.specs.Sites.{site_eq}
-use Rattle.q_model.specs.UnusedSites.{is_kept_dead, is_unused}
+use Rattle.q_model.specs.UnusedSites.{is_remembered, is_unused}
 use Rattle.q_model.specs.Values.{SiteRecord}
 use Rattle.q_model.specs.declared.rows.Delivery.{Delivery}
 use Rattle.q_model.specs.declared.rows.Row.{Row}
@@ -56,9 +56,9 @@ kept_used true false h k = absurd cc
 -- the known sites are at most the rows that wait, the deliveries and the recipient limit
 pub sites_few : (w : World) (l : Ledger) → IsSitesConsistent w l → length l.sites ≤ length l.waiting + length l.flights + w.settings.recipient_limit
 sites_few w l h =
-    let living : SiteRecord → Bool = λ r. not (is_kept_dead l r) in
-    let a : length (filter (is_kept_dead l) l.sites) + length (filter living l.sites) ≡ length l.sites = length-filter_both (is_kept_dead l) living (λ r. refl) l.sites in
-    let b : tally living l.sites ≤ tally (used_in l.waiting l.flights) l.sites = fewer_pass (used_in l.waiting l.flights) living l.sites (λ r inside k. kept_used (is_unused l r) (is_alive r.health) (all_at (is_kept l) r l.sites h.kept inside) k) in
+    let living : SiteRecord → Bool = λ r. not (is_remembered l r) in
+    let a : length (filter (is_remembered l) l.sites) + length (filter living l.sites) ≡ length l.sites = length-filter_both (is_remembered l) living (λ r. refl) l.sites in
+    let b : tally living l.sites ≤ tally (used_in l.waiting l.flights) l.sites = fewer_pass (used_in l.waiting l.flights) living l.sites (λ r inside k. kept_used (is_unused l r) (is_awake r) (all_at (is_kept l) r l.sites h.kept inside) k) in
     let c : tally (used_in l.waiting l.flights) l.sites ≤ length l.waiting + length l.flights = rows_use l.waiting l.flights l.sites h.apart in
-    let d : tally (is_kept_dead l) l.sites ≤ w.settings.recipient_limit = h.few in
+    let d : tally (is_remembered l) l.sites ≤ w.settings.recipient_limit = h.few in
     omega (arith, a, b, c, d)

@@ -5,6 +5,7 @@
 ghost use Rattle.std.specs.Prelude.{◌≡◌, Some, true};
 ghost use Rattle.q_laws.specs.Consistency.{IsBookConsistent, IsConsistent, IsUsable};
 ghost use Rattle.q_laws.specs.Laws.{AlongLife, AlongRun, next_life, OfConsistent, OfEntries, OnBooks, opened_ledger, OfBeginnings};
+ghost use Rattle.q_laws.specs.Resting.{GoesOneByOne, KeepsApart};
 ghost use Rattle.q_laws.specs.SitesConsistency.{IsSitesConsistent};
 ghost use Rattle.q_laws.specs.Traces.{IsWithinLimits};
 ghost use Rattle.q_model.specs.declared.entry.Entry.{Entry};
@@ -58,6 +59,17 @@ pub fn sites_begin()
 /// Each entry of a consistent ledger keeps what fits together of its sites.
 pub fn sites_stay_consistent()
     ensures { OfEntries (λ w l e. IsSitesConsistent w l → IsSitesConsistent w (after w l e)) }
+{}
+
+/// Where there is a delay between deliveries, at most one to each site is in flight.
+pub fn goes_one_by_one()
+    ensures { (w : World) → (l : Ledger) → IsSitesConsistent w l → GoesOneByOne w l }
+{}
+
+/// After the reply to a delivery the next one to its site begins that delay later or more, in the
+/// same life, unless the site was forgotten.
+pub fn keeps_apart()
+    ensures { OfConsistent KeepsApart }
 {}
 
 /// After each entry of a run on a lawful book the book is lawful.

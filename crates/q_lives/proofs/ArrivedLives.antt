@@ -22,7 +22,7 @@ use Rattle.q_model.specs.Arrivals.{arrived, next_id}
 use Rattle.q_model.specs.Book.{Book, Damaged, all_ids, message_of}
 use Rattle.q_model.specs.Ids.{id_eq}
 use Rattle.q_model.specs.Ledger.{Ledger, opening}
-use Rattle.q_model.specs.Message.{Message, Recipient}
+use Rattle.q_model.specs.Message.{Message, new_recipient, receiver_of}
 use Rattle.q_model.specs.Past.{is_life}
 use Rattle.q_model.specs.Settings.{World}
 use Rattle.q_model.specs.Step.{after, after_all, may}
@@ -30,7 +30,6 @@ use Rattle.q_model.specs.declared.entry.Entry.{Entry}
 use Rattle.q_model.specs.declared.event.Mode.{Mode}
 use Rattle.q_model.specs.declared.id.Id.{Id}
 use Rattle.q_model.specs.declared.entry.Entry.TheVariants as entries
-use Rattle.q_model.specs.declared.rows.Mark.TheVariants as marks
 use Rattle.std.proofs.lemmas.Bool.{not-true}
 use Rattle.std.proofs.Common.{not}
 use Rattle.std.specs.Option.{option_map_or}
@@ -43,12 +42,13 @@ use Rattle.q_model.specs.Ids.{bounce_of}
 use Rattle.q_model.specs.Lists.{has_none}
 use Rattle.q_model.specs.Notices.{bounce_message}
 use Rattle.q_model.specs.Places.{is_active}
+use Rattle.q_model.specs.Values.{Receiver}
 
 -- what arrived with an id
 record Letter : Type 0 where
   id : Id
   sender : Option (List ℕ)
-  to : List (List ℕ)
+  to : List Receiver
   content : List ℕ
 
 abbrev arrival : Letter → Entry
@@ -78,9 +78,9 @@ find_last id (y ∷ ms) m same none = on (id_eq y.id id) refl (find_last id ms m
     on true e rest = absurd (none (inl (id_eq-true y.id id e)))
     on false e rest = rest
 
-new_addresses : (to : List (List ℕ)) → map (λ (r : Recipient). r.address) (map (λ (address : List ℕ). record { address = address; mark = marks.Unmarked }) to) ≡ to
+new_addresses : (to : List Receiver) → map receiver_of (map new_recipient to) ≡ to
 new_addresses [] = refl
-new_addresses (a ∷ to) = ap (λ (xs : List (List ℕ)). a ∷ xs) (new_addresses to)
+new_addresses (a ∷ to) = ap (λ (xs : List Receiver). a ∷ xs) (new_addresses to)
 
 arrives : (w : World) (l : Ledger) (x : Letter) → IsConsistent w l → may w l (arrival x) ≡ true → HasLetter x (after w l (arrival x)).book
 arrives w l x c can =
@@ -120,7 +120,7 @@ bounce_on w l id (Some m) c e can =
     let fits = bounce_addable l m c.book (ap (message_of l.book) mine.1 ∙ e) one.0 two.1 plain unsaid in
     let x = bounce_message l.now m in
     let none : IsIn x.id (message_ids l.book) → ⊥ = λ k. fits.new (in_left x.id (message_ids l.book) (map (λ (d : Damaged). d.id) l.book.damaged) k) in (
-      record { id = x.id; sender = None; to = map (λ (r : Recipient). r.address) x.recipients; content = x.content },
+      record { id = x.id; sender = None; to = map receiver_of x.recipients; content = x.content },
       (ap bounce_of mine.1, refl),
       (x, find_last x.id l.book.messages x refl none, record { same_sender = refl; same_recipients = refl; same_content = refl }),
     )
@@ -202,7 +202,7 @@ one_life s Q stores alive book life good h =
     subst (λ es. Keeps s Q w (opening life.mode book) (take life.count es)) (sym begins.1) (front_keeps s Q stores alive w life.mode book begins.0 life.count h.usable good all)
 
 left_letter : (book : Book) (life : Life) (x : Letter) (es : List Entry) → IsLife book life → IsKeptIn x es (ledger_of book life).book → IsKeptIn x es life.left
-left_letter book life x es h (inl has) = inl (like_letter x (ledger_of book life).book life.left has.0 has.2 (left_like (ledger_of book life) life.left x.id has.0 h.left has.1))
+left_letter book life x es h (inl has) = inl (like_letter x (ledger_of book life).book life.left has.0 has.2 (left_like (ledger_of book life) life.steps life.left x.id has.0 h.left has.1))
 left_letter book life x es h (inr gone) = inr gone
 
 -- ---- all lives
@@ -260,9 +260,9 @@ letter_stands b x es good (inl has) =
     })
 
 letter_of : Message → Letter
-letter_of m = record { id = m.id; sender = m.sender; to = map (λ (r : Recipient). r.address) m.recipients; content = m.content }
+letter_of m = record { id = m.id; sender = m.sender; to = map receiver_of m.recipients; content = m.content }
 
-letter_as : Id → Option (List ℕ) → List (List ℕ) → List ℕ → Letter
+letter_as : Id → Option (List ℕ) → List Receiver → List ℕ → Letter
 letter_as id sender to content = record { id = id; sender = sender; to = to; content = content }
 
 arrived_stands : (b : Book) (x : Letter) (later : List Entry) → IsOrderly b → StoredIn (λ y. y ≡ x) later b → StandsOrLeaves x.id x.sender x.to x.content later b

@@ -13,7 +13,8 @@ use Rattle.q_laws.proofs.Synced.{admitted_active}
 use Rattle.q_laws.proofs.Unmarked.{bare_not_sealed}
 use Rattle.q_laws.specs.Consistency.{IsConsistent, memory_positions}
 use Rattle.q_laws.specs.Traces.{IsEntryOf}
-use Rattle.q_lives.specs.Lives.{IsLeftBy, IsOrderly, cut_book, cut_off, loosened}
+use Rattle.q_lives.specs.Lives.{IsOrderly, cut_book}
+use Rattle.q_model.specs.CutOff.{cut_off, loosened}
 use Rattle.q_model.proofs.CrashLaws.{is_orderly-crash}
 use Rattle.q_model.specs.Book.{Book, Damaged, message_of}
 use Rattle.q_model.specs.BookChanges.{change_message}
@@ -70,7 +71,7 @@ loose_shape : KeepsShape loosened
 loose_shape = record { name = λ m. refl; place = λ m. refl; count = λ m. refl }
 
 -- a failure of a message that has a bare position may be unsure
-loose_orderly : (b : Book) (id : Id) (m : Message) (p : ℕ) → IsOrderly b → message_of b id ≡ Some m → is_active m.place ≡ true → is_unmarked_at m p ≡ true → IsOrderly (change_message b id loosened)
+pub loose_orderly : (b : Book) (id : Id) (m : Message) (p : ℕ) → IsOrderly b → message_of b id ≡ Some m → is_active m.place ≡ true → is_unmarked_at m p ≡ true → IsOrderly (change_message b id loosened)
 loose_orderly b id m p h there active bare = record {
   distinct = ap are_distinct (all_ids_mapped b b.generation (changed id loosened) (changed_name id loosened (λ x. refl))) ∙ h.distinct;
   orderly = orderly_mapped b b.generation (changed id loosened) (le_refl b.generation)
@@ -127,15 +128,9 @@ step_cut w l e c h can = cut_of w l e (cut_entry w l e c can (entry_consistent w
 pub life_cut : (w : World) (l : Ledger) (generation : ℕ) (mode : Mode) → IsConsistent w (after w l (entries.Life generation mode)) → IsOrderly (cut_book (after w l (entries.Life generation mode)))
 life_cut w l generation mode d = cut_of w l (entries.Life generation mode) (record { distinct = d.book.distinct; orderly = d.book.orderly })
 
--- ---- what a life leaves
+-- ---- a crash
 
-pub left_orderly : (l : Ledger) (left : Book) → IsOrderly l.book → IsOrderly (cut_book l) → IsLeftBy l left → IsOrderly left
-left_orderly l left whole cut h = after_crash h.0 (end h.1) h.2
-  where
-    end : (h.0 ≡ l.book) ⊎ (h.0 ≡ cut_book l) → IsOrderly h.0
-    end (inl e) = subst IsOrderly (sym e) whole
-    end (inr e) = subst IsOrderly (sym e) cut
-
-    after_crash : (b : Book) → IsOrderly b → (left ≡ b) ⊎ IsCrashOf b left → IsOrderly left
-    after_crash b good (inl e) = subst IsOrderly (sym e) good
-    after_crash b good (inr crash) = record { distinct = ap are_distinct (crash_ids b left crash) ∙ good.distinct; orderly = is_orderly-crash b left crash good.orderly }
+-- a crash leaves an orderly book
+pub crash_orderly : (b left : Book) → IsOrderly b → (left ≡ b) ⊎ IsCrashOf b left → IsOrderly left
+crash_orderly b left good (inl e) = subst IsOrderly (sym e) good
+crash_orderly b left good (inr crash) = record { distinct = ap are_distinct (crash_ids b left crash) ∙ good.distinct; orderly = is_orderly-crash b left crash good.orderly }

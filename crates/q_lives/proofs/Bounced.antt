@@ -51,6 +51,7 @@ use Rattle.q_model.specs.declared.rows.Place.TheVariants as places
 use Rattle.q_model.specs.declared.entry.Entry.{Entry}
 use Rattle.q_model.specs.declared.id.Id.{Id}
 use Rattle.q_model.specs.declared.entry.Entry.TheVariants as entries
+use Rattle.q_model.specs.Values.{Receiver}
 
 -- how often the bounce of an id stands in a list of ids
 abbrev pub bounces_in : Id → List Id → ℕ
@@ -216,7 +217,7 @@ new_pairs first es w l x e h c fresh childless plain none id alone there =
     no_entry true k never = absurd (never k)
     no_entry false k never = count_none (is_bounce_entry id) es k
 
-arrive_pairs : (first : Book) (es : List Entry) (w : World) (l : Ledger) (i : Id) (sender : Option (List ℕ)) (to : List (List ℕ)) (content : List ℕ) → IsBounced first es l → IsConsistent w l → may_arrive l i ≡ true → IsPairStep first es l (change w l (entries.Arrive i sender to content)) (entries.Arrive i sender to content)
+arrive_pairs : (first : Book) (es : List Entry) (w : World) (l : Ledger) (i : Id) (sender : Option (List ℕ)) (to : List Receiver) (content : List ℕ) → IsBounced first es l → IsConsistent w l → may_arrive l i ≡ true → IsPairStep first es l (change w l (entries.Arrive i sender to content)) (entries.Arrive i sender to content)
 arrive_pairs first es w l i sender to content h c can =
     let same : i ≡ next_id l = id_eq-true i (next_id l) (and_parts l.timed (id_eq i (next_id l)) can).1 in
     record {

@@ -130,7 +130,7 @@ lives_few first done book [] good h b few = subst (BouncedAtMostOnce first) (sym
 lives_few first done book (life ∷ lives) good h b few =
     let all = one_life first done book life good h.0 b in
     let next = lives_orderly book (life ∷ []) good (h.0, tt) in
-    let left = left_bounced first (done ++ life_entries book life) (ledger_of book life) life.left (h.0).left all.end in
+    let left = left_bounced first (done ++ life_entries book life) (ledger_of book life) life.steps life.left (h.0).left all.end in
     subst (BouncedAtMostOnce first) (append_assoc done (life_entries book life) (trace life.left lives))
     (lives_few first (done ++ life_entries book life) life.left lives next h.1 left (life_few first done book life good h.0 b few))
 

@@ -13,11 +13,15 @@ use Rattle.q_laws.specs.Consistency.{IsConsistent, IsUsable}
 use Rattle.q_laws.specs.Traces.{AreEntriesOf}
 use Rattle.q_lives.specs.Lives.{IsOrderly, cut_book}
 use Rattle.q_lives.proofs.Bounced.{IsBounced, IsBouncedBook, bounces_in, life_bounced, step_bounced}
-use Rattle.q_lives.proofs.LawfulLives.{left_damaged}
+use Rattle.q_lives.proofs.LawfulLives.{left_names}
+use Rattle.q_lives.proofs.ToolSteps.{StepsKeep, worked_keeps}
+use Rattle.q_lives.specs.Tools.{cut_step}
+use Rattle.q_model.specs.ToolSteps.{ToolStep, after_step, fails, moves}
 use Rattle.q_lives.proofs.Standing.{left_ids, message_ids, once_in}
 use Rattle.q_lives.proofs.Throughout.{entry_may, first_entry, lives_orderly, run_all, take_entries}
 use Rattle.q_lives.specs.Bounces.{BouncedAtEach, BouncedOnce, BouncedThroughout, bounces}
-use Rattle.q_lives.specs.Lives.{AreLives, IsLeftBy, IsLife, Life, cut_off, life_entries, ledger_of}
+use Rattle.q_lives.specs.Lives.{AreLives, IsLeftBy, IsLife, Life, life_entries, ledger_of}
+use Rattle.q_model.specs.CutOff.{cut_off}
 use Rattle.q_model.specs.Book.{Book, Damaged, message_of}
 use Rattle.q_model.specs.Crashes.{IsCrashOf}
 use Rattle.q_model.specs.Book.{all_ids}
@@ -176,10 +180,21 @@ cut_on : (b : Book) (o : Option Entry) → (option_map_or (λ e. cut_off e b) o 
 cut_on b None = refl
 cut_on b (Some e) = cut_generation e b
 
-pub left_generation : (l : Ledger) (left : Book) → IsLeftBy l left → left.generation ≡ l.book.generation
-left_generation l left h = after_crash h.0 h.2 ∙ end h.1
+step_generation : (b : Book) (s : ToolStep) → (after_step b s).generation ≡ b.generation
+step_generation b (moves id place) = refl
+step_generation b (fails id position) = refl
+
+cut_step_generation : (b : Book) (s : ToolStep) → (cut_step b s).generation ≡ b.generation
+cut_step_generation b (moves id place) = refl
+cut_step_generation b (fails id position) = refl
+
+generation_keep : StepsKeep (λ b c. c.generation ≡ b.generation)
+generation_keep = record { same = λ b. refl; join = λ a b c h k. k ∙ h; step = step_generation; cut = cut_step_generation }
+
+pub left_generation : (l : Ledger) (steps : List ToolStep) (left : Book) → IsLeftBy l steps left → left.generation ≡ l.book.generation
+left_generation l steps left h = after_crash h.worked h.leaves ∙ worked_keeps (λ b c. c.generation ≡ b.generation) generation_keep l steps left h ∙ end h.ends
   where
-    end : (h.0 ≡ l.book) ⊎ (h.0 ≡ cut_book l) → (h.0).generation ≡ l.book.generation
+    end : (h.end ≡ l.book) ⊎ (h.end ≡ cut_book l) → (h.end).generation ≡ l.book.generation
     end (inl e) = ap (λ (b : Book). b.generation) e
     end (inr e) = ap (λ (b : Book). b.generation) e ∙ cut_on l.book (slice_get l.past 0)
 
@@ -187,21 +202,21 @@ left_generation l left h = after_crash h.0 h.2 ∙ end h.1
     after_crash b (inl e) = ap (λ (x : Book). x.generation) e
     after_crash b (inr crash) = crash.generation
 
-pub left_bounced : (first : Book) (es : List Entry) (l : Ledger) (left : Book) → IsLeftBy l left → IsBouncedBook first es l.book → IsBouncedBook first es left
-left_bounced first es l left h b =
-    let whole = left_ids l left h in
-    let broken : map (λ (d : Damaged). d.id) left.damaged ≡ map (λ (d : Damaged). d.id) l.book.damaged = ap (map (λ (d : Damaged). d.id)) (left_damaged l left h) in
+pub left_bounced : (first : Book) (es : List Entry) (l : Ledger) (steps : List ToolStep) (left : Book) → IsLeftBy l steps left → IsBouncedBook first es l.book → IsBouncedBook first es left
+left_bounced first es l steps left h b =
+    let whole = left_ids l steps left h in
+    let broken : map (λ (d : Damaged). d.id) left.damaged ≡ map (λ (d : Damaged). d.id) l.book.damaged = left_names l steps left h in
     record {
       pairs = λ id plain there. b.pairs id plain (subst (IsIn id) whole there)
           ∙ sym (ap (λ (xs : List Id). bounces_in id (xs ++ map (λ (d : Damaged). d.id) left.damaged)) whole ∙ ap (λ (xs : List Id). bounces_in id (message_ids l.book ++ xs)) broken);
-      old = λ id o. subst (λ g. id.generation ≤ g) (sym (left_generation l left h)) (b.old id o);
+      old = λ id o. subst (λ g. id.generation ≤ g) (sym (left_generation l steps left h)) (b.old id o);
     }
 
 lives_bounced : (first : Book) (done : List Entry) (book : Book) (lives : List Life) → IsOrderly book → AreLives book lives → IsBouncedBook first done book → BouncedThroughout first done book lives
 lives_bounced first done book [] good h b = tt
 lives_bounced first done book (life ∷ lives) good h b =
     let all = one_life first done book life good h.0 b in
-    (all.each, lives_bounced first (done ++ life_entries book life) life.left lives (lives_orderly book (life ∷ []) good (h.0, tt)) h.1 (left_bounced first (done ++ life_entries book life) (ledger_of book life) life.left (h.0).left all.end))
+    (all.each, lives_bounced first (done ++ life_entries book life) life.left lives (lives_orderly book (life ∷ []) good (h.0, tt)) h.1 (left_bounced first (done ++ life_entries book life) (ledger_of book life) life.steps life.left (h.0).left all.end))
 
 -- at first as many bounces stand as stand
 pub begins_bounced : (book : Book) → IsOrderly book → IsBouncedBook book [] book

@@ -29,11 +29,10 @@ use Rattle.q_model.specs.declared.event.Trigger.{Trigger}
 use Rattle.q_model.specs.declared.rows.Request.{Request}
 use Rattle.q_model.specs.declared.rows.Scan.{Scan}
 use Rattle.q_model.specs.declared.event.Trigger.TheVariants as triggers
-use Rattle.q_model.specs.declared.rows.Mark.TheVariants as marks
 use Rattle.q_model.specs.declared.rows.Request.TheVariants as requests
 use Rattle.q_laws.proofs.Books.{message_in}
 use Rattle.q_laws.proofs.Distinct.{id_cases}
-use Rattle.q_model.specs.Book.{Book, message_of}
+use Rattle.q_model.specs.Book.{message_of}
 use Rattle.q_model.specs.BookChanges.{add_message, change_message, remove_message}
 use Rattle.q_model.specs.Deliveries.{flight_of}
 use Rattle.q_model.specs.Ids.{id_eq}
@@ -42,7 +41,7 @@ use Rattle.q_model.specs.Logs.{first_logged, may_log, needs_log, with_failure}
 use Rattle.q_model.specs.Marking.{drop_unsettled, is_unmarked_at, marks_first, marks_leftover, needs_mark, with_mark}
 use Rattle.q_model.specs.Leftovers.{is_leftover, is_next_leftover}
 use Rattle.q_model.specs.Marks.{is_marked}
-use Rattle.q_model.specs.Message.{Message, Recipient, is_logged}
+use Rattle.q_model.specs.Message.{Message, Recipient, is_logged, new_recipient}
 use Rattle.q_model.specs.Notices.{bounce_message}
 use Rattle.q_model.specs.Past.{is_life}
 use Rattle.q_model.specs.Settings.{World}
@@ -60,20 +59,21 @@ use Rattle.q_model.specs.declared.entry.Entry.TheVariants as entries
 use Rattle.q_model.specs.declared.outcome.Outcome.TheVariants as outcomes
 use Rattle.q_model.specs.declared.rows.Need.TheVariants as needs
 use Rattle.q_model.specs.declared.rows.Place.TheVariants as places
+use Rattle.q_model.specs.Values.{Receiver}
 
 -- Whoever is done has a cause in these entries, and so has who needs a mark; each delivery in flight started in them.
-pub record IsCaused (first : Book) (es : List Entry) (l : Ledger) : Type 0 where
+pub record IsCaused (first : Id → ℕ → Type 0) (es : List Entry) (l : Ledger) : Type 0 where
   pub done : (id : Id) (p : ℕ) → is_done_at l.book id p ≡ true → Cause first es id p
   pub flights : (f : Delivery) → IsIn f l.flights → IsStarted es f
   pub unsettled : (u : Unsettled) → IsIn u l.unsettled → needs_mark u.need ≡ true → Cause first es u.id u.position
 
 -- what an entry has to show of the ledger that it makes: who is done newly has a cause, and so on
-record IsStep (first : Book) (es : List Entry) (l k : Ledger) (e : Entry) : Type 0 where
+record IsStep (first : Id → ℕ → Type 0) (es : List Entry) (l k : Ledger) (e : Entry) : Type 0 where
   done : (id : Id) (p : ℕ) → is_done_at k.book id p ≡ true → (is_done_at l.book id p ≡ true) ⊎ Cause first (es ++ e ∷ []) id p
   flights : (f : Delivery) → IsIn f k.flights → IsIn f l.flights ⊎ IsStarted (es ++ e ∷ []) f
   unsettled : (u : Unsettled) → IsIn u k.unsettled → needs_mark u.need ≡ true → IsIn u l.unsettled ⊎ Cause first (es ++ e ∷ []) u.id u.position
 
-step_caused : (first : Book) (es : List Entry) (l k : Ledger) (e : Entry) → is_life e ≡ false → IsCaused first es l → IsStep first es l k e → IsCaused first (es ++ e ∷ []) k
+step_caused : (first : Id → ℕ → Type 0) (es : List Entry) (l k : Ledger) (e : Entry) → is_life e ≡ false → IsCaused first es l → IsStep first es l k e → IsCaused first (es ++ e ∷ []) k
 step_caused first es l k e alive c s = record {
   done = λ id p h. elim (s.done id p h) [ inl old ↦ cause_more first es id p e (c.done id p old) | inr new ↦ new ];
   flights = λ f h. elim (s.flights f h) [ inl old ↦ started_more es f e alive (c.flights f old) | inr new ↦ new ];
@@ -83,7 +83,7 @@ step_caused first es l k e alive c s = record {
 -- ---- entries that add nothing
 
 -- where the flights and the unsettled outcomes are as before, and nobody is done newly
-book_step : (first : Book) (es : List Entry) (l k : Ledger) (e : Entry) → k.flights ≡ l.flights → k.unsettled ≡ l.unsettled → ((id : Id) (p : ℕ) → is_done_at k.book id p ≡ true → is_done_at l.book id p ≡ true) → IsStep first es l k e
+book_step : (first : Id → ℕ → Type 0) (es : List Entry) (l k : Ledger) (e : Entry) → k.flights ≡ l.flights → k.unsettled ≡ l.unsettled → ((id : Id) (p : ℕ) → is_done_at k.book id p ≡ true → is_done_at l.book id p ≡ true) → IsStep first es l k e
 book_step first es l k e flights unsettled done = record {
   done = λ id p h. inl (done id p h);
   flights = λ f h. inl (subst (IsIn f) flights h);
@@ -92,7 +92,7 @@ book_step first es l k e flights unsettled done = record {
 
 -- ---- one kind of entry after another
 
-start_step : (first : Book) (es : List Entry) (l k : Ledger) (f : Delivery) → k.book ≡ l.book → k.unsettled ≡ l.unsettled → k.flights ≡ l.flights ++ f ∷ [] → IsStep first es l k (entries.Start f.number f.row.id f.row.site f.row.positions)
+start_step : (first : Id → ℕ → Type 0) (es : List Entry) (l k : Ledger) (f : Delivery) → k.book ≡ l.book → k.unsettled ≡ l.unsettled → k.flights ≡ l.flights ++ f ∷ [] → IsStep first es l k (entries.Start f.number f.row.id f.row.site f.row.positions)
 start_step first es l k f book unsettled flights = record {
   done = λ id p h. inl (sym (ap (λ b. is_done_at b id p) book) ∙ h);
   flights = λ g h. elim (in_either g l.flights (f ∷ []) (subst (IsIn g) flights h)) [
@@ -106,7 +106,7 @@ start_step first es l k f book unsettled flights = record {
     one g (inl same) = subst (IsStarted (es ++ entries.Start f.number f.row.id f.row.site f.row.positions ∷ [])) same (started_now es f)
     one g (inr k) = absurd k
 
-log_step : (first : Book) (es : List Entry) (l k : Ledger) (i : Id) (f : Failure) → k.book ≡ change_message l.book i (with_failure f) → k.flights ≡ l.flights → k.unsettled ≡ first_logged l.unsettled → may_log l i f ≡ true → IsStep first es l k (entries.Log i f)
+log_step : (first : Id → ℕ → Type 0) (es : List Entry) (l k : Ledger) (i : Id) (f : Failure) → k.book ≡ change_message l.book i (with_failure f) → k.flights ≡ l.flights → k.unsettled ≡ first_logged l.unsettled → may_log l i f ≡ true → IsStep first es l k (entries.Log i f)
 log_step first es l k i f book flights unsettled can =
     let one = first_on l i f.position (needs_log f) l.unsettled refl can in
     record {
@@ -126,7 +126,7 @@ log_step first es l k i f book flights unsettled can =
     on u v rest (inl same) e mine at = inr (subst (λ (x : Unsettled). Cause first (es ++ entries.Log i f ∷ []) x.id x.position) same
         (logged_now first es v.id v.position (entries.Log i f) (and_from (id_eq i v.id) (f.position == v.position) (subst (λ (j : Id). id_eq i j ≡ true) (sym mine) (id_eq-refl i)) (eq-eqb f.position v.position (sym at)))))
 
-reply_step : (first : Book) (es : List Entry) (w : World) (l k : Ledger) (f : Delivery) (number : ℕ) (state : SiteState) (os : List Outcome) (m : Message) → IsCaused first es l → IsIn f l.flights → f.number ≡ number → m.id ≡ f.row.id → k.book ≡ l.book →
+reply_step : (first : Id → ℕ → Type 0) (es : List Entry) (w : World) (l k : Ledger) (f : Delivery) (number : ℕ) (state : SiteState) (os : List Outcome) (m : Message) → IsCaused first es l → IsIn f l.flights → f.number ≡ number → m.id ≡ f.row.id → k.book ≡ l.book →
     ((g : Delivery) → IsIn g k.flights → IsIn g l.flights) → k.unsettled ≡ l.unsettled ++ needs_of w l.now m f.row.positions os → IsStep first es l k (entries.Reply number state os)
 reply_step first es w l k f number state os m c inside same name book flights unsettled = record {
   done = λ id p h. inl (sym (ap (λ b. is_done_at b id p) book) ∙ h);
@@ -139,7 +139,7 @@ reply_step first es w l k f number state os m c inside same name book flights un
 }
 
 -- rows that are put off need no mark
-skip_step : (first : Book) (es : List Entry) (w : World) (l k : Ledger) (ps : List ℕ) (n : ℕ) (m : Message) (e : Entry) → k.book ≡ l.book → k.flights ≡ l.flights → k.unsettled ≡ l.unsettled ++ needs_of w l.now m ps (replicate n (outcomes.Later 0)) → IsStep first es l k e
+skip_step : (first : Id → ℕ → Type 0) (es : List Entry) (w : World) (l k : Ledger) (ps : List ℕ) (n : ℕ) (m : Message) (e : Entry) → k.book ≡ l.book → k.flights ≡ l.flights → k.unsettled ≡ l.unsettled ++ needs_of w l.now m ps (replicate n (outcomes.Later 0)) → IsStep first es l k e
 skip_step first es w l k ps n m e book flights unsettled = record {
   done = λ id p h. inl (sym (ap (λ b. is_done_at b id p) book) ∙ h);
   flights = λ g h. inl (subst (IsIn g) flights h);
@@ -155,7 +155,7 @@ fewer_dropped [] true u h = absurd h
 fewer_dropped (v ∷ us) true u h = inr h
 
 -- a mark is of the first unsettled outcome, or of a failure that a leftover has
-mark_cause : (first : Book) (es : List Entry) (l : Ledger) (i : Id) (q : ℕ) → IsCaused first es l → (marks_first l i q || marks_leftover l i q) ≡ true → Cause first es i q ⊎ (is_done_at l.book i q ≡ true)
+mark_cause : (first : Id → ℕ → Type 0) (es : List Entry) (l : Ledger) (i : Id) (q : ℕ) → IsCaused first es l → (marks_first l i q || marks_leftover l i q) ≡ true → Cause first es i q ⊎ (is_done_at l.book i q ≡ true)
 mark_cause first es l i q c can = elim (or_cases (marks_first l i q) (marks_leftover l i q) can) [
   | inl one ↦
       let u = first_on l i q needs_mark l.unsettled refl one in
@@ -167,7 +167,7 @@ mark_cause first es l i q c can = elim (or_cases (marks_first l i q) (marks_left
     on None h = absurd cc
     on (Some m) h = or_left (is_logged m q) (option_map_or (λ r. is_marked r.mark) (slice_get m.recipients q) false) (and_parts (is_logged m q) (is_unmarked_at m q) h).0
 
-mark_step : (first : Book) (es : List Entry) (l k : Ledger) (i : Id) (q : ℕ) → IsCaused first es l → k.book ≡ change_message l.book i (with_mark q) → k.flights ≡ l.flights → k.unsettled ≡ drop_unsettled l i q → (marks_first l i q || marks_leftover l i q) ≡ true → IsStep first es l k (entries.Mark i q)
+mark_step : (first : Id → ℕ → Type 0) (es : List Entry) (l k : Ledger) (i : Id) (q : ℕ) → IsCaused first es l → k.book ≡ change_message l.book i (with_mark q) → k.flights ≡ l.flights → k.unsettled ≡ drop_unsettled l i q → (marks_first l i q || marks_leftover l i q) ≡ true → IsStep first es l k (entries.Mark i q)
 mark_step first es l k i q c book flights unsettled can = record {
   done = λ id p h. elim (changed_done l.book i (with_mark q) id p (λ m. refl) (sym (ap (λ b. is_done_at b id p) book) ∙ h)) [
     | inl old ↦ inl old
@@ -232,12 +232,12 @@ pub corrupt_alike : (l : Ledger) (b : Bool) → IsAlike l (if b then l else afte
 corrupt_alike l true = record { book = refl; flights = refl; unsettled = refl; past = refl }
 corrupt_alike l false = picked_alike l (pick l)
 
-alike_step : (first : Book) (es : List Entry) (l k : Ledger) (e : Entry) → IsAlike l k → IsStep first es l k e
+alike_step : (first : Id → ℕ → Type 0) (es : List Entry) (l k : Ledger) (e : Entry) → IsAlike l k → IsStep first es l k e
 alike_step first es l k e a = book_step first es l k e a.flights a.unsettled (λ id p h. sym (ap (λ b. is_done_at b id p) a.book) ∙ h)
 
 -- ---- outcomes
 
-reply_on : (first : Book) (es : List Entry) (w : World) (l : Ledger) (number : ℕ) (state : SiteState) (os : List Outcome) (f : Delivery) (o : Option Message) → IsCaused first es l → flight_of l number ≡ Some f → message_of l.book f.row.id ≡ o →
+reply_on : (first : Id → ℕ → Type 0) (es : List Entry) (w : World) (l : Ledger) (number : ℕ) (state : SiteState) (os : List Outcome) (f : Delivery) (o : Option Message) → IsCaused first es l → flight_of l number ≡ Some f → message_of l.book f.row.id ≡ o →
     IsStep first es l (option_map_or (λ (m : Message). record (landed w l state f) { unsettled = l.unsettled ++ needs_of w l.now m f.row.positions os }) o (landed w l state f)) (entries.Reply number state os)
 reply_on first es w l number state os f None c found there = record {
   done = λ id p h. inl h;
@@ -249,18 +249,18 @@ reply_on first es w l number state os f (Some m) c found there =
     reply_step first es w l (record (landed w l state f) { unsettled = l.unsettled ++ needs_of w l.now m f.row.positions os }) f number state os m c one.0 (eqb-true f.number number one.1) (message_in l.book f.row.id m there).1 refl
     (λ g h. (in_filtered (λ (x : Delivery). not (x.number == f.number)) g l.flights h).0) refl
 
-replied_on : (first : Book) (es : List Entry) (w : World) (l : Ledger) (number : ℕ) (state : SiteState) (os : List Outcome) (o : Option Delivery) → IsCaused first es l → flight_of l number ≡ o → IsStep first es l (option_map_or (λ (f : Delivery). replied w l state os f) o l) (entries.Reply number state os)
+replied_on : (first : Id → ℕ → Type 0) (es : List Entry) (w : World) (l : Ledger) (number : ℕ) (state : SiteState) (os : List Outcome) (o : Option Delivery) → IsCaused first es l → flight_of l number ≡ o → IsStep first es l (option_map_or (λ (f : Delivery). replied w l state os f) o l) (entries.Reply number state os)
 replied_on first es w l number state os None c found = alike_step first es l l (entries.Reply number state os) (record { book = refl; flights = refl; unsettled = refl; past = refl })
 replied_on first es w l number state os (Some f) c found = reply_on first es w l number state os f (message_of l.book f.row.id) c found refl
 
-skip_on : (first : Book) (es : List Entry) (w : World) (l k : Ledger) (ps : List ℕ) (e : Entry) (o : Option Message) → IsAlike l k → k.now ≡ l.now →
+skip_on : (first : Id → ℕ → Type 0) (es : List Entry) (w : World) (l k : Ledger) (ps : List ℕ) (e : Entry) (o : Option Message) → IsAlike l k → k.now ≡ l.now →
     IsStep first es l (option_map_or (λ (m : Message). record k { unsettled = k.unsettled ++ needs_of w k.now m ps (replicate (length ps) (outcomes.Later 0)) }) o k) e
 skip_on first es w l k ps e None a now = alike_step first es l k e a
 skip_on first es w l k ps e (Some m) a now =
     skip_step first es w l (record k { unsettled = k.unsettled ++ needs_of w k.now m ps (replicate (length ps) (outcomes.Later 0)) }) ps (length ps) m e a.book a.flights
     (ap (λ us. us ++ needs_of w k.now m ps (replicate (length ps) (outcomes.Later 0))) a.unsettled ∙ ap (λ n. l.unsettled ++ needs_of w n m ps (replicate (length ps) (outcomes.Later 0))) now)
 
-bounce_on : (first : Book) (es : List Entry) (l : Ledger) (e : Entry) (o : Option Message) → IsStep first es l (option_map_or (λ (m : Message). record l { book = add_message l.book (bounce_message l.now m) }) o l) e
+bounce_on : (first : Id → ℕ → Type 0) (es : List Entry) (l : Ledger) (e : Entry) (o : Option Message) → IsStep first es l (option_map_or (λ (m : Message). record l { book = add_message l.book (bounce_message l.now m) }) o l) e
 bounce_on first es l e None = alike_step first es l l e (record { book = refl; flights = refl; unsettled = refl; past = refl })
 bounce_on first es l e (Some m) = book_step first es l (record l { book = add_message l.book (bounce_message l.now m) }) e refl refl (λ id p h. added_done l.book (bounce_message l.now m) id p (none p) h)
   where
@@ -268,14 +268,14 @@ bounce_on first es l e (Some m) = book_step first es l (record l { book = add_me
     none zero = refl
     none (suc p) = refl
 
-new_bare : (to : List (List ℕ)) (p : ℕ) → option_map_or (λ (r : Recipient). is_marked r.mark) (slice_get (map (λ (address : List ℕ). record { address = address; mark = marks.Unmarked }) to) p) false ≡ false
+new_bare : (to : List Receiver) (p : ℕ) → option_map_or (λ (r : Recipient). is_marked r.mark) (slice_get (map new_recipient to) p) false ≡ false
 new_bare [] p = refl
 new_bare (a ∷ to) zero = refl
 new_bare (a ∷ to) (suc p) = new_bare to p
 
 -- ---- each entry
 
-change_step : (first : Book) (es : List Entry) (w : World) (l : Ledger) (e : Entry) → IsConsistent w l → may w l e ≡ true → is_life e ≡ false → IsCaused first es l → IsStep first es l (change w l e) e
+change_step : (first : Id → ℕ → Type 0) (es : List Entry) (w : World) (l : Ledger) (e : Entry) → IsConsistent w l → may w l e ≡ true → is_life e ≡ false → IsCaused first es l → IsStep first es l (change w l e) e
 change_step first es w l (entries.Life generation mode) c can alive h = absurd cc
 change_step first es w l (entries.At t) c can alive h = alike_step first es l (change w l (entries.At t)) (entries.At t) (at_alike w l t (nat_le l.next_run t))
 change_step first es w l (entries.Arrive i sender to content) c can alive h = book_step first es l (change w l (entries.Arrive i sender to content)) (entries.Arrive i sender to content) refl refl (λ id p k. added_done l.book (arrived l i sender to content) id p (new_bare to p) k)
@@ -315,7 +315,7 @@ pub after_still : (w : World) (l : Ledger) (e : Entry) → IsStill (change w l e
 unfolding after
 after_still w l e = let a = tidied_still w l (noted e (change w l e)) in record { book = a.book; flights = a.flights; unsettled = a.unsettled }
 
-still_caused : (first : Book) (es : List Entry) (l k : Ledger) → IsStill l k → IsCaused first es l → IsCaused first es k
+still_caused : (first : Id → ℕ → Type 0) (es : List Entry) (l k : Ledger) → IsStill l k → IsCaused first es l → IsCaused first es k
 still_caused first es l k a c = record {
   done = λ id p h. c.done id p (sym (ap (λ b. is_done_at b id p) a.book) ∙ h);
   flights = λ f h. c.flights f (subst (IsIn f) a.flights h);
@@ -323,7 +323,7 @@ still_caused first es l k a c = record {
 }
 
 -- a new life
-pub life_caused : (first : Book) (es : List Entry) (w : World) (l : Ledger) (generation : ℕ) (mode : Mode) → ((id : Id) (p : ℕ) → is_done_at l.book id p ≡ true → Cause first es id p) → IsCaused first (es ++ entries.Life generation mode ∷ []) (after w l (entries.Life generation mode))
+pub life_caused : (first : Id → ℕ → Type 0) (es : List Entry) (w : World) (l : Ledger) (generation : ℕ) (mode : Mode) → ((id : Id) (p : ℕ) → is_done_at l.book id p ≡ true → Cause first es id p) → IsCaused first (es ++ entries.Life generation mode ∷ []) (after w l (entries.Life generation mode))
 life_caused first es w l generation mode c =
     let e = entries.Life generation mode in
     still_caused first (es ++ e ∷ []) (change w l e) (after w l e) (after_still w l e) (record {
@@ -332,11 +332,11 @@ life_caused first es w l generation mode c =
       unsettled = λ u h needs. absurd h;
     })
 
-other : (first : Book) (es : List Entry) (w : World) (l : Ledger) (e : Entry) → IsConsistent w l → may w l e ≡ true → is_life e ≡ false → IsCaused first es l → IsCaused first (es ++ e ∷ []) (after w l e)
+other : (first : Id → ℕ → Type 0) (es : List Entry) (w : World) (l : Ledger) (e : Entry) → IsConsistent w l → may w l e ≡ true → is_life e ≡ false → IsCaused first es l → IsCaused first (es ++ e ∷ []) (after w l e)
 other first es w l e c can alive h = still_caused first (es ++ e ∷ []) (change w l e) (after w l e) (after_still w l e) (step_caused first es l (change w l e) e alive h (change_step first es w l e c can alive h))
 
 -- each entry
-pub entry_caused : (first : Book) (es : List Entry) (w : World) (l : Ledger) (e : Entry) → IsConsistent w l → may w l e ≡ true → IsCaused first es l → IsCaused first (es ++ e ∷ []) (after w l e)
+pub entry_caused : (first : Id → ℕ → Type 0) (es : List Entry) (w : World) (l : Ledger) (e : Entry) → IsConsistent w l → may w l e ≡ true → IsCaused first es l → IsCaused first (es ++ e ∷ []) (after w l e)
 entry_caused first es w l (entries.Life generation mode) c can h = life_caused first es w l generation mode h.done
 entry_caused first es w l (entries.At t) c can h = other first es w l (entries.At t) c can refl h
 entry_caused first es w l (entries.Arrive i sender to content) c can h = other first es w l (entries.Arrive i sender to content) c can refl h

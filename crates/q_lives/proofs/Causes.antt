@@ -7,7 +7,6 @@ use Rattle.std.specs.List.{cons_option, list_any}
 use Rattle.std.specs.Prelude.{◌==◌, ◌||◌}
 use Rattle.q_laws.proofs.Members.{IsIn}
 use Rattle.q_lives.specs.Causes.{Cause, is_log_of, says_ok}
-use Rattle.q_model.specs.Book.{Book}
 use Rattle.q_model.specs.Marking.{needs_mark}
 use Rattle.q_model.specs.Message.{Message}
 use Rattle.q_model.specs.Past.{is_life}
@@ -34,7 +33,7 @@ pub record IsStarted (es : List Entry) (f : Delivery) : Type 0 where
 
 -- ---- an entry more
 
-pub cause_more : (first : Book) (es : List Entry) (id : Id) (p : ℕ) (e : Entry) → Cause first es id p → Cause first (es ++ e ∷ []) id p
+pub cause_more : (first : Id → ℕ → Type 0) (es : List Entry) (id : Id) (p : ℕ) (e : Entry) → Cause first es id p → Cause first (es ++ e ∷ []) id p
 cause_more first es id p e (inl old) = inl old
 cause_more first es id p e (inr (inr logged)) = inr (inr (list_any-append (is_log_of id p) es (e ∷ []) ∙ or_left (list_any (is_log_of id p) es) (list_any (is_log_of id p) (e ∷ [])) logged))
 cause_more first es id p e (inr (inl reported)) =
@@ -72,11 +71,11 @@ pub started_now : (es : List Entry) (f : Delivery) → IsStarted (es ++ entries.
 started_now es f = record { before = es; between = []; entries = refl; same_life = refl }
 
 -- a failure that is stored now
-pub logged_now : (first : Book) (es : List Entry) (id : Id) (p : ℕ) (e : Entry) → is_log_of id p e ≡ true → Cause first (es ++ e ∷ []) id p
+pub logged_now : (first : Id → ℕ → Type 0) (es : List Entry) (id : Id) (p : ℕ) (e : Entry) → is_log_of id p e ≡ true → Cause first (es ++ e ∷ []) id p
 logged_now first es id p e h = inr (inr (list_any-append (is_log_of id p) es (e ∷ []) ∙ or_right (list_any (is_log_of id p) es) (is_log_of id p e || false) (or_left (is_log_of id p e) false h)))
 
 -- a delivery that is reported now
-pub reported_now : (first : Book) (es : List Entry) (f : Delivery) (state : SiteState) (os : List Outcome) (id : Id) (p : ℕ) → IsStarted es f → id ≡ f.row.id → says_ok p f.row.positions os ≡ true → Cause first (es ++ entries.Reply f.number state os ∷ []) id p
+pub reported_now : (first : Id → ℕ → Type 0) (es : List Entry) (f : Delivery) (state : SiteState) (os : List Outcome) (id : Id) (p : ℕ) → IsStarted es f → id ≡ f.row.id → says_ok p f.row.positions os ≡ true → Cause first (es ++ entries.Reply f.number state os ∷ []) id p
 reported_now first es f state os id p s same ok = subst (λ (i : Id). Cause first (es ++ entries.Reply f.number state os ∷ []) i p) (sym same) (inr (inl (
   [],
   record {

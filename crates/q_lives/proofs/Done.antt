@@ -10,7 +10,7 @@ use Rattle.q_laws.proofs.Distinct.{id_cases}
 use Rattle.q_laws.proofs.InPlace.{changed, changed_name, changed_other, changed_same}
 use Rattle.q_laws.proofs.Mapped.{find_mapped}
 use Rattle.q_lives.specs.Causes.{is_done_at}
-use Rattle.q_lives.specs.Lives.{loosened, unsure_last}
+use Rattle.q_model.specs.CutOff.{loosened, unsure_last}
 use Rattle.q_model.specs.Book.{Book, message_of}
 use Rattle.q_model.specs.BookChanges.{add_message, change_message}
 use Rattle.q_model.specs.Crashes.{EachTo, FailuresAfter, IsCrashOf, MarkAfter, MessageAfter, RecipientAfter}

@@ -1,4 +1,4 @@
--- What each entry of a consistent ledger keeps of limits, accounts and windows, and that a message leaves when it is done.
+-- What each entry of a consistent ledger keeps of limits, windows, delays and accounts, and that a message leaves when it is done.
 use Rattle.std.proofs.Common.{◌≡◌, ℕ, ◌+◌, ◌-◌, ◌*◌, true, false, not, [], map, Option, Some, None, refl, sym, subst, eqb-true, leb-true}
 use Rattle.std.proofs.lemmas.Bool.{and_parts}
 use Rattle.std.specs.List.{list_any}
@@ -8,11 +8,12 @@ use Rattle.q_laws.proofs.Beginnings.{life_consistent}
 use Rattle.q_laws.proofs.Kept.{entry_consistent}
 use Rattle.q_laws.proofs.Members.{in_filtered, least_in}
 use Rattle.q_laws.proofs.Places.{none_of}
+use Rattle.q_laws.proofs.Resting.{keeps_apart}
 use Rattle.q_laws.specs.Consistency.{IsConsistent}
 use Rattle.q_laws.specs.Traces.{IsWithinLimits}
 use Rattle.q_lives.proofs.Throughout.{HoldsAtEntries, HoldsAtFirst}
 use Rattle.q_lives.proofs.Windows.{start_window}
-use Rattle.q_lives.specs.Throughout.{FitsAccount, FitsWindow, IsPaid, KeepsLimits, LeavesDone}
+use Rattle.q_lives.specs.Throughout.{DeliversApart, FitsAccount, FitsWindow, IsPaid, KeepsLimits, LeavesDone}
 use Rattle.q_model.proofs.IdLaws.{id_eq-true}
 use Rattle.q_model.specs.Accounts.{charged, job_left, starts_of}
 use Rattle.q_model.specs.Book.{message_of}
@@ -67,6 +68,15 @@ windows_entries w l (entries.Remove id) c can is = tt
 windows_entries w l (entries.Corrupt id) c can is = tt
 windows_entries w l (entries.Trigger kind) c can is = tt
 windows_entries w l entries.End c can is = tt
+
+-- ---- delays
+
+-- before a life begins no delivery is in flight
+pub apart_first : HoldsAtFirst DeliversApart
+apart_first w mode book usable good number state outcomes f found = absurd cc
+
+pub apart_entries : HoldsAtEntries DeliversApart
+apart_entries w l e c can is = keeps_apart w l c
 
 -- ---- accounts
 

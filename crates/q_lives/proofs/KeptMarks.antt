@@ -49,6 +49,7 @@ use Rattle.q_model.specs.declared.rows.Unsettled.{Unsettled}
 use Rattle.q_model.specs.declared.entry.Entry.TheVariants as entries
 use Rattle.q_model.specs.declared.outcome.Outcome.TheVariants as outcomes
 use Rattle.q_model.specs.declared.rows.Place.TheVariants as places
+use Rattle.q_model.specs.Values.{Receiver}
 
 -- the id came before; and where it is a bounce's, the message that it is of is gone
 pub record IsKnown (l : Ledger) (id : Id) : Type 0 where
@@ -118,7 +119,7 @@ removed_book w l i c = record {
     gone : (id : Id) (n : Message) → id ≡ i → message_of (remove_message l.book i) id ≡ Some n → ⊥
     gone id n same h = let bad : ◌≡◌ {A = Option Message} None (Some n) = sym (removed_none l.book i) ∙ ap (message_of (remove_message l.book i)) (sym same) ∙ h in absurd cc
 
-arrived_book : (l : Ledger) (i : Id) (sender : Option (List ℕ)) (to : List (List ℕ)) (content : List ℕ) → may_arrive l i ≡ true → IsBookKept l (add_message l.book (arrived l i sender to content))
+arrived_book : (l : Ledger) (i : Id) (sender : Option (List ℕ)) (to : List Receiver) (content : List ℕ) → may_arrive l i ≡ true → IsBookKept l (add_message l.book (arrived l i sender to content))
 arrived_book l i sender to content can =
     let same : i ≡ next_id l = id_eq-true i (next_id l) (and_parts l.timed (id_eq i (next_id l)) can).1 in
     let never : HasCome l i → ⊥ = λ k. not_yet l i (ap (λ (j : Id). j.generation) same) (ap (λ (j : Id). j.serial) same) k.come in

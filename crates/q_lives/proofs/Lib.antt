@@ -2,6 +2,7 @@ pub mod Books
 pub mod Throughout
 pub mod Windows
 pub mod Entries
+pub mod OneByOne
 pub mod LawfulLives
 pub mod Done
 pub mod Causes
@@ -19,5 +20,7 @@ pub mod RepeatLives
 pub mod BouncedFew
 mod WorkedLives
 mod WorkedBounces
+mod WorkedTools
 pub mod AsArrived
 pub mod ArrivedLives
+pub mod ToolSteps

@@ -25,7 +25,13 @@ use Rattle.q_lives.proofs.Remembered.{IsRemembered, IsSureIn, kept_sure, step_re
 use Rattle.q_lives.proofs.Standing.{ids_mapped, left_ids, message_ids}
 use Rattle.q_lives.proofs.Throughout.{entry_may, first_entry, lives_orderly, run_all, take_entries}
 use Rattle.q_lives.specs.Causes.{IsReported}
-use Rattle.q_lives.specs.Lives.{AreLives, IsEnd, IsLeftBy, IsLife, IsOrderly, Life, cut_off, life_entries, ledger_of, loosened, trace}
+use Rattle.q_laws.proofs.Moved.{move_to}
+use Rattle.q_lives.proofs.ToolSteps.{StepsKeep, worked_keeps}
+use Rattle.q_lives.specs.Tools.{cut_step}
+use Rattle.q_model.specs.Logs.{with_failure}
+use Rattle.q_model.specs.ToolSteps.{ToolStep, after_step, fails, given_up, moves}
+use Rattle.q_lives.specs.Lives.{AreLives, IsEnd, IsLeftBy, IsLife, IsOrderly, Life, life_entries, ledger_of, trace}
+use Rattle.q_model.specs.CutOff.{cut_off, loosened}
 use Rattle.q_lives.specs.Repeats.{IsMarkedForGood, IsUnsynced, RepeatsUnsynced, names}
 use Rattle.q_model.proofs.IdLaws.{id_eq-refl}
 use Rattle.q_model.specs.Book.{Book, message_of}
@@ -344,16 +350,32 @@ crash_find (o ∷ os) (x ∷ ns) id n h e = on (id_eq x.id id) (id_eq o.id id) (
 crash_sure : (b c : Book) (id : Id) (p : ℕ) → IsCrashOf b c → IsSureIn b id p → IsSureIn c id p
 crash_sure b c id p h sure n there = let was = crash_find b.messages c.messages id n h.messages there in marks_stay was.0.recipients n.recipients p was.2.recipients (sure was.0 was.1)
 
-left_remembered : (es : List Entry) (l : Ledger) (left : Book) → IsLeftBy l left → IsRememberedBook es l.book → IsRememberedBook es left
-left_remembered es l left h b = record {
+-- who is marked for sure in a book is so in another
+abbrev StaySure : Book → Book → Type 0
+StaySure b c = (id : Id) (p : ℕ) → IsSureIn b id p → IsSureIn c id p
+
+step_sure : (b : Book) (s : ToolStep) → StaySure b (after_step b s)
+step_sure b (moves i place) = λ id p. kept_sure b (after_step b (moves i place)) id p (changed_before b i (move_to place) id (λ m. refl) (λ m there. same_marks m (move_to place m) refl))
+step_sure b (fails i position) = λ id p. kept_sure b (after_step b (fails i position)) id p
+    (changed_before b i (with_failure (given_up position)) id (λ m. refl) (λ m there. same_marks m (with_failure (given_up position) m) refl))
+
+cut_step_sure : (b : Book) (s : ToolStep) → StaySure b (cut_step b s)
+cut_step_sure b (moves i place) = λ id p sure. sure
+cut_step_sure b (fails i position) = λ id p. kept_sure b (cut_step b (fails i position)) id p (changed_before b i loosened id (λ m. refl) (λ m there. same_marks m (loosened m) refl))
+
+sure_keep : StepsKeep StaySure
+sure_keep = record { same = λ b id p sure. sure; join = λ a b c h k id p sure. k id p (h id p sure); step = step_sure; cut = cut_step_sure }
+
+left_remembered : (es : List Entry) (l : Ledger) (steps : List ToolStep) (left : Book) → IsLeftBy l steps left → IsRememberedBook es l.book → IsRememberedBook es left
+left_remembered es l steps left h b = record {
   known = λ id t. let k = b.known id t in record {
-    generation = subst (λ g. id.generation ≤ g) (sym (left_generation l left h)) k.generation;
-    alone = λ flag there. k.alone flag (subst (IsIn (cause_of id)) (left_ids l left h) there);
+    generation = subst (λ g. id.generation ≤ g) (sym (left_generation l steps left h)) k.generation;
+    alone = λ flag there. k.alone flag (subst (IsIn (cause_of id)) (left_ids l steps left h) there);
   };
-  sure = λ id p good. after_crash h.0 h.2 id p (end h.1 id p (b.sure id p good));
+  sure = λ id p good. after_crash h.worked h.leaves id p (worked_keeps StaySure sure_keep l steps left h id p (end h.ends id p (b.sure id p good)));
 }
   where
-    end : IsEnd l h.0 → (id : Id) (p : ℕ) → IsSureIn l.book id p → IsSureIn h.0 id p
+    end : IsEnd l h.end → (id : Id) (p : ℕ) → IsSureIn l.book id p → IsSureIn h.end id p
     end (inl e) id p sure = subst (λ x. IsSureIn x id p) (sym e) sure
     end (inr e) id p sure = subst (λ x. IsSureIn x id p) (sym e) (kept_sure l.book (option_map_or (λ y. cut_off y l.book) (slice_get l.past 0) l.book) id p (cut_on l.book (slice_get l.past 0) id) sure)
 
@@ -368,7 +390,7 @@ lives_repeat done book [] good h b = tt
 lives_repeat done book (life ∷ lives) good h b =
     let all = one_life done book life good h.0 b in
     each_join NoRepeat done (life_entries book life) (trace life.left lives) all.each
-    (lives_repeat (done ++ life_entries book life) life.left lives (lives_orderly book (life ∷ []) good (h.0, tt)) h.1 (left_remembered (done ++ life_entries book life) (ledger_of book life) life.left (h.0).left all.end))
+    (lives_repeat (done ++ life_entries book life) life.left lives (lives_orderly book (life ∷ []) good (h.0, tt)) h.1 (left_remembered (done ++ life_entries book life) (ledger_of book life) life.steps life.left (h.0).left all.end))
 
 begins_remembered : (book : Book) → IsRememberedBook [] book
 begins_remembered book = record {

@@ -9,12 +9,18 @@ use Rattle.q_model.specs.Skips.{unqueued}
 use Rattle.q_model.specs.declared.rows.Place.TheVariants as places
 use Rattle.q_laws.proofs.Distinct.{distinct_parts, distinct_tail, id_cases}
 use Rattle.q_laws.proofs.InPlace.{changed, changed_name}
+use Rattle.q_laws.proofs.Mapped.{names_mapped}
+use Rattle.q_laws.proofs.Moved.{move_to}
+use Rattle.q_lives.proofs.ToolSteps.{StepsKeep, worked_keeps}
+use Rattle.q_lives.specs.Tools.{cut_step}
+use Rattle.q_model.specs.ToolSteps.{ToolStep, after_step, fails, given_up, moves}
 use Rattle.q_laws.proofs.Members.{IsIn, find_none_from, in_filter, in_left, in_map, in_unmap}
 use Rattle.q_lives.proofs.Books.{after_is, ids_after}
 use Rattle.q_lives.specs.Lives.{cut_book}
 use Rattle.q_lives.proofs.Caused.{at_alike, load_alike, trigger_alike}
 use Rattle.q_lives.specs.Standing.{is_remove_of}
-use Rattle.q_lives.specs.Lives.{IsLeftBy, cut_off, loosened}
+use Rattle.q_lives.specs.Lives.{IsLeftBy}
+use Rattle.q_model.specs.CutOff.{cut_off, loosened}
 use Rattle.q_model.proofs.IdLaws.{id_eq-refl, id_eq-true}
 use Rattle.q_model.specs.Book.{Book, Damaged, damaged_of, message_of}
 use Rattle.q_model.specs.BookChanges.{change_message}
@@ -147,11 +153,25 @@ cut_on : (b : Book) (o : Option Entry) → message_ids (option_map_or (λ e. cut
 cut_on b None = refl
 cut_on b (Some e) = cut_ids e b
 
--- a life leaves the ids of its last book
-pub left_ids : (l : Ledger) (left : Book) → IsLeftBy l left → message_ids left ≡ message_ids l.book
-left_ids l left h = after_crash h.0 h.2 ∙ end h.1
+changed_ids : (b : Book) (id : Id) (f : Message → Message) → ((m : Message) → (f m).id ≡ m.id) → message_ids (change_message b id f) ≡ message_ids b
+changed_ids b id f h = names_mapped (changed id f) (changed_name id f h) b.messages
+
+step_ids : (b : Book) (s : ToolStep) → message_ids (after_step b s) ≡ message_ids b
+step_ids b (moves id place) = changed_ids b id (move_to place) (λ m. refl)
+step_ids b (fails id position) = changed_ids b id (with_failure (given_up position)) (λ m. refl)
+
+cut_step_ids : (b : Book) (s : ToolStep) → message_ids (cut_step b s) ≡ message_ids b
+cut_step_ids b (moves id place) = refl
+cut_step_ids b (fails id position) = changed_ids b id loosened (λ m. refl)
+
+ids_keep : StepsKeep (λ b c. message_ids c ≡ message_ids b)
+ids_keep = record { same = λ b. refl; join = λ a b c h k. k ∙ h; step = step_ids; cut = cut_step_ids }
+
+-- a life, and tools behind it, leave the ids of its last book
+pub left_ids : (l : Ledger) (steps : List ToolStep) (left : Book) → IsLeftBy l steps left → message_ids left ≡ message_ids l.book
+left_ids l steps left h = after_crash h.worked h.leaves ∙ worked_keeps (λ b c. message_ids c ≡ message_ids b) ids_keep l steps left h ∙ end h.ends
   where
-    end : (h.0 ≡ l.book) ⊎ (h.0 ≡ cut_book l) → message_ids h.0 ≡ message_ids l.book
+    end : (h.end ≡ l.book) ⊎ (h.end ≡ cut_book l) → message_ids h.end ≡ message_ids l.book
     end (inl e) = ap (λ (b : Book). message_ids b) e
     end (inr e) = ap (λ (b : Book). message_ids b) e ∙ cut_on l.book (slice_get l.past 0)
 

@@ -8,7 +8,8 @@ use Rattle.q_laws.proofs.Kept.{entry_consistent}
 use Rattle.q_laws.proofs.Runs.{run_entries}
 use Rattle.q_laws.specs.Consistency.{IsConsistent, IsUsable}
 use Rattle.q_laws.specs.Traces.{AreAllowed, AreEntriesOf, IsEntryOf, is_outside}
-use Rattle.q_lives.proofs.Books.{left_orderly, life_cut, step_cut}
+use Rattle.q_lives.proofs.Books.{life_cut, step_cut}
+use Rattle.q_lives.proofs.ToolSteps.{left_orderly}
 use Rattle.q_lives.specs.Lives.{IsOrderly, cut_book}
 use Rattle.q_lives.specs.Throughout.{AtEach, Throughout}
 use Rattle.q_lives.specs.Lives.{AreLives, IsLife, Life, life_entries, last_book, ledger_of}
@@ -84,7 +85,7 @@ life_each P book life first holds good h =
     subst (λ es. HasEach P w (opening life.mode book) (take life.count es)) (sym begins.1) (front_each P w life.mode book begins.0 life.count first holds h.usable good all)
 
 next_book : (P : World → Ledger → Entry → Type 0) (book : Book) (life : Life) → IsLife book life → HasEach P life.world (opening life.mode book) (life_entries book life) → IsOrderly life.left
-next_book P book life h all = left_orderly (ledger_of book life) life.left all.whole all.cut h.left
+next_book P book life h all = left_orderly (ledger_of book life) life.steps life.left all.whole all.cut h.left
 
 -- it holds throughout all lives on an orderly book
 pub throughout : (P : World → Ledger → Entry → Type 0) (book : Book) (lives : List Life) → HoldsAtFirst P → HoldsAtEntries P → IsOrderly book → AreLives book lives → Throughout P book lives
@@ -99,3 +100,9 @@ lives_orderly book [] good h = good
 lives_orderly book (life ∷ lives) good h =
     let all = life_each (λ w l e. Unit {0}) book life (λ w mode b usable fine. tt) (λ w l e c can is. tt) good h.0 in
     lives_orderly life.left lives (next_book (λ w l e. Unit {0}) book life h.0 all) h.1
+
+-- the book after a life's entries is orderly, also with the last one cut off
+pub ends_orderly : (book : Book) (life : Life) → IsOrderly book → IsLife book life → IsOrderly (ledger_of book life).book × IsOrderly (cut_book (ledger_of book life))
+ends_orderly book life good h =
+    let all = life_each (λ w l e. Unit {0}) book life (λ w mode b usable fine. tt) (λ w l e c can is. tt) good h in
+    (all.whole, all.cut)

@@ -16,11 +16,11 @@ use Rattle.q_model.specs.Ledger.{Ledger}
 use Rattle.q_model.specs.Lists.{drop_first}
 use Rattle.q_model.specs.Past.{starts}
 use Rattle.q_model.specs.Settings.{World}
-use Rattle.q_model.specs.SiteRecords.{is_alive, record_of}
+use Rattle.q_model.specs.SiteRecords.{is_awake, record_of}
 use Rattle.q_model.specs.Startable.{is_startable}
 use Rattle.q_model.specs.Starts.{is_row, may_start}
 use Rattle.q_model.specs.Step.{after, change, noted, tidied}
-use Rattle.q_model.specs.UnusedSites.{forget_oldest, is_kept_dead, is_unused, tidied_sites}
+use Rattle.q_model.specs.UnusedSites.{forget_oldest, is_remembered, is_unused, tidied_sites}
 use Rattle.q_model.specs.Values.{Site, SiteRecord}
 use Rattle.q_model.specs.declared.entry.Entry.{Entry}
 use Rattle.q_model.specs.declared.id.Id.{Id}
@@ -65,11 +65,11 @@ used l site r some e = on (is_unused l r) refl
         let same : busy l r.site ≡ busy l site = ap (busy l) (site_eq-true r.site site e) in
         absurd (omega (arith, none, same, some))
 
-forgotten : (w : World) (l : Ledger) (p : SiteRecord → Bool) (rs : List SiteRecord) → ((r : SiteRecord) → is_kept_dead l r ≡ true → p r ≡ false) → find p (forget_oldest w l rs) ≡ find p rs
-forgotten w l p rs other = on (nat_lt w.settings.recipient_limit (length (filter (is_kept_dead l) rs)))
+forgotten : (w : World) (l : Ledger) (p : SiteRecord → Bool) (rs : List SiteRecord) → ((r : SiteRecord) → is_remembered l r ≡ true → p r ≡ false) → find p (forget_oldest w l rs) ≡ find p rs
+forgotten w l p rs other = on (nat_lt w.settings.recipient_limit (length (filter (is_remembered l) rs)))
   where
-    on : (b : Bool) → find p (if b then drop_first (is_kept_dead l) rs else rs) ≡ find p rs
-    on true = find_dropped p (is_kept_dead l) rs other
+    on : (b : Bool) → find p (if b then drop_first (is_remembered l) rs else rs) ≡ find p rs
+    on true = find_dropped p (is_remembered l) rs other
     on false = refl
 
 flip : (a b : Bool) → (a ≡ true → b ≡ false) → b ≡ true → a ≡ false
@@ -80,12 +80,12 @@ record_kept : (w : World) (before l : Ledger) (site : Site) → 1 ≤ busy l sit
 record_kept w before l site some =
     let p : SiteRecord → Bool = λ r. site_eq r.site site in
     let newly : SiteRecord → Bool = λ r. is_unused l r && not (is_unused before r) in
-    let stays : SiteRecord → Bool = λ r. not (is_unused l r && is_alive r.health) in
+    let stays : SiteRecord → Bool = λ r. not (is_unused l r && is_awake r) in
     let ordered = filter (λ r. not (newly r)) l.sites ++ filter newly l.sites in
     let old : (r : SiteRecord) → p r ≡ true → newly r ≡ false = λ r e. ap (λ b. b && not (is_unused before r)) (used l site r some e) in
     let none : find p (filter newly l.sites) ≡ None = find_none_from p (filter newly l.sites) (λ r inside. flip (p r) (newly r) (old r) (in_filtered newly r l.sites inside).1) in
-    forgotten w l p (filter stays ordered) (λ r dead. flip (p r) (is_unused l r) (used l site r some) (and_parts (is_unused l r) (not (is_alive r.health)) dead).0)
-    ∙ find_filtered p stays ordered (λ r e. ap (λ b. not (b && is_alive r.health)) (used l site r some e))
+    forgotten w l p (filter stays ordered) (λ r dead. flip (p r) (is_unused l r) (used l site r some) (and_parts (is_unused l r) (not (is_awake r)) dead).0)
+    ∙ find_filtered p stays ordered (λ r e. ap (λ b. not (b && is_awake r)) (used l site r some e))
     ∙ find_before p (filter (λ r. not (newly r)) l.sites) (filter newly l.sites) none
     ∙ find_filtered p (λ r. not (newly r)) l.sites (λ r e. ap not (old r e))
 
@@ -102,9 +102,9 @@ after_record : (w : World) (l : Ledger) (e : Entry) (site : Site) → 1 ≤ busy
 unfolding after
 after_record w l e site some = record_kept w l (noted e (change w l e)) site some
 
-room_on : (l : Ledger) (site : Site) (o : Option SiteRecord) → record_of l site ≡ o → option_map_or (λ (s : SiteRecord). is_alive s.health && nat_lt (busy l site) s.window) o false ≡ true → busy l site < option_map_or (λ (s : SiteRecord). s.window) o 0
+room_on : (l : Ledger) (site : Site) (o : Option SiteRecord) → record_of l site ≡ o → option_map_or (λ (s : SiteRecord). is_awake s && nat_lt (busy l site) s.window) o false ≡ true → busy l site < option_map_or (λ (s : SiteRecord). s.window) o 0
 room_on l site None e h = absurd cc
-room_on l site (Some s) e h = ltb-true (busy l site) s.window (and_parts (is_alive s.health) (nat_lt (busy l site) s.window) h).1
+room_on l site (Some s) e h = ltb-true (busy l site) s.window (and_parts (is_awake s) (nat_lt (busy l site) s.window) h).1
 
 room : (w : World) (l : Ledger) (number : ℕ) (id : Id) (site : Site) (ps : List ℕ) → may_start w l number id site ps ≡ true → busy l site < window_of l site
 room w l number id site ps may =
@@ -112,7 +112,7 @@ room w l number id site ps may =
     let one = any_in (λ (r : Row). is_row id site ps r && is_startable w l r) l.waiting two.1 in
     let r = one.0 in
     let parts = and_parts (is_row id site ps r) (is_startable w l r) one.2 in
-    let fits : Bool = option_map_or (λ (s : SiteRecord). is_alive s.health && nat_lt (busy l r.site) s.window) (record_of l r.site) false in
+    let fits : Bool = option_map_or (λ (s : SiteRecord). is_awake s && nat_lt (busy l r.site) s.window) (record_of l r.site) false in
     subst (λ s. busy l s < window_of l s) (this_row id site ps r parts.0).at
     (room_on l r.site (record_of l r.site) refl (and_parts (nat_lt (flights_of l r.site.transport) w.settings.process_limit) fits parts.1).1)
 

@@ -1,7 +1,7 @@
 -- Worked lives of a message that is refused: its finishing is cut off twice, and it has one bounce.
 use Rattle.std.proofs.Common.{◌≡◌, true, List, [], ◌∷◌, inl, inr, refl}
 use Rattle.q_lives.proofs.BouncedLives.{all_bounced}
-use Rattle.q_lives.proofs.WorkedLives.{empty_orderly, one_mail, only, plain, plain_usable, refused}
+use Rattle.q_lives.proofs.WorkedLives.{empty_orderly, one_mail, only, plain, plain_receiver, plain_usable, refused}
 use Rattle.q_lives.specs.Bounces.{BouncedThroughout, bounces}
 use Rattle.q_lives.specs.Lives.{AreLives, IsLife, Life, trace}
 use Rattle.q_model.proofs.RowWords.{at, id, one_to, up}
@@ -19,7 +19,7 @@ use Rattle.q_model.specs.declared.entry.Entry.TheVariants as entries
 use Rattle.q_model.specs.declared.rows.Mark.TheVariants as marks
 use Rattle.q_model.specs.declared.rows.Place.TheVariants as places
 use Rattle.std.proofs.Common.{ap}
-use Rattle.std.specs.Prelude.{Bool, codes, false}
+use Rattle.std.specs.Prelude.{Bool, false}
 use Rattle.q_lives.proofs.WorkedLives.{start}
 use Rattle.q_model.specs.declared.outcome.SiteState.TheVariants.{Up}
 
@@ -32,15 +32,15 @@ with_failed firm mark = record (one_to 1 mark places.Active) { failures = failed
 
 -- it is refused; the life is cut off as the failure is logged, and the failure is lost
 abbrev losing : Life
-losing = record { world = plain; mode = Deliver; items = at 1000 ∷ one_mail ∷ up 1 refused ∷ []; count = 8; left = only 1 (one_to 1 marks.Unmarked places.Active ∷ []) }
+losing = record { world = plain; mode = Deliver; items = at 1000 ∷ one_mail ∷ up 1 refused ∷ []; count = 8; steps = []; left = only 1 (one_to 1 marks.Unmarked places.Active ∷ []) }
 
 -- it is refused once more; the life is cut off between its bounce and its end
 abbrev bouncing : Life
-bouncing = record { world = plain; mode = Deliver; items = at 2000 ∷ up 1 refused ∷ []; count = 12; left = only 2 (with_failed true marks.Synced ∷ bounce_message 2000 (with_failed true marks.Synced) ∷ []) }
+bouncing = record { world = plain; mode = Deliver; items = at 2000 ∷ up 1 refused ∷ []; count = 12; steps = []; left = only 2 (with_failed true marks.Synced ∷ bounce_message 2000 (with_failed true marks.Synced) ∷ []) }
 
 -- it leaves; what follows is cut off
 abbrev leaving : Life
-leaving = record { world = plain; mode = Deliver; items = at 3000 ∷ []; count = 4; left = only 3 (bounce_message 2000 (with_failed true marks.Synced) ∷ []) }
+leaving = record { world = plain; mode = Deliver; items = at 3000 ∷ []; count = 4; steps = []; left = only 3 (bounce_message 2000 (with_failed true marks.Synced) ∷ []) }
 
 abbrev three_lives : List Life
 three_lives = losing ∷ bouncing ∷ leaving ∷ []
@@ -53,26 +53,29 @@ three_are_lives = (losing_is, (bouncing_is, (leaving_is, tt)))
     losing_is = record {
       usable = plain_usable;
       fits = (refl, (refl, (refl, (refl, tt))));
-      left = (
-        only 1 (with_failed false marks.Unmarked ∷ []),
-        inr refl,
-        inr (record {
+      left = record {
+        end = only 1 (with_failed false marks.Unmarked ∷ []);
+        ends = inr refl;
+        may = refl;
+        worked = only 1 (with_failed false marks.Unmarked ∷ []);
+        works = inl refl;
+        leaves = inr (record {
           generation = refl;
           damaged = refl;
-          messages = (record { id = refl; sender = refl; arrival = refl; content = refl; place = refl; recipients = (record { address = refl; mark = refl }, tt); failures = inr (refl, refl) }, tt);
-        }),
-      );
+          messages = (record { id = refl; version = refl; sender = refl; arrival = refl; content = refl; place = refl; recipients = (record { address = refl; original = refl; mark = refl }, tt); failures = inr (refl, refl) }, tt);
+        });
+      };
     }
 
     bouncing_is : IsLife (only 1 (one_to 1 marks.Unmarked places.Active ∷ [])) bouncing
-    bouncing_is = record { usable = plain_usable; fits = (refl, (refl, (refl, tt))); left = (bouncing.left, inl refl, inl refl) }
+    bouncing_is = record { usable = plain_usable; fits = (refl, (refl, (refl, tt))); left = record { end = bouncing.left; ends = inl refl; may = refl; worked = bouncing.left; works = inl refl; leaves = inl refl } }
 
     leaving_is : IsLife bouncing.left leaving
-    leaving_is = record { usable = plain_usable; fits = (refl, (refl, tt)); left = (leaving.left, inl refl, inl refl) }
+    leaving_is = record { usable = plain_usable; fits = (refl, (refl, tt)); left = record { end = leaving.left; ends = inl refl; may = refl; worked = leaving.left; works = inl refl; leaves = inl refl } }
 
 -- its trace
 three_trace : trace empty_book three_lives ≡
-    entries.Life 1 Deliver ∷ entries.At 1000 ∷ entries.Arrive (id 1) (one_to 1 marks.Unmarked places.Active).sender (codes "b@y.example" ∷ []) [] ∷ entries.Admit (id 1) ∷ entries.Load (id 1) 0 1 ∷ start ∷ entries.Reply 1 Up refused
+    entries.Life 1 Deliver ∷ entries.At 1000 ∷ entries.Arrive (id 1) (one_to 1 marks.Unmarked places.Active).sender (plain_receiver ∷ []) [] ∷ entries.Admit (id 1) ∷ entries.Load (id 1) 0 1 ∷ start ∷ entries.Reply 1 Up refused
     ∷ entries.Log (id 1) (failed true).failure
     ∷ entries.Life 2 Deliver ∷ entries.At 2000 ∷ entries.Sync (id 1) ∷ entries.Back (id 1) ∷ entries.Admit (id 1) ∷ entries.Load (id 1) 0 1 ∷ start ∷ entries.Reply 1 Up refused
     ∷ entries.Log (id 1) (failed true).failure ∷ entries.Mark (id 1) 0 ∷ entries.Sync (id 1) ∷ entries.Bounce (id 1)

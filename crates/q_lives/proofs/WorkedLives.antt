@@ -1,6 +1,6 @@
 -- Worked lists of lives: the laws speak of lives that there are.
 use Rattle.std.proofs.Common.{◌≡◌, ℕ, true, List, [], ◌∷◌, ◌++◌, drop, Some, inl, inr, refl, arith}
-use Rattle.std.specs.Prelude.{codes}
+use Rattle.std.specs.Prelude.{None, codes}
 use Rattle.q_laws.specs.Consistency.{IsUsable}
 use Rattle.q_lives.proofs.RepeatLives.{all_repeat}
 use Rattle.q_lives.specs.Causes.{IsReported}
@@ -14,7 +14,7 @@ use Rattle.q_model.specs.Routes.{world_without_table}
 use Rattle.q_model.specs.Run.{decide, decisions, run, run_of, turn}
 use Rattle.q_model.specs.Settings.{World, defaults}
 use Rattle.q_model.specs.Step.{after, after_all, allowed}
-use Rattle.q_model.specs.Values.{Site}
+use Rattle.q_model.specs.Values.{Receiver, Site}
 use Rattle.q_model.specs.declared.entry.Entry.{Entry}
 use Rattle.q_model.specs.declared.event.LifeEvent.{LifeEvent}
 use Rattle.q_model.specs.declared.event.LifeEvent.TheVariants.{Finish}
@@ -25,6 +25,9 @@ use Rattle.q_model.specs.declared.entry.Entry.TheVariants as entries
 use Rattle.q_model.specs.declared.outcome.Outcome.TheVariants as outcomes
 use Rattle.q_model.specs.declared.rows.Mark.TheVariants as marks
 use Rattle.q_model.specs.declared.rows.Place.TheVariants as places
+
+abbrev pub plain_receiver : Receiver
+plain_receiver = record { address = codes "b@y.example"; original = None }
 
 -- an empty spool may be begun with
 pub empty_orderly : IsOrderly empty_book
@@ -55,11 +58,11 @@ only generation messages = record { generation = generation; messages = messages
 
 -- a delivery is reported, and its mark is lost: the life is cut off before it is synced
 abbrev delivered : Life
-delivered = record { world = plain; mode = Deliver; items = at 1000 ∷ one_mail ∷ up 1 ok ∷ []; count = 8; left = only 1 (one_to 1 marks.Unmarked places.Active ∷ []) }
+delivered = record { world = plain; mode = Deliver; items = at 1000 ∷ one_mail ∷ up 1 ok ∷ []; count = 8; steps = []; left = only 1 (one_to 1 marks.Unmarked places.Active ∷ []) }
 
 -- the next life delivers once more, and ends as asked
 abbrev again : Life
-again = record { world = plain; mode = Deliver; items = at 2000 ∷ up 1 ok ∷ Finish ∷ []; count = 12; left = only 2 [] }
+again = record { world = plain; mode = Deliver; items = at 2000 ∷ up 1 ok ∷ Finish ∷ []; count = 12; steps = []; left = only 2 [] }
 
 abbrev two_lives : List Life
 two_lives = delivered ∷ again ∷ []
@@ -72,19 +75,22 @@ two_are_lives = (delivered_is, (again_is, tt))
     delivered_is = record {
       usable = plain_usable;
       fits = (refl, (refl, (refl, (refl, tt))));
-      left = (
-        only 1 (one_to 1 marks.Written places.Active ∷ []),
-        inl refl,
-        inr (record {
+      left = record {
+        end = only 1 (one_to 1 marks.Written places.Active ∷ []);
+        ends = inl refl;
+        may = refl;
+        worked = only 1 (one_to 1 marks.Written places.Active ∷ []);
+        works = inl refl;
+        leaves = inr (record {
           generation = refl;
           damaged = refl;
-          messages = (record { id = refl; sender = refl; arrival = refl; content = refl; place = refl; recipients = (record { address = refl; mark = inl refl }, tt); failures = refl }, tt);
-        }),
-      );
+          messages = (record { id = refl; version = refl; sender = refl; arrival = refl; content = refl; place = refl; recipients = (record { address = refl; original = refl; mark = inl refl }, tt); failures = refl }, tt);
+        });
+      };
     }
 
     again_is : IsLife (only 1 (one_to 1 marks.Unmarked places.Active ∷ [])) again
-    again_is = record { usable = plain_usable; fits = (refl, (refl, (refl, (refl, tt)))); left = (only 2 [], inl refl, inl refl) }
+    again_is = record { usable = plain_usable; fits = (refl, (refl, (refl, (refl, tt)))); left = record { end = only 2 []; ends = inl refl; may = refl; worked = only 2 []; works = inl refl; leaves = inl refl } }
 
 -- the trace, in which the second life starts the recipient that the first one reported delivered
 abbrev pub start : Entry
@@ -94,7 +100,7 @@ abbrev meanwhile : List Entry
 meanwhile = entries.Mark (id 1) 0 ∷ entries.Life 2 Deliver ∷ entries.At 2000 ∷ entries.Sync (id 1) ∷ entries.Back (id 1) ∷ entries.Admit (id 1) ∷ entries.Load (id 1) 0 1 ∷ []
 
 abbrev before : List Entry
-before = entries.Life 1 Deliver ∷ entries.At 1000 ∷ entries.Arrive (id 1) (Some (codes "a@x.example")) (codes "b@y.example" ∷ []) [] ∷ entries.Admit (id 1) ∷ entries.Load (id 1) 0 1 ∷ []
+before = entries.Life 1 Deliver ∷ entries.At 1000 ∷ entries.Arrive (id 1) (Some (codes "a@x.example")) (plain_receiver ∷ []) [] ∷ entries.Admit (id 1) ∷ entries.Load (id 1) 0 1 ∷ []
 
 abbrev later : List Entry
 later = entries.Reply 1 Up ok ∷ entries.Mark (id 1) 0 ∷ entries.Sync (id 1) ∷ entries.Remove (id 1) ∷ entries.End ∷ []

@@ -1,4 +1,5 @@
--- A recipient is done only after an agent reported its delivery, or after its failure was stored.
+-- A recipient is done only after an agent reported its delivery, after its failure was stored, or after a
+-- queue tool gave it up.
 use Rattle.std.specs.List.{list_any}
 use Rattle.std.specs.Option.{option_map_or}
 use Rattle.std.specs.Prelude.{◌&&◌, ◌++◌, ◌==◌, ◌≡◌, ◌⊎◌, [], Bool, false, List, slice_get, true, ◌||◌, ℕ, ◌∷◌}
@@ -11,7 +12,9 @@ use Rattle.q_model.specs.Ids.{id_eq}
 use Rattle.q_model.specs.Marks.{is_marked}
 use Rattle.q_model.specs.Message.{is_logged, Message}
 use Rattle.q_model.specs.Past.{is_life}
+use Rattle.q_model.specs.ToolSteps.{ToolStep}
 use Rattle.q_model.specs.Values.{Site}
+use Rattle.q_lives.specs.Tools.{is_fail_of}
 use Rattle.q_model.specs.declared.entry.Entry.TheVariants as entries
 use Rattle.q_model.specs.declared.outcome.Outcome.TheVariants as outcomes
 
@@ -53,13 +56,19 @@ abbrev pub is_done_at : Book → Id → ℕ → Bool
 is_done_at b id position =
     option_map_or (λ m. is_logged m position || is_marked_at m position) (message_of b id) false
 
--- why a recipient may be done: it was at first, its delivery was reported, or its failure stored
-abbrev pub Cause : Book → List Entry → Id → ℕ → Type 0
-Cause first es id position = (is_done_at first id position ≡ true)
+-- why a recipient may be done: for a reason that isn't in these entries, since its delivery was reported, or
+-- since its failure was stored
+abbrev pub Cause : (Id → ℕ → Type 0) → List Entry → Id → ℕ → Type 0
+Cause beside es id position = beside id position
     ⊎ ((later : List Entry) × IsReported id position es later)
     ⊎ (list_any (is_log_of id position) es ≡ true)
 
--- each recipient that is done has a cause in these entries
-abbrev pub DoneAfterCause : Book → List Entry → Book → Type 0
-DoneAfterCause first es left =
-    (id : Id) (position : ℕ) → is_done_at left id position ≡ true → Cause first es id position
+-- it was done at first, or one of these tool steps gave it up
+abbrev pub IsDoneBeside : Book → List ToolStep → Id → ℕ → Type 0
+IsDoneBeside first steps id position =
+    (is_done_at first id position ≡ true) ⊎ (list_any (is_fail_of id position) steps ≡ true)
+
+-- each recipient that is done has a cause in these entries, or one of those
+abbrev pub DoneAfterCause : Book → List ToolStep → List Entry → Book → Type 0
+DoneAfterCause first steps es left = (id : Id) (position : ℕ) → is_done_at left id position ≡ true →
+    Cause (IsDoneBeside first steps) es id position

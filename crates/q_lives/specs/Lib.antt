@@ -1,6 +1,7 @@
 pub mod Bounces
 pub mod Causes
-pub mod Lives
 pub mod Repeats
 pub mod Standing
 pub mod Throughout
+pub mod Tools
+pub mod Lives

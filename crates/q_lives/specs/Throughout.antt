@@ -1,7 +1,9 @@
--- What holds of each entry of each life: limits, windows and accounts, and that a message leaves
+-- What holds of each entry of each life: limits, windows, delays and accounts, and that a message leaves
 -- wholly done.
 use Rattle.std.specs.Option.{option_map_or}
 use Rattle.std.specs.Prelude.{◌*◌, ◌+◌, ◌-◌, ◌≡◌, ◌≤◌, [], List, Some, ℕ, ◌∷◌}
+use Rattle.q_laws.specs.Resting.{GoesOneByOne, KeepsApart}
+use Rattle.q_laws.specs.SitesConsistency.{IsOpen}
 use Rattle.q_laws.specs.Traces.{IsWithinLimits}
 use Rattle.q_model.specs.declared.entry.Entry.{Entry}
 use Rattle.q_model.specs.declared.id.Id.{Id}
@@ -44,6 +46,15 @@ abbrev pub FitsWindow : World → Ledger → Entry → Type 0
 FitsWindow w l (entries.Start number id site positions) =
     IsWithinWindow (after w l (entries.Start number id site positions)) site
 FitsWindow w l _ = Unit {0}
+
+-- behind the reply to a delivery the next one to its site begins the delay later, in the same life, unless
+-- the site was forgotten
+abbrev pub DeliversApart : World → Ledger → Entry → Type 0
+DeliversApart w l e = KeepsApart w l
+
+-- after the entry at most one delivery to each site is in flight, where there is a delay between them
+abbrev pub DeliversOneByOne : World → Ledger → Entry → Type 0
+DeliversOneByOne w l e = IsOpen w → GoesOneByOne w (after w l e)
 
 -- what a job was charged so far, in deliveries
 abbrev pub owed : World → Ledger → Id → ℕ → ℕ

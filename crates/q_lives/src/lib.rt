@@ -3,13 +3,14 @@
 //! with is orderly and has no id twice, as an empty one and a lawful one.
 #![tactic(auto)]
 
-ghost use Rattle.std.specs.Prelude.{[]};
+ghost use Rattle.std.specs.Prelude.{◌≡◌, [], true};
 ghost use Rattle.q_lives.specs.Bounces.{BouncedAtMostOnce, BouncedThroughout};
 ghost use Rattle.q_lives.specs.Causes.{DoneAfterCause};
-ghost use Rattle.q_lives.specs.Lives.{OfAllLives, OfTrace, OfTraceAndEnd, StaysSo};
+ghost use Rattle.q_lives.specs.Lives.{IsOrderly, KeptByCutSteps, KeptBySteps, OfAllLives, OfTrace, OfTraceAndEnd, StaysSo, tool_steps};
 ghost use Rattle.q_lives.specs.Repeats.{RepeatsUnsynced};
 ghost use Rattle.q_lives.specs.Standing.{StandsOnceOrLeft};
-ghost use Rattle.q_lives.specs.Throughout.{FitsAccount, FitsWindow, KeepsLimits, LeavesDone};
+ghost use Rattle.q_lives.specs.Throughout.{DeliversApart, DeliversOneByOne, FitsAccount, FitsWindow};
+ghost use Rattle.q_lives.specs.Throughout.{KeepsLimits, LeavesDone};
 ghost use Rattle.q_lives.specs.Throughout.{Throughout};
 ghost use Rattle.q_model.specs.Orderly.{is_lawful};
 
@@ -23,15 +24,28 @@ pub fn windows_are_kept()
     ensures { OfAllLives (Throughout FitsWindow) }
 {}
 
+/// Behind the reply to a delivery the next one to its site begins the delay between deliveries later
+/// or more, in the same life, unless the site was forgotten.
+pub fn deliveries_keep_apart()
+    ensures { OfAllLives (Throughout DeliversApart) }
+{}
+
+/// Where there is such a delay, at most one delivery to each site is in flight, by settings that let
+/// windows be open.
+pub fn deliveries_go_one_by_one()
+    ensures { OfAllLives (Throughout DeliversOneByOne) }
+{}
+
 /// Each preemption is paid for by the account of the job that it is charged to.
 pub fn accounts_are_kept()
     ensures { OfAllLives (Throughout FitsAccount) }
 {}
 
-/// A recipient is done only after an agent reported its delivery or its failure was stored, or it
-/// was done at first.
+/// A recipient is done only after an agent reported its delivery, its failure was stored or a queue
+/// tool gave it up, or it was done at first.
 pub fn done_has_cause()
-    ensures { OfAllLives (λ book lives. OfTraceAndEnd (DoneAfterCause book) book lives) }
+    ensures { OfAllLives (λ book lives.
+        OfTraceAndEnd (DoneAfterCause book (tool_steps lives)) book lives) }
 {}
 
 /// A start that names a recipient whose delivery was reported comes in a later life, and no mark of
@@ -65,4 +79,16 @@ pub fn bounced_at_most_once()
 /// Lives leave a lawful book lawful.
 pub fn stays_lawful()
     ensures { OfAllLives (StaysSo is_lawful) }
+{}
+
+/// Steps of queue tools leave a book that lives may begin with, also where the last one was cut off.
+pub fn tools_stay_orderly()
+    ensures whole { KeptBySteps IsOrderly }
+    ensures cut { KeptByCutSteps IsOrderly }
+{}
+
+/// Steps of queue tools leave a lawful book lawful, also where the last one was cut off.
+pub fn tools_stay_lawful()
+    ensures whole { KeptBySteps (λ b. is_lawful b ≡ true) }
+    ensures cut { KeptByCutSteps (λ b. is_lawful b ≡ true) }
 {}

@@ -1,22 +1,22 @@
 -- No event that is due is refused.
-use Rattle.std.proofs.Common.{◌<◌, ◌-◌, ◌^◌, ◌≡◌, ◌≤◌, ◌∙◌, ap, arith, Bool, false, if◌then◌else◌, length, List, None, Option, refl, Some, subst, sym, true, ℕ}
+use Rattle.std.proofs.Common.{◌<◌, ◌-◌, ◌^◌, ◌≡◌, ◌≤◌, ◌∙◌, arith, false, length, List, None, Option, refl, Some, subst, sym, true, ℕ}
 use Rattle.std.proofs.lemmas.Bool.Decides.{nat_tests}
 use Rattle.std.specs.Prelude.{◌==◌, count_by, nat_lt}
-use Rattle.q_engine.specs.Refusals.{is_early, refused_event, refused_kind, refused_mail, refused_reply}
+use Rattle.q_engine.specs.Refusals.{refused_event, refused_kind, refused_mail, refused_reply}
 use Rattle.q_engine.specs.declared.error.EngineError.TheVariants as errors
 use Rattle.q_load.proofs.Bounds.{due_is, IsDue}
 use Rattle.q_load.specs.Due.{due, is_mail}
 use Rattle.q_load.specs.Taken.{HasTaken}
-use Rattle.q_model.specs.Deliveries.{flight_of}
 use Rattle.q_model.specs.Ledger.{Ledger}
 use Rattle.q_model.specs.Past.{arrivals}
 use Rattle.q_model.specs.declared.event.Event.{Event}
 use Rattle.q_model.specs.declared.event.Event.TheVariants as events
 use Rattle.q_model.specs.declared.outcome.Outcome.{Outcome}
 use Rattle.q_model.specs.declared.rows.Delivery.{Delivery}
+use Rattle.q_model.specs.Values.{Receiver}
 
 -- a mail within the limits has a serial
-mail_passes : (n : ℕ) (to : List (List ℕ)) (content : List ℕ) → length content ≤ 10240000 → length to ≤ 50000 → n < 2 ^ 32 - 1 → refused_mail n to content ≡ None
+mail_passes : (n : ℕ) (to : List Receiver) (content : List ℕ) → length content ≤ 10240000 → length to ≤ 50000 → n < 2 ^ 32 - 1 → refused_mail n to content ≡ None
 mail_passes n to content short few serial =
     let a : nat_lt 10240000 (length content) ≡ false = grind (arith, nat_tests) in
     let b : nat_lt 50000 (length to) ≡ false = grind (arith, nat_tests) in

@@ -1,7 +1,7 @@
 -- How many deliveries a ledger of a load has begun, and how many replies came.
-use Rattle.std.proofs.Common.{◌+◌, ◌++◌, ◌<◌, ◌^◌, ◌≡◌, ◌≤◌, ◌∙◌, ◌∷◌, [], ap, arith, Bool, cond, false, if◌then◌else◌, length, length-append, List, None, Option, refl, Some, subst, suc, sym, true, ℕ}
+use Rattle.std.proofs.Common.{◌+◌, ◌<◌, ◌^◌, ◌≡◌, ◌≤◌, ◌∙◌, ◌∷◌, [], ap, arith, Bool, false, if◌then◌else◌, length, length-append, List, Option, refl, Some, suc, true, ℕ}
 use Rattle.std.proofs.lemmas.List.{length-map}
-use Rattle.std.specs.Prelude.{◌==◌, filter, find, map, not}
+use Rattle.std.specs.Prelude.{◌==◌, find, map, not}
 use Rattle.q_drain.proofs.Deciding.{AreDecisions, decisions_are, IsDecision}
 use Rattle.q_drain.proofs.Flying.{at_flights, inside_flights, reply_flights}
 use Rattle.q_drain.proofs.Numbering.{entry_starts}
@@ -22,6 +22,7 @@ use Rattle.q_model.specs.Past.{starts}
 use Rattle.q_model.specs.Run.{decisions}
 use Rattle.q_model.specs.Settings.{World}
 use Rattle.q_model.specs.Step.{after, after_all}
+use Rattle.q_model.specs.Values.{Receiver}
 
 -- ---- decisions
 
@@ -75,7 +76,7 @@ moment_ends_none w l t ended h =
     let few = h.few in
     record { began = omega (arith, began, flights, begun); few = omega (arith, few, begun) }
 
-pub mail_ends_none : (w : World) (l : Ledger) (id : Id) (sender : Option (List ℕ)) (to : List (List ℕ)) (content : List ℕ) (ended : ℕ) → HasEnded ended l → HasEnded ended (after w l (entries.Arrive id sender to content))
+pub mail_ends_none : (w : World) (l : Ledger) (id : Id) (sender : Option (List ℕ)) (to : List Receiver) (content : List ℕ) (ended : ℕ) → HasEnded ended l → HasEnded ended (after w l (entries.Arrive id sender to content))
 mail_ends_none w l id sender to content ended h =
     let flights = ap (λ (fs : List Delivery). length fs) (start_flights w l (entries.Arrive id sender to content) l.flights refl) in
     let begun = entry_starts w l 0 (entries.Arrive id sender to content) refl in

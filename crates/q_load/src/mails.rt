@@ -2,10 +2,10 @@
 ghost use Rattle.std.specs.Prelude.{◌<◌, ◌≡◌, ◌≤◌, ◌++◌, decimal, IfOk, OnOk, true};
 ghost use Rattle.q_engine.specs.Heard.{IsEventInForm};
 ghost use Rattle.q_model.specs.Texts.{is_address};
-ghost use Rattle.q_load.specs.Mails.{all_recipients, mail, recipient, recipient_count, recipients};
+ghost use Rattle.q_load.specs.Mails.{all_recipients, mail, receiver, recipient, recipient_count, recipients};
 
 use crate::numbers::next_number;
-use q_model::{Address, Addresses, Bytes, Event, NoMemory};
+use q_model::{Address, Addresses, Bytes, Event, NoMemory, Receiver};
 use std::alloc::Global;
 
 /// How many recipients the mail of a number has.
@@ -30,7 +30,7 @@ fn add_number(alloc: Global, text: &mut Vec<u8>, number: u64) -> Result<(), NoMe
     add(text, digits.as_bytes())
 }
 
-/// The text of a recipient, by its place among those of the mail.
+/// The address of a recipient, by its place among those of the mail.
 fn recipient_text(alloc: Global, number: u32, place: u32) -> Result<Vec<u8>, NoMemory>
     ensures { IfOk result (λ text. text.items ≡ recipient number place) }
 {
@@ -58,12 +58,16 @@ fn address_of(text: &[u8]) -> Address
     }
 }
 
-fn recipient(alloc: Global, number: u32, place: u32) -> Result<Address, NoMemory>
+fn recipient(alloc: Global, number: u32, place: u32) -> Result<Receiver, NoMemory>
     requires { place < 20 }
-    ensures { IfOk result (λ address. address ≡ recipient number place) }
+    ensures { IfOk result (λ r. r ≡ receiver number place) }
 {
     let text = recipient_text(alloc, number, place)?;
-    Ok(address_of(text.as_slice()))
+    let address = address_of(text.as_slice());
+    Ok(Receiver {
+        address,
+        original: None,
+    })
 }
 
 fn recipients(alloc: Global, number: u32) -> Result<Addresses, NoMemory>

@@ -21,7 +21,7 @@ use Rattle.q_model.specs.declared.spot.Area.TheVariants as areas
 use Rattle.q_model.specs.Admissions.{cause_gone}
 use Rattle.q_model.specs.Book.{Book, Damaged, all_ids, damaged_of, message_of, stands, stands_in}
 use Rattle.q_model.specs.FailureLog.{failures_of}
-use Rattle.q_model.specs.FilesStand.{DamagedStands, file_message, MessageStands, Stands}
+use Rattle.q_model.specs.FilesStand.{DamagedStands, file_message, file_recipient, MessageStands, Stands}
 use Rattle.q_model.specs.Finishing.{has_bounce}
 use Rattle.q_model.specs.Ids.{bounce_of, cause_of, id_eq}
 use Rattle.q_model.specs.IdTexts.{id_text, IsId}
@@ -196,13 +196,10 @@ same_facts x s r r' k k' n n' u u' t t' a a' er ek en eu et ea =
     ap (λ y. facts_of x s y k n u t a) er ∙ ap (λ y. facts_of x s r' y n u t a) ek ∙ ap (λ y. facts_of x s r' k' y u t a) en
     ∙ ap (λ y. facts_of x s r' k' n' y t a) eu ∙ ap (λ y. facts_of x s r' k' n' u' y a) et ∙ ap (λ y. facts_of x s r' k' n' u' t' y) ea
 
-abbrev read_as : Recipient → FileRecipient
-read_as r = record { address = r.address; marked = is_marked r.mark }
-
-marks_read : (rs : List Recipient) → count_by (λ (r : FileRecipient). r.marked) (map read_as rs) ≡ count_by (λ (r : Recipient). is_marked r.mark) rs
+marks_read : (rs : List Recipient) → count_by (λ (r : FileRecipient). r.marked) (map file_recipient rs) ≡ count_by (λ (r : Recipient). is_marked r.mark) rs
 marks_read [] = refl
 marks_read (r ∷ rs) =
-    sum_by-cons (λ (x : FileRecipient). cond x.marked 1 0) (read_as r) (map read_as rs)
+    sum_by-cons (λ (x : FileRecipient). cond x.marked 1 0) (file_recipient r) (map file_recipient rs)
     ∙ ap (λ (n : ℕ). cond (is_marked r.mark) 1 0 + n) (marks_read rs)
     ∙ sym (sum_by-cons (λ (x : Recipient). cond (is_marked x.mark) 1 0) r rs)
 
@@ -218,12 +215,12 @@ module _ (f : Files) (m : Message) (s : MessageStands f m) where
 
   unmarked_read : slice_get (unmarked_failed (logged_in f m.id) (file_message m).recipients) 0 ≡ slice_get (unmarked_logged m) 0
   unmarked_read = ap (λ (ps : List ℕ). slice_get ps 0)
-      (places_mapped (λ i (r : FileRecipient). not r.marked && has_failed (logged_in f m.id) i) read_as 0 m.recipients
+      (places_mapped (λ i (r : FileRecipient). not r.marked && has_failed (logged_in f m.id) i) file_recipient 0 m.recipients
       ∙ places_within (λ i (r : Recipient). not (is_marked r.mark) && has_failed (logged_in f m.id) i) (λ i (r : Recipient). not (is_marked r.mark) && is_logged m i) 0 m.recipients
       (λ i r here. ap (λ (t : Bool). not (is_marked r.mark) && t) (failed_logged i (omega (arith, here)))))
 
   failed_read : (failed_in (logged_in f m.id) (file_message m)).count ≡ length m.failures
-  failed_read = ap (λ (n : ℕ). length (failures_of n (logged_in f m.id))) (length-map m.recipients read_as) ∙ failures_counted
+  failed_read = ap (λ (n : ℕ). length (failures_of n (logged_in f m.id))) (length-map m.recipients file_recipient) ∙ failures_counted
 
 read_file : (bytes : List ℕ) (m : FileMessage) → IsFileOf bytes m → queue_file bytes ≡ Some m
 read_file bytes m h = ap queue_file h.written ∙ queue_file_again m h.marks h.lawful h.agree
@@ -249,7 +246,7 @@ module _ (f : Files) (l : Ledger) (h : Stands f l.book) (orderly : is_orderly l.
   facts_same : (m : Message) → IsIn m l.book.messages → MessageStands f m → facts_in f m.id (file_message m) ≡ file_of l m.id m
   facts_same m inside s =
       same_facts m.arrival (is_none m.sender) _ (length m.recipients) _ (count_of_marked m) _ (length m.failures) _ (slice_get (unmarked_logged m) 0) _ (has_bounce l m.id) _ (cause_gone l.book m.id)
-      (length-map m.recipients read_as) (marks_read m.recipients) (failed_read f m s) (unmarked_read f m s) (bounced f l.book h l refl m.id s.id) (alone m.id s.id (message_listed l.book m inside))
+      (length-map m.recipients file_recipient) (marks_read m.recipients) (failed_read f m s) (unmarked_read f m s) (bounced f l.book h l refl m.id s.id) (alone m.id s.id (message_listed l.book m inside))
 
   -- a file outside corrupt is what a look tells of its id
   pub found_same : (due : ℕ) (p : Place) (id : Id) (bytes : List ℕ) → IsPlace p → is_corrupt p ≡ false → IsId id → file_at f p id ≡ Some bytes → found_in f due id bytes ≡ found_at l due id

@@ -127,7 +127,7 @@ front_cut kind n bytes other (inl far) =
     ⊎_elim (λ within. cut_inside kind n bytes other far within) (λ all. ap (front_body kind) (take_all n bytes all)) (cases_lt n (length bytes))
 
 -- the same behind an offset
-pub front_cut_behind : (kind k n : ℕ) (bytes : List ℕ) → (kind ≡ 78 → ⊥) → k ≤ 100 → GoesOn 512 n bytes → front_body kind (drop k (take n bytes)) ≡ front_body kind (drop k bytes)
+pub front_cut_behind : (kind k n : ℕ) (bytes : List ℕ) → (kind ≡ 78 → ⊥) → k ≤ 700 → GoesOn 1024 n bytes → front_body kind (drop k (take n bytes)) ≡ front_body kind (drop k bytes)
 front_cut_behind kind k n bytes other near (inr all) = ap (λ (xs : List ℕ). front_body kind (drop k xs)) (take_all n bytes all)
 front_cut_behind kind k n bytes other near (inl far) =
     ap (front_body kind) (drop_cut k n bytes (omega arith)) ∙ front_cut kind (n - k) (drop k bytes) other (inl (omega arith))
@@ -145,6 +145,6 @@ begins_inside kind n (suc j) (b ∷ bytes) far =
     some_or_few (inl few) = inr few
     some_or_few (inr some) = inl some
 
-pub begins_cut : (kind n k : ℕ) (bytes : List ℕ) → GoesOn 512 k bytes → begins_record kind n (take k bytes) ≡ begins_record kind n bytes
+pub begins_cut : (kind n k : ℕ) (bytes : List ℕ) → GoesOn 1024 k bytes → begins_record kind n (take k bytes) ≡ begins_record kind n bytes
 begins_cut kind n k bytes (inr all) = ap (begins_record kind n) (take_all k bytes all)
 begins_cut kind n k bytes (inl far) = begins_inside kind n k bytes (omega arith)

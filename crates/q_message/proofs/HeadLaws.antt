@@ -1,30 +1,37 @@
 -- What is found of a file's records is what the file says, and what breaks the form is where the form breaks.
-use Rattle.std.proofs.Common.{◌≡◌, ℕ, zero, suc, ◌+◌, ◌-◌, ◌<◌, ◌≤◌, Bool, true, false, ◌&&◌, not, leb, if◌then◌else◌, List, [], ◌∷◌, ◌++◌, length, take, drop, replicate, sum_by, Option, Some, None, Result, Ok, Err, refl, sym, ap, subst, ◌∙◌, arith, count_by}
+use Rattle.std.proofs.Common.{◌≡◌, ℕ, zero, suc, ◌+◌, ◌-◌, ◌<◌, ◌≤◌, Bool, true, false, ◌&&◌, not, leb, if◌then◌else◌, List, [], ◌∷◌, ◌++◌, length, take, drop, replicate, sum_by, Option, Some, None, Result, Ok, Err, refl, sym, ap, subst, ◌∙◌, append_assoc, arith, count_by}
 use Rattle.std.specs.Option.{IfSome, option_and_then, option_map, option_map_or}
 use Rattle.std.specs.Prelude.{IfOk, unwrap_or}
 use Rattle.std.proofs.lemmas.Bool.{and_from, and_parts, le-leb, leb-true, leb-false}
 use Rattle.std.proofs.lemmas.List.{drop-drop, length-drop, length-take-le, take_all}
 use Rattle.std.proofs.lemmas.List.Sums.{sum_by-cons}
 use Rattle.q_model.specs.Lists.{has_none}
-use Rattle.q_model.specs.QueueFile.{Counts, FileMessage, FileRecipient, arrival_of, body_of, counts_of, queue_file, recipient_of, recipients_at, sender_of}
-use Rattle.q_model.specs.QueueFileBytes.{content_at}
+use Rattle.q_model.specs.QueueFile.{Counts, FileMessage, FileRecipient, arrival_of, body_of, counts_of, queue_file, recipients_at, sender_of}
+use Rattle.q_model.specs.QueueFileBytes.{content_at, recipient_size}
 use Rattle.q_model.specs.Records.{read_record}
 use Rattle.q_model.specs.Values.{FileHead, Head}
 use Rattle.q_model.proofs.RecordLaws.{found}
 use Rattle.q_message.specs.declared.error.MessageError.{MessageError}
 use Rattle.q_message.specs.declared.error.MessageError.TheVariants.{NotAMessage}
 use Rattle.q_message.specs.Causes.{Gives}
-use Rattle.q_message.specs.FileHeads.{Expected, behind, counts_first, fault_at, head_of, records_of}
+use Rattle.q_message.specs.FileHeads.{Expected, behind, counts_first, fault_at, head_of, recipient_records, records_of}
 use Rattle.q_message.specs.Fronts.{begins_record, front_body}
-use Rattle.q_message.specs.Readings.{Start, content_from, end_from, front_recipient, head_from, marks_counted, recipient_size, recipients_from, start_from, start_size, wanted_at, with_first, ◌>>=◌}
-use Rattle.q_message.proofs.RecordReads.{arrival_size, begins_long, behind_more, behind_stop, counts_size, read_front, read_no_arrival, read_no_counts, read_no_recipient, read_no_sender, recipient_length, sender_length, sized_none, sized_read, wanted}
+use Rattle.q_message.specs.Readings.{Start, content_from, end_from, fault_in, front_recipient, head_from, marks_counted, recipients_from, start_from, start_size, wanted_at, with_first, ◌>>=◌}
+use Rattle.q_message.proofs.RecipientReads.{all_free, all_records, first_is, FirstIs, lacks_first}
+use Rattle.q_message.proofs.RecordReads.{AreFree, arrival_size, begins_long, behind_more, behind_stop, counts_size, read_front, read_no_arrival, read_no_counts, read_no_sender, sender_bytes, sender_length, sized_none, sized_read, wanted}
 
 -- the records behind the first, and behind the third
 abbrev from_content : Counts → List Expected
 from_content c = wanted 78 (body_of c.content) ∷ wanted 69 (body_of 0) ∷ []
 
 abbrev from_recipients : Counts → List Expected
-from_recipients c = replicate c.recipients (wanted 82 recipient_of) ++ from_content c
+from_recipients c = all_records c.version c.recipients ++ from_content c
+
+content_free : (c : Counts) → AreFree (from_content c)
+content_free c before bytes = refl
+
+recipients_free : (c : Counts) → AreFree (from_recipients c)
+recipients_free c = all_free c.version c.recipients (from_content c) (content_free c)
 
 -- ---- the records before those of the recipients
 
@@ -38,9 +45,9 @@ pub record IsStart (bytes : List ℕ) (s : Start) : Type 0 where
 abbrev pub IsFault : List ℕ → ℕ → Type 0
 IsFault bytes place = (queue_file bytes ≡ None) × (place ≡ fault_at bytes)
 
-fault_is : (bytes : List ℕ) (c : Counts) (place : ℕ) → place ≤ length bytes → counts_first bytes ≡ c → behind (records_of c) bytes ≡ drop place bytes → place ≡ fault_at bytes
+fault_is : (bytes : List ℕ) (c : Counts) (place : ℕ) → place ≤ length bytes → counts_first bytes ≡ c → behind [] (records_of c) bytes ≡ drop place bytes → place ≡ fault_at bytes
 fault_is bytes c place within counts is =
-    let left : length (behind (records_of (counts_first bytes)) bytes) ≡ length bytes - place = ap (λ (c : Counts). length (behind (records_of c) bytes)) counts ∙ ap length is ∙ length-drop place bytes in
+    let left : length (behind [] (records_of (counts_first bytes)) bytes) ≡ length bytes - place = ap (λ (c : Counts). length (behind [] (records_of c) bytes)) counts ∙ ap length is ∙ length-drop place bytes in
     omega (arith, left)
 
 no_counts : (bytes : List ℕ) → option_and_then counts_of (front_body 67 bytes) ≡ None → IsFault bytes 0
@@ -54,7 +61,7 @@ no_counts bytes e =
 pub record HasCounts (bytes : List ℕ) (c : Counts) : Type 0 where
   reads : read_record 67 counts_of bytes ≡ found c (drop 17 bytes)
   within : 17 ≤ length bytes
-  behind_first : behind (records_of c) bytes ≡ behind (wanted 84 arrival_of ∷ wanted 83 sender_of ∷ from_recipients c) (drop 17 bytes)
+  behind_first : behind [] (records_of c) bytes ≡ behind [] (wanted 84 arrival_of ∷ wanted 83 sender_of ∷ from_recipients c) (drop 17 bytes)
   first : counts_first bytes ≡ c
 
 has_counts : (bytes : List ℕ) (c : Counts) → option_and_then counts_of (front_body 67 bytes) ≡ Some c → HasCounts bytes c
@@ -65,8 +72,8 @@ has_counts bytes c e =
     record {
       reads = reads;
       within = omega (arith, r.within, size);
-      behind_first = behind_more 67 counts_of (wanted 84 arrival_of ∷ wanted 83 sender_of ∷ from_recipients c) bytes c (drop 17 bytes) reads;
-      first = ap (λ (o : Option (Counts × List ℕ)). option_map_or (λ (r : Counts × List ℕ). r.0) o (record { recipients = 0; content = 0 })) reads;
+      behind_first = behind_more 67 counts_of (wanted 84 arrival_of ∷ wanted 83 sender_of ∷ from_recipients c) bytes c (drop 17 bytes) (λ before bytes. refl) reads;
+      first = ap (λ (o : Option (Counts × List ℕ)). option_map_or (λ (r : Counts × List ℕ). r.0) o (record { version = 1; recipients = 0; content = 0 })) reads;
     }
 
 no_arrival : (bytes : List ℕ) (c : Counts) → HasCounts bytes c → option_and_then arrival_of (front_body 84 (drop 17 bytes)) ≡ None → IsFault bytes 17
@@ -81,7 +88,7 @@ pub record HasArrival (bytes : List ℕ) (c : Counts) (a : ℕ) : Type 0 where
   counts : HasCounts bytes c
   reads : read_record 84 arrival_of (drop 17 bytes) ≡ found a (drop 30 bytes)
   within : 30 ≤ length bytes
-  behind_first : behind (records_of c) bytes ≡ behind (wanted 83 sender_of ∷ from_recipients c) (drop 30 bytes)
+  behind_first : behind [] (records_of c) bytes ≡ behind [] (wanted 83 sender_of ∷ from_recipients c) (drop 30 bytes)
 
 has_arrival : (bytes : List ℕ) (c : Counts) (a : ℕ) → HasCounts bytes c → option_and_then arrival_of (front_body 84 (drop 17 bytes)) ≡ Some a → HasArrival bytes c a
 has_arrival bytes c a h e =
@@ -92,7 +99,7 @@ has_arrival bytes c a h e =
       counts = h;
       reads = reads;
       within = omega (arith, r.within, size, length-drop 17 bytes);
-      behind_first = h.behind_first ∙ behind_more 84 arrival_of (wanted 83 sender_of ∷ from_recipients c) (drop 17 bytes) a (drop 30 bytes) reads;
+      behind_first = h.behind_first ∙ behind_more 84 arrival_of (wanted 83 sender_of ∷ from_recipients c) (drop 17 bytes) a (drop 30 bytes) (λ before bytes. refl) reads;
     }
 
 no_sender : (bytes : List ℕ) (c : Counts) (a : ℕ) → HasArrival bytes c a → option_and_then sender_of (front_body 83 (drop 30 bytes)) ≡ None → IsFault bytes 30
@@ -103,16 +110,12 @@ no_sender bytes c a h e =
       fault_is bytes c 30 h.within h.counts.first (h.behind_first ∙ behind_stop 83 sender_of (from_recipients c) (drop 30 bytes) none),
     )
 
-pub sender_bytes : (s : Option (List ℕ)) → option_map_or (λ (a : List ℕ). length a) s 0 ≡ length (unwrap_or s [])
-sender_bytes None = refl
-sender_bytes (Some a) = refl
-
 -- the start of a file, and what is expected behind it
 pub record HasStart (bytes : List ℕ) (s : Start) : Type 0 where
   pub arrival : HasArrival bytes s.counts s.head.arrival
   pub reads : read_record 83 sender_of (drop 30 bytes) ≡ found s.head.sender (drop (start_size s.head) bytes)
   pub within : start_size s.head ≤ length bytes
-  pub behind_first : behind (records_of s.counts) bytes ≡ behind (from_recipients s.counts) (drop (start_size s.head) bytes)
+  pub behind_first : behind [] (records_of s.counts) bytes ≡ behind [] (from_recipients s.counts) (drop (start_size s.head) bytes)
 
 has_sender : (bytes : List ℕ) (c : Counts) (a : ℕ) (s : Option (List ℕ)) → HasArrival bytes c a → option_and_then sender_of (front_body 83 (drop 30 bytes)) ≡ Some s → HasStart bytes (record { counts = c; head = record { sender = s; arrival = a } })
 has_sender bytes c a s h e =
@@ -124,7 +127,7 @@ has_sender bytes c a s h e =
       arrival = h;
       reads = reads;
       within = omega (arith, r.within, size, length-drop 30 bytes);
-      behind_first = h.behind_first ∙ behind_more 83 sender_of (from_recipients c) (drop 30 bytes) s (drop (35 + length (unwrap_or s [])) bytes) reads;
+      behind_first = h.behind_first ∙ behind_more 83 sender_of (from_recipients c) (drop 30 bytes) s (drop (35 + length (unwrap_or s [])) bytes) (recipients_free c) reads;
     }
 
 -- the start that is found, or the fault
@@ -158,92 +161,86 @@ start_is bytes = on_counts bytes (option_and_then counts_of (front_body 67 bytes
 
 -- ---- the recipients
 
--- so many records of recipients stand at the front, and where the next begins
-pub record HasRecipients (n at : ℕ) (bytes : List ℕ) (rs : List FileRecipient) (next : ℕ) : Type 0 where
+-- so many recipients stand at the front, and where the next begins
+pub record HasRecipients (version n at : ℕ) (bytes : List ℕ) (rs : List FileRecipient) (next : ℕ) : Type 0 where
   pub size : ℕ
-  pub reads : recipients_at n bytes ≡ found rs (drop size bytes)
+  pub reads : recipients_at version n bytes ≡ found rs (drop size bytes)
   pub offset : next ≡ at + size
-  pub sum : size ≡ sum_by recipient_size rs
+  pub sum : size ≡ sum_by (recipient_size version) rs
   pub within : size ≤ length bytes
   pub count : length rs ≡ n
-  pub passed : (xs : List Expected) → behind (replicate n (wanted 82 recipient_of) ++ xs) bytes ≡ behind xs (drop size bytes)
+  pub passed : (xs : List Expected) → AreFree xs → behind [] (all_records version n ++ xs) bytes ≡ behind [] xs (drop size bytes)
 
--- one of them is missing, at this offset
-pub record LacksRecipient (n at : ℕ) (bytes : List ℕ) (place : ℕ) : Type 0 where
+-- one of them is missing, and the form breaks at this offset
+pub record LacksRecipient (version n at : ℕ) (bytes : List ℕ) (place : ℕ) : Type 0 where
   pub size : ℕ
-  pub none : recipients_at n bytes ≡ None
+  pub none : recipients_at version n bytes ≡ None
   pub offset : place ≡ at + size
   pub within : size ≤ length bytes
-  pub stopped : (xs : List Expected) → behind (replicate n (wanted 82 recipient_of) ++ xs) bytes ≡ drop size bytes
+  pub stopped : (xs : List Expected) → AreFree xs → behind [] (all_records version n ++ xs) bytes ≡ drop size bytes
 
-abbrev pub RecipientsAre : ℕ → ℕ → List ℕ → Result (List FileRecipient × ℕ) ℕ → Type 0
-RecipientsAre n at bytes (Ok r) = HasRecipients n at bytes r.0 r.1
-RecipientsAre n at bytes (Err place) = LacksRecipient n at bytes place
+abbrev pub RecipientsAre : ℕ → ℕ → ℕ → List ℕ → Result (List FileRecipient × ℕ) ℕ → Type 0
+RecipientsAre version n at bytes (Ok r) = HasRecipients version n at bytes r.0 r.1
+RecipientsAre version n at bytes (Err place) = LacksRecipient version n at bytes place
 
-no_first : (n at : ℕ) (bytes : List ℕ) → front_recipient bytes ≡ None → LacksRecipient (suc n) at bytes at
-no_first n at bytes e =
-    let none = read_no_recipient bytes e in
+-- the records of one recipient before those of others
+one_before : (version n : ℕ) (bytes : List ℕ) (xs : List Expected) → behind [] (all_records version (suc n) ++ xs) bytes ≡ behind [] (recipient_records version ++ (all_records version n ++ xs)) bytes
+one_before version n bytes xs = ap (λ (es : List Expected). behind [] es bytes) (append_assoc (recipient_records version) (all_records version n) xs)
+
+no_first : (version n at : ℕ) (bytes : List ℕ) → front_recipient version bytes ≡ None → LacksRecipient version (suc n) at bytes (at + fault_in version bytes)
+no_first version n at bytes e =
+    let l = lacks_first version bytes e in
     record {
-      size = 0;
-      none = rw none refl;
-      offset = omega arith;
-      within = omega arith;
-      stopped = λ xs. behind_stop 82 recipient_of (replicate n (wanted 82 recipient_of) ++ xs) bytes none;
+      size = fault_in version bytes;
+      none = rw l.none refl;
+      offset = refl;
+      within = l.within;
+      stopped = λ xs free. one_before version n bytes xs ∙ l.stopped (all_records version n ++ xs);
     }
 
--- one recipient stands at the front
-pub first_read : (bytes : List ℕ) (r : FileRecipient) → front_recipient bytes ≡ Some r → (read_record 82 recipient_of bytes ≡ found r (drop (recipient_size r) bytes)) × (recipient_size r ≤ length bytes)
-first_read bytes r e =
-    let f = read_front 82 recipient_of bytes r e in
-    let size : 5 + length f.body ≡ recipient_size r = omega (arith, recipient_length f.body r f.means) in (
-      f.reads ∙ ap (λ (n : ℕ). found r (drop n bytes)) size,
-      omega (arith, f.within, size),
-    )
-
-one_more : (n at : ℕ) (bytes : List ℕ) (r : FileRecipient) (q : Result (List FileRecipient × ℕ) ℕ) → read_record 82 recipient_of bytes ≡ found r (drop (recipient_size r) bytes) → recipient_size r ≤ length bytes
-    → RecipientsAre n (at + recipient_size r) (drop (recipient_size r) bytes) q → RecipientsAre (suc n) at bytes (with_first r q)
-one_more n at bytes r (Ok (rs, next)) first within h = record {
-  size = recipient_size r + h.size;
-  reads = rw (first, h.reads) (ap (found (r ∷ rs)) (drop-drop h.size (recipient_size r) bytes));
+one_more : (version n at : ℕ) (bytes : List ℕ) (r : FileRecipient) (q : Result (List FileRecipient × ℕ) ℕ) → FirstIs version bytes r
+    → RecipientsAre version n (at + recipient_size version r) (drop (recipient_size version r) bytes) q → RecipientsAre version (suc n) at bytes (with_first r q)
+one_more version n at bytes r (Ok (rs, next)) first h = record {
+  size = recipient_size version r + h.size;
+  reads = rw (first.reads, h.reads) (ap (found (r ∷ rs)) (drop-drop h.size (recipient_size version r) bytes));
   offset = omega (arith, h.offset);
-  sum = omega (arith, h.sum, sum_by-cons recipient_size r rs);
-  within = omega (arith, h.within, length-drop (recipient_size r) bytes);
+  sum = omega (arith, h.sum, sum_by-cons (recipient_size version) r rs);
+  within = omega (arith, h.within, first.within, length-drop (recipient_size version r) bytes);
   count = ap suc h.count;
-  passed = λ xs. behind_more 82 recipient_of (replicate n (wanted 82 recipient_of) ++ xs) bytes r (drop (recipient_size r) bytes) first ∙ h.passed xs
-      ∙ ap (behind xs) (drop-drop h.size (recipient_size r) bytes);
+  passed = λ xs free. one_before version n bytes xs ∙ first.passed (all_records version n ++ xs) (all_free version n xs free) ∙ h.passed xs free
+      ∙ ap (behind [] xs) (drop-drop h.size (recipient_size version r) bytes);
 }
-one_more n at bytes r (Err place) first within h = record {
-  size = recipient_size r + h.size;
-  none = rw (first, h.none) refl;
+one_more version n at bytes r (Err place) first h = record {
+  size = recipient_size version r + h.size;
+  none = rw (first.reads, h.none) refl;
   offset = omega (arith, h.offset);
-  within = omega (arith, h.within, length-drop (recipient_size r) bytes);
-  stopped = λ xs. behind_more 82 recipient_of (replicate n (wanted 82 recipient_of) ++ xs) bytes r (drop (recipient_size r) bytes) first ∙ h.stopped xs
-      ∙ drop-drop h.size (recipient_size r) bytes;
+  within = omega (arith, h.within, first.within, length-drop (recipient_size version r) bytes);
+  stopped = λ xs free. one_before version n bytes xs ∙ first.passed (all_records version n ++ xs) (all_free version n xs free) ∙ h.stopped xs free
+      ∙ drop-drop h.size (recipient_size version r) bytes;
 }
 
-on_first : (n at : ℕ) (bytes : List ℕ) (o : Option FileRecipient) → front_recipient bytes ≡ o → ((next : ℕ) (rest : List ℕ) → RecipientsAre n next rest (recipients_from n next rest))
-    → RecipientsAre (suc n) at bytes (option_map_or (λ r. with_first r (recipients_from n (at + recipient_size r) (drop (recipient_size r) bytes))) o (Err at))
-on_first n at bytes None e others = no_first n at bytes e
-on_first n at bytes (Some r) e others =
-    let first = first_read bytes r e in
-    one_more n at bytes r (recipients_from n (at + recipient_size r) (drop (recipient_size r) bytes)) first.0 first.1 (others (at + recipient_size r) (drop (recipient_size r) bytes))
+on_first : (version n at : ℕ) (bytes : List ℕ) (o : Option FileRecipient) → front_recipient version bytes ≡ o → ((next : ℕ) (rest : List ℕ) → RecipientsAre version n next rest (recipients_from version n next rest))
+    → RecipientsAre version (suc n) at bytes (option_map_or (λ r. with_first r (recipients_from version n (at + recipient_size version r) (drop (recipient_size version r) bytes))) o (Err (at + fault_in version bytes)))
+on_first version n at bytes None e others = no_first version n at bytes e
+on_first version n at bytes (Some r) e others =
+    one_more version n at bytes r (recipients_from version n (at + recipient_size version r) (drop (recipient_size version r) bytes)) (first_is version bytes r e) (others (at + recipient_size version r) (drop (recipient_size version r) bytes))
 
-pub recipients_are : (n at : ℕ) (bytes : List ℕ) → RecipientsAre n at bytes (recipients_from n at bytes)
-recipients_are zero at bytes = record { size = 0; reads = refl; offset = omega arith; sum = refl; within = omega arith; count = refl; passed = λ xs. refl }
-recipients_are (suc n) at bytes = on_first n at bytes (front_recipient bytes) refl (recipients_are n)
+pub recipients_are : (version n at : ℕ) (bytes : List ℕ) → RecipientsAre version n at bytes (recipients_from version n at bytes)
+recipients_are version zero at bytes = record { size = 0; reads = refl; offset = omega arith; sum = refl; within = omega arith; count = refl; passed = λ xs free. refl }
+recipients_are version (suc n) at bytes = on_first version n at bytes (front_recipient version bytes) refl (recipients_are version n)
 
 -- ---- the content and the end
 
 -- all recipients are read
 record HasAll (bytes : List ℕ) (s : Start) (rs : List FileRecipient) (at : ℕ) : Type 0 where
   start : HasStart bytes s
-  reads : recipients_at s.counts.recipients (drop (start_size s.head) bytes) ≡ found rs (drop at bytes)
+  reads : recipients_at s.counts.version s.counts.recipients (drop (start_size s.head) bytes) ≡ found rs (drop at bytes)
   within : at ≤ length bytes
-  offset : at ≡ start_size s.head + sum_by recipient_size rs
+  offset : at ≡ start_size s.head + sum_by (recipient_size s.counts.version) rs
   count : length rs ≡ s.counts.recipients
-  behind_first : behind (records_of s.counts) bytes ≡ behind (from_content s.counts) (drop at bytes)
+  behind_first : behind [] (records_of s.counts) bytes ≡ behind [] (from_content s.counts) (drop at bytes)
 
-has_all : (bytes : List ℕ) (s : Start) (rs : List FileRecipient) (at : ℕ) → HasStart bytes s → HasRecipients s.counts.recipients (start_size s.head) (drop (start_size s.head) bytes) rs at → HasAll bytes s rs at
+has_all : (bytes : List ℕ) (s : Start) (rs : List FileRecipient) (at : ℕ) → HasStart bytes s → HasRecipients s.counts.version s.counts.recipients (start_size s.head) (drop (start_size s.head) bytes) rs at → HasAll bytes s rs at
 has_all bytes s rs at start h =
     let same : drop h.size (drop (start_size s.head) bytes) ≡ drop at bytes = drop-drop h.size (start_size s.head) bytes ∙ ap (λ (n : ℕ). drop n bytes) (sym h.offset) in
     record {
@@ -252,15 +249,15 @@ has_all bytes s rs at start h =
       within = omega (arith, h.within, h.offset, start.within, length-drop (start_size s.head) bytes);
       offset = omega (arith, h.offset, h.sum);
       count = h.count;
-      behind_first = start.behind_first ∙ h.passed (from_content s.counts) ∙ ap (behind (from_content s.counts)) same;
+      behind_first = start.behind_first ∙ h.passed (from_content s.counts) (content_free s.counts) ∙ ap (behind [] (from_content s.counts)) same;
     }
 
-lacks_one : (bytes : List ℕ) (s : Start) (place : ℕ) → HasStart bytes s → LacksRecipient s.counts.recipients (start_size s.head) (drop (start_size s.head) bytes) place → IsFault bytes place
+lacks_one : (bytes : List ℕ) (s : Start) (place : ℕ) → HasStart bytes s → LacksRecipient s.counts.version s.counts.recipients (start_size s.head) (drop (start_size s.head) bytes) place → IsFault bytes place
 unfolding queue_file
 lacks_one bytes s place start h =
     let same : drop h.size (drop (start_size s.head) bytes) ≡ drop place bytes = drop-drop h.size (start_size s.head) bytes ∙ ap (λ (n : ℕ). drop n bytes) (sym h.offset) in (
       rw (start.arrival.counts.reads, start.arrival.reads, start.reads, h.none) refl,
-      fault_is bytes s.counts place (omega (arith, h.within, h.offset, start.within, length-drop (start_size s.head) bytes)) start.arrival.counts.first (start.behind_first ∙ h.stopped (from_content s.counts) ∙ same),
+      fault_is bytes s.counts place (omega (arith, h.within, h.offset, start.within, length-drop (start_size s.head) bytes)) start.arrival.counts.first (start.behind_first ∙ h.stopped (from_content s.counts) (content_free s.counts) ∙ same),
     )
 
 no_content : (bytes : List ℕ) (s : Start) (rs : List FileRecipient) (at : ℕ) → HasAll bytes s rs at → ((begins_record 78 s.counts.content (drop at bytes)) && leb (5 + s.counts.content) (length (drop at bytes))) ≡ false → IsFault bytes at
@@ -278,7 +275,7 @@ record HasContent (bytes : List ℕ) (s : Start) (rs : List FileRecipient) (at :
   all : HasAll bytes s rs at
   reads : read_record 78 (body_of s.counts.content) (drop at bytes) ≡ found (take s.counts.content (drop 5 (drop at bytes))) (drop (at + 5 + s.counts.content) bytes)
   within : at + 5 + s.counts.content ≤ length bytes
-  behind_first : behind (records_of s.counts) bytes ≡ behind (wanted 69 (body_of 0) ∷ []) (drop (at + 5 + s.counts.content) bytes)
+  behind_first : behind [] (records_of s.counts) bytes ≡ behind [] (wanted 69 (body_of 0) ∷ []) (drop (at + 5 + s.counts.content) bytes)
 
 has_content : (bytes : List ℕ) (s : Start) (rs : List FileRecipient) (at : ℕ) → HasAll bytes s rs at → ((begins_record 78 s.counts.content (drop at bytes)) && leb (5 + s.counts.content) (length (drop at bytes))) ≡ true → HasContent bytes s rs at
 has_content bytes s rs at h e =
@@ -292,7 +289,7 @@ has_content bytes s rs at h e =
       all = h;
       reads = reads;
       within = omega (arith, long, length-drop at bytes, h.within);
-      behind_first = h.behind_first ∙ behind_more 78 (body_of n) (wanted 69 (body_of 0) ∷ []) (drop at bytes) (take n (drop 5 (drop at bytes))) (drop (at + 5 + n) bytes) reads;
+      behind_first = h.behind_first ∙ behind_more 78 (body_of n) (wanted 69 (body_of 0) ∷ []) (drop at bytes) (take n (drop 5 (drop at bytes))) (drop (at + 5 + n) bytes) (λ before bytes. refl) reads;
     }
 
 no_end : (bytes : List ℕ) (s : Start) (rs : List FileRecipient) (at : ℕ) → HasContent bytes s rs at → begins_record 69 0 (drop (at + 5 + s.counts.content) bytes) ≡ false → IsFault bytes (at + 5 + s.counts.content)
@@ -311,14 +308,14 @@ record HasEnd (bytes : List ℕ) (s : Start) (rs : List FileRecipient) (at : ℕ
   content : HasContent bytes s rs at
   reads : read_record 69 (body_of 0) (drop (at + 5 + s.counts.content) bytes) ≡ found [] (drop 5 (drop (at + 5 + s.counts.content) bytes))
   long : 5 ≤ length (drop (at + 5 + s.counts.content) bytes)
-  behind_first : behind (records_of s.counts) bytes ≡ drop 5 (drop (at + 5 + s.counts.content) bytes)
+  behind_first : behind [] (records_of s.counts) bytes ≡ drop 5 (drop (at + 5 + s.counts.content) bytes)
 
 has_end : (bytes : List ℕ) (s : Start) (rs : List FileRecipient) (at : ℕ) → HasContent bytes s rs at → begins_record 69 0 (drop (at + 5 + s.counts.content) bytes) ≡ true → HasEnd bytes s rs at
 has_end bytes s rs at h begins =
     let rest = drop (at + 5 + s.counts.content) bytes in
     let long : 5 ≤ length (drop (at + 5 + s.counts.content) bytes) = begins_long 69 0 rest begins in
     let reads : read_record 69 (body_of 0) (drop (at + 5 + s.counts.content) bytes) ≡ found [] (drop 5 (drop (at + 5 + s.counts.content) bytes)) = sized_read 69 0 rest begins (omega (arith, long)) in
-    record { content = h; reads = reads; long = long; behind_first = h.behind_first ∙ behind_more 69 (body_of 0) [] rest [] (drop 5 rest) reads }
+    record { content = h; reads = reads; long = long; behind_first = h.behind_first ∙ behind_more 69 (body_of 0) [] rest [] (drop 5 rest) (λ before bytes. refl) reads }
 
 some_left : (xs : List ℕ) → 1 ≤ length xs → has_none xs ≡ false
 some_left [] h = absurd (omega arith)
@@ -341,7 +338,7 @@ more_behind bytes s rs at h e =
     )
 
 message_found : (bytes : List ℕ) (s : Start) (rs : List FileRecipient) (at : ℕ) → HasEnd bytes s rs at → leb (length (drop (at + 5 + s.counts.content) bytes)) 5 ≡ true
-    → queue_file bytes ≡ Some (record { sender = s.head.sender; arrival = s.head.arrival; content = take s.counts.content (drop 5 (drop at bytes)); recipients = rs })
+    → queue_file bytes ≡ Some (record { version = s.counts.version; sender = s.head.sender; arrival = s.head.arrival; content = take s.counts.content (drop 5 (drop at bytes)); recipients = rs })
 unfolding queue_file
 message_found bytes s rs at h e =
     let rest = drop (at + 5 + s.counts.content) bytes in
@@ -349,9 +346,9 @@ message_found bytes s rs at h e =
     let start = h.content.all.start in
     rw (start.arrival.counts.reads, start.arrival.reads, start.reads, h.content.all.reads, h.content.reads, h.reads, none) refl
 
-abbrev head_with : Head → ℕ → ℕ → ℕ → ℕ → FileHead
-head_with head recipients marked content_at content_len = record {
-  version = 1;
+abbrev head_with : ℕ → Head → ℕ → ℕ → ℕ → ℕ → FileHead
+head_with version head recipients marked content_at content_len = record {
+  version = version;
   head = head;
   recipients = recipients;
   marked = marked;
@@ -361,10 +358,10 @@ head_with head recipients marked content_at content_len = record {
 }
 
 abbrev message_of : Start → List FileRecipient → List ℕ → FileMessage
-message_of s rs content = record { sender = s.head.sender; arrival = s.head.arrival; content = content; recipients = rs }
+message_of s rs content = record { version = s.counts.version; sender = s.head.sender; arrival = s.head.arrival; content = content; recipients = rs }
 
 head_found : (bytes : List ℕ) (s : Start) (rs : List FileRecipient) (at : ℕ) → HasEnd bytes s rs at
-    → head_of (message_of s rs (take s.counts.content (drop 5 (drop at bytes)))) ≡ head_with s.head s.counts.recipients (0 + count_by (λ r. r.marked) rs) (at + 5) s.counts.content
+    → head_of (message_of s rs (take s.counts.content (drop 5 (drop at bytes)))) ≡ head_with s.counts.version s.head s.counts.recipients (0 + count_by (λ r. r.marked) rs) (at + 5) s.counts.content
 head_found bytes s rs at h =
     let n = s.counts.content in
     let content = take s.counts.content (drop 5 (drop at bytes)) in
@@ -372,13 +369,13 @@ head_found bytes s rs at h =
     let marked = count_by (λ (r : FileRecipient). r.marked) rs in
     let all : take (length rs) rs ≡ rs = take_all (length rs) rs (omega arith) in
     let offset : content_at (message_of s rs (take s.counts.content (drop 5 (drop at bytes)))) ≡ at + 5 =
-    ap (λ (xs : List FileRecipient). start_size s.head + sum_by recipient_size xs + 5) all ∙ ap (λ (k : ℕ). k + 5) (sym h.content.all.offset) in
+    ap (λ (xs : List FileRecipient). start_size s.head + sum_by (recipient_size s.counts.version) xs + 5) all ∙ ap (λ (k : ℕ). k + 5) (sym h.content.all.offset) in
     let len : length (take s.counts.content (drop 5 (drop at bytes))) ≡ s.counts.content = length-take-le n (drop 5 (drop at bytes)) (omega (arith, h.content.within, length-drop 5 (drop at bytes), length-drop at bytes)) in
     let zero_more : count_by (λ (r : FileRecipient). r.marked) rs ≡ 0 + count_by (λ (r : FileRecipient). r.marked) rs = omega arith in
-    ap (λ (k : ℕ). head_with s.head k marked (content_at m) (length content)) h.content.all.count
-    ∙ ap (λ (k : ℕ). head_with s.head s.counts.recipients k (content_at m) (length content)) zero_more
-    ∙ ap (λ (k : ℕ). head_with s.head s.counts.recipients (0 + marked) k (length content)) offset
-    ∙ ap (λ (k : ℕ). head_with s.head s.counts.recipients (0 + marked) (at + 5) k) len
+    ap (λ (k : ℕ). head_with s.counts.version s.head k marked (content_at m) (length content)) h.content.all.count
+    ∙ ap (λ (k : ℕ). head_with s.counts.version s.head s.counts.recipients k (content_at m) (length content)) zero_more
+    ∙ ap (λ (k : ℕ). head_with s.counts.version s.head s.counts.recipients (0 + marked) k (length content)) offset
+    ∙ ap (λ (k : ℕ). head_with s.counts.version s.head s.counts.recipients (0 + marked) (at + 5) k) len
 
 -- ---- the head, or the fault
 
@@ -387,7 +384,7 @@ HeadIs bytes (Ok head) = option_map head_of (queue_file bytes) ≡ Some head
 HeadIs bytes (Err place) = IsFault bytes place
 
 abbrev then_head : Start → ℕ → ℕ → Unit {0} → Result FileHead ℕ
-then_head s marked at e = Ok (head_with s.head s.counts.recipients marked (at + 5) s.counts.content)
+then_head s marked at e = Ok (head_with s.counts.version s.head s.counts.recipients marked (at + 5) s.counts.content)
 
 abbrev then_end : List ℕ → Start → ℕ → ℕ → ℕ → Result FileHead ℕ
 then_end bytes s marked at n = end_from n (drop n bytes) >>= then_head s marked at
@@ -399,7 +396,7 @@ abbrev then_recipients : List ℕ → Start → Result (List FileRecipient × �
 then_recipients bytes s q = marks_counted 0 q >>= λ r. then_content bytes s r.0 r.1
 
 abbrev then_start : List ℕ → Result Start ℕ → Result FileHead ℕ
-then_start bytes q = q >>= λ s. then_recipients bytes s (recipients_from s.counts.recipients (start_size s.head) (drop (start_size s.head) bytes))
+then_start bytes q = q >>= λ s. then_recipients bytes s (recipients_from s.counts.version s.counts.recipients (start_size s.head) (drop (start_size s.head) bytes))
 
 on_more : (bytes : List ℕ) (s : Start) (rs : List FileRecipient) (at : ℕ) (t : Bool) → HasEnd bytes s rs at → leb (length (drop (at + 5 + s.counts.content) bytes)) 5 ≡ t
     → HeadIs bytes ((if t then Ok tt else Err (at + 5 + s.counts.content + 5)) >>= then_head s (0 + count_by (λ r. r.marked) rs) at)
@@ -416,12 +413,12 @@ on_content : (bytes : List ℕ) (s : Start) (rs : List FileRecipient) (at : ℕ)
 on_content bytes s rs at true h e = on_end bytes s rs at (begins_record 69 0 (drop (at + 5 + s.counts.content) bytes)) (has_content bytes s rs at h e) refl
 on_content bytes s rs at false h e = no_content bytes s rs at h e
 
-on_recipients : (bytes : List ℕ) (s : Start) (q : Result (List FileRecipient × ℕ) ℕ) → HasStart bytes s → RecipientsAre s.counts.recipients (start_size s.head) (drop (start_size s.head) bytes) q → HeadIs bytes (then_recipients bytes s q)
+on_recipients : (bytes : List ℕ) (s : Start) (q : Result (List FileRecipient × ℕ) ℕ) → HasStart bytes s → RecipientsAre s.counts.version s.counts.recipients (start_size s.head) (drop (start_size s.head) bytes) q → HeadIs bytes (then_recipients bytes s q)
 on_recipients bytes s (Ok (rs, at)) start h = on_content bytes s rs at ((begins_record 78 s.counts.content (drop at bytes)) && leb (5 + s.counts.content) (length (drop at bytes))) (has_all bytes s rs at start h) refl
 on_recipients bytes s (Err place) start h = lacks_one bytes s place start h
 
 on_start : (bytes : List ℕ) (q : Result Start ℕ) → StartIs bytes q → HeadIs bytes (then_start bytes q)
-on_start bytes (Ok s) h = on_recipients bytes s (recipients_from s.counts.recipients (start_size s.head) (drop (start_size s.head) bytes)) h (recipients_are s.counts.recipients (start_size s.head) (drop (start_size s.head) bytes))
+on_start bytes (Ok s) h = on_recipients bytes s (recipients_from s.counts.version s.counts.recipients (start_size s.head) (drop (start_size s.head) bytes)) h (recipients_are s.counts.version s.counts.recipients (start_size s.head) (drop (start_size s.head) bytes))
 on_start bytes (Err place) h = h
 
 pub head_is : (bytes : List ℕ) → HeadIs bytes (head_from bytes)

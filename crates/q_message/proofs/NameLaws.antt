@@ -7,14 +7,14 @@ use Rattle.std.proofs.lemmas.Bool.{cases_lt}
 use Rattle.std.proofs.lemmas.List.{map-append, take_more}
 use Rattle.q_model.specs.QueueFile.{FileMessage, FileRecipient, queue_file}
 use Rattle.q_model.specs.QueueFileBytes.{first_at, recipient_at}
-use Rattle.q_model.specs.Values.{FileHead, Spot}
+use Rattle.q_model.specs.Values.{FileHead, Receiver, Spot}
 use Rattle.q_host.specs.Calls.{Stays}
 use Rattle.q_model.specs.SpoolFiles.{Files}
 use Rattle.q_host.specs.View.{View}
 use Rattle.q_model.proofs.RecordLaws.{map_some}
 use Rattle.q_message.specs.FileHeads.{head_of}
 use Rattle.q_message.specs.Pending.{HasCursor}
-use Rattle.q_message.specs.Names.{HasHead, StandsAt, address_in}
+use Rattle.q_message.specs.Names.{HasHead, StandsAt, receiver_in}
 use Rattle.q_message.specs.Windows.{Seen, Shows}
 use Rattle.q_message.proofs.PendingLaws.{cursor_with, first_cursor, nothing_shown}
 
@@ -46,8 +46,12 @@ stands_first found m i first n v w s is none new = record {
   place = ap (λ (w : Seen). w.at) new ∙ is ∙ ap (recipient_at m) (sym none);
 }
 
-pub address_is : (m : FileMessage) (i : ℕ) (r : FileRecipient) → slice_get m.recipients i ≡ Some r → r.address ≡ address_in m i
-address_is m i r is = ap (λ (o : Option FileRecipient). option_map_or (λ (x : FileRecipient). x.address) o []) (sym is)
+-- a recipient without its mark
+abbrev pub receiver_of : FileRecipient → Receiver
+receiver_of r = record { address = r.address; original = r.original }
+
+pub receiver_is : (m : FileMessage) (i : ℕ) (r : FileRecipient) → slice_get m.recipients i ≡ Some r → receiver_of r ≡ receiver_in m i
+receiver_is m i r is = ap (λ (o : Option FileRecipient). option_map_or receiver_of o (record { address = []; original = None })) (sym is)
 
 -- ---- answers that hand an error on
 
@@ -77,19 +81,19 @@ names_begin (Some bytes) file w ps there h new within =
     no_more : (n : ℕ) → n ≡ n + 0
     no_more n = omega arith
 
-pub names_end : (o : Option (List ℕ)) (m : FileMessage) (i : ℕ) (w : Seen) (names : List (List ℕ)) (ps : List ℕ) → StandsAt o m i w → names ≡ map (address_in m) ps → IfSome o (λ bytes. IfSome (queue_file bytes) (λ m. names ≡ map (address_in m) ps))
+pub names_end : (o : Option (List ℕ)) (m : FileMessage) (i : ℕ) (w : Seen) (names : List Receiver) (ps : List ℕ) → StandsAt o m i w → names ≡ map (receiver_in m) ps → IfSome o (λ bytes. IfSome (queue_file bytes) (λ m. names ≡ map (receiver_in m) ps))
 names_end o m i w names ps s is =
-    subst (λ (o : Option (List ℕ)). IfSome o (λ bytes. IfSome (queue_file bytes) (λ m. names ≡ map (address_in m) ps))) (sym s.here)
-    (subst (λ (q : Option FileMessage). IfSome q (λ m. names ≡ map (address_in m) ps)) (sym s.reads) is)
+    subst (λ (o : Option (List ℕ)). IfSome o (λ bytes. IfSome (queue_file bytes) (λ m. names ≡ map (receiver_in m) ps))) (sym s.here)
+    (subst (λ (q : Option FileMessage). IfSome q (λ m. names ≡ map (receiver_in m) ps)) (sym s.reads) is)
 
 -- one address more
-pub names_more : (m : FileMessage) (ps : List ℕ) (i p : ℕ) (names more : List (List ℕ)) (a : List ℕ) → i < length ps → p ≡ get_or ps i 0 → names ≡ map (address_in m) (take i ps) → a ≡ address_in m p → more ≡ names ++ a ∷ []
-    → more ≡ map (address_in m) (take (i + 1) ps)
+pub names_more : (m : FileMessage) (ps : List ℕ) (i p : ℕ) (names more : List Receiver) (a : Receiver) → i < length ps → p ≡ get_or ps i 0 → names ≡ map (receiver_in m) (take i ps) → a ≡ receiver_in m p → more ≡ names ++ a ∷ []
+    → more ≡ map (receiver_in m) (take (i + 1) ps)
 names_more m ps i p names more a within read is one pushed =
-    pushed ∙ ap (λ (xs : List (List ℕ)). xs ++ a ∷ []) is ∙ ap (λ (x : List ℕ). map (address_in m) (take i ps) ++ x ∷ []) one
-    ∙ sym (map-append (address_in m) (take i ps) (p ∷ []))
-    ∙ ap (λ (x : ℕ). map (address_in m) (take i ps ++ x ∷ [])) read
-    ∙ ap (map (address_in m)) (sym (take_more ps i 0 within))
+    pushed ∙ ap (λ (xs : List Receiver). xs ++ a ∷ []) is ∙ ap (λ (x : Receiver). map (receiver_in m) (take i ps) ++ x ∷ []) one
+    ∙ sym (map-append (receiver_in m) (take i ps) (p ∷ []))
+    ∙ ap (λ (x : ℕ). map (receiver_in m) (take i ps ++ x ∷ [])) read
+    ∙ ap (map (receiver_in m)) (sym (take_more ps i 0 within))
 
 -- ---- behind a call that answered the head
 

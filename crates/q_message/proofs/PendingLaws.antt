@@ -6,36 +6,33 @@ use Rattle.std.proofs.lemmas.List.{drop-drop, length-append, length-drop}
 use Rattle.std.proofs.lemmas.List.Sums.{sum_by-cons, sum_by-take-drop}
 use Rattle.std.proofs.lemmas.Option.{cond_some}
 use Rattle.q_model.specs.Lists.{has_none, places_from}
-use Rattle.q_model.specs.QueueFile.{FileMessage, FileRecipient, ◌>>=◌, arrival_of, body_of, counts_of, queue_file, recipient_of, recipients_at, sender_of}
-use Rattle.q_model.specs.QueueFileBytes.{first_at, recipient_at}
-use Rattle.q_model.specs.Records.{read_record}
+use Rattle.q_model.specs.QueueFile.{FileMessage, FileRecipient, ◌>>=◌, arrival_of, body_of, counts_of, is_version, queue_file, recipients_at, sender_of, take_recipient}
+use Rattle.q_model.specs.QueueFileBytes.{before_mark, first_at, mark_at, original_size, recipient_at, recipient_size}
 use Rattle.q_model.specs.declared.file_head.Cursor.{Cursor}
 use Rattle.q_model.specs.Values.{FileHead, Taken}
 use Rattle.q_model.proofs.RecordLaws.{bind_some, found, map_some}
 use Rattle.q_message.specs.FileHeads.{head_of}
 use Rattle.q_message.specs.Fronts.{IsFront}
 use Rattle.q_message.specs.Windows.{Seen, Shows}
-use Rattle.q_message.proofs.WindowLaws.{recipient_found}
+use Rattle.q_message.proofs.RecipientReads.{is_found, version_told}
+use Rattle.q_message.proofs.WindowLaws.{recipient_found, version_found}
 use Rattle.q_message.specs.Pending.{HasCursor, cursor_at, position_behind, taken_at, taken_from, unmarked_from}
-use Rattle.q_message.specs.Readings.{front_recipient, recipient_size}
-use Rattle.q_message.proofs.HeadLaws.{sender_bytes}
-use Rattle.q_message.proofs.RecordReads.{arrival_size, counts_few, counts_size, read_leaves, recipient_front, recipient_length, recipient_short, sender_length, sender_short}
+use Rattle.q_message.specs.Readings.{front_recipient, version_at}
+use Rattle.q_message.proofs.RecordReads.{arrival_size, counts_size, counts_within, read_leaves, sender_bytes, sender_length, sender_short}
 
 -- ---- where each recipient stands
 
 -- the recipients behind the first
-each_more : (bytes : List ℕ) (first : FileRecipient) (mid : List ℕ) (others : List FileRecipient) → read_record 82 recipient_of bytes ≡ found first mid
-    → ((i : ℕ) (r : FileRecipient) → slice_get others i ≡ Some r → front_recipient (drop (sum_by recipient_size (take i others)) mid) ≡ Some r)
-    → (i : ℕ) (r : FileRecipient) → slice_get (first ∷ others) i ≡ Some r → front_recipient (drop (sum_by recipient_size (take i (first ∷ others))) bytes) ≡ Some r
-each_more bytes first mid others reads each zero r is = recipient_front bytes first mid reads ∙ is
-each_more bytes first mid others reads each (suc j) r is =
-    let left = read_leaves 82 recipient_of bytes first mid reads in
-    let size : 5 + length left.body ≡ recipient_size first = omega (arith, recipient_length left.body first left.means) in
-    let behind : mid ≡ drop (recipient_size first) bytes = left.behind ∙ ap (λ (k : ℕ). drop k bytes) size in
-    let sum : sum_by recipient_size (take (suc j) (first ∷ others)) ≡ recipient_size first + sum_by recipient_size (take j others) = sum_by-cons recipient_size first (take j others) in
-    ap (λ (k : ℕ). front_recipient (drop k bytes)) sum
-    ∙ ap front_recipient (sym (drop-drop (sum_by recipient_size (take j others)) (recipient_size first) bytes))
-    ∙ ap (λ (xs : List ℕ). front_recipient (drop (sum_by recipient_size (take j others)) xs)) (sym behind)
+each_more : (version : ℕ) (bytes : List ℕ) (first : FileRecipient) (mid : List ℕ) (others : List FileRecipient) → take_recipient version bytes ≡ found first mid
+    → ((i : ℕ) (r : FileRecipient) → slice_get others i ≡ Some r → front_recipient version (drop (sum_by (recipient_size version) (take i others)) mid) ≡ Some r)
+    → (i : ℕ) (r : FileRecipient) → slice_get (first ∷ others) i ≡ Some r → front_recipient version (drop (sum_by (recipient_size version) (take i (first ∷ others))) bytes) ≡ Some r
+each_more version bytes first mid others reads each zero r is = (is_found version bytes first mid reads).front ∙ is
+each_more version bytes first mid others reads each (suc j) r is =
+    let behind : mid ≡ drop (recipient_size version first) bytes = (is_found version bytes first mid reads).behind in
+    let sum : sum_by (recipient_size version) (take (suc j) (first ∷ others)) ≡ recipient_size version first + sum_by (recipient_size version) (take j others) = sum_by-cons (recipient_size version) first (take j others) in
+    ap (λ (k : ℕ). front_recipient version (drop k bytes)) sum
+    ∙ ap (front_recipient version) (sym (drop-drop (sum_by (recipient_size version) (take j others)) (recipient_size version first) bytes))
+    ∙ ap (λ (xs : List ℕ). front_recipient version (drop (sum_by (recipient_size version) (take j others)) xs)) (sym behind)
     ∙ each j r is
 
 of_some : {A : Type 0} {x y : A} → Some x ≡ Some y → x ≡ y
@@ -44,46 +41,63 @@ of_some h = cc
 none_some : {A : Type 0} {x : A} → None ≡ Some x → ⊥
 none_some h = cc
 
-each_front : (n : ℕ) (bytes : List ℕ) (rs : List FileRecipient) (rest : List ℕ) → recipients_at n bytes ≡ found rs rest → (i : ℕ) (r : FileRecipient) → slice_get rs i ≡ Some r
-    → front_recipient (drop (sum_by recipient_size (take i rs)) bytes) ≡ Some r
-each_front zero bytes rs rest e i r is =
+-- the first of the recipients that are read, and the others
+record Splits (version n : ℕ) (bytes : List ℕ) (rs : List FileRecipient) (rest : List ℕ) : Type 0 where
+  first : FileRecipient
+  mid : List ℕ
+  others : List FileRecipient
+  reads : take_recipient version bytes ≡ found first mid
+  more : recipients_at version n mid ≡ found others rest
+  same : first ∷ others ≡ rs
+
+splits : (version n : ℕ) (bytes : List ℕ) (rs : List FileRecipient) (rest : List ℕ) → recipients_at version (suc n) bytes ≡ found rs rest → Splits version n bytes rs rest
+splits version n bytes rs rest e =
+    let a = bind_some (take_recipient version bytes) (λ (r : FileRecipient × List ℕ). recipients_at version n r.1 >>= λ others. Some (r.0 ∷ others.0, others.1)) (rs, rest) e in
+    let b = bind_some (recipients_at version n a.0.1) (λ (others : List FileRecipient × List ℕ). Some (a.0.0 ∷ others.0, others.1)) (rs, rest) a.2 in
+    record {
+      first = a.0.0;
+      mid = a.0.1;
+      others = b.0.0;
+      reads = a.1;
+      more = b.1 ∙ ap (λ (p : List FileRecipient × List ℕ). found b.0.0 p.1) (of_some b.2);
+      same = ap (λ (p : List FileRecipient × List ℕ). p.0) (of_some b.2);
+    }
+
+each_front : (version n : ℕ) (bytes : List ℕ) (rs : List FileRecipient) (rest : List ℕ) → recipients_at version n bytes ≡ found rs rest → (i : ℕ) (r : FileRecipient) → slice_get rs i ≡ Some r
+    → front_recipient version (drop (sum_by (recipient_size version) (take i rs)) bytes) ≡ Some r
+each_front version zero bytes rs rest e i r is =
     let none : [] ≡ rs = ap (λ (p : List FileRecipient × List ℕ). p.0) (of_some e) in
     absurd (none_some (ap (λ (xs : List FileRecipient). slice_get xs i) none ∙ is))
-each_front (suc n) bytes rs rest e i r is =
-    let a = bind_some (read_record 82 recipient_of bytes) (λ (r : FileRecipient × List ℕ). recipients_at n r.1 >>= λ others. Some (r.0 ∷ others.0, others.1)) (rs, rest) e in
-    let b = bind_some (recipients_at n a.0.1) (λ (others : List FileRecipient × List ℕ). Some (a.0.0 ∷ others.0, others.1)) (rs, rest) a.2 in
-    let same : a.0.0 ∷ b.0.0 ≡ rs = ap (λ (p : List FileRecipient × List ℕ). p.0) (of_some b.2) in
-    subst (λ (xs : List FileRecipient). slice_get xs i ≡ Some r → front_recipient (drop (sum_by recipient_size (take i xs)) bytes) ≡ Some r) same
-    (each_more bytes a.0.0 a.0.1 b.0.0 a.1 (each_front n a.0.1 b.0.0 b.0.1 b.1) i r) is
+each_front version (suc n) bytes rs rest e i r is =
+    let h = splits version n bytes rs rest e in
+    subst (λ (xs : List FileRecipient). slice_get xs i ≡ Some r → front_recipient version (drop (sum_by (recipient_size version) (take i xs)) bytes) ≡ Some r) h.same
+    (each_more version bytes h.first h.mid h.others h.reads (each_front version n h.mid h.others rest h.more) i r) is
 
-sum_bound : (n : ℕ) (bytes : List ℕ) (rs : List FileRecipient) (rest : List ℕ) → recipients_at n bytes ≡ found rs rest → sum_by recipient_size rs ≤ 260 * n
-sum_bound zero bytes rs rest e =
+sum_bound : (version n : ℕ) (bytes : List ℕ) (rs : List FileRecipient) (rest : List ℕ) → recipients_at version n bytes ≡ found rs rest → sum_by (recipient_size version) rs ≤ 519 * n
+sum_bound version zero bytes rs rest e =
     let none : [] ≡ rs = ap (λ (p : List FileRecipient × List ℕ). p.0) (of_some e) in
-    let zero : sum_by recipient_size rs ≡ 0 = ap (sum_by recipient_size) (sym none) in
+    let zero : sum_by (recipient_size version) rs ≡ 0 = ap (sum_by (recipient_size version)) (sym none) in
     omega arith
-sum_bound (suc n) bytes rs rest e =
-    let a = bind_some (read_record 82 recipient_of bytes) (λ (r : FileRecipient × List ℕ). recipients_at n r.1 >>= λ others. Some (r.0 ∷ others.0, others.1)) (rs, rest) e in
-    let b = bind_some (recipients_at n a.0.1) (λ (others : List FileRecipient × List ℕ). Some (a.0.0 ∷ others.0, others.1)) (rs, rest) a.2 in
-    let same : a.0.0 ∷ b.0.0 ≡ rs = ap (λ (p : List FileRecipient × List ℕ). p.0) (of_some b.2) in
-    let left = read_leaves 82 recipient_of bytes a.0.0 a.0.1 a.1 in
-    let one : recipient_size a.0.0 ≤ 260 = recipient_short left.body a.0.0 left.means in
-    let sum : sum_by recipient_size rs ≡ recipient_size a.0.0 + sum_by recipient_size b.0.0 = ap (sum_by recipient_size) (sym same) ∙ sum_by-cons recipient_size a.0.0 b.0.0 in
-    omega (arith, sum_bound n a.0.1 b.0.0 b.0.1 b.1)
+sum_bound version (suc n) bytes rs rest e =
+    let h = splits version n bytes rs rest e in
+    let one : recipient_size version h.first ≤ 519 = (is_found version bytes h.first h.mid h.reads).few in
+    let sum : sum_by (recipient_size version) rs ≡ recipient_size version h.first + sum_by (recipient_size version) h.others = ap (sum_by (recipient_size version)) (sym h.same) ∙ sum_by-cons (recipient_size version) h.first h.others in
+    omega (arith, sum, one, sum_bound version n h.mid h.others rest h.more)
 
-count_is : (n : ℕ) (bytes : List ℕ) (rs : List FileRecipient) (rest : List ℕ) → recipients_at n bytes ≡ found rs rest → length rs ≡ n
-count_is zero bytes rs rest e = ap (λ (p : List FileRecipient × List ℕ). length p.0) (sym (of_some e))
-count_is (suc n) bytes rs rest e =
-    let a = bind_some (read_record 82 recipient_of bytes) (λ (r : FileRecipient × List ℕ). recipients_at n r.1 >>= λ others. Some (r.0 ∷ others.0, others.1)) (rs, rest) e in
-    let b = bind_some (recipients_at n a.0.1) (λ (others : List FileRecipient × List ℕ). Some (a.0.0 ∷ others.0, others.1)) (rs, rest) a.2 in
-    let same : a.0.0 ∷ b.0.0 ≡ rs = ap (λ (p : List FileRecipient × List ℕ). p.0) (of_some b.2) in
-    let more : length rs ≡ suc (length b.0.0) = ap (λ (xs : List FileRecipient). length xs) (sym same) in
-    omega (arith, more, count_is n a.0.1 b.0.0 b.0.1 b.1)
+count_is : (version n : ℕ) (bytes : List ℕ) (rs : List FileRecipient) (rest : List ℕ) → recipients_at version n bytes ≡ found rs rest → length rs ≡ n
+count_is version zero bytes rs rest e = ap (λ (p : List FileRecipient × List ℕ). length p.0) (sym (of_some e))
+count_is version (suc n) bytes rs rest e =
+    let h = splits version n bytes rs rest e in
+    let more : length rs ≡ suc (length h.others) = ap (λ (xs : List FileRecipient). length xs) (sym h.same) in
+    omega (arith, more, count_is version n h.mid h.others rest h.more)
 
 -- the records of the recipients begin there
 record HasRecords (bytes : List ℕ) (m : FileMessage) : Type 0 where
   count : ℕ
   rest : List ℕ
-  reads : recipients_at count (drop (first_at m) bytes) ≡ found m.recipients rest
+  reads : recipients_at m.version count (drop (first_at m) bytes) ≡ found m.recipients rest
+  version : is_version m.version ≡ true
+  some : 1 ≤ count
   few : count ≤ 50000
   near : first_at m ≤ 289
 
@@ -96,7 +110,7 @@ has_records bytes m given =
     let r = bind_some _ _ m s.2 in
     let n = bind_some _ _ m r.2 in
     let e = bind_some _ _ m n.2 in
-    let g = cond_some {A = FileMessage} (has_none e.0.1) (record { sender = s.0.0; arrival = t.0.0; content = n.0.0; recipients = r.0.0 }) m e.2 in
+    let g = cond_some {A = FileMessage} (has_none e.0.1) (record { version = c.0.0.version; sender = s.0.0; arrival = t.0.0; content = n.0.0; recipients = r.0.0 }) m e.2 in
     let lc = read_leaves 67 counts_of bytes c.0.0 c.0.1 c.1 in
     let lt = read_leaves 84 arrival_of c.0.1 t.0.0 t.0.1 t.1 in
     let ls = read_leaves 83 sender_of t.0.1 s.0.0 s.0.1 s.1 in
@@ -110,8 +124,10 @@ has_records bytes m given =
     subst (HasRecords bytes) g.1 (record {
       count = c.0.0.recipients;
       rest = r.0.1;
-      reads = ap (recipients_at c.0.0.recipients) (sym at_first) ∙ r.1;
-      few = counts_few lc.body c.0.0 lc.means;
+      reads = ap (recipients_at c.0.0.version c.0.0.recipients) (sym at_first) ∙ r.1;
+      version = (counts_within lc.body c.0.0 lc.means).version;
+      some = (counts_within lc.body c.0.0 lc.means).some;
+      few = (counts_within lc.body c.0.0 lc.means).few;
       near = sum_near (length (unwrap_or s.0.0 [])) (subst (λ (k : ℕ). k ≤ 254) size (sender_short ls.body s.0.0 ls.means));
     })
   where
@@ -122,40 +138,49 @@ has_records bytes m given =
     sum_near n h = omega arith
 
 -- the offsets of recipients are small numbers
-pub recipient_near : (bytes : List ℕ) (m : FileMessage) (i : ℕ) → queue_file bytes ≡ Some m → recipient_at m i ≤ 13000289
+pub recipient_near : (bytes : List ℕ) (m : FileMessage) (i : ℕ) → queue_file bytes ≡ Some m → recipient_at m i ≤ 25950289
 recipient_near bytes m i given =
     let h = has_records bytes m given in
-    let all = sum_bound h.count (drop (first_at m) bytes) m.recipients h.rest h.reads in
-    omega (arith, h.near, h.few, all, sum_by-take-drop recipient_size m.recipients i)
+    let all = sum_bound m.version h.count (drop (first_at m) bytes) m.recipients h.rest h.reads in
+    omega (arith, h.near, h.few, all, sum_by-take-drop (recipient_size m.version) m.recipients i)
 
 pub recipients_few : (bytes : List ℕ) (m : FileMessage) → queue_file bytes ≡ Some m → length m.recipients ≤ 50000
 recipients_few bytes m given =
     let h = has_records bytes m given in
-    omega (arith, h.few, count_is h.count (drop (first_at m) bytes) m.recipients h.rest h.reads)
+    omega (arith, h.few, count_is m.version h.count (drop (first_at m) bytes) m.recipients h.rest h.reads)
 
--- the record of a recipient stands at its offset
-pub recipient_there : (bytes : List ℕ) (m : FileMessage) (i : ℕ) (r : FileRecipient) → queue_file bytes ≡ Some m → slice_get m.recipients i ≡ Some r → front_recipient (drop (recipient_at m i) bytes) ≡ Some r
+pub recipients_some : (bytes : List ℕ) (m : FileMessage) → queue_file bytes ≡ Some m → 1 ≤ length m.recipients
+recipients_some bytes m given =
+    let h = has_records bytes m given in
+    omega (arith, h.some, count_is m.version h.count (drop (first_at m) bytes) m.recipients h.rest h.reads)
+
+-- the records of a recipient stand at its offset
+pub recipient_there : (bytes : List ℕ) (m : FileMessage) (i : ℕ) (r : FileRecipient) → queue_file bytes ≡ Some m → slice_get m.recipients i ≡ Some r → front_recipient m.version (drop (recipient_at m i) bytes) ≡ Some r
 recipient_there bytes m i r given is =
     let h = has_records bytes m given in
-    ap front_recipient (sym (drop-drop (sum_by recipient_size (take i m.recipients)) (first_at m) bytes))
-    ∙ each_front h.count (drop (first_at m) bytes) m.recipients h.rest h.reads i r is
+    ap (front_recipient m.version) (sym (drop-drop (sum_by (recipient_size m.version) (take i m.recipients)) (first_at m) bytes))
+    ∙ each_front m.version h.count (drop (first_at m) bytes) m.recipients h.rest h.reads i r is
 
-sum_more : (rs : List FileRecipient) (i : ℕ) (r : FileRecipient) → slice_get rs i ≡ Some r → sum_by recipient_size (take (suc i) rs) ≡ sum_by recipient_size (take i rs) + recipient_size r
-sum_more [] i r is = absurd cc
-sum_more (x ∷ rs) zero r is =
+-- they begin as those of the file's version do
+pub version_there : (bytes : List ℕ) (m : FileMessage) (i : ℕ) (r : FileRecipient) → queue_file bytes ≡ Some m → slice_get m.recipients i ≡ Some r → version_at (drop (recipient_at m i) bytes) ≡ m.version
+version_there bytes m i r given is = version_told m.version (drop (recipient_at m i) bytes) r (has_records bytes m given).version (recipient_there bytes m i r given is)
+
+sum_more : (version : ℕ) (rs : List FileRecipient) (i : ℕ) (r : FileRecipient) → slice_get rs i ≡ Some r → sum_by (recipient_size version) (take (suc i) rs) ≡ sum_by (recipient_size version) (take i rs) + recipient_size version r
+sum_more version [] i r is = absurd cc
+sum_more version (x ∷ rs) zero r is =
     let same : x ≡ r = cc in
-    sum_by-cons recipient_size x [] ∙ ap (λ (y : FileRecipient). recipient_size y + 0) same ∙ swap (recipient_size r)
+    sum_by-cons (recipient_size version) x [] ∙ ap (λ (y : FileRecipient). recipient_size version y + 0) same ∙ swap (recipient_size version r)
   where
     swap : (n : ℕ) → n + 0 ≡ 0 + n
     swap n = omega arith
-sum_more (x ∷ rs) (suc i) r is =
-    omega (arith, sum_by-cons recipient_size x (take (suc i) rs), sum_by-cons recipient_size x (take i rs), sum_more rs i r is)
+sum_more version (x ∷ rs) (suc i) r is =
+    omega (arith, sum_by-cons (recipient_size version) x (take (suc i) rs), sum_by-cons (recipient_size version) x (take i rs), sum_more version rs i r is)
 
 -- the next one begins behind it
-pub next_at : (m : FileMessage) (i : ℕ) (r : FileRecipient) → slice_get m.recipients i ≡ Some r → recipient_at m (i + 1) ≡ recipient_at m i + recipient_size r
+pub next_at : (m : FileMessage) (i : ℕ) (r : FileRecipient) → slice_get m.recipients i ≡ Some r → recipient_at m (i + 1) ≡ recipient_at m i + recipient_size m.version r
 next_at m i r is =
-    let sum : sum_by recipient_size (take (i + 1) m.recipients) ≡ sum_by recipient_size (take i m.recipients) + recipient_size r = ap (λ (k : ℕ). sum_by recipient_size (take k m.recipients)) (add-one i) ∙ sum_more m.recipients i r is in
-    ap (λ (k : ℕ). first_at m + k) sum ∙ regroup (first_at m) (sum_by recipient_size (take i m.recipients)) (recipient_size r)
+    let sum : sum_by (recipient_size m.version) (take (i + 1) m.recipients) ≡ sum_by (recipient_size m.version) (take i m.recipients) + recipient_size m.version r = ap (λ (k : ℕ). sum_by (recipient_size m.version) (take k m.recipients)) (add-one i) ∙ sum_more m.version m.recipients i r is in
+    ap (λ (k : ℕ). first_at m + k) sum ∙ regroup (first_at m) (sum_by (recipient_size m.version) (take i m.recipients)) (recipient_size m.version r)
   where
     regroup : (a b c : ℕ) → a + (b + c) ≡ a + b + c
     regroup a b c = omega arith
@@ -297,16 +322,28 @@ get_there (r ∷ rs) zero h = (r, refl)
 get_there (r ∷ rs) (suc i) h = get_there rs i (omega arith)
 
 -- the recipient that is found in the window is that of the position
-pub recipient_is : (bytes : List ℕ) (m : FileMessage) (pos at : ℕ) (front : List ℕ) → queue_file bytes ≡ Some m → at ≡ recipient_at m pos → pos < length m.recipients → IsFront front (drop at bytes)
-    → (r : FileRecipient) × (slice_get m.recipients pos ≡ Some r) × (front_recipient front ≡ Some r)
+pub record IsSeen (m : FileMessage) (pos : ℕ) (front : List ℕ) : Type 0 where
+  pub recipient : FileRecipient
+  pub there : slice_get m.recipients pos ≡ Some recipient
+  pub version : version_at front ≡ m.version
+  pub found : front_recipient (version_at front) front ≡ Some recipient
+
+pub recipient_is : (bytes : List ℕ) (m : FileMessage) (pos at : ℕ) (front : List ℕ) → queue_file bytes ≡ Some m → at ≡ recipient_at m pos → pos < length m.recipients → IsFront front (drop at bytes) → IsSeen m pos front
 recipient_is bytes m pos at front given place within h =
     let there = get_there m.recipients pos within in
-    (there.0, there.1, recipient_found front (drop at bytes) h ∙ ap (λ (k : ℕ). front_recipient (drop k bytes)) place ∙ recipient_there bytes m pos there.0 given there.1)
+    let version = version_found front (drop at bytes) h ∙ ap (λ (k : ℕ). version_at (drop k bytes)) place ∙ version_there bytes m pos there.0 given there.1 in
+    record {
+      recipient = there.0;
+      there = there.1;
+      version = version;
+      found = ap (λ (v : ℕ). front_recipient v front) version ∙ recipient_found m.version front (drop at bytes) h ∙ ap (λ (k : ℕ). front_recipient m.version (drop k bytes)) place
+          ∙ recipient_there bytes m pos there.0 given there.1;
+    }
 
-pub recipient_missing : (bytes : List ℕ) (m : FileMessage) (pos at : ℕ) (front : List ℕ) → queue_file bytes ≡ Some m → at ≡ recipient_at m pos → pos < length m.recipients → IsFront front (drop at bytes) → front_recipient front ≡ None → ⊥
+pub recipient_missing : (bytes : List ℕ) (m : FileMessage) (pos at : ℕ) (front : List ℕ) → queue_file bytes ≡ Some m → at ≡ recipient_at m pos → pos < length m.recipients → IsFront front (drop at bytes) → front_recipient (version_at front) front ≡ None → ⊥
 recipient_missing bytes m pos at front given place within h none =
     let r = recipient_is bytes m pos at front given place within h in
-    none_some (sym none ∙ r.2)
+    none_some (sym none ∙ r.found)
 
 -- ---- in answers
 
@@ -329,14 +366,18 @@ each_told (Some bytes) P each = by (queue_file bytes) refl
     by None e = tt
     by (Some m) e = each bytes refl m e
 
+-- what was found by the version that the front told
+pub front_told : (version : ℕ) (result : Option FileRecipient) (front bytes : List ℕ) → result ≡ front_recipient version front → version ≡ version_at front → front ≡ bytes → result ≡ front_recipient (version_at bytes) bytes
+front_told version result front bytes is told same = is ∙ ap (λ (v : ℕ). front_recipient v front) told ∙ ap (λ (xs : List ℕ). front_recipient (version_at xs) xs) same
+
 -- the recipient as it is taken
-pub taken_is : (bytes : List ℕ) (m : FileMessage) (pos at mark : ℕ) (r : FileRecipient) → queue_file bytes ≡ Some m → slice_get m.recipients pos ≡ Some r → at ≡ recipient_at m pos → mark ≡ min (at + 5) (2 ^ 64 - 1)
+pub taken_is : (bytes : List ℕ) (m : FileMessage) (pos at mark : ℕ) (r : FileRecipient) → slice_get m.recipients pos ≡ Some r → at ≡ recipient_at m pos → mark ≡ at + original_size m.version r.original + 5
     → taken_with pos mark r.address ≡ taken_at m pos
-taken_is bytes m pos at mark r given is place marks =
-    let near = recipient_near bytes m pos given in
-    let mark_is : mark ≡ recipient_at m pos + 5 = omega (arith, marks, near, place) in
+taken_is bytes m pos at mark r is place marks =
+    let size : original_size m.version r.original ≡ before_mark m pos = ap (λ (o : Option FileRecipient). option_map_or (λ (x : FileRecipient). original_size m.version x.original) o 0) (sym is) in
+    let mark_is : mark ≡ mark_at m pos = marks ∙ ap (λ (k : ℕ). k + original_size m.version r.original + 5) place ∙ ap (λ (k : ℕ). recipient_at m pos + k + 5) size in
     let address : r.address ≡ option_map_or (λ (x : FileRecipient). x.address) (slice_get m.recipients pos) [] = ap (λ (o : Option FileRecipient). option_map_or (λ (x : FileRecipient). x.address) o []) (sym is) in
-    ap (λ (k : ℕ). taken_with pos k r.address) mark_is ∙ ap (taken_with pos (recipient_at m pos + 5)) address
+    ap (λ (k : ℕ). taken_with pos k r.address) mark_is ∙ ap (taken_with pos (mark_at m pos)) address
 
 -- the answered place
 pub cursor_is : (m : FileMessage) (pos at next : ℕ) → at ≡ recipient_at m pos → pos ≡ next → cursor_with pos at ≡ cursor_at m next

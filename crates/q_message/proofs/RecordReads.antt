@@ -1,12 +1,13 @@
 -- A record that is found at the front is one that the form of a file reads, and one that isn't is none.
 use Rattle.std.proofs.Common.{◌≡◌, ℕ, suc, ◌+◌, ◌≤◌, true, ◌&&◌, eqb, leb, if◌then◌else◌, List, [], ◌∷◌, length, take, drop, Option, Some, None, refl, sym, ap, subst, ◌∙◌, arith}
+use Rattle.std.specs.Prelude.{unwrap_or}
 use Rattle.std.specs.Int.{w64, from_be_bytes}
 use Rattle.std.specs.Option.{is_some, option_and_then, option_map, option_map_or}
 use Rattle.std.proofs.lemmas.Bool.{and_from, and_parts, cond-true, eq-eqb, eqb-true, leb-true, le-leb}
 use Rattle.std.proofs.lemmas.Bool.Decides.{nat_tests}
 use Rattle.std.proofs.lemmas.List.{drop-drop, length-drop, length-take-le}
 use Rattle.std.proofs.lemmas.Option.{cond_some}
-use Rattle.q_model.specs.QueueFile.{Counts, FileRecipient, arrival_of, body_of, counts_in, counts_of, recipient_of, sender_of, within_limits}
+use Rattle.q_model.specs.QueueFile.{Counts, FileRecipient, arrival_of, body_of, content_limit, counts_in, counts_of, is_other, is_version, original_of, recipient_of, sender_of, within_limits}
 use Rattle.q_model.specs.Records.{number, is_whole, read_record, take_record}
 use Rattle.q_model.specs.Texts.{is_address}
 use Rattle.q_model.proofs.QueueFileLaws.{address_size}
@@ -102,35 +103,54 @@ read_none kind meaning bytes lawful e = read_none_of kind meaning lawful (take_r
 
 -- a record of this meaning
 abbrev pub wanted : {A : Type 0} → ℕ → (List ℕ → Option A) → Expected
-wanted kind meaning = record { kind = kind; allows = λ body. is_some (meaning body) }
+wanted kind meaning = record { kind = kind; allows = λ before body. is_some (meaning body) }
 
-pub behind_more : {A : Type 0} (kind : ℕ) (meaning : List ℕ → Option A) (xs : List Expected) (bytes : List ℕ) (a : A) (rest : List ℕ) → read_record kind meaning bytes ≡ found a rest → behind (wanted kind meaning ∷ xs) bytes ≡ behind xs rest
-behind_more {A} kind meaning xs bytes a rest e =
+-- what stands behind them doesn't depend on the body of the record before
+abbrev pub AreFree : List Expected → Type 0
+AreFree xs = (before bytes : List ℕ) → behind before xs bytes ≡ behind [] xs bytes
+
+-- one record is passed over, and its body is the one before the next
+pub record Passes {A : Type 0} (kind : ℕ) (meaning : List ℕ → Option A) (xs : List Expected) (bytes : List ℕ) (a : A) (rest : List ℕ) : Type 0 where
+  pub body : List ℕ
+  pub means : meaning body ≡ Some a
+  pub passed : behind [] (wanted kind meaning ∷ xs) bytes ≡ behind body xs rest
+
+pub behind_body : {A : Type 0} (kind : ℕ) (meaning : List ℕ → Option A) (xs : List Expected) (bytes : List ℕ) (a : A) (rest : List ℕ) → read_record kind meaning bytes ≡ found a rest → Passes kind meaning xs bytes a rest
+behind_body {A} kind meaning xs bytes a rest e =
     let r = bind_some (take_record kind bytes) (λ (r : List ℕ × List ℕ). option_map (λ (x : A). (x, r.1)) (meaning r.0)) (a, rest) e in
     let m = map_some {A = A} {B = A × List ℕ} (λ (x : A). (x, r.0.1)) (meaning r.0.0) (a, rest) r.2 in
     let allowed : is_some (meaning r.0.0) ≡ true = ap is_some m.1 in
-    ap (λ (o : Option (List ℕ × List ℕ)). option_map_or (λ (r : List ℕ × List ℕ). if is_some (meaning r.0) then behind xs r.1 else bytes) o bytes) r.1
-    ∙ cond-true (is_some (meaning r.0.0)) (behind xs r.0.1) bytes allowed
-    ∙ ap (behind xs) (ap (λ (p : A × List ℕ). p.1) m.2)
+    record {
+      body = r.0.0;
+      means = m.1 ∙ ap (λ (p : A × List ℕ). Some p.0) m.2;
+      passed = ap (λ (o : Option (List ℕ × List ℕ)). option_map_or (λ (r : List ℕ × List ℕ). if is_some (meaning r.0) then behind r.0 xs r.1 else bytes) o bytes) r.1
+          ∙ cond-true (is_some (meaning r.0.0)) (behind r.0.0 xs r.0.1) bytes allowed
+          ∙ ap (behind r.0.0 xs) (ap (λ (p : A × List ℕ). p.1) m.2);
+    }
+
+pub behind_more : {A : Type 0} (kind : ℕ) (meaning : List ℕ → Option A) (xs : List Expected) (bytes : List ℕ) (a : A) (rest : List ℕ) → AreFree xs → read_record kind meaning bytes ≡ found a rest → behind [] (wanted kind meaning ∷ xs) bytes ≡ behind [] xs rest
+behind_more kind meaning xs bytes a rest free e =
+    let p = behind_body kind meaning xs bytes a rest e in
+    p.passed ∙ free p.body rest
 
 behind_stop_of : {A : Type 0} (meaning : List ℕ → Option A) (xs : List Expected) (bytes : List ℕ) (o : Option (List ℕ × List ℕ)) → option_and_then {T = List ℕ × List ℕ} {U = A × List ℕ} (λ r. option_map (λ (a : A). (a, r.1)) (meaning r.0)) o ≡ None
-    → option_map_or (λ (r : List ℕ × List ℕ). if is_some (meaning r.0) then behind xs r.1 else bytes) o bytes ≡ bytes
+    → option_map_or (λ (r : List ℕ × List ℕ). if is_some (meaning r.0) then behind r.0 xs r.1 else bytes) o bytes ≡ bytes
 behind_stop_of meaning xs bytes None e = refl
 behind_stop_of {A} meaning xs bytes (Some (body, rest)) e = by (meaning body) refl
   where
-    by : (o : Option A) → meaning body ≡ o → (if is_some (meaning body) then behind xs rest else bytes) ≡ bytes
-    by None is = ap (λ (o : Option A). if is_some o then behind xs rest else bytes) is
+    by : (o : Option A) → meaning body ≡ o → (if is_some (meaning body) then behind body xs rest else bytes) ≡ bytes
+    by None is = ap (λ (o : Option A). if is_some o then behind body xs rest else bytes) is
     by (Some a) is = absurd (none_some (sym e ∙ ap (option_map (λ (a : A). (a, rest))) is))
 
-pub behind_stop : {A : Type 0} (kind : ℕ) (meaning : List ℕ → Option A) (xs : List Expected) (bytes : List ℕ) → read_record kind meaning bytes ≡ None → behind (wanted kind meaning ∷ xs) bytes ≡ bytes
+pub behind_stop : {A : Type 0} (kind : ℕ) (meaning : List ℕ → Option A) (xs : List Expected) (bytes : List ℕ) → read_record kind meaning bytes ≡ None → behind [] (wanted kind meaning ∷ xs) bytes ≡ bytes
 behind_stop kind meaning xs bytes e = behind_stop_of meaning xs bytes (take_record kind bytes) e
 
 -- ---- the lengths of bodies
 
 pub counts_size : (body : List ℕ) (c : Counts) → counts_of body ≡ Some c → length body ≡ 12
 counts_size body c e =
-    let g = cond_some ((eqb (length body) 12) && (eqb (number body) 1) && within_limits (counts_in body)) (counts_in body) c e in
-    eqb-true (length body) 12 (and_parts (eqb (length body) 12) (eqb (number body) 1) (and_parts ((eqb (length body) 12) && (eqb (number body) 1)) (within_limits (counts_in body)) g.0).0).0
+    let g = cond_some ((eqb (length body) 12) && within_limits (counts_in body)) (counts_in body) c e in
+    eqb-true (length body) 12 (and_parts (eqb (length body) 12) (within_limits (counts_in body)) g.0).0
 
 pub arrival_size : (body : List ℕ) (a : ℕ) → arrival_of body ≡ Some a → length body ≡ 8
 arrival_size body a e =
@@ -152,13 +172,32 @@ sender_lawful (b ∷ bytes) s e =
     let size = address_size (b ∷ bytes) (cond_some (is_address (b ∷ bytes)) (Some (b ∷ bytes)) s e).0 in
     address_lawful (length (b ∷ bytes)) size.0 size.1
 
+original_lawful_size : (n : ℕ) → 3 ≤ n → n ≤ 254 → is_length 79 n ≡ true
+original_lawful_size n some few = grind (arith, nat_tests)
+
+original_lawful : Lawful 79 original_of
+original_lawful [] s e = refl
+original_lawful (b ∷ bytes) s e =
+    let size = address_size (b ∷ bytes) (cond_some (is_address (b ∷ bytes)) (Some (b ∷ bytes)) s e).0 in
+    original_lawful_size (length (b ∷ bytes)) size.0 size.1
+
 recipient_lawful_size : (n : ℕ) → 3 ≤ n → n ≤ 254 → is_length 82 (suc n) ≡ true
 recipient_lawful_size n some few = grind (arith, nat_tests)
 
-recipient_lawful : Lawful 82 recipient_of
-recipient_lawful [] r e = absurd cc
-recipient_lawful (mark ∷ address) r e =
-    let size = address_size address (cond_some {A = FileRecipient} (is_address address) (record { address = address; marked = eqb mark 68 }) r e).0 in
+-- what the body of a recipient says
+record IsBody (original : Option (List ℕ)) (mark : ℕ) (address : List ℕ) (r : FileRecipient) : Type 0 where
+  form : is_address address ≡ true
+  is : record { address = address; original = original; marked = eqb mark 68 } ≡ r
+
+body_is : (original : Option (List ℕ)) (mark : ℕ) (address : List ℕ) (r : FileRecipient) → recipient_of original (mark ∷ address) ≡ Some r → IsBody original mark address r
+body_is original mark address r e =
+    let g = cond_some {A = FileRecipient} (is_address address && is_other address original) (record { address = address; original = original; marked = eqb mark 68 }) r e in
+    record { form = (and_parts (is_address address) (is_other address original) g.0).0; is = g.1 }
+
+recipient_lawful : (original : Option (List ℕ)) → Lawful 82 (recipient_of original)
+recipient_lawful original [] r e = absurd cc
+recipient_lawful original (mark ∷ address) r e =
+    let size = address_size address (body_is original mark address r e).form in
     recipient_lawful_size (length address) size.0 size.1
 
 pub read_no_counts : (bytes : List ℕ) → option_and_then counts_of (front_body 67 bytes) ≡ None → read_record 67 counts_of bytes ≡ None
@@ -170,15 +209,21 @@ read_no_arrival bytes e = read_none 84 arrival_of bytes arrival_lawful e
 pub read_no_sender : (bytes : List ℕ) → option_and_then sender_of (front_body 83 bytes) ≡ None → read_record 83 sender_of bytes ≡ None
 read_no_sender bytes e = read_none 83 sender_of bytes sender_lawful e
 
-pub read_no_recipient : (bytes : List ℕ) → option_and_then recipient_of (front_body 82 bytes) ≡ None → read_record 82 recipient_of bytes ≡ None
-read_no_recipient bytes e = read_none 82 recipient_of bytes recipient_lawful e
+pub read_no_original : (bytes : List ℕ) → option_and_then original_of (front_body 79 bytes) ≡ None → read_record 79 original_of bytes ≡ None
+read_no_original bytes e = read_none 79 original_of bytes original_lawful e
 
-pub recipient_length : (body : List ℕ) (r : FileRecipient) → recipient_of body ≡ Some r → length body ≡ 1 + length r.address
-recipient_length [] r e = absurd cc
-recipient_length (mark ∷ address) r e =
-    let g = cond_some {A = FileRecipient} (is_address address) (record { address = address; marked = eqb mark 68 }) r e in
+pub read_no_recipient : (original : Option (List ℕ)) (bytes : List ℕ) → option_and_then (recipient_of original) (front_body 82 bytes) ≡ None → read_record 82 (recipient_of original) bytes ≡ None
+read_no_recipient original bytes e = read_none 82 (recipient_of original) bytes (recipient_lawful original) e
+
+pub recipient_length : (original : Option (List ℕ)) (body : List ℕ) (r : FileRecipient) → recipient_of original body ≡ Some r → length body ≡ 1 + length r.address
+recipient_length original [] r e = absurd cc
+recipient_length original (mark ∷ address) r e =
     let one : length (mark ∷ address) ≡ 1 + length address = omega arith in
-    one ∙ ap (λ (x : FileRecipient). 1 + length x.address) g.1
+    one ∙ ap (λ (x : FileRecipient). 1 + length x.address) (body_is original mark address r e).is
+
+pub recipient_original : (original : Option (List ℕ)) (body : List ℕ) (r : FileRecipient) → recipient_of original body ≡ Some r → original ≡ r.original
+recipient_original original [] r e = absurd cc
+recipient_original original (mark ∷ address) r e = ap (λ (x : FileRecipient). x.original) (body_is original mark address r e).is
 
 pub sender_length : (body : List ℕ) (s : Option (List ℕ)) → sender_of body ≡ Some s → length body ≡ option_map_or (λ (a : List ℕ). length a) s 0
 sender_length [] s e =
@@ -187,6 +232,10 @@ sender_length [] s e =
 sender_length (b ∷ bytes) s e =
     let g = cond_some (is_address (b ∷ bytes)) (Some (b ∷ bytes)) s e in
     ap (λ (o : Option (List ℕ)). option_map_or (λ (a : List ℕ). length a) o 0) g.1
+
+pub sender_bytes : (s : Option (List ℕ)) → option_map_or (λ (a : List ℕ). length a) s 0 ≡ length (unwrap_or s [])
+sender_bytes None = refl
+sender_bytes (Some a) = refl
 
 -- ---- a body of which only the length is said
 
@@ -238,37 +287,54 @@ begins_long kind n (b ∷ bytes) e =
     let four : 4 ≤ length bytes = leb-true 4 (length bytes) (and_parts (eqb b kind) (leb 4 (length bytes)) (and_parts ((eqb b kind) && leb 4 (length bytes)) (eqb (number bytes) n) e).0).1 in
     omega (arith, four)
 
--- a recipient that is read is found at the front
-pub recipient_front : (bytes : List ℕ) (r : FileRecipient) (rest : List ℕ) → read_record 82 recipient_of bytes ≡ found r rest → option_and_then recipient_of (front_body 82 bytes) ≡ Some r
-recipient_front bytes r rest e = by (option_and_then recipient_of (front_body 82 bytes)) refl
+-- what is read is found at the front
+pub front_of_read : {A : Type 0} (kind : ℕ) (meaning : List ℕ → Option A) (bytes : List ℕ) (a : A) (rest : List ℕ) → Lawful kind meaning → read_record kind meaning bytes ≡ found a rest → option_and_then meaning (front_body kind bytes) ≡ Some a
+front_of_read {A} kind meaning bytes a rest lawful e = by (option_and_then meaning (front_body kind bytes)) refl
   where
-    of_some : {x y : FileRecipient × List ℕ} → Some x ≡ Some y → x ≡ y
+    of_some : {x y : A × List ℕ} → Some x ≡ Some y → x ≡ y
     of_some h = cc
 
-    same_first : {x y : FileRecipient} {xs ys : List ℕ} → found x xs ≡ found y ys → Some x ≡ Some y
-    same_first h = ap (λ (p : FileRecipient × List ℕ). Some p.0) (of_some h)
+    same_first : {x y : A} {xs ys : List ℕ} → found x xs ≡ found y ys → Some x ≡ Some y
+    same_first h = ap (λ (p : A × List ℕ). Some p.0) (of_some h)
 
-    by : (o : Option FileRecipient) → option_and_then recipient_of (front_body 82 bytes) ≡ o → o ≡ Some r
-    by None h = absurd (none_some (sym (read_no_recipient bytes h) ∙ e))
-    by (Some q) h = same_first (sym (read_front 82 recipient_of bytes q h).reads ∙ e)
+    by : (o : Option A) → option_and_then meaning (front_body kind bytes) ≡ o → o ≡ Some a
+    by None h = absurd (none_some (sym (read_none kind meaning bytes lawful h) ∙ e))
+    by (Some q) h = same_first (sym (read_front kind meaning bytes q h).reads ∙ e)
+
+pub original_front : (bytes : List ℕ) (o : Option (List ℕ)) (rest : List ℕ) → read_record 79 original_of bytes ≡ found o rest → option_and_then original_of (front_body 79 bytes) ≡ Some o
+original_front bytes o rest e = front_of_read 79 original_of bytes o rest original_lawful e
+
+pub recipient_front : (original : Option (List ℕ)) (bytes : List ℕ) (r : FileRecipient) (rest : List ℕ) → read_record 82 (recipient_of original) bytes ≡ found r rest → option_and_then (recipient_of original) (front_body 82 bytes) ≡ Some r
+recipient_front original bytes r rest e = front_of_read 82 (recipient_of original) bytes r rest (recipient_lawful original) e
 
 -- ---- the bounds of what is read
 
-pub counts_few : (body : List ℕ) (c : Counts) → counts_of body ≡ Some c → c.recipients ≤ 50000
-counts_few body c e =
-    let g = cond_some ((eqb (length body) 12) && (eqb (number body) 1) && within_limits (counts_in body)) (counts_in body) c e in
-    let limits = (and_parts ((eqb (length body) 12) && (eqb (number body) 1)) (within_limits (counts_in body)) g.0).1 in
-    let ends = and_parts (leb 1 (counts_in body).recipients && leb (counts_in body).recipients 50000) (leb (counts_in body).content 20000000) limits in
-    let few : (counts_in body).recipients ≤ 50000 = leb-true (counts_in body).recipients 50000 (and_parts (leb 1 (counts_in body).recipients) (leb (counts_in body).recipients 50000) ends.0).1 in
-    subst (λ (c : Counts). c.recipients ≤ 50000) g.1 few
+-- the limits that counts keep
+pub record AreWithin (c : Counts) : Type 0 where
+  pub some : 1 ≤ c.recipients
+  pub few : c.recipients ≤ 50000
+  pub version : is_version c.version ≡ true
+
+pub counts_within : (body : List ℕ) (c : Counts) → counts_of body ≡ Some c → AreWithin c
+counts_within body c e =
+    let g = cond_some ((eqb (length body) 12) && within_limits (counts_in body)) (counts_in body) c e in
+    let limits : within_limits (counts_in body) ≡ true = (and_parts (eqb (length body) 12) (within_limits (counts_in body)) g.0).1 in
+    subst AreWithin g.1 (within (counts_in body) limits)
+  where
+    within : (c : Counts) → within_limits c ≡ true → AreWithin c
+    within c h =
+        let short = and_parts (is_version c.version && leb 1 c.recipients && leb c.recipients 50000) (leb c.content (content_limit c.version)) h in
+        let few = and_parts (is_version c.version && leb 1 c.recipients) (leb c.recipients 50000) short.0 in
+        let some = and_parts (is_version c.version) (leb 1 c.recipients) few.0 in
+        record { some = leb-true 1 c.recipients some.1; few = leb-true c.recipients 50000 few.1; version = some.0 }
 
 pub sender_short : (body : List ℕ) (s : Option (List ℕ)) → sender_of body ≡ Some s → length body ≤ 254
 sender_short [] s e = omega arith
 sender_short (b ∷ bytes) s e = (address_size (b ∷ bytes) (cond_some (is_address (b ∷ bytes)) (Some (b ∷ bytes)) s e).0).1
 
-pub recipient_short : (body : List ℕ) (r : FileRecipient) → recipient_of body ≡ Some r → 6 + length r.address ≤ 260
-recipient_short [] r e = absurd cc
-recipient_short (mark ∷ address) r e =
-    let g = cond_some {A = FileRecipient} (is_address address) (record { address = address; marked = eqb mark 68 }) r e in
-    let short : 6 + length address ≤ 260 = omega (arith, (address_size address g.0).1) in
-    subst (λ (x : FileRecipient). 6 + length x.address ≤ 260) g.1 short
+pub recipient_short : (original : Option (List ℕ)) (body : List ℕ) (r : FileRecipient) → recipient_of original body ≡ Some r → 6 + length r.address ≤ 260
+recipient_short original [] r e = absurd cc
+recipient_short original (mark ∷ address) r e =
+    let b = body_is original mark address r e in
+    let short : 6 + length address ≤ 260 = omega (arith, (address_size address b.form).1) in
+    subst (λ (x : FileRecipient). 6 + length x.address ≤ 260) b.is short

@@ -14,11 +14,11 @@ abbrev pub begins_record : ℕ → ℕ → List ℕ → Bool
 begins_record kind n [] = false
 begins_record kind n (b ∷ bytes) = (b == kind) && nat_le 4 (length bytes) && (number bytes == n)
 
--- The bytes are the front of others: all of them, or 512 and more; no record but the content's is as
--- long.
+-- The bytes are the front of others: all of them, or 1,024 and more; no record but the content's is as
+-- long, nor are those of a recipient together.
 pub record IsFront (front whole : List ℕ) : Type 0 where
   pub same : front ≡ take (length front) whole
-  pub enough : (512 ≤ length front) ⊎ (length whole ≤ length front)
+  pub enough : (1024 ≤ length front) ⊎ (length whole ≤ length front)
 
 -- what stands in the file from an offset on starts with these bytes
 abbrev pub StartsAt : ℕ → List ℕ → List ℕ → Type 0

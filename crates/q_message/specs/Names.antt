@@ -1,10 +1,10 @@
 -- The addresses at positions of a message, as they are read from its file.
 use Rattle.std.specs.Option.{option_map_or}
 use Rattle.q_message.specs.declared.error.MessageError.{MessageError}
-use Rattle.std.specs.Prelude.{◌≡◌, ◌≤◌, ◌<◌, ◌+◌, ◌-◌, [], Bool, IfSome, IsTrue, length, List, map, Option, slice_get, Some, ℕ, IfOk, OnOk, Result}
+use Rattle.std.specs.Prelude.{◌≡◌, ◌≤◌, ◌<◌, ◌+◌, ◌-◌, [], Bool, IfSome, IsTrue, length, List, map, None, Option, slice_get, Some, ℕ, IfOk, OnOk, Result}
 use Rattle.q_model.specs.QueueFile.{FileMessage, FileRecipient, queue_file}
 use Rattle.q_model.specs.QueueFileBytes.{recipient_at}
-use Rattle.q_model.specs.Values.{FileHead, Spot}
+use Rattle.q_model.specs.Values.{FileHead, Receiver, Spot}
 use Rattle.q_host.specs.View.{View}
 use Rattle.q_message.specs.FileHeads.{head_of}
 use Rattle.q_message.specs.Told.{bytes_at, OnNoMessage}
@@ -13,6 +13,11 @@ use Rattle.q_message.specs.Windows.{Seen, Shows}
 -- the address of the recipient at a position
 abbrev pub address_in : FileMessage → ℕ → List ℕ
 address_in m position = option_map_or (λ r. r.address) (slice_get m.recipients position) []
+
+-- the same with its original address
+abbrev pub receiver_in : FileMessage → ℕ → Receiver
+receiver_in m position = option_map_or (λ r. record { address = r.address; original = r.original })
+    (slice_get m.recipients position) (record { address = []; original = None })
 
 -- The bytes are a queue file with this head, but for its marks.
 pub record HasHead (bytes : List ℕ) (file : FileHead) : Type 0 where
@@ -68,28 +73,28 @@ IsSought first_at from position before after count =
     → StandsAt found m (position - count) after
 
 -- the address is that of the position
-abbrev pub IsAddress : ℕ → List ℕ → Option (List ℕ) → FileMessage → Type 0
-IsAddress position address found m = position < length m.recipients → address ≡ address_in m position
+abbrev pub IsReceiver : ℕ → Receiver → Option (List ℕ) → FileMessage → Type 0
+IsReceiver position receiver found m = position < length m.recipients → receiver ≡ receiver_in m position
 
 -- the window stands behind the position now
 abbrev pub IsBehind : ℕ → Seen → Option (List ℕ) → FileMessage → Type 0
 IsBehind position w found m = position < length m.recipients → StandsAt found m (position + 1) w
 
 -- where the window stands at the recipient `from`, the answer is the address of the position
-abbrev pub GivesAddress : Bool → View → Spot → Seen → ℕ → ℕ → ℕ → Result (List ℕ) MessageError → Type 0
-GivesAddress tells v spot w from first_at position result =
-    IfOk result (λ address. TellsFrom tells v spot w from first_at (IsAddress position address))
+abbrev pub GivesReceiver : Bool → View → Spot → Seen → ℕ → ℕ → ℕ → Result Receiver MessageError → Type 0
+GivesReceiver tells v spot w from first_at position result =
+    IfOk result (λ receiver. TellsFrom tells v spot w from first_at (IsReceiver position receiver))
 
 -- and behind the position the window stands then
-abbrev pub MovesBehind : Bool → View → Spot → Seen → ℕ → ℕ → ℕ → Seen → Result (List ℕ) MessageError → Type 0
+abbrev pub MovesBehind : Bool → View → Spot → Seen → ℕ → ℕ → ℕ → Seen → Result Receiver MessageError → Type 0
 MovesBehind tells v spot w from first_at position after result =
     OnOk result (TellsFrom tells v spot w from first_at (IsBehind position after))
 
 -- or there is no such position
-abbrev pub FindsNone : Bool → View → Spot → Seen → ℕ → ℕ → ℕ → Result (List ℕ) MessageError → Type 0
+abbrev pub FindsNone : Bool → View → Spot → Seen → ℕ → ℕ → ℕ → Result Receiver MessageError → Type 0
 FindsNone tells v spot w from first_at position result = OnNoMessage result
     (λ place. TellsFrom tells v spot w from first_at (λ found m. IsPast found m position))
 
 -- the addresses are those of the message at these positions
-abbrev pub AreNames : List ℕ → List (List ℕ) → List ℕ → Type 0
-AreNames positions names bytes = IfSome (queue_file bytes) (λ m. names ≡ map (address_in m) positions)
+abbrev pub AreNames : List ℕ → List Receiver → List ℕ → Type 0
+AreNames positions names bytes = IfSome (queue_file bytes) (λ m. names ≡ map (receiver_in m) positions)

@@ -1,12 +1,17 @@
 //! What the bodies of a queue file's records say.
 ghost use Rattle.std.specs.Prelude.{◌≡◌};
-ghost use Rattle.q_model.specs.QueueFile.{arrival_of, counts_of, recipient_of, sender_of};
+ghost use Rattle.q_model.specs.QueueFile.{arrival_of, content_limit, counts_of, is_other, is_version, original_of, recipient_of, sender_of};
 
-use q_model::{Address, LAST_MOMENT, MOST_CONTENT_BYTES, MOST_RECIPIENTS, Moment};
+use q_model::{
+    Address, LAST_MOMENT, MOST_CONTENT_BYTES, MOST_FIRST_CONTENT_BYTES, MOST_RECIPIENTS, Moment,
+};
 use std::marker::Model;
 
-/// The version of the format.
-pub(crate) const VERSION: u32 = 1;
+/// The first version of the format, in which nothing stands of original addresses.
+pub(crate) const FIRST_VERSION: u32 = 1;
+
+/// The version of new files.
+pub(crate) const NEW_VERSION: u32 = 2;
 
 /// The mark byte of a recipient that is done. Every other byte is that of a pending one.
 const DONE: u8 = b'D';
@@ -14,6 +19,7 @@ const DONE: u8 = b'D';
 /// What a file says of sizes.
 #[derive(Clone, Copy, Debug, PartialEq, Eq)]
 pub(crate) struct Counts {
+    pub(crate) version: u32,
     pub(crate) recipients: u32,
     pub(crate) content: u32,
 }
@@ -23,15 +29,16 @@ impl Model for Counts {
 
     ghost Value = { CountsValue };
 
-    ghost view = { λ c. record { recipients = c.recipients; content = c.content } };
+    ghost view = { λ c. record { version = c.version; recipients = c.recipients; content = c.content } };
 
-    ghost inverse = { λ v. record { recipients = v.recipients; content = v.content } };
+    ghost inverse = { λ v. record { version = v.version; recipients = v.recipients; content = v.content } };
 }
 
 /// A recipient as a file says it.
 #[derive(Clone, Copy, Debug, PartialEq, Eq)]
 pub(crate) struct Recipient {
     pub(crate) address: Address,
+    pub(crate) original: Option<Address>,
     pub(crate) marked: bool,
 }
 
@@ -40,9 +47,24 @@ impl Model for Recipient {
 
     ghost Value = { FileRecipient };
 
-    ghost view = { λ r. record { address = r.address; marked = r.marked } };
+    ghost view = { λ r. record { address = r.address; original = r.original; marked = r.marked } };
 
-    ghost inverse = { λ v. record { address = v.address; marked = v.marked } };
+    ghost inverse = { λ v. record { address = v.address; original = v.original; marked = v.marked } };
+}
+
+fn is_version(version: u32) -> bool
+    ensures { result ≡ is_version version }
+{
+    version == FIRST_VERSION || version == NEW_VERSION
+}
+
+fn content_limit(version: u32) -> u32
+    ensures { result ≡ content_limit version }
+{
+    if version == FIRST_VERSION {
+        return MOST_FIRST_CONTENT_BYTES;
+    }
+    MOST_CONTENT_BYTES
 }
 
 /// The counts in the body of a `C`, of which the version is known and the limits are kept.
@@ -57,11 +79,12 @@ pub(crate) fn counts_in(body: &[u8]) -> Option<Counts>
     let content = u32::from_be_bytes([body[8], body[9], body[10], body[11]]);
     let within_limits = recipients >= 1
         && recipients <= MOST_RECIPIENTS
-        && content <= MOST_CONTENT_BYTES;
-    if version != VERSION || !within_limits {
+        && content <= content_limit(version);
+    if !is_version(version) || !within_limits {
         return None;
     }
     Some(Counts {
+        version,
         recipients,
         content,
     })
@@ -90,14 +113,37 @@ pub(crate) fn sender_in(body: &[u8]) -> Option<Option<Address>>
     Some(Some(Address::new(body)?))
 }
 
-pub(crate) fn recipient_in(body: &[u8]) -> Option<Recipient>
-    ensures { result ≡ recipient_of body.now }
+/// The original address in the body of an `O`; `Some(None)` is none.
+pub(crate) fn original_in(body: &[u8]) -> Option<Option<Address>>
+    ensures { result ≡ original_of body.now }
+{
+    sender_in(body)
+}
+
+/// Whether it is another one than the address.
+fn is_other(address: &Address, original: &Option<Address>) -> bool
+    ensures { result ≡ is_other address.now original.now }
+{
+    match original {
+        Some(original) => original.bytes() != address.bytes(),
+        None => true,
+    }
+}
+
+/// The recipient in the body of an `R`, behind an `O` with this original address.
+pub(crate) fn recipient_in(original: Option<Address>, body: &[u8]) -> Option<Recipient>
+    ensures { result ≡ recipient_of original body.now }
 {
     let [mark, address @ ..] = body else {
         return None;
     };
+    let address = Address::new(address)?;
+    if !is_other(&address, &original) {
+        return None;
+    }
     Some(Recipient {
-        address: Address::new(address)?,
+        address,
+        original,
         marked: *mark == DONE,
     })
 }

@@ -1,8 +1,18 @@
 //! The record at the front of bytes.
-ghost use Rattle.std.specs.Prelude.{◌≡◌, option_copied};
+ghost use Rattle.std.specs.Prelude.{◌≡◌, drop, option_copied};
 ghost use Rattle.q_message.specs.Fronts.{begins_record, front_body};
 
 use q_record::get;
+
+/// The bytes from an offset on; none, where there are fewer.
+pub(crate) fn from_offset(bytes: &[u8], offset: u64) -> &[u8]
+    ensures { result.now ≡ drop offset bytes.now }
+{
+    if offset > bytes.len() as u64 {
+        return &bytes[bytes.len()..];
+    }
+    &bytes[offset as usize..]
+}
 
 /// The body of a record of this kind at the front.
 pub(crate) fn front_body(bytes: &[u8], kind: u8) -> Option<&[u8]>

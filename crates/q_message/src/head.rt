@@ -9,10 +9,10 @@ ghost use Rattle.q_message.specs.Fronts.{front_body};
 ghost use Rattle.q_message.specs.Readings.{ContentRead, EndRead, HeadRead, MarksRead, start_from, start_size, StartRead};
 ghost use Rattle.q_message.specs.Told.{IsThere, OnNoMessage, TellsEach, TellsOf, TellsShown, TellsPassed, StaysShown};
 
-use crate::body::{Counts, VERSION, arrival_in, counts_in, sender_in};
+use crate::body::{Counts, arrival_in, counts_in, sender_in};
 use crate::error::MessageError;
-use crate::front::{begins_record, front_body};
-use crate::recipients::{front_recipient, recipient_size};
+use crate::front::{begins_record, from_offset, front_body};
+use crate::recipients::{fault_in, front_recipient, recipient_size};
 use crate::window::Window;
 use q_host::Host;
 use q_model::{Address, FileHead, Head, Moment, Spot};
@@ -41,16 +41,6 @@ const COUNTS_AT: u64 = 0;
 const ARRIVAL_AT: u64 = 17;
 
 const SENDER_AT: u64 = 30;
-
-/// The bytes from an offset on; none, where there are fewer.
-fn from_offset(bytes: &[u8], offset: u64) -> &[u8]
-    ensures { result.now ≡ drop offset bytes.now }
-{
-    if offset > bytes.len() as u64 {
-        return &bytes[bytes.len()..];
-    }
-    &bytes[offset as usize..]
-}
 
 fn front_counts(bytes: &[u8]) -> Option<Counts>
     ensures { result ≡ option_and_then counts_of (front_body 67 bytes.now) }
@@ -103,7 +93,7 @@ fn read_start<H: Host>(host: &mut H, spot: Spot, window: &mut Window) -> Result<
     ensures at { IfOk result (λ s. window.new.at ≡ start_size s.head) }
     ensures near { OnOk result (window.new.at ≤ 289) }
     ensures few { IfOk result (λ s. s.counts.recipients ≤ 50000) }
-    ensures short { IfOk result (λ s. s.counts.content ≤ 20000000) }
+    ensures short { IfOk result (λ s. s.counts.content ≤ 40000000) }
     ensures stays { IsTrue H.tells → Stays (H.view host.old) (H.view host.new) }
     ensures cause { ReadCause (H.faults host.old) (H.faults host.new) result }
 {
@@ -122,28 +112,32 @@ fn count_marked<H: Host>(
     host: &mut H,
     spot: Spot,
     window: &mut Window,
+    version: u32,
     recipients: u32,
 ) -> Result<u32, MessageError>
     requires there { IsThere H.tells (H.view host.old) spot }
     requires near { window.old.at ≤ 289 }
     requires few { recipients ≤ 50000 }
     ensures reads { TellsPassed H.tells (H.view host.old) spot window.old window.new
-        (MarksRead recipients result) }
+        (MarksRead version recipients result) }
     ensures shows { OnOk result (StaysShown H.tells (H.view host.old) spot window.old window.new) }
-    ensures near { window.new.at ≤ 289 + 260 * recipients }
+    ensures near { window.new.at ≤ 289 + 519 * recipients }
     ensures stays { IsTrue H.tells → Stays (H.view host.old) (H.view host.new) }
     ensures cause { ReadCause (H.faults host.old) (H.faults host.new) result }
 {
     let mut marked = 0;
     for _ in 0..recipients {
         window.fill(host, spot)?;
-        let Some(recipient) = front_recipient(window.bytes()) else {
-            return Err(MessageError::NotAMessage { place: window.at() });
+        let front = window.bytes();
+        let Some(recipient) = front_recipient(version, front) else {
+            let before = fault_in(version, front) as u64;
+            let place = window.at() + before;
+            return Err(MessageError::NotAMessage { place });
         };
         if recipient.marked {
             marked += 1;
         }
-        window.skip(recipient_size(&recipient));
+        window.skip(recipient_size(version, &recipient));
     }
     Ok(marked)
 }
@@ -156,12 +150,12 @@ fn pass_content<H: Host>(
     content: u32,
 ) -> Result<(), MessageError>
     requires there { IsThere H.tells (H.view host.old) spot }
-    requires near { window.old.at ≤ 20000000 }
-    requires short { content ≤ 20000000 }
+    requires near { window.old.at ≤ 25950289 }
+    requires short { content ≤ 40000000 }
     ensures reads { TellsPassed H.tells (H.view host.old) spot window.old window.new
         (ContentRead content result) }
     ensures shows { OnOk result (StaysShown H.tells (H.view host.old) spot window.old window.new) }
-    ensures near { window.new.at ≤ 40000005 }
+    ensures near { window.new.at ≤ 65950294 }
     ensures stays { IsTrue H.tells → Stays (H.view host.old) (H.view host.new) }
     ensures cause { ReadCause (H.faults host.old) (H.faults host.new) result }
 {
@@ -178,7 +172,7 @@ fn pass_content<H: Host>(
 /// Reads the last record, behind which nothing stands.
 fn read_end<H: Host>(host: &mut H, spot: Spot, window: &mut Window) -> Result<(), MessageError>
     requires there { IsThere H.tells (H.view host.old) spot }
-    requires near { window.old.at ≤ 40000005 }
+    requires near { window.old.at ≤ 65950294 }
     ensures reads { TellsShown H.tells (H.view host.old) spot window.old
         (EndRead window.old.at result) }
     ensures stays { IsTrue H.tells → Stays (H.view host.old) (H.view host.new) }
@@ -205,26 +199,27 @@ fn read_whole<H: Host>(host: &mut H, spot: Spot) -> Result<FileHead, MessageErro
     let mut window = Window::new(0);
     let start = read_start(host, spot, &mut window)?;
     let first_at = window.at();
-    let marked = count_marked(host, spot, &mut window, start.counts.recipients)?;
+    let counts = start.counts;
+    let marked = count_marked(host, spot, &mut window, counts.version, counts.recipients)?;
     let content_at = window.at() + 5;
-    pass_content(host, spot, &mut window, start.counts.content)?;
+    pass_content(host, spot, &mut window, counts.content)?;
     read_end(host, spot, &mut window)?;
     Ok(FileHead {
-        version: VERSION,
+        version: counts.version,
         head: start.head,
-        recipients: start.counts.recipients,
+        recipients: counts.recipients,
         marked,
         first_at,
         content_at,
-        content_len: start.counts.content,
+        content_len: counts.content,
     })
 }
 
 /// The head of the queue file at this place, which has to be there where the host tells its files.
 ///
-/// The whole file is passed over, 65,536 bytes at a time, but for the content, which isn't read:
+/// The whole file is passed over, 16,384 bytes at a time, but for the content, which isn't read:
 /// the call takes no memory, and its time grows with the length of the records before the content.
-/// `NotAMessage` comes exactly where the bytes are no queue file of version 1. Its place is the
+/// `NotAMessage` comes exactly where the bytes are no queue file of either version. Its place is the
 /// offset of the first record that breaks the form, or of the first byte behind the last record.
 pub fn read_head<H: Host>(host: &mut H, spot: Spot) -> Result<FileHead, MessageError>
     requires { IsThere H.tells (H.view host.old) spot }

@@ -2,15 +2,15 @@
 ghost use Rattle.std.specs.Prelude.{◌≤◌, ◌<◌, All, IsTrue, IfOk, OnOk};
 ghost use Rattle.q_host.specs.Calls.{Stays};
 ghost use Rattle.q_message.specs.Causes.{ReadCause};
-ghost use Rattle.q_message.specs.Names.{AreNames, HasHead, IsNext, IsOnBy, IsPast, IsPastBy, IsRecipient, IsSought, TellsAt, GivesAddress, MovesBehind, FindsNone};
+ghost use Rattle.q_message.specs.Names.{AreNames, HasHead, IsNext, IsOnBy, IsPast, IsPastBy, IsRecipient, IsSought, TellsAt, GivesReceiver, MovesBehind, FindsNone};
 ghost use Rattle.q_message.specs.Told.{IsThere, OnNoMessage, TellsOf};
 
 use crate::body::Recipient;
 use crate::error::MessageError;
-use crate::recipients::{front_recipient, recipient_size};
+use crate::recipients::{front_recipient, recipient_size, version_at};
 use crate::window::Window;
 use q_host::Host;
-use q_model::{Address, Addresses, FileHead, Positions, Spot};
+use q_model::{Addresses, FileHead, Positions, Receiver, Spot};
 use std::alloc::Global;
 
 /// Reads the recipient at which the window stands, and moves to the next one.
@@ -29,10 +29,12 @@ fn next_recipient<H: Host>(
     ensures cause { ReadCause (H.faults host.old) (H.faults host.new) result }
 {
     window.fill(host, spot)?;
-    let Some(recipient) = front_recipient(window.bytes()) else {
+    let front = window.bytes();
+    let version = version_at(front);
+    let Some(recipient) = front_recipient(version, front) else {
         return Err(MessageError::NotAMessage { place: window.at() });
     };
-    window.skip(recipient_size(&recipient));
+    window.skip(recipient_size(version, &recipient));
     Ok(recipient)
 }
 
@@ -70,18 +72,18 @@ fn seek(window: &mut Window, first_at: u64, from: u32, position: u32) -> u32
     position - from
 }
 
-/// Reads the address at a position, and moves to the position behind it. The window stands at the
+/// Reads the addresses at a position, and moves to the position behind it. The window stands at the
 /// recipient of the position `from`.
-fn read_address<H: Host>(
+fn read_receiver<H: Host>(
     host: &mut H,
     spot: Spot,
     window: &mut Window,
     first_at: u64,
     from: u32,
     position: u32,
-) -> Result<Address, MessageError>
+) -> Result<Receiver, MessageError>
     requires { IsThere H.tells (H.view host.old) spot }
-    ensures address { GivesAddress H.tells
+    ensures receiver { GivesReceiver H.tells
         (H.view host.old) spot window.old from first_at position result }
     ensures stands { MovesBehind H.tells (H.view host.old) spot window.old from first_at position
         window.new result }
@@ -93,13 +95,16 @@ fn read_address<H: Host>(
     let count = seek(window, first_at, from, position);
     pass_recipients(host, spot, window, count)?;
     let recipient = next_recipient(host, spot, window)?;
-    Ok(recipient.address)
+    Ok(Receiver {
+        address: recipient.address,
+        original: recipient.original,
+    })
 }
 
 /// The addresses of the recipients at these positions, in the order of the positions, whether they
 /// are marked or not.
 ///
-/// The head is that of the file, but for its number of marked recipients. The file is read 65,536
+/// The head is that of the file, but for its number of marked recipients. The file is read 16,384
 /// bytes at a time, once where the positions rise. It is read from its first recipient again for
 /// each position that isn't above the one before. Where the host tells its files, `NotAMessage`
 /// never comes.
@@ -125,8 +130,8 @@ pub fn read_names<H: Host>(
     let mut names = Addresses::new(alloc);
     for position in positions.as_slice() {
         let position = *position;
-        let address = read_address(host, spot, &mut window, first_at, from, position)?;
-        names.push(address)?;
+        let receiver = read_receiver(host, spot, &mut window, first_at, from, position)?;
+        names.push(receiver)?;
         from = position.saturating_add(1);
     }
     Ok(names)

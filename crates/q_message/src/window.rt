@@ -12,10 +12,11 @@ use q_model::Spot;
 use std::marker::Model;
 
 /// How many bytes are read at once.
-const PIECE: usize = 65_536;
+const PIECE: usize = 16_384;
 
-/// No record but the content's has more bytes, nor have those before the recipients' together.
-const AHEAD: usize = 512;
+/// No record but the content's has more bytes, nor have those before the recipients' together, nor
+/// those of one recipient.
+const AHEAD: usize = 1_024;
 
 /// The bytes of a file from an offset on that were read, and whether the file ends with them.
 #[derive(Drop)]
@@ -35,7 +36,7 @@ impl Model for Window {
 
     ghost view = { λ w. record { at = w.at; bytes = drop w.from (take w.to w.buffer); ended = w.ended } };
 
-    ghost invariant = { λ w. (w.from ≤ w.to) × (w.to ≤ 65536) };
+    ghost invariant = { λ w. (w.from ≤ w.to) × (w.to ≤ 16384) };
 }
 
 impl Window {

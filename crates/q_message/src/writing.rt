@@ -1,14 +1,15 @@
 //! Writing a queue file.
-ghost use Rattle.std.specs.Prelude.{◌≡◌, ◌≤◌, ◌++◌, [], length, flat_map, unwrap_or, true, IfOk, OnOk};
+ghost use Rattle.std.specs.Prelude.{◌≡◌, ◌≤◌, ◌++◌, [], ◌∷◌, length, flat_map, unwrap_or, true, IfOk, OnOk};
 ghost use Rattle.std.specs.List.{list_all};
 ghost use Rattle.std.specs.Option.{option_map_or};
 ghost use Rattle.q_model.specs.QueueFileBytes.{IsFileOf};
 ghost use Rattle.q_model.specs.Records.{record_bytes};
 ghost use Rattle.q_model.specs.Texts.{is_address};
 ghost use Rattle.q_record.specs.Kinds.{is_length};
-ghost use Rattle.q_message.specs.NewFile.{counts_text, head_text, new_file, new_message, recipient_record};
+ghost use Rattle.q_message.specs.NewFile.{are_addresses, counts_text, head_text, is_receiver, new_file, new_message, recipient_record};
 
-use q_model::{Address, Addresses, Bytes, Head, NoMemory};
+use crate::body::NEW_VERSION;
+use q_model::{Address, Addresses, Bytes, Head, NoMemory, Receiver};
 use q_record::put;
 use std::alloc::Global;
 
@@ -24,8 +25,24 @@ fn push_record(out: &mut Vec<u8>, alloc: Global, kind: u8, body: &[u8]) -> Resul
     Ok(())
 }
 
-fn push_recipient(out: &mut Vec<u8>, alloc: Global, address: &Address) -> Result<(), NoMemory>
-    ensures written { OnOk result (out.new.items ≡ out.old.items ++ recipient_record address.now) }
+fn push_original(
+    out: &mut Vec<u8>,
+    alloc: Global,
+    original: &Option<Address>,
+) -> Result<(), NoMemory>
+    ensures written { OnOk result (out.new.items ≡ out.old.items ++ record_bytes 79
+        (unwrap_or original.now [])) }
+    ensures form { OnOk result (option_map_or is_address original.now true ≡ true) }
+{
+    match original {
+        None => push_record(out, alloc, b'O', &[])?,
+        Some(address) => push_record(out, alloc, b'O', address.bytes())?,
+    }
+    Ok(())
+}
+
+fn push_address(out: &mut Vec<u8>, alloc: Global, address: &Address) -> Result<(), NoMemory>
+    ensures written { OnOk result (out.new.items ≡ out.old.items ++ record_bytes 82 (80 ∷ address.now)) }
     ensures form { OnOk result (is_address address.now ≡ true) }
 {
     let mut body = Vec::new(alloc);
@@ -35,12 +52,22 @@ fn push_recipient(out: &mut Vec<u8>, alloc: Global, address: &Address) -> Result
     Ok(())
 }
 
+fn push_recipient(out: &mut Vec<u8>, alloc: Global, receiver: &Receiver) -> Result<(), NoMemory>
+    ensures written { OnOk result (out.new.items ≡ out.old.items ++ recipient_record receiver.now) }
+    ensures address { OnOk result (is_address receiver.now.address ≡ true) }
+    ensures original { OnOk result (option_map_or is_address receiver.now.original true ≡ true) }
+{
+    push_original(out, alloc, &receiver.original)?;
+    push_address(out, alloc, &receiver.address)?;
+    Ok(())
+}
+
 fn push_recipients(out: &mut Vec<u8>, alloc: Global, to: &Addresses) -> Result<(), NoMemory>
     ensures written { OnOk result (out.new.items ≡ out.old.items ++ flat_map recipient_record to.now) }
-    ensures forms { OnOk result (list_all is_address to.now ≡ true) }
+    ensures forms { OnOk result (list_all are_addresses to.now ≡ true) }
 {
-    for address in to.as_slice() {
-        push_recipient(out, alloc, address)?;
+    for receiver in to.as_slice() {
+        push_recipient(out, alloc, receiver)?;
     }
     Ok(())
 }
@@ -50,7 +77,7 @@ fn counts(alloc: Global, recipients: u32, content: u32) -> Result<Vec<u8>, NoMem
     ensures { IfOk result (λ body. body.items ≡ counts_text recipients content) }
 {
     let mut body = Vec::new(alloc);
-    body.extend_from_slice(&1_u32.to_be_bytes())?;
+    body.extend_from_slice(&NEW_VERSION.to_be_bytes())?;
     body.extend_from_slice(&recipients.to_be_bytes())?;
     body.extend_from_slice(&content.to_be_bytes())?;
     Ok(body)
@@ -88,7 +115,7 @@ fn head_records(
 
 /// The records behind those of the recipients.
 fn push_content(out: &mut Vec<u8>, alloc: Global, content: &[u8]) -> Result<(), NoMemory>
-    requires { length content.now ≤ 20000000 }
+    requires { length content.now ≤ 40000000 }
     ensures { OnOk result (out.new.items ≡ out.old.items ++ record_bytes 78 content.now
         ++ record_bytes 69 []) }
 {
@@ -98,8 +125,8 @@ fn push_content(out: &mut Vec<u8>, alloc: Global, content: &[u8]) -> Result<(), 
 }
 
 /// The bytes of the queue file of a new message, in which every recipient is pending. It is an error
-/// to call it past the form's bounds: 999,990,000,000 for the arrival, 1 to 50,000 recipients, and
-/// 20,000,000 bytes of content.
+/// to call it past the form's bounds: 999,990,000,000 for the arrival, 1 to 50,000 recipients, none
+/// with its own address as the original one, and 40,000,000 bytes of content.
 pub fn write_message(
     alloc: Global,
     head: &Head,
@@ -109,7 +136,8 @@ pub fn write_message(
     requires arrival { head.now.arrival ≤ 999990000000 }
     requires some { 1 ≤ length to.now }
     requires few { length to.now ≤ 50000 }
-    requires short { length content.now ≤ 20000000 }
+    requires others { list_all is_receiver to.now ≡ true }
+    requires short { length content.now ≤ 40000000 }
     ensures written { IfOk result (λ bytes. bytes ≡ new_file head.now to.now content.now) }
     ensures reads { IfOk result (λ bytes. IsFileOf bytes (new_message head.now to.now content.now)) }
 {

@@ -1,6 +1,7 @@
 -- What a crash may make of a book that changed.
 use Rattle.std.proofs.Common.{◌≡◌, ℕ, zero, suc, ◌+◌, Bool, true, false, not, List, [], ◌∷◌, ◌++◌, length, map, filter, Option, Some, if◌then◌else◌, eqb, refl, sym, ap, subst, ◌∙◌, inl, inr, ◌⊎◌}
-use Rattle.std.specs.Prelude.{sum_by, take, unwrap_or}
+use Rattle.std.specs.Option.{option_map_or}
+use Rattle.std.specs.Prelude.{slice_get, sum_by, take, unwrap_or}
 use Rattle.std.specs.List.{enumerate_from, list_all}
 use Rattle.std.proofs.lemmas.List.Sums.{sum_by-cons}
 use Rattle.q_model.specs.declared.id.Id.{Id}
@@ -12,13 +13,12 @@ use Rattle.q_model.specs.Book.{Book, message_of}
 use Rattle.q_model.specs.BookChanges.{add_message, change_message, move_message, remove_message}
 use Rattle.q_model.specs.Crashes.{EachTo, FailuresAfter, IsCrashOf, MessageAfter, RecipientAfter}
 use Rattle.q_model.specs.Ids.{id_eq}
-use Rattle.q_model.specs.FilesStand.{file_message}
+use Rattle.q_model.specs.FilesStand.{file_message, file_recipient}
 use Rattle.q_model.specs.Logs.{with_failure}
 use Rattle.q_model.specs.Marking.{mark_one, with_mark}
-use Rattle.q_model.specs.Marks.{is_marked}
 use Rattle.q_model.specs.Message.{Logged, Message, Recipient}
 use Rattle.q_model.specs.QueueFile.{FileRecipient}
-use Rattle.q_model.specs.QueueFileBytes.{mark_at}
+use Rattle.q_model.specs.QueueFileBytes.{mark_at, original_size, recipient_size}
 use Rattle.q_model.proofs.CrashLaws.{failures-kept, find-after, FoundAfter}
 use Rattle.q_model.proofs.StandEntries.{set_mark, with_mark_of}
 
@@ -54,7 +54,7 @@ crash-changes b k id f g step h = record {
 
 pub crash-move : (b k : Book) (id : Id) (q : Place) → IsCrashOf b k → IsCrashOf (move_message b id q) (move_message k id q)
 crash-move b k id q h = crash-changes b k id (λ (m : Message). record m { place = q }) (λ (m : Message). record m { place = q })
-    (λ m n after. record { id = after.id; sender = after.sender; arrival = after.arrival; content = after.content; place = refl; recipients = after.recipients; failures = after.failures }) h
+    (λ m n after. record { id = after.id; version = after.version; sender = after.sender; arrival = after.arrival; content = after.content; place = refl; recipients = after.recipients; failures = after.failures }) h
 
 -- ---- a mark
 
@@ -63,7 +63,7 @@ abbrev pub IsSure : Mark → Type 0
 IsSure mark = (mark ≡ marks.Unmarked) ⊎ (mark ≡ marks.Synced)
 
 one_mark : (n position : ℕ) (mark : Mark) (r s : Recipient) (t : Bool) → IsSure mark → RecipientAfter r s → RecipientAfter (if t then record r { mark = marks.Written } else r) (if t then record s { mark = mark } else s)
-one_mark n position mark r s true sure h = record { address = h.address; mark = sure }
+one_mark n position mark r s true sure h = record { address = h.address; original = h.original; mark = sure }
 one_mark n position mark r s false sure h = h
 
 marked_after : (n position : ℕ) (mark : Mark) (rs ss : List Recipient) → IsSure mark → EachTo RecipientAfter rs ss → EachTo RecipientAfter (map (mark_one position) (enumerate_from n rs)) (map (set_mark position mark) (enumerate_from n ss))
@@ -74,7 +74,7 @@ marked_after n position mark (r ∷ rs) (s ∷ ss) sure h = (one_mark n position
 
 pub crash-mark : (b k : Book) (id : Id) (position : ℕ) (mark : Mark) → IsSure mark → IsCrashOf b k → IsCrashOf (change_message b id (with_mark position)) (change_message k id (with_mark_of position mark))
 crash-mark b k id position mark sure h = crash-changes b k id (with_mark position) (with_mark_of position mark)
-    (λ m n after. record { id = after.id; sender = after.sender; arrival = after.arrival; content = after.content; place = after.place; recipients = marked_after 0 position mark m.recipients n.recipients sure after.recipients; failures = after.failures }) h
+    (λ m n after. record { id = after.id; version = after.version; sender = after.sender; arrival = after.arrival; content = after.content; place = after.place; recipients = marked_after 0 position mark m.recipients n.recipients sure after.recipients; failures = after.failures }) h
 
 -- ---- sizes and places in the file
 
@@ -85,26 +85,45 @@ recipients-length (r ∷ rs) [] h = absurd h
 recipients-length (r ∷ rs) (s ∷ ss) h = ap suc (recipients-length rs ss h.1)
 
 abbrev to_file : Recipient → FileRecipient
-to_file r = record { address = r.address; marked = is_marked r.mark }
+to_file r = file_recipient r
 
-abbrev size_of : FileRecipient → ℕ
-size_of r = 6 + length r.address
+same_size : (version : ℕ) (r s : Recipient) → RecipientAfter r s → recipient_size version (to_file s) ≡ recipient_size version (to_file r)
+same_size version r s h =
+    ap (λ (o : Option (List ℕ)). original_size version o + (6 + length s.address)) h.original
+    ∙ ap (λ (a : List ℕ). original_size version r.original + (6 + length a)) h.address
 
-sizes-after : (p : ℕ) (rs ss : List Recipient) → EachTo RecipientAfter rs ss → sum_by size_of (take p (map to_file ss)) ≡ sum_by size_of (take p (map to_file rs))
-sizes-after zero rs ss h = refl
-sizes-after (suc p) [] [] h = refl
-sizes-after (suc p) [] (s ∷ ss) h = absurd h
-sizes-after (suc p) (r ∷ rs) [] h = absurd h
-sizes-after (suc p) (r ∷ rs) (s ∷ ss) h =
-    sum_by-cons size_of (to_file s) (take p (map to_file ss))
-    ∙ ap (λ (a : List ℕ). (6 + length a) + sum_by size_of (take p (map to_file ss))) h.0.address
-    ∙ ap (λ (n : ℕ). size_of (to_file r) + n) (sizes-after p rs ss h.1)
-    ∙ sym (sum_by-cons size_of (to_file r) (take p (map to_file rs)))
+sizes-after : (version p : ℕ) (rs ss : List Recipient) → EachTo RecipientAfter rs ss → sum_by (recipient_size version) (take p (map to_file ss)) ≡ sum_by (recipient_size version) (take p (map to_file rs))
+sizes-after version zero rs ss h = refl
+sizes-after version (suc p) [] [] h = refl
+sizes-after version (suc p) [] (s ∷ ss) h = absurd h
+sizes-after version (suc p) (r ∷ rs) [] h = absurd h
+sizes-after version (suc p) (r ∷ rs) (s ∷ ss) h =
+    sum_by-cons (recipient_size version) (to_file s) (take p (map to_file ss))
+    ∙ ap (λ (k : ℕ). k + sum_by (recipient_size version) (take p (map to_file ss))) (same_size version r s h.0)
+    ∙ ap (λ (n : ℕ). recipient_size version (to_file r) + n) (sizes-after version p rs ss h.1)
+    ∙ sym (sum_by-cons (recipient_size version) (to_file r) (take p (map to_file rs)))
+
+-- what stands before a mark, by the recipients
+abbrev before : ℕ → List FileRecipient → ℕ → ℕ
+before version rs p = option_map_or (λ (r : FileRecipient). original_size version r.original) (slice_get rs p) 0
+
+before-after : (version p : ℕ) (rs ss : List Recipient) → EachTo RecipientAfter rs ss → before version (map to_file ss) p ≡ before version (map to_file rs) p
+before-after version p [] [] h = refl
+before-after version p [] (s ∷ ss) h = absurd h
+before-after version p (r ∷ rs) [] h = absurd h
+before-after version zero (r ∷ rs) (s ∷ ss) h = ap (original_size version) h.0.original
+before-after version (suc p) (r ∷ rs) (s ∷ ss) h = before-after version p rs ss h.1
+
+-- the offset of a mark, by version, sender and recipients
+abbrev place_by : ℕ → Option (List ℕ) → List FileRecipient → ℕ → ℕ
+place_by version sender rs p = (((35 + length (unwrap_or sender [])) + sum_by (recipient_size version) (take p rs)) + before version rs p) + 5
 
 pub mark_at-after : (m n : Message) (position : ℕ) → MessageAfter m n → mark_at (file_message n) position ≡ mark_at (file_message m) position
 mark_at-after m n position h =
-    ap (λ (s : Option (List ℕ)). ((35 + length (unwrap_or s [])) + sum_by size_of (take position (map to_file n.recipients))) + 5) h.sender
-    ∙ ap (λ (k : ℕ). ((35 + length (unwrap_or m.sender [])) + k) + 5) (sizes-after position m.recipients n.recipients h.recipients)
+    ap (λ (v : ℕ). place_by v n.sender (map to_file n.recipients) position) h.version
+    ∙ ap (λ (s : Option (List ℕ)). place_by m.version s (map to_file n.recipients) position) h.sender
+    ∙ ap (λ (k : ℕ). (((35 + length (unwrap_or m.sender [])) + k) + before m.version (map to_file n.recipients) position) + 5) (sizes-after m.version position m.recipients n.recipients h.recipients)
+    ∙ ap (λ (k : ℕ). (((35 + length (unwrap_or m.sender [])) + sum_by (recipient_size m.version) (take position (map to_file m.recipients))) + k) + 5) (before-after m.version position m.recipients n.recipients h.recipients)
 
 -- ---- a message more, and one less
 
@@ -142,7 +161,7 @@ firm_after (f ∷ fs) gs l firm (inr gone) = inr (gone.0, firm_after fs gs l fir
 
 pub crash-log : (b k : Book) (id : Id) (failure : Failure) → IsCrashOf b k → IsCrashOf (change_message b id (with_failure failure)) (change_message k id (with_failure failure))
 crash-log b k id failure h = crash-changes b k id (with_failure failure) (with_failure failure)
-    (λ m n after. record { id = after.id; sender = after.sender; arrival = after.arrival; content = after.content; place = after.place; recipients = after.recipients; failures = firm_after m.failures n.failures (record { failure = failure; firm = true }) refl after.failures }) h
+    (λ m n after. record { id = after.id; version = after.version; sender = after.sender; arrival = after.arrival; content = after.content; place = after.place; recipients = after.recipients; failures = firm_after m.failures n.failures (record { failure = failure; firm = true }) refl after.failures }) h
 
 -- where none of the failures may be lost, a crash keeps them all
 pub failures-after : (fs gs : List Logged) → FailuresAfter fs gs → list_all (λ (l : Logged). l.firm) fs ≡ true → map (λ (l : Logged). l.failure) gs ≡ map (λ (l : Logged). l.failure) fs

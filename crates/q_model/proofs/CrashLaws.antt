@@ -24,11 +24,11 @@ mark-kept marks.Unmarked new h e = h
 mark-kept marks.Written new h e = absurd cc
 mark-kept marks.Synced new h e = h
 
-abbrev recipient : List ℕ → Mark → Recipient
-recipient address mark = record { address = address; mark = mark }
+abbrev recipient : List ℕ → Option (List ℕ) → Mark → Recipient
+recipient address original mark = record { address = address; original = original; mark = mark }
 
 recipient-kept : (old new : Recipient) → RecipientAfter old new → is_written old.mark ≡ false → new ≡ old
-recipient-kept old new h e = ap (λ (a : List ℕ). recipient a new.mark) h.address ∙ ap (recipient old.address) (mark-kept old.mark new.mark h.mark e)
+recipient-kept old new h e = ap (λ (a : List ℕ). recipient a new.original new.mark) h.address ∙ ap (λ (o : Option (List ℕ)). recipient old.address o new.mark) h.original ∙ ap (recipient old.address old.original) (mark-kept old.mark new.mark h.mark e)
 
 recipients-kept : (olds news : List Recipient) → EachTo RecipientAfter olds news → AllByRecursion (λ r. is_written r.mark ≡ false) olds → news ≡ olds
 recipients-kept [] [] h sure = refl
@@ -48,20 +48,21 @@ failures-kept (f ∷ fs) news (inr gone) sure =
     let loose : f.firm ≡ false = gone.0 in
     absurd cc
 
-abbrev message : Id → Option (List ℕ) → ℕ → List ℕ → List Recipient → List Logged → Place → Message
-message id sender arrival content recipients failures place = record { id = id; sender = sender; arrival = arrival; content = content; recipients = recipients; failures = failures; place = place }
+abbrev message : Id → ℕ → Option (List ℕ) → ℕ → List ℕ → List Recipient → List Logged → Place → Message
+message id version sender arrival content recipients failures place = record { id = id; version = version; sender = sender; arrival = arrival; content = content; recipients = recipients; failures = failures; place = place }
 
 message-kept : (old new : Message) → MessageAfter old new → AllByRecursion (λ r. is_written r.mark ≡ false) old.recipients → has_firm_failures old ≡ true → new ≡ old
 message-kept old new h sure firm =
     let rs = recipients-kept old.recipients new.recipients h.recipients sure in
     let fs = failures-kept old.failures new.failures h.failures firm in
-    ap (λ x. message x new.sender new.arrival new.content new.recipients new.failures new.place) h.id
-    ∙ ap (λ x. message old.id x new.arrival new.content new.recipients new.failures new.place) h.sender
-    ∙ ap (λ x. message old.id old.sender x new.content new.recipients new.failures new.place) h.arrival
-    ∙ ap (λ x. message old.id old.sender old.arrival x new.recipients new.failures new.place) h.content
-    ∙ ap (λ x. message old.id old.sender old.arrival old.content x new.failures new.place) rs
-    ∙ ap (λ x. message old.id old.sender old.arrival old.content old.recipients x new.place) fs
-    ∙ ap (λ x. message old.id old.sender old.arrival old.content old.recipients old.failures x) h.place
+    ap (λ x. message x new.version new.sender new.arrival new.content new.recipients new.failures new.place) h.id
+    ∙ ap (λ x. message old.id x new.sender new.arrival new.content new.recipients new.failures new.place) h.version
+    ∙ ap (λ x. message old.id old.version x new.arrival new.content new.recipients new.failures new.place) h.sender
+    ∙ ap (λ x. message old.id old.version old.sender x new.content new.recipients new.failures new.place) h.arrival
+    ∙ ap (λ x. message old.id old.version old.sender old.arrival x new.recipients new.failures new.place) h.content
+    ∙ ap (λ x. message old.id old.version old.sender old.arrival old.content x new.failures new.place) rs
+    ∙ ap (λ x. message old.id old.version old.sender old.arrival old.content old.recipients x new.place) fs
+    ∙ ap (λ x. message old.id old.version old.sender old.arrival old.content old.recipients old.failures x) h.place
 
 -- no written mark
 one_unwritten : (n : ℕ) (r : Recipient) (rs : List Recipient) (t : Bool) → is_written r.mark ≡ t → has_none (if t then n ∷ places_from (n + 1) (λ i x. is_written x.mark) rs else places_from (n + 1) (λ i x. is_written x.mark) rs) ≡ true

@@ -1,7 +1,11 @@
+mod MarkGroupRows
 mod MessageRows
+mod NoticeRows
 mod PreemptionRows
 mod QueueRows
+mod RestRows
 mod SiteRows
+mod ToolRows
 pub mod CrashChanges
 pub mod CrashLaws
 pub mod DomainLaws

@@ -9,7 +9,7 @@ use Rattle.q_model.specs.declared.rows.Place.{Place}
 use Rattle.q_model.specs.Book.{Book, Damaged, message_of}
 use Rattle.q_model.specs.BookChanges.{change_message}
 use Rattle.q_model.specs.Crashes.{EachTo, IsCrashOf, MarkAfter, MessageAfter, RecipientAfter}
-use Rattle.q_model.specs.FilesStand.{file_message, Stands}
+use Rattle.q_model.specs.FilesStand.{file_message, file_recipient, Stands}
 use Rattle.q_model.specs.Ids.{id_eq}
 use Rattle.q_model.specs.Marking.{with_mark}
 use Rattle.q_model.specs.Marks.{is_marked, sync_mark}
@@ -27,7 +27,7 @@ use Rattle.q_model.proofs.StandLaws.{IsSameBut}
 use Rattle.q_model.proofs.StandReads.{ReadsSame, Stands-reads}
 
 abbrev to_file : Recipient → FileRecipient
-to_file r = record { address = r.address; marked = is_marked r.mark }
+to_file r = file_recipient r
 
 some_message : (x y : FileMessage) → Some x ≡ Some y → x ≡ y
 some_message x y e = cc
@@ -56,11 +56,12 @@ all_sure [] (s ∷ ss) h same = absurd h
 all_sure (r ∷ rs) [] h same = absurd h
 all_sure (r ∷ rs) (s ∷ ss) h same =
     let two = same_head (to_file r) (to_file s) (map to_file rs) (map to_file ss) same in
-    (record { address = h.0.address; mark = sure_after r.mark s.mark h.0.mark two.0 }, all_sure rs ss h.1 two.1)
+    (record { address = h.0.address; original = h.0.original; mark = sure_after r.mark s.mark h.0.mark two.0 }, all_sure rs ss h.1 two.1)
 
 synced_after : (m n : Message) → MessageAfter m n → file_message n ≡ file_message m → MessageAfter (sync_all m) n
 synced_after m n h same = record {
   id = h.id;
+  version = h.version;
   sender = h.sender;
   arrival = h.arrival;
   content = h.content;
@@ -90,7 +91,7 @@ reads_sync marks.Synced = refl
 
 file_sync : (rs : List Recipient) → map to_file (map (λ (r : Recipient). record r { mark = sync_mark r.mark }) rs) ≡ map to_file rs
 file_sync [] = refl
-file_sync (r ∷ rs) = ap (λ (t : Bool). record { address = r.address; marked = t } ∷ map to_file (map (λ (x : Recipient). record x { mark = sync_mark x.mark }) rs)) (reads_sync r.mark) ∙ ap (λ (xs : List FileRecipient). to_file r ∷ xs) (file_sync rs)
+file_sync (r ∷ rs) = ap (λ (t : Bool). record { address = r.address; original = r.original; marked = t } ∷ map to_file (map (λ (x : Recipient). record x { mark = sync_mark x.mark }) rs)) (reads_sync r.mark) ∙ ap (λ (xs : List FileRecipient). to_file r ∷ xs) (file_sync rs)
 
 one_reads : (x : Message) (t : Bool) → ReadsSame x (if t then sync_all x else x)
 one_reads x true = record { id = refl; place = refl; says = ap (λ (rs : List FileRecipient). record (file_message x) { recipients = rs }) (file_sync x.recipients); failures = refl }

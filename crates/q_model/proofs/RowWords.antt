@@ -1,5 +1,5 @@
 -- Words of worked runs: events, and the lines that they lead to.
-use Rattle.std.specs.Prelude.{ℕ, zero, suc, ◌+◌, drop, List, [], ◌∷◌, ◌++◌, codes, decimal, flat_map, Some, false}
+use Rattle.std.specs.Prelude.{ℕ, zero, suc, ◌+◌, drop, List, [], ◌∷◌, ◌++◌, codes, decimal, flat_map, map, None, Some, false}
 use Rattle.q_model.specs.declared.event.Event.TheVariants as events
 use Rattle.q_model.specs.declared.event.LifeEvent.{LifeEvent}
 use Rattle.q_model.specs.declared.event.LifeEvent.TheVariants.{Heard}
@@ -17,12 +17,17 @@ use Rattle.q_model.specs.Routes.{no_table, world_without_table}
 use Rattle.q_model.specs.Run.{run_of}
 use Rattle.q_model.specs.Settings.{Settings}
 use Rattle.q_model.specs.Text.{text}
+use Rattle.q_model.specs.Values.{Receiver}
 
 abbrev pub at : ℕ → LifeEvent
 at t = Heard (events.At t)
 
+-- a recipient without another address
+abbrev pub plain : List ℕ → Receiver
+plain address = record { address = address; original = None }
+
 abbrev pub mail : List ℕ → List (List ℕ) → LifeEvent
-mail sender to = Heard (events.Mail (Some sender) to [])
+mail sender to = Heard (events.Mail (Some sender) (map plain to) [])
 
 abbrev pub up : ℕ → List Outcome → LifeEvent
 up number outcomes = Heard (events.Reply number Up outcomes)
@@ -66,10 +71,11 @@ id n = record { generation = 1; serial = n; bounce = false }
 abbrev pub one_to : ℕ → Mark → Place → Message
 one_to n mark place = record {
   id = id n;
+  version = 2;
   sender = Some (codes "a@x.example");
   arrival = 1000;
   content = [];
-  recipients = record { address = codes "b@y.example"; mark = mark } ∷ [];
+  recipients = record { address = codes "b@y.example"; original = None; mark = mark } ∷ [];
   failures = [];
   place = place;
 }

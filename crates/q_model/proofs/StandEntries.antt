@@ -11,7 +11,7 @@ use Rattle.q_model.specs.declared.rows.Place.{Place}
 use Rattle.q_model.specs.Book.{Book, message_of}
 use Rattle.q_model.specs.BookChanges.{change_message}
 use Rattle.q_model.specs.FailureLog.{failures_of, log_records}
-use Rattle.q_model.specs.FilesStand.{file_message, Stands}
+use Rattle.q_model.specs.FilesStand.{file_message, file_recipient, Stands}
 use Rattle.q_model.specs.Ids.{id_eq}
 use Rattle.q_model.specs.IdTexts.{id_text, IsId}
 use Rattle.q_model.specs.Logs.{with_failure}
@@ -80,9 +80,9 @@ pub with_mark-is : (position : ℕ) (m : Message) → with_mark position m ≡ w
 with_mark-is position m = refl
 
 abbrev to_file : Recipient → FileRecipient
-to_file r = record { address = r.address; marked = is_marked r.mark }
+to_file r = file_recipient r
 
-at_place : (n place : ℕ) (mark : Mark) (r : Recipient) → n ≡ place → to_file (set_mark place mark (n, r)) ≡ record { address = r.address; marked = is_marked mark }
+at_place : (n place : ℕ) (mark : Mark) (r : Recipient) → n ≡ place → to_file (set_mark place mark (n, r)) ≡ record { address = r.address; original = r.original; marked = is_marked mark }
 at_place n place mark r e = ap (λ (t : Bool). to_file (if t then record r { mark = mark } else r)) (eq-eqb n place e)
 
 not_at_place : (n place : ℕ) (mark : Mark) (r : Recipient) → (n ≡ place → ⊥) → to_file (set_mark place mark (n, r)) ≡ to_file r
@@ -98,7 +98,7 @@ file_marks : (rs : List Recipient) (n position place : ℕ) (mark : Mark) → pl
 file_marks [] n position place mark e = refl
 file_marks (r ∷ rs) n zero place mark e =
     ap (λ (x : FileRecipient). x ∷ map to_file (map (set_mark place mark) (enumerate_from (n + 1) rs))) (at_place n place mark r (omega arith))
-    ∙ ap (λ (xs : List FileRecipient). record { address = r.address; marked = is_marked mark } ∷ xs) (file_marks-past rs (n + 1) place mark (omega arith))
+    ∙ ap (λ (xs : List FileRecipient). record { address = r.address; original = r.original; marked = is_marked mark } ∷ xs) (file_marks-past rs (n + 1) place mark (omega arith))
 file_marks (r ∷ rs) n (suc position) place mark e =
     ap (λ (x : FileRecipient). x ∷ map to_file (map (set_mark place mark) (enumerate_from (n + 1) rs))) (not_at_place n place mark r (λ k. absurd (omega arith)))
     ∙ ap (λ (xs : List FileRecipient). to_file r ∷ xs) (file_marks rs (n + 1) position place mark (omega arith))

@@ -7,11 +7,10 @@ use Rattle.q_model.specs.declared.rows.Place.{Place}
 use Rattle.q_model.specs.Book.{Book, Damaged}
 use Rattle.q_model.specs.Crashes.{EachTo}
 use Rattle.q_model.specs.FailureLog.{failures_of}
-use Rattle.q_model.specs.FilesStand.{BootStands, DamagedStands, file_message, MessageStands, Stands}
+use Rattle.q_model.specs.FilesStand.{BootStands, DamagedStands, file_message, file_recipient, MessageStands, Stands}
 use Rattle.q_model.specs.Ids.{are_distinct, id_eq}
 use Rattle.q_model.specs.IdTexts.{IsId}
-use Rattle.q_model.specs.Marks.{is_marked}
-use Rattle.q_model.specs.Message.{Message, Recipient}
+use Rattle.q_model.specs.Message.{Message}
 use Rattle.q_model.specs.QueueFile.{FileMessage}
 use Rattle.q_model.specs.QueueFileBytes.{IsFileOf}
 use Rattle.q_model.specs.SpoolFiles.{file_at, Files, IsPlace, logged_in}
@@ -27,7 +26,7 @@ pub record ReadsSame (old new : Message) : Type 0 where
 pub MessageStands-same : (f : Files) (old new : Message) → ReadsSame old new → MessageStands f old → MessageStands f new
 MessageStands-same f old new same h =
     let count : length new.recipients ≡ length old.recipients =
-    sym (length-map new.recipients (λ (r : Recipient). record { address = r.address; marked = is_marked r.mark })) ∙ ap (λ (m : FileMessage). length m.recipients) same.says ∙ length-map old.recipients (λ (r : Recipient). record { address = r.address; marked = is_marked r.mark }) in
+    sym (length-map new.recipients file_recipient) ∙ ap (λ (m : FileMessage). length m.recipients) same.says ∙ length-map old.recipients file_recipient in
     record {
       id = subst IsId (sym same.id) h.id;
       place = subst IsPlace (sym same.place) h.place;

@@ -4,9 +4,10 @@ use Rattle.q_model.specs.declared.id.Id.{Id}
 use Rattle.q_model.specs.BookChanges.{add_message}
 use Rattle.q_model.specs.Ids.{id_eq}
 use Rattle.q_model.specs.Ledger.{Ledger}
-use Rattle.q_model.specs.Message.{Message}
+use Rattle.q_model.specs.Message.{Message, new_recipient}
 use Rattle.q_model.specs.Past.{arrivals}
-use Rattle.q_model.specs.declared.rows.Mark.TheVariants as marks
+use Rattle.q_model.specs.QueueFile.{new_version}
+use Rattle.q_model.specs.Values.{Receiver}
 use Rattle.q_model.specs.declared.rows.Place.TheVariants as places
 
 -- the id of the next message
@@ -18,17 +19,18 @@ abbrev pub may_arrive : Ledger → Id → Bool
 may_arrive l id = l.timed && id_eq id (next_id l)
 
 -- the message as it arrives
-abbrev pub arrived : Ledger → Id → Option (List ℕ) → List (List ℕ) → List ℕ → Message
+abbrev pub arrived : Ledger → Id → Option (List ℕ) → List Receiver → List ℕ → Message
 arrived l id sender to content = record {
   id = id;
+  version = new_version;
   sender = sender;
   arrival = l.now;
   content = content;
-  recipients = map (λ address. record { address = address; mark = marks.Unmarked }) to;
+  recipients = map new_recipient to;
   failures = [];
   place = places.Incoming;
 }
 
 -- the message stands in incoming
-abbrev pub after_arrive : Ledger → Id → Option (List ℕ) → List (List ℕ) → List ℕ → Ledger
+abbrev pub after_arrive : Ledger → Id → Option (List ℕ) → List Receiver → List ℕ → Ledger
 after_arrive l id sender to content = record l { book = add_message l.book (arrived l id sender to content) }

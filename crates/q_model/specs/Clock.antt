@@ -1,7 +1,7 @@
 -- Entry `at`: the clock.
 use Rattle.std.specs.Prelude.{◌+◌, Bool, if◌then◌else◌, nat_le, true, ℕ}
 use Rattle.q_model.specs.Ledger.{Ledger}
-use Rattle.q_model.specs.Revival.{revive_due}
+use Rattle.q_model.specs.Revival.{wake_due}
 use Rattle.q_model.specs.Scans.{ask_scan}
 use Rattle.q_model.specs.Settings.{World}
 
@@ -9,9 +9,9 @@ use Rattle.q_model.specs.Settings.{World}
 abbrev pub may_at : Ledger → ℕ → Bool
 may_at l t = nat_le l.now t
 
--- the clock is there, and dead sites whose time has come are alive again
+-- the clock is there; dead sites whose time has come are alive again, and rests that are over end
 abbrev pub woken : World → Ledger → ℕ → Ledger
-woken w l t = record l { now = t; timed = true; sites = revive_due w (record l { now = t }) }
+woken w l t = record l { now = t; timed = true; sites = wake_due w (record l { now = t }) }
 
 -- the next scan of deferred by the clock
 abbrev pub scheduled : World → Ledger → ℕ → Ledger

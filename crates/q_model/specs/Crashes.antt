@@ -18,9 +18,10 @@ MarkAfter marks.Unmarked mark = mark ≡ marks.Unmarked
 MarkAfter marks.Written mark = (mark ≡ marks.Unmarked) ⊎ (mark ≡ marks.Synced)
 MarkAfter marks.Synced mark = mark ≡ marks.Synced
 
--- the same address, and what became of its mark
+-- the same addresses, and what became of its mark
 pub record RecipientAfter (old new : Recipient) : Type 0 where
   pub address : new.address ≡ old.address
+  pub original : new.original ≡ old.original
   pub mark : MarkAfter old.mark new.mark
 
 -- a failure that is kept is sure
@@ -35,6 +36,7 @@ FailuresAfter (f ∷ fs) new =
 
 pub record MessageAfter (old new : Message) : Type 0 where
   pub id : new.id ≡ old.id
+  pub version : new.version ≡ old.version
   pub sender : new.sender ≡ old.sender
   pub arrival : new.arrival ≡ old.arrival
   pub content : new.content ≡ old.content

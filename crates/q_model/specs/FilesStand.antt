@@ -8,8 +8,8 @@ use Rattle.q_model.specs.FailureLog.{failures_of}
 use Rattle.q_model.specs.Ids.{are_distinct}
 use Rattle.q_model.specs.IdTexts.{hex, IsId}
 use Rattle.q_model.specs.Marks.{is_marked}
-use Rattle.q_model.specs.Message.{Message}
-use Rattle.q_model.specs.QueueFile.{FileMessage, queue_file}
+use Rattle.q_model.specs.Message.{Message, Recipient}
+use Rattle.q_model.specs.QueueFile.{FileMessage, FileRecipient, queue_file}
 use Rattle.q_model.specs.QueueFileBytes.{IsFileOf}
 use Rattle.q_model.specs.SpoolFiles.{file_at, Files, IsPlace, logged_in}
 use Rattle.q_model.specs.Places.{is_corrupt, place_eq}
@@ -22,13 +22,18 @@ pub record BootStands (f : Files) (generation : ℕ) : Type 0 where
   pub names : (n : List ℕ) → is_name n ≡ true
       → is_some (f areas.Boot n) ≡ (nat_lt 0 generation && bytes_eq n (hex 8 generation))
 
--- what the file of a message says: a mark is set where the message's mark is, sure or not
+-- what the file says of a recipient: its mark is set where the recipient's is, sure or not
+abbrev pub file_recipient : Recipient → FileRecipient
+file_recipient r = record { address = r.address; original = r.original; marked = is_marked r.mark }
+
+-- what the file of a message says
 abbrev pub file_message : Message → FileMessage
 file_message m = record {
+  version = m.version;
   sender = m.sender;
   arrival = m.arrival;
   content = m.content;
-  recipients = map (λ r. record { address = r.address; marked = is_marked r.mark }) m.recipients;
+  recipients = map file_recipient m.recipients;
 }
 
 -- the message's queue file stands at its place, and its failures are those of its log

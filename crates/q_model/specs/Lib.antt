@@ -64,3 +64,5 @@ pub mod SpoolFiles
 pub mod FilesStand
 pub mod Orderly
 pub mod Crashes
+pub mod CutOff
+pub mod ToolSteps

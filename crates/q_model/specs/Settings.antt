@@ -1,6 +1,6 @@
 -- The numbers that the rules go by, each under a short form of its parameter's name (postconf(5)),
 -- and the routes of recipients (transport(5)).
-use Rattle.std.specs.Prelude.{Bool, false, List, ℕ}
+use Rattle.std.specs.Prelude.{◌==◌, Bool, false, if◌then◌else◌, List, ℕ}
 use Rattle.q_model.specs.Values.{Site}
 
 -- numerator/denominator, or numerator/(the window): the feedback that one answer gives
@@ -32,6 +32,7 @@ pub record Settings : Type 0 where
   pub lifetime : ℕ
   pub bounce_lifetime : ℕ
   pub mark_sync_limit : ℕ
+  pub rate_delay : ℕ
 
 -- the defaults
 abbrev pub defaults : Settings
@@ -56,7 +57,13 @@ defaults = record {
   lifetime = 432000;
   bounce_lifetime = 432000;
   mark_sync_limit = 1;
+  rate_delay = 0;
 }
+
+-- no window is wider: the concurrency limit, or 1 where deliveries to a site keep a delay
+-- (postconf(5): default_destination_rate_delay)
+abbrev pub window_limit : Settings → ℕ
+window_limit s = if s.rate_delay == 0 then s.concurrency_limit else 1
 
 -- the names of the transports, by number, and the site of each address
 pub record Table : Type 0 where

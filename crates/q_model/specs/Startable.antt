@@ -8,12 +8,12 @@ use Rattle.q_model.specs.Deliveries.{busy, flights_of}
 use Rattle.q_model.specs.Ids.{id_eq}
 use Rattle.q_model.specs.Ledger.{Ledger}
 use Rattle.q_model.specs.Settings.{World}
-use Rattle.q_model.specs.SiteRecords.{is_alive, record_of}
+use Rattle.q_model.specs.SiteRecords.{is_awake, record_of}
 
--- the transport has a process left, and the site is alive and has room in its window
+-- the transport has a process left, and the site is alive, doesn't rest and has room in its window
 abbrev pub is_startable : World → Ledger → Row → Bool
 is_startable w l r = nat_lt (flights_of l r.site.transport) w.settings.process_limit
-    && (option_map_or (λ s. is_alive s.health && nat_lt (busy l r.site) s.window) (record_of l r.site) false)
+    && (option_map_or (λ s. is_awake s && nat_lt (busy l r.site) s.window) (record_of l r.site) false)
 
 -- the entries of a job that may be sent now
 abbrev pub startable_rows : World → Ledger → ℕ → Id → List Row

@@ -54,7 +54,7 @@ abbrev pub words : Table → Entry → List (List ℕ)
 words table (entries.Life generation mode) = codes "life" ∷ decimal generation ∷ mode_words mode
 words table (entries.At t) = codes "at" ∷ decimal t ∷ []
 words table (entries.Arrive id sender to content) =
-    codes "arrive" ∷ id_text id ∷ sender_text sender ∷ decimal (length content) ∷ to
+    codes "arrive" ∷ id_text id ∷ sender_text sender ∷ decimal (length content) ∷ map (λ r. r.address) to
 words table (entries.Back id) = codes "back" ∷ id_text id ∷ []
 words table (entries.Admit id) = codes "admit" ∷ id_text id ∷ []
 words table (entries.Load id from to) = codes "load" ∷ id_text id ∷ decimal from ∷ decimal to ∷ []

@@ -9,6 +9,12 @@ pub record Site : Type 0 where
   pub transport : ℕ
   pub hop : List ℕ
 
+-- a recipient's address, and the one that the sender wrote before that was mapped to it, where that is
+-- another
+pub record Receiver : Type 0 where
+  pub address : List ℕ
+  pub original : Option (List ℕ)
+
 -- a file's place: an area and a name
 pub record Spot : Type 0 where
   pub area : Area
@@ -20,7 +26,8 @@ pub record Served : Type 0 where
   pub site : Site
   pub last : ℕ
 
--- a window, the feedback so far, the failed cohorts, and whether the site is dead
+-- a window, the feedback so far, the failed cohorts, whether the site is dead, and the moment up to
+-- which it rests, where it does
 pub record SiteRecord : Type 0 where
   pub site : Site
   pub window : ℕ
@@ -28,6 +35,7 @@ pub record SiteRecord : Type 0 where
   pub failure : ℕ
   pub cohorts : ℕ
   pub health : Health
+  pub rest : Option ℕ
 
 -- a sender, or the null sender, and an arrival
 pub record Head : Type 0 where

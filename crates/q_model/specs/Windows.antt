@@ -1,11 +1,12 @@
--- How a concurrency window grows and narrows, and when a site dies (SCHEDULER_README, "Concurrency scheduling").
-use Rattle.std.specs.Prelude.{◌&&◌, ◌*◌, ◌+◌, ◌-◌, ◌/◌, ◌==◌, if◌then◌else◌, List, max, nat_le, nat_lt, not, ℕ}
+-- How a concurrency window grows and narrows, when a site dies (SCHEDULER_README, "Concurrency scheduling"),
+-- and how long it rests after a delivery.
+use Rattle.std.specs.Prelude.{◌&&◌, ◌*◌, ◌+◌, ◌-◌, ◌/◌, ◌==◌, if◌then◌else◌, List, max, nat_le, nat_lt, not, Some, ℕ}
 use Rattle.q_model.specs.declared.outcome.SiteState.{SiteState}
 use Rattle.q_model.specs.declared.outcome.SiteState.TheVariants.{Down, Up}
 use Rattle.q_model.specs.Deliveries.{busy}
 use Rattle.q_model.specs.Feedbacks.{amount, parts, unit}
 use Rattle.q_model.specs.Ledger.{Ledger}
-use Rattle.q_model.specs.Settings.{World}
+use Rattle.q_model.specs.Settings.{window_limit, World}
 use Rattle.q_model.specs.SiteRecords.{change_site, initial_window, is_alive}
 use Rattle.q_model.specs.Values.{Site, SiteRecord}
 use Rattle.q_model.specs.declared.rows.Health.TheVariants as healths
@@ -29,7 +30,7 @@ grown w r = if nat_le (unit w.settings.positive) r.success
 
 -- a success at a site that is alive: the window may grow while deliveries fill it
 abbrev pub up_alive : World → ℕ → SiteRecord → SiteRecord
-up_alive w busy r = if nat_lt r.window w.settings.concurrency_limit && nat_lt r.window (busy + initial_window w)
+up_alive w busy r = if nat_lt r.window (window_limit w.settings) && nat_lt r.window (busy + initial_window w)
     then grown w (record r { cohorts = 0; success = r.success + amount w.settings.positive r.window })
     else record r { cohorts = 0 }
 
@@ -59,7 +60,11 @@ down_alive w now r =
 abbrev pub after_down : World → ℕ → SiteRecord → SiteRecord
 after_down w now r = if is_alive r.health then down_alive w now r else r
 
+-- after a delivery it rests for the delay between deliveries, where there is one
+abbrev pub rested : World → ℕ → SiteRecord → SiteRecord
+rested w now r = if w.settings.rate_delay == 0 then r else record r { rest = Some (now + w.settings.rate_delay) }
+
 -- a delivery to the site replied, and is still counted in flights
 abbrev pub after_state : World → Ledger → Site → SiteState → List SiteRecord
-after_state w l site Up = change_site l.sites site (after_up w (busy l site))
-after_state w l site Down = change_site l.sites site (after_down w l.now)
+after_state w l site Up = change_site l.sites site (λ r. rested w l.now (after_up w (busy l site) r))
+after_state w l site Down = change_site l.sites site (λ r. rested w l.now (after_down w l.now r))

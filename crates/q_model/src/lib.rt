@@ -17,6 +17,7 @@ mod no_memory;
 mod outcome;
 mod padded;
 mod queues;
+mod receiver;
 mod rows;
 mod sequence;
 mod site;
@@ -30,14 +31,15 @@ pub use hop::Hop;
 pub use id::{Id, Moment};
 pub use id_text::{due_name, due_of, id_name, id_of};
 pub use limits::{
-    Bound, LAST_MOMENT, MOST_CONTENT_BYTES, MOST_DELIVERIES, MOST_MAIL_BYTES, MOST_RECIPIENTS,
-    MOST_RETURNED_BYTES,
+    Bound, LAST_MOMENT, MOST_CONTENT_BYTES, MOST_DELIVERIES, MOST_FIRST_CONTENT_BYTES,
+    MOST_MAIL_BYTES, MOST_RECIPIENTS, MOST_RETURNED_BYTES,
 };
 pub use name::Name;
 pub use names::Names;
 pub use no_memory::NoMemory;
 pub use outcome::{Failure, Note, Outcome, SiteState, Why};
 pub use queues::Queues;
+pub use receiver::Receiver;
 pub use rows::{
     Admitted, DeferredName, Delivery, Health, Mark, Need, Place, Request, Row, Scan, Served,
     SiteRecord, Unsettled,

@@ -11,8 +11,11 @@ pub const MOST_RECIPIENTS: u32 = 50_000;
 pub const MOST_MAIL_BYTES: u32 = 10_240_000;
 
 /// How many bytes of content a queue file may have: those of a mail, and more for a bounce, which
-/// names each recipient that failed. This program's own.
-pub const MOST_CONTENT_BYTES: u32 = 20_000_000;
+/// names each recipient that failed, by two addresses where it has two. This program's own.
+pub const MOST_CONTENT_BYTES: u32 = 40_000_000;
+
+/// The same of a queue file of the first version, in which no recipient has two addresses.
+pub const MOST_FIRST_CONTENT_BYTES: u32 = 20_000_000;
 
 /// How many bytes of a message's content a bounce returns: the default of postconf(5),
 /// bounce_size_limit.

@@ -107,8 +107,8 @@ pub enum Health {
 }
 
 /// What is known of a site: its concurrency window, the feedback that hasn't come to a
-/// whole step yet, and its failed cohorts, in parts of a whole (SCHEDULER_README). A contract
-/// sees it as the record of these.
+/// whole step yet, and its failed cohorts, in parts of a whole (SCHEDULER_README); and the moment
+/// up to which it rests after a delivery, where it does. A contract sees it as the record of these.
 #[derive(Clone, Copy, Debug, PartialEq, Eq)]
 pub struct SiteRecord {
     pub site: Site,
@@ -117,6 +117,7 @@ pub struct SiteRecord {
     pub failure: u64,
     pub cohorts: u64,
     pub health: Health,
+    pub rest: Option<Moment>,
 }
 
 impl Model for SiteRecord {
@@ -131,6 +132,7 @@ impl Model for SiteRecord {
       failure = r.failure;
       cohorts = r.cohorts;
       health = r.health;
+      rest = r.rest;
     } };
 
     ghost inverse = { λ v. record {
@@ -140,5 +142,6 @@ impl Model for SiteRecord {
       failure = v.failure;
       cohorts = v.cohorts;
       health = v.health;
+      rest = v.rest;
     } };
 }

@@ -1,7 +1,7 @@
 //! Lists that contracts see as lists.
 ghost use Rattle.std.specs.Prelude.{◌≡◌, ◌<◌, ◌++◌, [], ◌∷◌, length, slice_get, Some, OnOk, OnErr};
 
-use crate::{Address, Failure, Hop, NoMemory, Note, Outcome};
+use crate::{Failure, Hop, NoMemory, Note, Outcome, Receiver};
 use std::alloc::Global;
 use std::marker::Model;
 
@@ -20,7 +20,8 @@ impl<T> Model for Sequence<T> {
     ghost view = { λ s. s.items.items };
 }
 
-pub type Addresses = Sequence<Address>;
+/// The recipients of a message.
+pub type Addresses = Sequence<Receiver>;
 
 pub type Bytes = Sequence<u8>;
 /// Numbers of domains: each with the age of a message in seconds, and a count.

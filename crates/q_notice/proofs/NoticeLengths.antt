@@ -5,11 +5,13 @@ use Rattle.std.proofs.lemmas.Bool.{and_parts, leb-true}
 use Rattle.std.proofs.lemmas.Fmt.{length-decimal-le}
 use Rattle.std.proofs.lemmas.List.{length-append}
 use Rattle.std.specs.List.{list_all}
-use Rattle.std.specs.Prelude.{◌&&◌, Bool, Err, Ok, OnOk, Result, codes, decimal, nat_le, nat_lt}
+use Rattle.std.specs.Prelude.{◌&&◌, Bool, Err, Ok, OnOk, Result, Some, codes, decimal, nat_le, nat_lt}
 use Rattle.q_model.proofs.IdLaws.{length-id_text-le}
 use Rattle.q_model.specs.IdTexts.{id_text}
+use Rattle.q_model.specs.Notices.{original_text}
 use Rattle.q_model.specs.TextParts.{text_line, why_text}
 use Rattle.q_model.specs.Texts.{domain_from, is_address, is_address_byte}
+use Rattle.q_model.specs.Values.{Receiver}
 use Rattle.q_model.specs.declared.id.Id.{Id}
 use Rattle.q_model.specs.declared.outcome.Failure.{Failure}
 use Rattle.q_model.specs.declared.outcome.Why.{Why}
@@ -34,19 +36,26 @@ why_length : (why : Why) → length (why_text why) ≡ 7
 why_length Refused = refl
 why_length Expired = refl
 
-failure_length : (address : List ℕ) (f : Failure) → length address ≤ 254 → f.code < 2 ^ 16 → length (named_failure address f) ≤ 280
-failure_length address f short code =
+failure_length : (address said : List ℕ) (f : Failure) → length address ≤ 254 → length said ≤ 261 → f.code < 2 ^ 16 → length (text_line ((((address ++ said) ++ codes ": ") ++ why_text f.why) ++ 32 ∷ decimal f.code)) ≤ 541
+failure_length address said f short few code =
     let colon = codes ": " in
     let why = why_text f.why in
     let number = decimal f.code in
-    let whole = ((address ++ colon) ++ why) ++ 32 ∷ number in
+    let named = address ++ said in
+    let whole = ((named ++ colon) ++ why) ++ 32 ∷ number in
     let digits = length-decimal-le 5 f.code (omega arith) (omega (arith, code)) (omega (arith, code)) in
     let two : length colon ≡ 2 = refl in
     let last : length (32 ∷ number) ≡ length number + 1 = omega arith in
-    omega (arith, line_length whole, length-append ((address ++ colon) ++ why) (32 ∷ number), length-append (address ++ colon) why, length-append address colon, why_length f.why, digits, two, last, short)
+    omega (arith, line_length whole, length-append ((named ++ colon) ++ why) (32 ∷ number), length-append (named ++ colon) why, length-append named colon, length-append address said, why_length f.why, digits, two, last, short, few)
 
-pub line_short : (address : List ℕ) (f : Failure) → is_address address ≡ true → f.code < 2 ^ 16 → length (named_failure address f) ≤ 280
-line_short address f form code = failure_length address f (address_short address form) code
+pub line_short : (r : Receiver) (f : Failure) → is_address r.address ≡ true → length (original_text r.original) ≤ 261 → f.code < 2 ^ 16 → length (named_failure r f) ≤ 541
+line_short r f form few code = failure_length r.address (original_text r.original) f (address_short r.address form) few code
+
+pub original_length : (address : List ℕ) → is_address address ≡ true → length (original_text (Some address)) ≤ 261
+original_length address form =
+    let front : length (codes " (for ") ≡ 6 = refl in
+    let last : length (codes ")") ≡ 1 = refl in
+    omega (arith, length-append (codes " (for " ++ address) (codes ")"), length-append (codes " (for ") address, front, last, address_short address form)
 
 pub always_ok : {T E : Type 0} {P : Type 0} (r : Result T E) → P → OnOk r P
 always_ok (Ok v) h = h
@@ -113,8 +122,8 @@ pub size_within : (size : ℕ) (old new : List ℕ) → size < 2 ^ 32 → new �
 size_within size old new below is = omega (arith, ap length is, length-append old (size_lines size), size_length size below)
 
 -- a queue file can hold the whole
-pub notice_fits : (n : ℕ) (t a b c d front : List ℕ) → t ≡ [] → length a ≤ length t + 600 → length b ≤ length a + 280 * n → length c ≤ length b + 100 → d ≡ c ++ front
-    → length front ≤ 50000 → n ≤ 50000 → length d ≤ 20000000
+pub notice_fits : (n : ℕ) (t a b c d front : List ℕ) → t ≡ [] → length a ≤ length t + 600 → length b ≤ length a + 541 * n → length c ≤ length b + 100 → d ≡ c ++ front
+    → length front ≤ 50000 → n ≤ 50000 → length d ≤ 40000000
 notice_fits n t a b c d front none head named size last short few =
     let empty : length t ≡ 0 = ap length none in
     omega (arith, empty, head, named, size, ap length last, length-append c front, short, few)

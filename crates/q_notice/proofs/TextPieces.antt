@@ -6,9 +6,10 @@ use Rattle.q_model.specs.declared.id.Id.{Id}
 use Rattle.q_model.specs.declared.outcome.Failure.{Failure}
 use Rattle.q_model.specs.declared.outcome.Why.TheVariants.{Refused}
 use Rattle.q_model.specs.IdTexts.{id_text}
-use Rattle.q_model.specs.Message.{address_at, Logged, Message}
+use Rattle.q_model.specs.Message.{Logged, Message}
 use Rattle.q_model.specs.Notices.{failure_line, notice}
-use Rattle.q_notice.specs.NoticeTexts.{head_lines, IsToldOf, named_failure, named_failures, size_lines}
+use Rattle.q_model.specs.Values.{Receiver}
+use Rattle.q_notice.specs.NoticeTexts.{head_lines, IsToldOf, named_failure, named_failures, receiver_at, size_lines}
 
 pub on_ok : {T E : Type 0} {P Q : Type 0} (r : Result T E) → (P → Q) → OnOk r P → OnOk r Q
 on_ok (Ok v) f h = f h
@@ -65,13 +66,13 @@ size-pieces size t a b c d e ha hb hc hd he = five t before_size (decimal size) 
 abbrev pub no_failure : Failure
 no_failure = record { position = 0; why = Refused; code = 0 }
 
-named-push : (fs : List Failure) (ns : List (List ℕ)) (f : Failure) (n : List ℕ) → length ns ≡ length fs → named_failures (fs ++ f ∷ []) (ns ++ n ∷ []) ≡ named_failures fs ns ++ named_failure n f
+named-push : (fs : List Failure) (ns : List Receiver) (f : Failure) (n : Receiver) → length ns ≡ length fs → named_failures (fs ++ f ∷ []) (ns ++ n ∷ []) ≡ named_failures fs ns ++ named_failure n f
 named-push [] [] f n same = append-nil (named_failure n f)
 named-push [] (m ∷ ns) f n same = absurd (omega (arith, same))
 named-push (g ∷ fs) [] f n same = absurd (omega (arith, same))
 named-push (g ∷ fs) (m ∷ ns) f n same = ap (λ (x : List ℕ). named_failure m g ++ x) (named-push fs ns f n (omega (arith, same))) ∙ sym (append_assoc (named_failure m g) (named_failures fs ns) (named_failure n f))
 
-pub named-more : (fs : List Failure) (ns : List (List ℕ)) (i : ℕ) (d : Failure) (e : List ℕ) (t mid new : List ℕ) → i < length fs → length ns ≡ length fs → mid ≡ t ++ named_failures (take i fs) (take i ns)
+pub named-more : (fs : List Failure) (ns : List Receiver) (i : ℕ) (d : Failure) (e : Receiver) (t mid new : List ℕ) → i < length fs → length ns ≡ length fs → mid ≡ t ++ named_failures (take i fs) (take i ns)
     → new ≡ mid ++ named_failure (slice_index_or ns i e) (slice_index_or fs i d) → new ≡ t ++ named_failures (take (i + 1) fs) (take (i + 1) ns)
 named-more fs ns i d e t mid new within same before pushed =
     let f = slice_index_or fs i d in
@@ -84,7 +85,7 @@ named-more fs ns i d e t mid new within same before pushed =
 
 -- ---- the notice of a message
 
-lines-of : (m : Message) (ls : List Logged) → named_failures (map (λ l. l.failure) ls) (map (λ l. address_at m l.failure.position) ls) ≡ flat_map (failure_line m) ls
+lines-of : (m : Message) (ls : List Logged) → named_failures (map (λ l. l.failure) ls) (map (λ l. receiver_at m l.failure.position) ls) ≡ flat_map (failure_line m) ls
 lines-of m [] = refl
 lines-of m (l ∷ ls) = ap (λ (x : List ℕ). failure_line m l ++ x) (lines-of m ls)
 
@@ -95,12 +96,12 @@ abbrev whole : Id → List ℕ → List ℕ → ℕ → List ℕ → List ℕ
 whole id sender named size front = ((head_lines id sender ++ named) ++ size_lines size) ++ front
 
 -- the parts of a notice are the notice of each message of which they tell
-pub notice-is : (m : Message) (id : Id) (sender : List ℕ) (failures : List Failure) (names : List (List ℕ)) (size : ℕ) (front : List ℕ) → IsToldOf m id sender failures names size front → whole id sender (named_failures failures names) size front ≡ notice m
+pub notice-is : (m : Message) (id : Id) (sender : List ℕ) (failures : List Failure) (names : List Receiver) (size : ℕ) (front : List ℕ) → IsToldOf m id sender failures names size front → whole id sender (named_failures failures names) size front ≡ notice m
 notice-is m id sender failures names size front told =
     ap (λ (i : Id). whole i sender (named_failures failures names) size front) (sym told.id_is)
     ∙ ap (λ (x : List ℕ). whole m.id x (named_failures failures names) size front) (sym (ap (λ (o : Option (List ℕ)). unwrap_or o []) told.sender_is))
     ∙ ap (λ (fs : List Failure). whole m.id (unwrap_or m.sender []) (named_failures fs names) size front) (sym told.failures_are)
-    ∙ ap (λ (ns : List (List ℕ)). whole m.id (unwrap_or m.sender []) (named_failures (map (λ l. l.failure) m.failures) ns) size front) (sym told.names_are)
+    ∙ ap (λ (ns : List Receiver). whole m.id (unwrap_or m.sender []) (named_failures (map (λ l. l.failure) m.failures) ns) size front) (sym told.names_are)
     ∙ ap (λ (x : List ℕ). whole m.id (unwrap_or m.sender []) x size front) (lines-of m m.failures)
     ∙ ap (λ (k : ℕ). whole m.id (unwrap_or m.sender []) (flat_map (failure_line m) m.failures) k front) (sym told.size_is)
     ∙ ap (λ (x : List ℕ). whole m.id (unwrap_or m.sender []) (flat_map (failure_line m) m.failures) (length m.content) x) (sym told.front_is)

@@ -47,8 +47,8 @@ fn add_size(alloc: Global, text: &mut Vec<u8>, size: u32) -> Result<(), NoMemory
 }
 
 /// The content of the bounce of a message: a header, a line for each failure in their order with
-/// the address of its recipient (`names` has them in the same order), and the front of the content,
-/// of which the message has `size` bytes. It is an error to give more or fewer addresses than
+/// the addresses of its recipient (`names` has them in the same order), and the front of the
+/// content, of which the message has `size` bytes. It is an error to give more or fewer names than
 /// failures, or more than 50,000 bytes.
 pub fn notice(
     alloc: Global,
@@ -67,7 +67,7 @@ pub fn notice(
     ensures notice { IfOk result (λ text.
         IsNotice text id sender.now failures.now names.now size front.now) }
     // A queue file can hold it, where the failures are those of a message.
-    ensures room { length failures.now ≤ 50000 → IfOk result (λ text. length text ≤ 20000000) }
+    ensures room { length failures.now ≤ 50000 → IfOk result (λ text. length text ≤ 40000000) }
 {
     let mut text = Vec::new(alloc);
     add_head(&mut text, id, sender)?;

@@ -2,8 +2,9 @@
 //! (bounce(8)).
 //!
 //! A notice is made of what is known of the message without its file: its failures, the addresses
-//! of their recipients, and the front of its content. It is an error to give other than one
-//! address for each failure, or more than 50,000 bytes of the front.
+//! of their recipients, each with the one that the sender wrote where that is another, and the front
+//! of its content. It is an error to give other than one recipient for each failure, or more than
+//! 50,000 bytes of the front.
 #![tactic(auto)]
 
 mod content;

@@ -14,7 +14,7 @@ use Rattle.q_params.specs.declared.parameter.Parameter.TheVariants as p
 
 -- before the first line
 abbrev pub nothing_read : SettingsSoFar
-nothing_read = record { settings = defaults; lines = replicate 20 0 }
+nothing_read = record { settings = defaults; lines = replicate 21 0 }
 
 -- a fault of line n
 abbrev pub at_line : ℕ → ParamCause → ParamError

@@ -25,6 +25,7 @@ name_of p.MaximalBackoff = codes "maximal_backoff_time"
 name_of p.QueueLifetime = codes "maximal_queue_lifetime"
 name_of p.BounceLifetime = codes "bounce_queue_lifetime"
 name_of p.MarkSyncLimit = codes "mark_sync_limit"
+name_of p.RateDelay = codes "default_destination_rate_delay"
 
 -- all of them
 abbrev pub all_parameters : List Parameter
@@ -32,7 +33,8 @@ all_parameters =
     p.ActiveLimit ∷ p.RecipientLimit ∷ p.RecipientMinimum ∷ p.InitialConcurrency ∷ p.ConcurrencyLimit
     ∷ p.EntryLimit ∷ p.PositiveFeedback ∷ p.NegativeFeedback ∷ p.FailedCohortLimit ∷ p.ProcessLimit
     ∷ p.SlotCost ∷ p.SlotLoan ∷ p.SlotDiscount ∷ p.MinimumSlots ∷ p.QueueRunDelay ∷ p.MinimalBackoff
-    ∷ p.MaximalBackoff ∷ p.QueueLifetime ∷ p.BounceLifetime ∷ p.MarkSyncLimit ∷ []
+    ∷ p.MaximalBackoff ∷ p.QueueLifetime ∷ p.BounceLifetime ∷ p.MarkSyncLimit ∷ p.RateDelay
+    ∷ []
 
 -- its number in that list
 abbrev pub place_of : Parameter → ℕ
@@ -56,3 +58,4 @@ place_of p.MaximalBackoff = 16
 place_of p.QueueLifetime = 17
 place_of p.BounceLifetime = 18
 place_of p.MarkSyncLimit = 19
+place_of p.RateDelay = 20

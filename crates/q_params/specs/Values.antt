@@ -43,5 +43,5 @@ set_to p.MinimalBackoff text s = time_setting 1 1 (λ n. record s { minimal_back
 set_to p.MaximalBackoff text s = time_setting 1 1 (λ n. record s { maximal_backoff = n }) text
 set_to p.QueueLifetime text s = time_setting 0 86400 (λ n. record s { lifetime = n }) text
 set_to p.BounceLifetime text s = time_setting 0 86400 (λ n. record s { bounce_lifetime = n }) text
--- groups of marks can't be made yet, so 1 is the only value
-set_to p.MarkSyncLimit text s = number_setting 1 1 (λ n. record s { mark_sync_limit = n }) text
+set_to p.MarkSyncLimit text s = number_setting 1 16 (λ n. record s { mark_sync_limit = n }) text
+set_to p.RateDelay text s = time_setting 0 1 (λ n. record s { rate_delay = n }) text

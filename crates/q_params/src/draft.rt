@@ -105,7 +105,8 @@ impl Draft {
             Parameter::MaximalBackoff => self.maximal_backoff = seconds(text, 1, 1)?,
             Parameter::QueueLifetime => params.maximal_queue_lifetime = seconds(text, 0, DAY)?,
             Parameter::BounceLifetime => params.bounce_queue_lifetime = seconds(text, 0, DAY)?,
-            Parameter::MarkSyncLimit => params.mark_sync_limit = number(1, 1)?,
+            Parameter::MarkSyncLimit => params.mark_sync_limit = number(1, 16)?,
+            Parameter::RateDelay => params.default_destination_rate_delay = seconds(text, 0, 1)?,
         }
         Some(())
     }

@@ -25,11 +25,12 @@ pub(crate) enum Parameter {
     QueueLifetime,
     BounceLifetime,
     MarkSyncLimit,
+    RateDelay,
 }
 
 impl Parameter {
     /// How many parameters there are.
-    pub(crate) const COUNT: usize = 20;
+    pub(crate) const COUNT: usize = 21;
 
     const ALL: [Parameter; Parameter::COUNT] = [
         Parameter::ActiveLimit,
@@ -52,6 +53,7 @@ impl Parameter {
         Parameter::QueueLifetime,
         Parameter::BounceLifetime,
         Parameter::MarkSyncLimit,
+        Parameter::RateDelay,
     ];
 
     /// Its name in postconf(5).
@@ -79,13 +81,14 @@ impl Parameter {
             Parameter::QueueLifetime => b"maximal_queue_lifetime",
             Parameter::BounceLifetime => b"bounce_queue_lifetime",
             Parameter::MarkSyncLimit => b"mark_sync_limit",
+            Parameter::RateDelay => b"default_destination_rate_delay",
         }
     }
 
     /// Its number in this list, from 0.
     pub(crate) fn place(self) -> usize
         ensures exact { result ≡ place_of self }
-        ensures within { result < 20 }
+        ensures within { result < 21 }
     {
         self as usize
     }

@@ -8,7 +8,7 @@ use Rattle.q_message.specs.Pending.{unmarked_from}
 use Rattle.q_model.proofs.EachLaws.{any-map}
 use Rattle.q_model.proofs.FailuresLaws.{has_position}
 use Rattle.q_model.specs.declared.outcome.Failure.{Failure}
-use Rattle.q_model.specs.FilesStand.{file_message, MessageStands}
+use Rattle.q_model.specs.FilesStand.{file_message, file_recipient, MessageStands}
 use Rattle.q_model.specs.Marks.{is_marked}
 use Rattle.q_model.specs.Message.{is_logged, Logged, Message, pending, Recipient}
 use Rattle.q_model.specs.QueueFile.{FileRecipient}
@@ -31,5 +31,5 @@ pub pending_is : (f : Files) (m : Message) (flags : List Bool) → MessageStands
 pending_is f m flags stands are =
     places_within (λ i (r : Recipient). not (is_marked r.mark || is_logged m i)) (λ i (r : Recipient). not (is_marked r.mark) && not (flag_at flags i)) 0 m.recipients
     (λ i r here. neither (is_marked r.mark) (is_logged m i) (flag_at flags i) (logged_is f m flags stands are i (omega (arith, here))))
-    ∙ sym (ap (filter (λ i. not (flag_at flags i))) (places_mapped (λ i (r : FileRecipient). not r.marked) (λ (r : Recipient). record { address = r.address; marked = is_marked r.mark }) 0 m.recipients)
+    ∙ sym (ap (filter (λ i. not (flag_at flags i))) (places_mapped (λ i (r : FileRecipient). not r.marked) file_recipient 0 m.recipients)
     ∙ filter_places (λ i (r : Recipient). not (is_marked r.mark)) (λ i. not (flag_at flags i)) 0 m.recipients)

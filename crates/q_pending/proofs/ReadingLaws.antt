@@ -8,8 +8,7 @@ use Rattle.q_message.specs.FileHeads.{head_of, IsHead}
 use Rattle.q_message.specs.Names.{address_in}
 use Rattle.q_message.specs.Pending.{AreTaken, cursor_at, IsPlaceBehind, position_behind, taken_at, taken_from, unmarked_from}
 use Rattle.q_model.specs.declared.file_head.Cursor.{Cursor}
-use Rattle.q_model.specs.FilesStand.{file_message}
-use Rattle.q_model.specs.Marks.{is_marked}
+use Rattle.q_model.specs.FilesStand.{file_message, file_recipient}
 use Rattle.q_model.specs.Message.{address_at, Message, pending, Recipient}
 use Rattle.q_model.specs.QueueFile.{FileMessage, FileRecipient}
 use Rattle.q_model.specs.SpoolFiles.{Files, logged_in}
@@ -66,13 +65,13 @@ read_none f p q room some same taken behind none m positions h =
 
 -- ---- one after another
 
-one_address : (o : Option Recipient) → option_map_or (λ (r : FileRecipient). r.address) (option_map (λ (r : Recipient). record { address = r.address; marked = is_marked r.mark }) o) [] ≡ option_map_or (λ (r : Recipient). r.address) o []
+one_address : (o : Option Recipient) → option_map_or (λ (r : FileRecipient). r.address) (option_map file_recipient o) [] ≡ option_map_or (λ (r : Recipient). r.address) o []
 one_address None = refl
 one_address (Some r) = refl
 
 address_same : (m : Message) (p : ℕ) → address_in (file_message m) p ≡ address_at m p
 address_same m p =
-    ap (λ (o : Option FileRecipient). option_map_or (λ (r : FileRecipient). r.address) o []) (slice_get-map (λ (r : Recipient). record { address = r.address; marked = is_marked r.mark }) m.recipients p)
+    ap (λ (o : Option FileRecipient). option_map_or (λ (r : FileRecipient). r.address) o []) (slice_get-map file_recipient m.recipients p)
     ∙ one_address (slice_get m.recipients p)
 
 drop_one : {A : Type 0} (xs : List A) (i : ℕ) (x : A) → slice_get xs i ≡ Some x → drop i xs ≡ x ∷ drop (suc i) xs
@@ -157,7 +156,7 @@ count_is f m spot head is reads =
     let file = has_file f m spot is in
     let told = subst (λ (o : Option (List ℕ)). IfSome o (IsHead head)) file.here reads in
     let same = of_some (ap (option_map head_of) (sym file.reads) ∙ told) in
-    sym (ap (λ (h : FileHead). h.recipients) same) ∙ length-map m.recipients (λ (r : Recipient). record { address = r.address; marked = is_marked r.mark })
+    sym (ap (λ (h : FileHead). h.recipients) same) ∙ length-map m.recipients file_recipient
   where
     of_some : {A : Type 0} {x y : A} → Some x ≡ Some y → x ≡ y
     of_some h = cc

@@ -12,11 +12,11 @@ use Rattle.q_record.specs.Kinds.{is_kind, is_length}
 use Rattle.q_record.specs.Reading.{IsRecord, length_from, record_from, whole_from}
 use Rattle.q_model.proofs.RecordLaws.{AreBytes, AreBytes-drop, number_again, takes_at}
 
--- a kind with a length is a kind, and no body is longer than 20,000,000 bytes
+-- a kind with a length is a kind, and no body is longer than 40,000,000 bytes
 pub length_kind : (kind n : ℕ) → is_length kind n ≡ true → is_kind kind ≡ true
 length_kind kind n h = grind (arith, nat_tests)
 
-pub length_short : (kind n : ℕ) → is_length kind n ≡ true → n ≤ 20000000
+pub length_short : (kind n : ℕ) → is_length kind n ≡ true → n ≤ 40000000
 length_short kind n h = grind (arith, nat_tests)
 
 abbrev rec : ℕ → ℕ → ℕ → Rec

@@ -21,6 +21,7 @@ use Rattle.q_model.specs.declared.limits.Bound.TheVariants as bounds
 use Rattle.q_model.specs.declared.outcome.Outcome.{Outcome}
 use Rattle.q_model.specs.declared.outcome.SiteState.{SiteState}
 use Rattle.q_model.specs.declared.rows.Delivery.{Delivery}
+use Rattle.q_model.specs.Values.{Receiver}
 use Rattle.q_replay.specs.Listings.{gives, Listing, lines_of, listing, listing_of}
 use Rattle.q_replay.specs.Named.{BlamesItem, BlamesList, is_of_host, IsAtFault, IsRefusedBy, IsUnbegun, ListPasses, MayBeRefused, Passes}
 use Rattle.q_replay.specs.Takings.{list_error, replay_error}
@@ -60,7 +61,7 @@ PassesIfLimit event (engine_errors.Limit bound) = Passes event bound
 PassesIfLimit event (engine_errors.Damaged area name) = Unit {0}
 PassesIfLimit event (engine_errors.Unreadable area name) = Unit {0}
 
-mail_passes : (arrived : ℕ) (sender : Option (List ℕ)) (to : List (List ℕ)) (content : List ℕ) (why : EngineError) → refused_mail arrived to content ≡ Some why → PassesIfLimit (events.Mail sender to content) why
+mail_passes : (arrived : ℕ) (sender : Option (List ℕ)) (to : List Receiver) (content : List ℕ) (why : EngineError) → refused_mail arrived to content ≡ Some why → PassesIfLimit (events.Mail sender to content) why
 mail_passes arrived sender to content why is = long (nat_lt 10240000 (length content)) refl is
   where
     serial : (b : Bool) → (if b then None else Some (engine_errors.Limit bounds.Serial)) ≡ Some why → PassesIfLimit (events.Mail sender to content) why

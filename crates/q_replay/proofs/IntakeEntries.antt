@@ -29,14 +29,14 @@ use Rattle.q_model.specs.Next.{admission_rule, admit_or_corrupt, choice_of, clea
 use Rattle.q_model.specs.Notices.{bounce_message}
 use Rattle.q_model.specs.Past.{starts}
 use Rattle.q_model.specs.Replies.{replied}
-use Rattle.q_model.specs.Revival.{is_due}
+use Rattle.q_model.specs.Revival.{rest_ended, revived_if_due}
 use Rattle.q_model.specs.Scans.{ask_scan, joined_request, new_scan, tidy_scan}
 use Rattle.q_model.specs.Settings.{World}
-use Rattle.q_model.specs.SiteRecords.{is_alive, is_dead_site}
+use Rattle.q_model.specs.SiteRecords.{is_alive, is_awake, is_dead_site}
 use Rattle.q_model.specs.Sites.{site_eq}
 use Rattle.q_model.specs.Startable.{can_start, is_startable, line_of}
 use Rattle.q_model.specs.Step.{after, change, noted, tidied, tidy_line}
-use Rattle.q_model.specs.UnusedSites.{forget_oldest, is_kept_dead, is_unused, tidied_sites}
+use Rattle.q_model.specs.UnusedSites.{forget_oldest, is_remembered, is_unused, tidied_sites}
 use Rattle.q_model.specs.Values.{SiteRecord}
 use Rattle.q_model.specs.Windows.{revived}
 use Rattle.q_model.specs.declared.entry.Entry.{Entry}
@@ -237,7 +237,7 @@ module _ (w : World) (l : Ledger) (h : HoldsNothing l) where
     none_waits = h.none_waits;
     none_flies = h.none_flies;
     none_unsettled = h.none_unsettled;
-    no_site = ap (λ (rs : List SiteRecord). map (λ (r : SiteRecord). if is_due t r.health then revived w (busy (record l { now = t }) r.site) r else r) rs) h.no_site;
+    no_site = ap (λ (rs : List SiteRecord). map (λ (r : SiteRecord). rest_ended t (revived_if_due w (record l { now = t }) r)) rs) h.no_site;
   }
 
   trigger_holds : (kind : Trigger) → HoldsNothing (change w l (entries.Trigger kind))
@@ -283,8 +283,8 @@ forgotten false test = refl
 no_sites : (w : World) (before l : Ledger) → l.sites ≡ [] → tidied_sites w before l ≡ []
 no_sites w before l k =
     let newly : SiteRecord → Bool = λ r. is_unused l r && not (is_unused before r) in
-    ap (λ (rs : List SiteRecord). forget_oldest w l (filter (λ r. not (is_unused l r && is_alive r.health)) (filter (λ r. not (newly r)) rs ++ filter newly rs))) k
-    ∙ forgotten (nat_lt w.settings.recipient_limit 0) (is_kept_dead l)
+    ap (λ (rs : List SiteRecord). forget_oldest w l (filter (λ r. not (is_unused l r && is_awake r)) (filter (λ r. not (newly r)) rs ++ filter newly rs))) k
+    ∙ forgotten (nat_lt w.settings.recipient_limit 0) (is_remembered l)
 
 tidied_same : (w : World) (before l : Ledger) → l.sites ≡ [] → tidied (intake_world w) before l ≡ tidied w before l
 tidied_same w before l k =

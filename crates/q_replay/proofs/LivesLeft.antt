@@ -70,7 +70,7 @@ module _ (b : Book) (orderly : IsOrderly b) (before : List ℕ) where
 
     -- the life that came to so many of its entries
     abbrev life_to : ℕ → Book → Life
-    life_to n left = record { world = w; mode = mode; items = items; count = n; left = left }
+    life_to n left = record { world = w; mode = mode; items = items; count = n; steps = []; left = left }
 
     entries_to : (done rest : List Entry) (left : Book) → all ≡ done ++ rest → life_entries b (life_to (length done) left) ≡ done
     unfolding run_of
@@ -80,7 +80,14 @@ module _ (b : Book) (orderly : IsOrderly b) (before : List ℕ) where
     is_life done rest left is of = record {
       usable = usable;
       fits = fits;
-      left = subst (λ (es : List Entry). IsLeftBy (after_all w first es) left) (sym (entries_to done rest left is)) ((after_all w first done).book, inl refl, of);
+      left = subst (λ (es : List Entry). IsLeftBy (after_all w first es) [] left) (sym (entries_to done rest left is)) (record {
+        end = (after_all w first done).book;
+        ends = inl refl;
+        may = refl;
+        worked = (after_all w first done).book;
+        works = inl refl;
+        leaves = of;
+      });
     }
 
     -- all lines of the first entries were told

@@ -15,6 +15,7 @@ use Rattle.q_model.specs.declared.limits.Bound.{Bound}
 use Rattle.q_model.specs.declared.limits.Bound.TheVariants as bounds
 use Rattle.q_model.specs.declared.outcome.Outcome.{Outcome}
 use Rattle.q_model.specs.declared.rows.Delivery.{Delivery}
+use Rattle.q_model.specs.Values.{Receiver}
 use Rattle.q_replay.proofs.AnyLists.{HasBound}
 use Rattle.q_replay.specs.Named.{is_of_host, IsDeliveryRefusal, IsLetterRefusal, IsNamed, IsRefusedBy, IsUnbegun}
 use Rattle.q_replay.specs.Takings.{list_error, replay_error}
@@ -50,7 +51,7 @@ why_heard line engine event (engine_errors.Limit bound) kinds own = inr (engine_
 why_heard line engine event (engine_errors.Damaged area name) kinds own = absurd cc
 
 -- a mail passes a limit, or no serial is left
-mail_refused : (arrived : ℕ) (to : List (List ℕ)) (content : List ℕ) (why : EngineError) → refused_mail arrived to content ≡ Some why → IsLetterRefusal to content (replay_error 2 why)
+mail_refused : (arrived : ℕ) (to : List Receiver) (content : List ℕ) (why : EngineError) → refused_mail arrived to content ≡ Some why → IsLetterRefusal to content (replay_error 2 why)
 mail_refused arrived to content why is = long (nat_lt 10240000 (length content)) refl is
   where
     serial : (b : Bool) → (if b then None else Some (engine_errors.Limit bounds.Serial)) ≡ Some why → IsLetterRefusal to content (replay_error 2 why)
@@ -68,7 +69,7 @@ mail_refused arrived to content why is = long (nat_lt 10240000 (length content))
     long true over h = let same : engine_errors.Limit bounds.Content ≡ why = cc in subst (λ (e : EngineError). IsLetterRefusal to content (replay_error 2 e)) same (ltb-true 10240000 (length content) over)
     long false over h = many (nat_lt 50000 (length to)) refl h
 
-of_host_letter : (to : List (List ℕ)) (content : List ℕ) (error : ReplayError) → is_of_host error ≡ true → IsLetterRefusal to content error
+of_host_letter : (to : List Receiver) (content : List ℕ) (error : ReplayError) → is_of_host error ≡ true → IsLetterRefusal to content error
 of_host_letter to content errors.Disk h = tt
 of_host_letter to content errors.Tell h = tt
 of_host_letter to content errors.NoMemory h = tt
@@ -79,12 +80,12 @@ of_host_letter to content (errors.Limit bound) h = absurd cc
 of_host_letter to content (errors.Damaged area name) h = absurd cc
 
 -- the moment of a letter is never refused
-pub moment_letter : (to : List (List ℕ)) (content : List ℕ) (engine : Engine) (moment : ℕ) (error : ReplayError) → IsRefusedBy 1 engine (events.At moment) error → IsLetterRefusal to content error
+pub moment_letter : (to : List Receiver) (content : List ℕ) (engine : Engine) (moment : ℕ) (error : ReplayError) → IsRefusedBy 1 engine (events.At moment) error → IsLetterRefusal to content error
 moment_letter to content engine moment error (inl host) = of_host_letter to content error host
 moment_letter to content engine moment error (inr (why, is, made)) = absurd cc
 
 -- its mail is, by its length or the number of its recipients
-pub mail_letter : (sender : Option (List ℕ)) (to : List (List ℕ)) (content : List ℕ) (engine : Engine) (error : ReplayError) → engine.core.value.timed ≡ true → IsRefusedBy 2 engine (events.Mail sender to content) error → IsLetterRefusal to content error
+pub mail_letter : (sender : Option (List ℕ)) (to : List Receiver) (content : List ℕ) (engine : Engine) (error : ReplayError) → engine.core.value.timed ≡ true → IsRefusedBy 2 engine (events.Mail sender to content) error → IsLetterRefusal to content error
 mail_letter sender to content engine error timed (inl host) = of_host_letter to content error host
 mail_letter sender to content engine error timed (inr (why, is, made)) =
     let mail : refused_by engine (events.Mail sender to content) ≡ refused_mail engine.arrivals to content = ap (λ (b : Bool). if not b then Some engine_errors.Untimed else refused_mail engine.arrivals to content) timed in
@@ -101,7 +102,7 @@ of_host_named (errors.BadEvent n) h = absurd cc
 of_host_named (errors.Limit bound) h = absurd cc
 of_host_named (errors.Damaged area name) h = absurd cc
 
-mail_named : (arrived : ℕ) (to : List (List ℕ)) (content : List ℕ) (line : ℕ) (why : EngineError) → refused_mail arrived to content ≡ Some why → IsNamed (replay_error line why)
+mail_named : (arrived : ℕ) (to : List Receiver) (content : List ℕ) (line : ℕ) (why : EngineError) → refused_mail arrived to content ≡ Some why → IsNamed (replay_error line why)
 mail_named arrived to content line why is = long (nat_lt 10240000 (length content)) is
   where
     serial : (b : Bool) → (if b then None else Some (engine_errors.Limit bounds.Serial)) ≡ Some why → IsNamed (replay_error line why)
@@ -191,7 +192,7 @@ list_named (event_errors.BadEvent n) h = tt
 list_named (event_errors.Limit bound) h = subst (λ (b : Bound). IsNamed (errors.Limit b)) (sym h) tt
 
 -- what an end of a life is to a letter, and to a delivery
-pub ended_letter : (to : List (List ℕ)) (content : List ℕ) (error : ReplayError) → is_of_host error ≡ true → IsLetterRefusal to content error
+pub ended_letter : (to : List Receiver) (content : List ℕ) (error : ReplayError) → is_of_host error ≡ true → IsLetterRefusal to content error
 ended_letter to content error h = of_host_letter to content error h
 
 pub ended_delivery : (error : ReplayError) → is_of_host error ≡ true → IsDeliveryRefusal error
@@ -205,7 +206,7 @@ ended_delivery (errors.Limit bound) h = absurd cc
 ended_delivery (errors.Damaged area name) h = absurd cc
 
 -- a life that doesn't begin is refused so for a letter, and for a delivery
-pub letter_begins : (to : List (List ℕ)) (content : List ℕ) (error : ReplayError) → IsUnbegun error → IsLetterRefusal to content error
+pub letter_begins : (to : List Receiver) (content : List ℕ) (error : ReplayError) → IsUnbegun error → IsLetterRefusal to content error
 letter_begins to content error (inl host) = of_host_letter to content error host
 letter_begins to content error (inr (inl (area, name, is, some))) = subst (IsLetterRefusal to content) (sym is) some
 letter_begins to content error (inr (inr (is, some))) = subst (IsLetterRefusal to content) (sym is) some

@@ -104,8 +104,8 @@ told_here table es before told more is h = record {
 life_again : (b : Book) (life : Life) (left : Book) → IsLife b life → IsOf life.left left → IsLife b (record life { left = left })
 life_again b life left is of = record { usable = is.usable; fits = is.fits; left = on is.left of }
   where
-    on : IsLeftBy (ledger_of b life) life.left → IsOf life.left left → IsLeftBy (ledger_of b life) left
-    on h of = (h.0, h.1, crash_on h.0 life.left left h.2 of)
+    on : IsLeftBy (ledger_of b life) life.steps life.left → IsOf life.left left → IsLeftBy (ledger_of b life) life.steps left
+    on h of = record { end = h.end; ends = h.ends; may = h.may; worked = h.worked; works = h.works; leaves = crash_on h.worked life.left left h.leaves of }
 
 module _ {H : Type 0} (view : H → View) (b : Book) (h : H) (c : Course H) (cs : Calls H) where
   abbrev u : View

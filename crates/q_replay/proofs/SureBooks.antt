@@ -45,12 +45,12 @@ mark_same marks.Synced marks.Written c h k = absurd cc
 mark_same marks.Synced marks.Synced c h k = k
 
 recipient_stays : (a b : Recipient) → RecipientAfter a b → RecipientAfter b b
-recipient_stays a b h = record { address = refl; mark = mark_stays a.mark b.mark h.mark }
+recipient_stays a b h = record { address = refl; original = refl; mark = mark_stays a.mark b.mark h.mark }
 
 recipient_same : (a b c : Recipient) → RecipientAfter a b → RecipientAfter b c → c ≡ b
 recipient_same a b c h k =
-    let with : List ℕ → Mark → Recipient = λ address mark. record { address = address; mark = mark } in
-    ap (λ x. with x c.mark) k.address ∙ ap (with b.address) (mark_same a.mark b.mark c.mark h.mark k.mark)
+    let with : List ℕ → Option (List ℕ) → Mark → Recipient = λ address original mark. record { address = address; original = original; mark = mark } in
+    ap (λ x. with x c.original c.mark) k.address ∙ ap (λ x. with b.address x c.mark) k.original ∙ ap (with b.address b.original) (mark_same a.mark b.mark c.mark h.mark k.mark)
 
 failures_stay : (fs gs : List Logged) → FailuresAfter fs gs → FailuresAfter gs gs
 failures_stay [] gs h = rw h refl
@@ -82,6 +82,7 @@ failures_same (f ∷ fs) gs hs (inl kept) k = first gs kept.1 k (λ others. fail
 message_stays : (a b : Message) → MessageAfter a b → MessageAfter b b
 message_stays a b h = record {
   id = refl;
+  version = refl;
   sender = refl;
   arrival = refl;
   content = refl;
@@ -90,20 +91,21 @@ message_stays a b h = record {
   failures = failures_stay a.failures b.failures h.failures;
 }
 
-abbrev message : Id → Option (List ℕ) → ℕ → List ℕ → List Recipient → List Logged → Place → Message
-message id sender arrival content recipients failures place = record { id = id; sender = sender; arrival = arrival; content = content; recipients = recipients; failures = failures; place = place }
+abbrev message : Id → ℕ → Option (List ℕ) → ℕ → List ℕ → List Recipient → List Logged → Place → Message
+message id version sender arrival content recipients failures place = record { id = id; version = version; sender = sender; arrival = arrival; content = content; recipients = recipients; failures = failures; place = place }
 
 message_same : (a b c : Message) → MessageAfter a b → MessageAfter b c → c ≡ b
 message_same a b c h k =
     let rs = each_same RecipientAfter recipient_same a.recipients b.recipients c.recipients h.recipients k.recipients in
     let fs = failures_same a.failures b.failures c.failures h.failures k.failures in
-    ap (λ x. message x c.sender c.arrival c.content c.recipients c.failures c.place) k.id
-    ∙ ap (λ x. message b.id x c.arrival c.content c.recipients c.failures c.place) k.sender
-    ∙ ap (λ x. message b.id b.sender x c.content c.recipients c.failures c.place) k.arrival
-    ∙ ap (λ x. message b.id b.sender b.arrival x c.recipients c.failures c.place) k.content
-    ∙ ap (λ x. message b.id b.sender b.arrival b.content x c.failures c.place) rs
-    ∙ ap (λ x. message b.id b.sender b.arrival b.content b.recipients x c.place) fs
-    ∙ ap (message b.id b.sender b.arrival b.content b.recipients b.failures) k.place
+    ap (λ x. message x c.version c.sender c.arrival c.content c.recipients c.failures c.place) k.id
+    ∙ ap (λ x. message b.id x c.sender c.arrival c.content c.recipients c.failures c.place) k.version
+    ∙ ap (λ x. message b.id b.version x c.arrival c.content c.recipients c.failures c.place) k.sender
+    ∙ ap (λ x. message b.id b.version b.sender x c.content c.recipients c.failures c.place) k.arrival
+    ∙ ap (λ x. message b.id b.version b.sender b.arrival x c.recipients c.failures c.place) k.content
+    ∙ ap (λ x. message b.id b.version b.sender b.arrival b.content x c.failures c.place) rs
+    ∙ ap (λ x. message b.id b.version b.sender b.arrival b.content b.recipients x c.place) fs
+    ∙ ap (message b.id b.version b.sender b.arrival b.content b.recipients b.failures) k.place
 
 -- a crash may leave it as it is
 pub sure_after : (a b : Book) → IsCrashOf a b → IsCrashOf b b

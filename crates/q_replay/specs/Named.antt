@@ -11,6 +11,7 @@ use Rattle.q_model.specs.declared.event.Event.TheVariants as events
 use Rattle.q_model.specs.declared.limits.Bound.{Bound}
 use Rattle.q_model.specs.declared.limits.Bound.TheVariants as bounds
 use Rattle.q_model.specs.declared.spot.Area.{Area}
+use Rattle.q_model.specs.Values.{Receiver}
 use Rattle.q_replay.specs.Listings.{bad, gives, Listing, past_limit}
 use Rattle.q_replay.specs.Takings.{replay_error}
 use Rattle.q_replay.specs.declared.error.ReplayError.{ReplayError}
@@ -47,7 +48,7 @@ IsRefusedBy line engine event error = (is_of_host error ≡ true)
     ⊎ ((why : EngineError) × (refused_by engine event ≡ Some why) × (error ≡ replay_error line why))
 
 -- Of a letter only its length and the number of its recipients are judged: no event of it is bad.
-abbrev pub IsLetterRefusal : List (List ℕ) → List ℕ → ReplayError → Type 0
+abbrev pub IsLetterRefusal : List Receiver → List ℕ → ReplayError → Type 0
 IsLetterRefusal to content (errors.BadEvent line) = ⊥
 IsLetterRefusal to content errors.Source = ⊥
 IsLetterRefusal to content (errors.Limit bounds.Content) = 10240000 < length content

@@ -5,10 +5,10 @@ use Rattle.q_host.specs.View.{LeavesOnly, Remains, View}
 use Rattle.q_inflation.specs.Bounds.{Call, IsBounded, IsFirstAtNoCost, IsInMemory}
 use Rattle.q_lives.specs.Bounces.{BouncedAtMostOnce, BouncedThroughout}
 use Rattle.q_lives.specs.Causes.{DoneAfterCause}
-use Rattle.q_lives.specs.Lives.{AreLives, last_book, Life, life_entries, trace}
+use Rattle.q_lives.specs.Lives.{AreLives, last_book, Life, life_entries, tool_steps, trace}
 use Rattle.q_lives.specs.Repeats.{RepeatsUnsynced}
 use Rattle.q_lives.specs.Standing.{StandsOnceOrLeft}
-use Rattle.q_lives.specs.Throughout.{FitsAccount, FitsWindow, KeepsLimits, LeavesDone, Throughout}
+use Rattle.q_lives.specs.Throughout.{DeliversApart, DeliversOneByOne, FitsAccount, FitsWindow, KeepsLimits, LeavesDone, Throughout}
 use Rattle.q_model.specs.Book.{Book}
 use Rattle.q_model.specs.Crashes.{IsCrashOf}
 use Rattle.q_model.specs.Message.{Message}
@@ -113,8 +113,10 @@ EachMoment P b (life ∷ lives) = EachMomentOf P (call_of b life) × EachMoment 
 pub record KeepPromises (first : Book) (lives : List Life) : Type 0 where
   pub limits : Throughout KeepsLimits first lives
   pub windows : Throughout FitsWindow first lives
+  pub apart : Throughout DeliversApart first lives
+  pub one_by_one : Throughout DeliversOneByOne first lives
   pub accounts : Throughout FitsAccount first lives
-  pub done : DoneAfterCause first (trace first lives) (last_book first lives)
+  pub done : DoneAfterCause first (tool_steps lives) (trace first lives) (last_book first lives)
   pub repeats : RepeatsUnsynced (trace first lives)
   pub stands : StandsOnceOrLeft first (trace first lives) (last_book first lives)
   pub leaves_done : Throughout LeavesDone first lives

@@ -83,7 +83,7 @@ unfirm-each [] [] h = tt
 unfirm-each [] (n ∷ ns) h = absurd h
 unfirm-each (m ∷ ms) [] h = absurd h
 unfirm-each (m ∷ ms) (n ∷ ns) h = (
-  record { id = h.0.id; sender = h.0.sender; arrival = h.0.arrival; content = h.0.content; place = h.0.place; recipients = h.0.recipients; failures = unfirm-after m.failures n.failures h.0.failures },
+  record { id = h.0.id; version = h.0.version; sender = h.0.sender; arrival = h.0.arrival; content = h.0.content; place = h.0.place; recipients = h.0.recipients; failures = unfirm-after m.failures n.failures h.0.failures },
   unfirm-each ms ns h.1,
 )
 
@@ -115,7 +115,7 @@ module _ (f g : Files) (same : SameLogs f g) where
   firm-each [] (n ∷ ns) h hm hn = absurd h
   firm-each (m ∷ ms) [] h hm hn = absurd h
   firm-each (m ∷ ms) (n ∷ ns) h hm hn = (
-    record { id = h.0.id; sender = h.0.sender; arrival = h.0.arrival; content = h.0.content; place = h.0.place; recipients = h.0.recipients; failures = firm-after m.failures n.failures h.0.failures (one-length m n h.0 hm.0 hn.0) },
+    record { id = h.0.id; version = h.0.version; sender = h.0.sender; arrival = h.0.arrival; content = h.0.content; place = h.0.place; recipients = h.0.recipients; failures = firm-after m.failures n.failures h.0.failures (one-length m n h.0 hm.0 hn.0) },
     firm-each ms ns h.1 hm.1 hn.1,
   )
 

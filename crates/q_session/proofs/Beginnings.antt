@@ -9,7 +9,7 @@ use Rattle.q_smtp.specs.ContentLines.{sent_content}
 use Rattle.q_smtp.specs.Replies.{codes_from, nothing_yet}
 use Rattle.q_session.specs.Course.{IsReady, rest_by}
 use Rattle.q_session.specs.Deliveries.{Follows, IsFor, Serves}
-use Rattle.q_session.specs.Mails.{IsHeadOf, Mail, content_place, transaction_of}
+use Rattle.q_session.specs.Mails.{IsHeadOf, Mail, transaction_of}
 use Rattle.q_session.specs.Outgoing.{Outgoing, pending}
 use Rattle.q_session.specs.Polls.{IsUnused}
 use Rattle.q_session.specs.Sending.{to_send, unsent}
@@ -36,10 +36,10 @@ whole_left content left e =
 first_for : (mail : Mail) (spot : Spot) (file : FileHead) (d : Delivery) → IsHeadOf mail file → IsFirst spot file d → IsFor mail d
 first_for mail spot file d head first =
     let left : d.content.left ≡ length mail.content = ap (λ (c : Content). c.left) first.content ∙ head.content_len in
-    let at : d.content.at ≡ content_place mail = ap (λ (c : Content). c.at) first.content ∙ head.content_at in
+    let at : d.content.at ≡ mail.content_at = ap (λ (c : Content). c.at) first.content ∙ head.content_at in
     record {
       sender = first.sender ∙ head.sender;
-      placed = record { left = omega arith; place = ap (λ (n : ℕ). n + d.content.left) at ∙ ap (λ (n : ℕ). content_place mail + n) left };
+      placed = record { left = omega arith; place = ap (λ (n : ℕ). n + d.content.left) at ∙ ap (λ (n : ℕ). mail.content_at + n) left };
       ready = subst (λ (a : Awaited). IsReady a (sent_content mail.content) (to_send mail.content d.content)) (sym first.awaited)
           (ap (λ (c : Content). sent_rest c.line (drop (length mail.content - d.content.left) mail.content)) first.content
           ∙ ap (λ (xs : List ℕ). sent_rest line_start xs) (whole_left mail.content d.content.left left) ∙ lines_sent mail.content);

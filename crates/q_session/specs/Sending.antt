@@ -1,7 +1,7 @@
 -- What is still to be sent of a content.
 use Rattle.std.specs.Prelude.{◌+◌, ◌++◌, ◌-◌, ◌≡◌, ◌<◌, ◌≤◌, [], Bool, drop, false, if◌then◌else◌, length, List, take, true, ℕ}
 use Rattle.q_content.specs.Encoding.{sent_rest}
-use Rattle.q_session.specs.Mails.{Mail, content_place}
+use Rattle.q_session.specs.Mails.{Mail}
 use Rattle.q_session.specs.Outgoing.{Outgoing}
 use Rattle.q_session.specs.declared.content.Content.{Content}
 
@@ -20,7 +20,7 @@ pieces_left c = if c.idle then 0 else c.left + 1
 -- It is at the last bytes of the content in a file that says this.
 pub record IsPlaced (mail : Mail) (c : Content) : Type 0 where
   pub left : c.left ≤ length mail.content
-  pub place : c.at + c.left ≡ content_place mail + length mail.content
+  pub place : c.at + c.left ≡ mail.content_at + length mail.content
 
 -- The piece is what stands in the file from an offset on, or the file ends within it.
 abbrev pub IsPieceAt : ℕ → List ℕ → Bool → List ℕ → Type 0

@@ -23,8 +23,11 @@ use crate::polled::Polled;
 use crate::steps::Step;
 use q_host::{Host, HostError};
 use q_link::Link;
-use q_model::{Address, Addresses, FileHead, Moment, NoMemory, Outcome, Outcomes, SiteState, Spot};
-use std::alloc::Global;
+use q_model::{
+    Address, Addresses, FileHead, Moment, NoMemory, Outcome, Outcomes, Receiver, Sequence,
+    SiteState, Spot,
+};
+use std::alloc::{AllocError, Global};
 use std::mem;
 
 /// For how many seconds a delivery goes on.
@@ -35,7 +38,7 @@ const PATIENCE: u64 = 600;
 pub(crate) struct Delivery {
     pub(crate) alloc: Global,
     pub(crate) sender: Option<Address>,
-    pub(crate) to: Addresses,
+    pub(crate) to: Sequence<Address>,
     pub(crate) opened: Moment,
     pub(crate) dialogue: Dialogue,
     pub(crate) inbox: Inbox,
@@ -47,9 +50,16 @@ pub(crate) struct Delivery {
     pub(crate) over: bool,
 }
 
+/// The addresses of recipients.
+fn addresses(alloc: Global, to: &[Receiver]) -> Result<Vec<Address>, AllocError>
+    ensures { IfOk result (λ v. v.items ≡ map (λ r. r.address) to.now) }
+{
+    to.iter().map(|r| r.address).collect(alloc)
+}
+
 impl Delivery {
-    /// A delivery of the message in a queue file, of which this is the head, to these addresses,
-    /// which begins at this moment.
+    /// A delivery of the message in a queue file, of which this is the head, to these recipients,
+    /// which begins at this moment. Of a recipient it uses the address alone.
     pub(crate) fn new(
         alloc: Global,
         spot: Spot,
@@ -58,11 +68,11 @@ impl Delivery {
         opened: Moment,
     ) -> Result<Delivery, NoMemory>
         ensures sound { IfOk result IsSound }
-        ensures begins { IfOk result (IsNew spot to.now opened) }
+        ensures begins { IfOk result (IsNew spot (map (λ r. r.address) to.now) opened) }
         ensures serves { IfOk result (λ d. (tells : Bool) (mail : Mail) (v : LinkView)
             → (IsTrue tells → IsHeadOf mail file.now) → IsUnused v → Serves tells mail d v) }
     {
-        let to = Vec::from_slice(alloc, to.as_slice())?;
+        let to = addresses(alloc, to.as_slice())?;
         let dialogue = Dialogue::new(alloc, to.len())?;
         let inbox = Inbox::new(alloc)?;
         let outbox = Outbox::new(alloc)?;
@@ -70,7 +80,7 @@ impl Delivery {
         Ok(Delivery {
             alloc,
             sender: sender_of(file),
-            to: Addresses::from_vec(to),
+            to: Sequence::from_vec(to),
             opened,
             dialogue,
             inbox,

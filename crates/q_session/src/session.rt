@@ -1,5 +1,5 @@
 //! One delivery, as callers see it.
-ghost use Rattle.std.specs.Prelude.{◌≡◌, ◌≤◌, ◌<◌, ◌+◌, [], Bool, true, false, Some, Ok, IfOk, IsTrue, OnErr};
+ghost use Rattle.std.specs.Prelude.{◌≡◌, ◌≤◌, ◌<◌, ◌+◌, [], map, Bool, true, false, Some, Ok, IfOk, IsTrue, OnErr};
 ghost use Rattle.q_host.specs.Calls.{Stays};
 ghost use Rattle.q_host.specs.Faults.{DiskCause};
 ghost use Rattle.q_link.specs.Views.{View as LinkView};
@@ -39,8 +39,9 @@ impl Model for Session {
 }
 
 impl Session {
-    /// A delivery of the message in a queue file, of which this is the head, to these addresses,
-    /// which begins at this moment. It is for a link over which nothing came or went.
+    /// A delivery of the message in a queue file, of which this is the head, to these recipients,
+    /// which begins at this moment. Of a recipient it uses the address alone. It is for a link over
+    /// which nothing came or went.
     pub fn new(
         alloc: Global,
         spot: Spot,
@@ -48,7 +49,7 @@ impl Session {
         to: &Addresses,
         opened: Moment,
     ) -> Result<Session, NoMemory>
-        ensures begins { IfOk result (IsNew spot to.now opened) }
+        ensures begins { IfOk result (IsNew spot (map (λ r. r.address) to.now) opened) }
         ensures serves { IfOk result (λ s. (tells : Bool) (mail : Mail) (v : LinkView)
             → (IsTrue tells → IsHeadOf mail file.now) → IsUnused v → Serves tells mail s v) }
     {

@@ -25,4 +25,5 @@ settings_of p = record {
   lifetime = p.maximal_queue_lifetime;
   bounce_lifetime = p.bounce_queue_lifetime;
   mark_sync_limit = p.mark_sync_limit;
+  rate_delay = p.default_destination_rate_delay;
 }

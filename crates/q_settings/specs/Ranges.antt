@@ -25,3 +25,4 @@ pub record IsInRange (s : Settings) : Type 0 where
   pub lifetime : s.lifetime ≤ 9999999
   pub bounce_lifetime : s.bounce_lifetime ≤ 9999999
   pub mark_sync_limit : (1 ≤ s.mark_sync_limit) × (s.mark_sync_limit ≤ 16)
+  pub rate_delay : s.rate_delay ≤ 9999999

@@ -1,6 +1,6 @@
 //! The parameters of a queue manager.
-ghost use Rattle.std.specs.Prelude.{◌≡◌};
-ghost use Rattle.q_model.specs.Settings.{defaults};
+ghost use Rattle.std.specs.Prelude.{◌≡◌, ◌≤◌};
+ghost use Rattle.q_model.specs.Settings.{defaults, window_limit};
 ghost use Rattle.q_settings.specs.Ranges.{IsInRange};
 
 use q_feedback::Feedback;
@@ -31,6 +31,7 @@ pub struct Params {
     pub maximal_queue_lifetime: u32,
     pub bounce_queue_lifetime: u32,
     pub mark_sync_limit: u32,
+    pub default_destination_rate_delay: u32,
 }
 
 impl Model for Params {
@@ -66,10 +67,25 @@ impl Model for Params {
       maximal_queue_lifetime = s.lifetime;
       bounce_queue_lifetime = s.bounce_lifetime;
       mark_sync_limit = s.mark_sync_limit;
+      default_destination_rate_delay = s.rate_delay;
     } };
 }
 
 impl Params {
+    /// What no window passes: the concurrency limit, or 1 where deliveries to a site keep a delay
+    /// between them.
+    pub fn window_limit(&self) -> u32
+        ensures exact { result ≡ window_limit self.now }
+        ensures some { 1 ≤ result }
+        ensures few { result ≤ 40 }
+    {
+        if self.default_destination_rate_delay == 0 {
+            self.default_destination_concurrency_limit
+        } else {
+            1
+        }
+    }
+
     /// The defaults of postconf(5).
     pub fn defaults() -> Params
         ensures exact { result ≡ defaults }
@@ -96,6 +112,7 @@ impl Params {
             maximal_queue_lifetime: 432_000,
             bounce_queue_lifetime: 432_000,
             mark_sync_limit: 1,
+            default_destination_rate_delay: 0,
         }
     }
 }

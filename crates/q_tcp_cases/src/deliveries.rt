@@ -1,12 +1,14 @@
 //! A whole delivery over TCP.
-ghost use Rattle.std.specs.Prelude.{◌≡◌, false, IfOk, length};
+ghost use Rattle.q_message.specs.NewFile.{is_receiver};
+ghost use Rattle.std.specs.List.{list_all};
+ghost use Rattle.std.specs.Prelude.{◌≡◌, false, true, IfOk, length};
 ghost use Rattle.q_link.specs.declared.usage.Usage.TheVariants.{Open};
 
 use crate::servers::{Joined, RESTS, join, listen};
 use q_host::Host;
 use q_link::Hops;
 use q_message::{read_head, write_message};
-use q_model::{Address, Addresses, Area, Head, Outcome, SiteState, Spot};
+use q_model::{Address, Addresses, Area, Head, Outcome, Receiver, SiteState, Spot};
 use q_session::{Polled, Session};
 use q_silent_host::{FIRST, SilentHost, name};
 use q_tcp_hops::{TcpHops, TcpLink};
@@ -97,16 +99,21 @@ fn address(text: &str) -> Result<Address, Fail> {
 }
 
 fn recipients(alloc: Global) -> Result<Addresses, Fail>
-    ensures { IfOk result (λ to. length to ≡ 1) }
+    ensures one { IfOk result (λ to. length to ≡ 1) }
+    ensures others { IfOk result (λ to. list_all is_receiver to ≡ true) }
 {
     let mut to = Addresses::new(alloc);
-    to.push(address("b@y.example")?)?;
+    to.push(Receiver {
+        address: address("b@y.example")?,
+        original: None,
+    })?;
     Ok(to)
 }
 
 // A host with a message in active.
 fn spool(alloc: Global, to: &Addresses) -> Result<(SilentHost, Spot), Fail>
-    requires { length to.now ≡ 1 }
+    requires one { length to.now ≡ 1 }
+    requires others { list_all is_receiver to.now ≡ true }
 {
     let name = name(FIRST)?;
     let head = Head {

@@ -13,5 +13,5 @@ mod values;
 
 pub use blanks::{is_blank, is_passed_over, is_text, trim, trim_start};
 pub use lines::first_line;
-pub use lists::{read_addresses, read_outcomes, read_positions};
-pub use values::{read_outcome, read_sender, read_state, read_trigger};
+pub use lists::{read_addresses, read_outcomes, read_positions, read_receivers};
+pub use values::{read_outcome, read_plain, read_receiver, read_sender, read_state, read_trigger};

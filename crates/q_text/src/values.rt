@@ -1,9 +1,44 @@
 //! Words that are values.
 ghost use Rattle.std.specs.Prelude.{◌≡◌};
-ghost use Rattle.q_text.specs.ValueTexts.{code_behind, later_of, never_of, outcome_of, sender_of_text, state_of_text, trigger_of};
+ghost use Rattle.q_text.specs.ValueTexts.{code_behind, later_of, mapped_of, never_of, outcome_of, plain_of, receiver_of, sender_of_text, state_of_text, trigger_of};
 
-use q_model::{Address, Outcome, SiteState, Trigger};
-use q_numbers::read_number;
+use q_model::{Address, Outcome, Receiver, SiteState, Trigger};
+use q_numbers::{cut, read_number};
+
+/// A recipient by its address alone.
+pub fn read_plain(text: &[u8]) -> Option<Receiver>
+    ensures { result ≡ plain_of text.now }
+{
+    let address = Address::new(text)?;
+    Some(Receiver {
+        address,
+        original: None,
+    })
+}
+
+/// Two addresses, of which the second is the original one.
+fn read_mapped(address: &[u8], original: &[u8]) -> Option<Receiver>
+    ensures { result ≡ mapped_of (address.now, original.now) }
+{
+    let address = Address::new(address)?;
+    let original = Address::new(original)?;
+    let original = if original == address {
+        None
+    } else {
+        Some(original)
+    };
+    Some(Receiver { address, original })
+}
+
+/// A recipient: `ADDRESS` or `ADDRESS,ORIGINAL`.
+pub fn read_receiver(text: &[u8]) -> Option<Receiver>
+    ensures { result ≡ receiver_of text.now }
+{
+    match cut(text, b',') {
+        Some((address, original)) => read_mapped(address, original),
+        None => read_plain(text),
+    }
+}
 
 /// An address, or `<>` for the null sender.
 pub fn read_sender(text: &[u8]) -> Option<Option<Address>>

@@ -5,10 +5,11 @@ use Rattle.std.specs.List.{list_all}
 use Rattle.std.specs.Option.{option_and_then, option_map_or}
 use Rattle.std.specs.Prelude.{bytes_eq, codes, IfSome, length, option_map}
 use Rattle.clap.specs.Words.{first_of, matches_of, Row}
-use Rattle.q_events.specs.Forms.{IsMailInForm}
+use Rattle.q_events.specs.Forms.{IsMailInForm, is_receiver}
 use Rattle.q_model.specs.Texts.{is_address}
+use Rattle.q_model.specs.Values.{Receiver}
 use Rattle.q_numbers.specs.Pieces.{each_some, one_or_more}
-use Rattle.q_text.specs.ValueTexts.{address_of, sender_of_text}
+use Rattle.q_text.specs.ValueTexts.{address_of, plain_of, sender_of_text}
 use Rattle.q_top.specs.Qmgr.{HasForm}
 use Rattle.q_words.specs.Commands.{submit_app}
 use Rattle.q_words.specs.Requests.{IsRequest, IsSubmission, words_of}
@@ -35,25 +36,33 @@ on_map : {A B : Type 0} (P : A → Type 0) (Q : B → Type 0) (f : A → B) (o :
 on_map P Q f None h k = tt
 on_map P Q f (Some a) h k = k a h
 
-abbrev AreAddresses : List (List ℕ) → Type 0
-AreAddresses to = list_all is_address to ≡ true
+abbrev IsReceiver : Receiver → Type 0
+IsReceiver r = is_receiver r ≡ true
 
-addresses_form : (texts : List (List ℕ)) → IfSome (each_some address_of texts) AreAddresses
-addresses_form [] = refl
-addresses_form (text ∷ texts) =
-    on_both (λ a. is_address a ≡ true) AreAddresses _ (address_of text) (address_form text)
-    (λ a is. on_map AreAddresses AreAddresses _ (each_some address_of texts) (addresses_form texts)
-    (λ others are. and_from (is_address a) (list_all is_address others) is are))
+plain_form : (text : List ℕ) → IfSome (plain_of text) IsReceiver
+plain_form text =
+    on_map (λ a. is_address a ≡ true) IsReceiver (λ address. record { address = address; original = None }) (address_of text) (address_form text)
+    (λ a is. and_from (is_address a) true is refl)
 
-abbrev AreRecipients : List (List ℕ) → Type 0
-AreRecipients to = AreAddresses to × (1 ≤ length to)
+abbrev AreReceivers : List Receiver → Type 0
+AreReceivers to = list_all is_receiver to ≡ true
 
-recipients_form : (texts : List (List ℕ)) → IfSome (one_or_more address_of texts) AreRecipients
+receivers_form : (texts : List (List ℕ)) → IfSome (each_some plain_of texts) AreReceivers
+receivers_form [] = refl
+receivers_form (text ∷ texts) =
+    on_both IsReceiver AreReceivers _ (plain_of text) (plain_form text)
+    (λ r is. on_map AreReceivers AreReceivers _ (each_some plain_of texts) (receivers_form texts)
+    (λ others are. and_from (is_receiver r) (list_all is_receiver others) is are))
+
+abbrev AreRecipients : List Receiver → Type 0
+AreRecipients to = AreReceivers to × (1 ≤ length to)
+
+recipients_form : (texts : List (List ℕ)) → IfSome (one_or_more plain_of texts) AreRecipients
 recipients_form [] = tt
 recipients_form (text ∷ texts) =
-    on_both (λ a. is_address a ≡ true) AreRecipients _ (address_of text) (address_form text)
-    (λ a is. on_map AreAddresses AreRecipients _ (each_some address_of texts) (addresses_form texts)
-    (λ others are. (and_from (is_address a) (list_all is_address others) is are, omega arith)))
+    on_both IsReceiver AreRecipients _ (plain_of text) (plain_form text)
+    (λ r is. on_map AreReceivers AreRecipients _ (each_some plain_of texts) (receivers_form texts)
+    (λ others are. (and_from (is_receiver r) (list_all is_receiver others) is are, omega arith)))
 
 abbrev HasSenderForm : Option (List ℕ) → Type 0
 HasSenderForm sender = option_map_or is_address sender true ≡ true
@@ -69,7 +78,7 @@ any_some : {A : Type 0} (o : Option A) → IfSome o (λ a. Unit {0})
 any_some None = tt
 any_some (Some a) = tt
 
-submission_form : (rows : List Row) (sender : Option (List ℕ)) (to : List (List ℕ)) → IsSubmission rows sender to → IsMailInForm sender to
+submission_form : (rows : List Row) (sender : Option (List ℕ)) (to : List Receiver) → IsSubmission rows sender to → IsMailInForm sender to
 submission_form rows sender to s =
     let from = held HasSenderForm _ sender (on_both (λ word. Unit {0}) HasSenderForm sender_of_text (first_of (codes "sender") rows) (any_some (first_of (codes "sender") rows)) (λ word t. sender_form word)) s.from in
     let recipients = held AreRecipients _ to (recipients_form (words_of (codes "to") rows)) s.recipients in

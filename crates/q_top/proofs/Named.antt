@@ -7,6 +7,7 @@ use Rattle.q_conf.specs.declared.error.ConfError.TheVariants as conf_errors
 use Rattle.q_conf.specs.declared.error.ConfFile.TheVariants as conf
 use Rattle.q_model.specs.declared.limits.Bound.{Bound}
 use Rattle.q_model.specs.declared.limits.Bound.TheVariants as bounds
+use Rattle.q_model.specs.Values.{Receiver}
 use Rattle.q_replay.specs.Listings.{listing_of}
 use Rattle.q_replay.specs.Named.{BlamesList, IsDeliveryRefusal, IsLetterRefusal, IsNamed as IsReplayNamed}
 use Rattle.q_replay.specs.declared.deliveries.Delivered.{Delivered}
@@ -67,7 +68,7 @@ replayed_named text (Err error) h line = list_named text error h line
 
 -- ---- a letter
 
-module _ (sender : Option (List ℕ)) (to : List (List ℕ)) where
+module _ (sender : Option (List ℕ)) (to : List Receiver) where
   letter_named : (content : List ℕ) (error : ReplayError) → IsLetterRefusal to content error → IsNamed (λ r. r ≡ Submit sender to) (Some content) (replay_status error)
   letter_named content errors.Disk h = tt
   letter_named content errors.Tell h = tt

@@ -11,8 +11,9 @@ use Rattle.q_top.specs.Statuses.{content_status}
 use Rattle.q_top.specs.declared.content.ContentError.{ContentError}
 use Rattle.q_top.specs.declared.content.ContentError.TheVariants as errors
 use Rattle.q_top.specs.declared.status.Status.{Status}
+use Rattle.q_model.specs.Values.{Receiver}
 
-module _ (sender : Option (List ℕ)) (to : List (List ℕ)) (texts : Texts) (moments : Moments) where
+module _ (sender : Option (List ℕ)) (to : List Receiver) (texts : Texts) (moments : Moments) where
   -- there is none
   pub no_content : (u : View) (error : ContentError) → IsNoContent texts.before error → Submits sender to texts moments u u (content_status error)
   no_content u errors.TooLong none = record {

@@ -9,6 +9,7 @@ use Rattle.q_model.specs.Book.{Book}
 use Rattle.q_model.specs.Settings.{World}
 use Rattle.q_model.specs.declared.event.Mode.TheVariants.{Intake}
 use Rattle.q_model.specs.declared.spot.Area.{Area}
+use Rattle.q_model.specs.Values.{Receiver}
 use Rattle.q_drain.specs.Swept.{Outsides}
 use Rattle.q_replay.specs.AnyLists.{TakesList}
 use Rattle.q_replay.specs.Deliveries.{DeliveryEnds}
@@ -122,11 +123,11 @@ pub record SubmitsNow (letter : Letter) (moments : Moments) (u v : View) (s : St
   pub submits : SubmitsAt moment letter u v s
 
 -- a message as it is handed in
-abbrev pub letter_of : Option (List ℕ) → List (List ℕ) → List ℕ → Letter
+abbrev pub letter_of : Option (List ℕ) → List Receiver → List ℕ → Letter
 letter_of sender to content = record { sender = sender; to = to; content = content }
 
 -- A content was read, which is all that the source had, where it tells, and the message is submitted.
-pub record SubmitsSome (sender : Option (List ℕ)) (to : List (List ℕ)) (texts : Texts) (moments : Moments)
+pub record SubmitsSome (sender : Option (List ℕ)) (to : List Receiver) (texts : Texts) (moments : Moments)
     (u v : View) (s : Status) : Type 0 where
   pub content : List ℕ
   pub few : length content ≤ most_content
@@ -135,7 +136,7 @@ pub record SubmitsSome (sender : Option (List ℕ)) (to : List (List ℕ)) (text
 
 -- `submit`: the content is all that the source has. It is refused by its length or can't be read,
 -- or the message is submitted. So it is with some content whatever the source tells.
-pub record Submits (sender : Option (List ℕ)) (to : List (List ℕ)) (texts : Texts) (moments : Moments)
+pub record Submits (sender : Option (List ℕ)) (to : List Receiver) (texts : Texts) (moments : Moments)
     (u v : View) (s : Status) : Type 0 where
   pub long : IfSome texts.before (λ bytes. most_content < length bytes → RefusesContent u v s)
   pub run : IfSome texts.before (λ bytes. length bytes ≤ most_content

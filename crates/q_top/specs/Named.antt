@@ -4,6 +4,7 @@ use Rattle.q_conf.specs.Confs.{at_fault, SaySo}
 use Rattle.q_conf.specs.declared.error.ConfFile.TheVariants as conf
 use Rattle.q_model.specs.declared.limits.Bound.{Bound}
 use Rattle.q_model.specs.declared.limits.Bound.TheVariants as bounds
+use Rattle.q_model.specs.Values.{Receiver}
 use Rattle.q_replay.specs.Listings.{listing_of}
 use Rattle.q_replay.specs.Named.{IsAtFault, ListPasses}
 use Rattle.q_restart.specs.Judgements.{IsRefusalOfSome}
@@ -24,7 +25,7 @@ abbrev pub HasTooMuch : Option (List ℕ) → Bound → Type 0
 HasTooMuch text bound = IfSome text (λ bytes. ListPasses (listing_of bytes) bound)
 
 -- A letter to these passes the limit, of which the text is the content; of serials, any may.
-abbrev pub LetterPasses : List (List ℕ) → Option (List ℕ) → Bound → Type 0
+abbrev pub LetterPasses : List Receiver → Option (List ℕ) → Bound → Type 0
 LetterPasses to text bounds.Content = IfSome text (λ bytes. most_content < length bytes)
 LetterPasses to text bounds.Recipients = 50000 < length to
 LetterPasses to text bounds.Serial = Unit {0}
@@ -33,7 +34,7 @@ LetterPasses to text bound = ⊥
 -- what is handed in passes the limit: a list or a letter
 abbrev pub IsTooMuch : (Request → Type 0) → Option (List ℕ) → Bound → Type 0
 IsTooMuch Asks text bound = (Asks Replay × HasTooMuch text bound)
-    ⊎ ((sender : Option (List ℕ)) × (to : List (List ℕ)) × Asks (Submit sender to) × LetterPasses to text bound)
+    ⊎ ((sender : Option (List ℕ)) × (to : List Receiver) × Asks (Submit sender to) × LetterPasses to text bound)
 
 -- A line of conf is one at which some texts are at fault. A damage, and that no generation is left, are
 -- what some names of boot and some files of the queues show. A line of an event list, and the limits of

@@ -18,7 +18,7 @@ use Rattle.q_trace.specs.Bounds.{IsEntry, IsTransport}
 use Rattle.q_trace.specs.Parts.{then_read}
 use Rattle.q_trace.specs.PartTexts.{addresses_of, hop_of, id_of, outcomes_of, positions_of, size_of, transport_of, why_of_text}
 use Rattle.q_trace.proofs.Exactness.{exact_then}
-use Rattle.q_trace.proofs.ListReads.{exact_outcomes, exact_positions, exact_to, IsTo}
+use Rattle.q_trace.proofs.ListReads.{addresses, exact_outcomes, exact_positions, exact_to, IsTo}
 use Rattle.q_trace.proofs.ValueReads.{exact_hop, exact_id, exact_size}
 use Rattle.q_trace.proofs.WordReads.{exact_transport, exact_why}
 
@@ -48,7 +48,7 @@ exact_preempt table = exact_then exact_id (λ _. exact_then exact_id (λ _. exac
 
 pub exact_arrive : Exact (then_read id_of (λ _. then_read sender_of_text (λ _. then_read size_of (λ _. addresses_of))))
     (λ v. IsId v.0 × (IsSender v.1.0 × ((v.1.1.0 ≤ 10240000) × IsTo v.1.1.1)))
-    (λ v. id_text v.0 ++ 32 ∷ (sender_text v.1.0 ++ 32 ∷ (decimal v.1.1.0 ++ 32 ∷ joined v.1.1.1)))
+    (λ v. id_text v.0 ++ 32 ∷ (sender_text v.1.0 ++ 32 ∷ (decimal v.1.1.0 ++ 32 ∷ joined (addresses v.1.1.1))))
 exact_arrive = exact_then exact_id (λ _. exact_then exact_sender (λ _. exact_then exact_size (λ _. exact_to)))
 
 pub exact_skip : (table : Table) → Exact (then_read id_of (λ _. then_read (transport_of table) (λ _. then_read hop_of (λ _. positions_of))))

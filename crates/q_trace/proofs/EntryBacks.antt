@@ -27,6 +27,8 @@ use Rattle.q_trace.specs.Kinds.{all_kinds, word_of}
 use Rattle.q_trace.specs.PartTexts.{id_of}
 use Rattle.q_trace.proofs.BodyReads.{body_from, exact_arrive, exact_defer, exact_load, exact_log, exact_mark, exact_moment, exact_preempt, exact_reply, exact_skip, exact_start, IsBody}
 use Rattle.q_trace.proofs.Joining.{spaced_joined}
+use Rattle.q_trace.proofs.ListReads.{addresses, to_forms}
+use Rattle.q_model.specs.Values.{Receiver}
 use Rattle.q_trace.proofs.ValueReads.{exact_id}
 use Rattle.q_model.specs.declared.entry.Entry.TheVariants as entries
 use Rattle.q_trace.specs.declared.kind.Kind.TheVariants as kinds
@@ -61,16 +63,16 @@ life_cut table text e (Some c) k h =
 life_body : (table : Table) → IsBody table (codes "life") life_behind
 life_body table = record { back = λ text e h. life_cut table text e (cut 32 text) refl h }
 
-arrive_line : (table : Table) (v : Id × (Option (List ℕ) × (ℕ × List (List ℕ)))) → 1 ≤ length v.1.1.1
-    → joined (words table (entries.Arrive v.0 v.1.0 v.1.1.1 (replicate v.1.1.0 0))) ≡ codes "arrive" ++ 32 ∷ (id_text v.0 ++ 32 ∷ (sender_text v.1.0 ++ 32 ∷ (decimal v.1.1.0 ++ 32 ∷ joined v.1.1.1)))
+arrive_line : (table : Table) (v : Id × (Option (List ℕ) × (ℕ × List Receiver))) → 1 ≤ length v.1.1.1
+    → joined (words table (entries.Arrive v.0 v.1.0 v.1.1.1 (replicate v.1.1.0 0))) ≡ codes "arrive" ++ 32 ∷ (id_text v.0 ++ 32 ∷ (sender_text v.1.0 ++ 32 ∷ (decimal v.1.1.0 ++ 32 ∷ joined (addresses v.1.1.1))))
 arrive_line table v h =
     let front = λ (x : List ℕ). codes "arrive" ++ 32 ∷ (id_text v.0 ++ 32 ∷ (sender_text v.1.0 ++ 32 ∷ x)) in
-    ap (λ (n : ℕ). front (decimal n ++ flat_map spaced v.1.1.1)) (length-replicate v.1.1.0 0) ∙ ap (λ (x : List ℕ). front (decimal v.1.1.0 ++ x)) (spaced_joined v.1.1.1 h)
+    ap (λ (n : ℕ). front (decimal n ++ flat_map spaced (addresses v.1.1.1))) (length-replicate v.1.1.0 0) ∙ ap (λ (x : List ℕ). front (decimal v.1.1.0 ++ x)) (spaced_joined (addresses v.1.1.1) (omega (arith, h, length-map v.1.1.1 (λ (r : Receiver). r.address))))
 
 arrive_body : (table : Table) → IsBody table (codes "arrive") arrive_behind
 arrive_body table =
     body_from table (codes "arrive") (λ v. entries.Arrive v.0 v.1.0 v.1.1.1 (replicate v.1.1.0 0)) exact_arrive
-    (λ v h. (h.0, h.1.0, subst (λ (n : ℕ). n ≤ 10240000) (sym (length-replicate v.1.1.0 0)) h.1.1.0, h.1.1.1.0, h.1.1.1.1)) (λ v h. arrive_line table v h.1.1.1.0.0)
+    (λ v h. (h.0, h.1.0, subst (λ (n : ℕ). n ≤ 10240000) (sym (length-replicate v.1.1.0 0)) h.1.1.0, to_forms v.1.1.1 h.1.1.1.0, h.1.1.1.1)) (λ v h. arrive_line table v h.1.1.1.0.0)
 
 at_body : (table : Table) → IsBody table (codes "at") at_behind
 at_body table = body_from table (codes "at") (λ t. entries.At t) exact_moment (λ t h. h) (λ t h. refl)

@@ -1,4 +1,4 @@
--- An entry is read from its line, but for the bytes of an arrived content.
+-- An entry is read from its line, but for what a line doesn't tell.
 use Rattle.std.proofs.Common.{◌≡◌, ◌≤◌, ◌∙◌, ℕ, true, false, Option, Some, None, List, [], ◌∷◌, ◌++◌, length, map, refl, sym, ap, arith}
 use Rattle.std.specs.List.{list_all}
 use Rattle.std.specs.Prelude.{bytes_eq, codes, decimal, option_map, replicate}
@@ -10,7 +10,7 @@ use Rattle.q_model.specs.declared.id.Id.{Id}
 use Rattle.q_model.specs.IdTexts.{id_text, IsId}
 use Rattle.q_model.specs.TextParts.{why_text}
 use Rattle.q_model.specs.Settings.{Table}
-use Rattle.q_model.specs.Values.{Site}
+use Rattle.q_model.specs.Values.{Receiver, Site}
 use Rattle.q_model.specs.declared.event.Trigger.{Trigger}
 use Rattle.q_model.specs.declared.outcome.Failure.{Failure}
 use Rattle.q_model.specs.declared.outcome.Outcome.{Outcome}
@@ -24,7 +24,8 @@ use Rattle.q_text.proofs.SolidTexts.{decimal_solid, is_solid}
 use Rattle.q_text.proofs.Exactness.{exact_last}
 use Rattle.q_text.proofs.WordReads.{exact_trigger}
 use Rattle.q_trace.specs.Bodies.{entry_behind, entry_of_line, kind_of, life_in, plain_behind}
-use Rattle.q_trace.specs.Bounds.{IsEntry, with_zeros}
+use Rattle.q_trace.specs.Bounds.{IsEntry, as_told, plain}
+use Rattle.q_trace.proofs.ListReads.{addresses, plain_addresses, to_plain}
 use Rattle.q_trace.specs.Kinds.{word_of}
 use Rattle.q_trace.specs.PartTexts.{id_of}
 use Rattle.q_trace.proofs.BodyReads.{exact_arrive, exact_defer, exact_load, exact_log, exact_mark, exact_moment, exact_preempt, exact_reply, exact_skip, exact_start}
@@ -86,15 +87,16 @@ life_gives table g Deliver h =
 life_gives table g Intake h =
     line_gives table kinds.Life (decimal g ++ 32 ∷ codes "intake") (entries.Life g Intake) (rw (cut_at (decimal g) (codes "intake") (generation_solid g h)) (life_in_gives g Intake h))
 
-arrive_gives : (table : Table) (id : Id) (sender : Option (List ℕ)) (to : List (List ℕ)) (content : List ℕ) → IsEntry table (entries.Arrive id sender to content)
-    → entry_of_line table (joined (words table (entries.Arrive id sender to content))) ≡ Some (entries.Arrive id sender to (replicate (length content) 0))
+arrive_gives : (table : Table) (id : Id) (sender : Option (List ℕ)) (to : List Receiver) (content : List ℕ) → IsEntry table (entries.Arrive id sender to content)
+    → entry_of_line table (joined (words table (entries.Arrive id sender to content))) ≡ Some (entries.Arrive id sender (map plain to) (replicate (length content) 0))
 unfolding entry_behind
 arrive_gives table id sender to content h =
     let front = λ (x : List ℕ). id_text id ++ 32 ∷ (sender_text sender ++ 32 ∷ (decimal (length content) ++ x)) in
-    ap (λ (x : List ℕ). entry_of_line table (codes "arrive" ++ 32 ∷ front x)) (spaced_joined to h.3.0)
-    ∙ line_gives table kinds.Arrive (front (32 ∷ joined to)) (entries.Arrive id sender to (replicate (length content) 0))
-    (ap (option_map (λ (v : Id × (Option (List ℕ) × (ℕ × List (List ℕ)))). entries.Arrive v.0 v.1.0 v.1.1.1 (replicate v.1.1.0 0)))
-    (exact_arrive.gives (id, (sender, (length content, to))) (h.0, (h.1, (h.2, (h.3, h.4))))))
+    ap (λ (x : List ℕ). entry_of_line table (codes "arrive" ++ 32 ∷ front x)) (spaced_joined (addresses to) h.3.0)
+    ∙ ap (λ (ws : List (List ℕ)). entry_of_line table (codes "arrive" ++ 32 ∷ front (32 ∷ joined ws))) (plain_addresses to)
+    ∙ line_gives table kinds.Arrive (front (32 ∷ joined (addresses (map plain to)))) (entries.Arrive id sender (map plain to) (replicate (length content) 0))
+    (ap (option_map (λ (v : Id × (Option (List ℕ) × (ℕ × List Receiver))). entries.Arrive v.0 v.1.0 v.1.1.1 (replicate v.1.1.0 0)))
+    (exact_arrive.gives (id, (sender, (length content, map plain to))) (h.0, (h.1, (h.2, to_plain to h.3 h.4)))))
 
 start_gives : (table : Table) (number : ℕ) (id : Id) (site : Site) (positions : List ℕ) → IsEntry table (entries.Start number id site positions)
     → entry_of_line table (joined (words table (entries.Start number id site positions))) ≡ Some (entries.Start number id site positions)
@@ -139,7 +141,7 @@ preempt_gives table child parent transport need h =
     line_gives table kinds.Preempt (id_text child ++ 32 ∷ (id_text parent ++ 32 ∷ (transport_text table transport ++ 32 ∷ (decimal need ++ [])))) (entries.Preempt child parent transport need)
     (ap (option_map (λ (v : Id × (Id × (ℕ × ℕ))). entries.Preempt v.0 v.1.0 v.1.1.0 v.1.1.1)) ((exact_preempt table).gives (child, (parent, (transport, need))) (h.0, (h.1, (h.2, h.3)))))
 
-pub entry_gives : (table : Table) (e : Entry) → IsEntry table e → entry_of_line table (joined (words table e)) ≡ Some (with_zeros e)
+pub entry_gives : (table : Table) (e : Entry) → IsEntry table e → entry_of_line table (joined (words table e)) ≡ Some (as_told e)
 unfolding entry_behind plain_behind entry_of_line
 entry_gives table (entries.Life g mode) h = life_gives table g mode h
 entry_gives table (entries.At t) h = line_gives table kinds.At (decimal t ++ []) (entries.At t) (ap (option_map (λ (t : ℕ). entries.At t)) (exact_moment.gives t h))

@@ -5,8 +5,9 @@ use Rattle.std.specs.Option.{ok_or}
 use Rattle.std.specs.Prelude.{nat_le}
 use Rattle.std.proofs.lemmas.Bool.{le-leb, lt-leb}
 use Rattle.std.proofs.lemmas.List.Splits.{length-slice_split}
+use Rattle.q_model.specs.Values.{Receiver}
 use Rattle.q_numbers.specs.Pieces.{is_space, one_or_more, words_in}
-use Rattle.q_text.specs.ValueTexts.{address_of}
+use Rattle.q_text.specs.ValueTexts.{plain_of}
 use Rattle.q_trace.specs.Answers.{AnswersText}
 use Rattle.q_trace.specs.declared.error.EntryError.TheVariants.{BadEntry}
 use Rattle.q_trace.specs.PartTexts.{addresses_of}
@@ -20,12 +21,12 @@ too_many text n e h =
     let long : nat_le (length (words_in text)) 50000 ≡ false = lt-leb (length (words_in text)) 50000 (omega (arith, word_count text, e, h)) in
     rw long refl
 
-pub few : (text : List ℕ) (n : ℕ) (o : Option (List (List ℕ))) → n ≡ count_by is_space text → n < 50000 → o ≡ one_or_more address_of (words_in text)
+pub few : (text : List ℕ) (n : ℕ) (o : Option (List Receiver)) → n ≡ count_by is_space text → n < 50000 → o ≡ one_or_more plain_of (words_in text)
     → addresses_of text ≡ o
 few text n o e h k =
     let short : nat_le (length (words_in text)) 50000 ≡ true = le-leb (length (words_in text)) 50000 (omega (arith, word_count text, e, h)) in
     rw short (sym k)
 
-pub as_listed : (o : Option (List (List ℕ))) → AnswersText (ok_or o BadEntry) o
+pub as_listed : (o : Option (List Receiver)) → AnswersText (ok_or o BadEntry) o
 as_listed None = refl
 as_listed (Some to) = refl

@@ -1,11 +1,11 @@
 -- The values that an entry of a trace may have.
-use Rattle.std.specs.Prelude.{◌^◌, ◌≡◌, ◌<◌, ◌≤◌, length, List, replicate, true, ℕ, ◌≢◌}
+use Rattle.std.specs.Prelude.{◌^◌, ◌≡◌, ◌<◌, ◌≤◌, length, List, map, None, replicate, true, ℕ, ◌≢◌}
 use Rattle.q_model.specs.declared.entry.Entry.{Entry}
 use Rattle.q_model.specs.IdTexts.{IsId}
 use Rattle.q_model.specs.Settings.{Table}
 use Rattle.q_model.specs.Text.{line, transport_text}
 use Rattle.q_model.specs.Texts.{is_hop}
-use Rattle.q_model.specs.Values.{Site}
+use Rattle.q_model.specs.Values.{Receiver, Site}
 use Rattle.q_text.specs.ValueForms.{FitsBits, HasAddressForm, IsListOf, IsOutcomeAt, IsSender}
 use Rattle.q_transport.specs.Names.{number_of}
 use Rattle.q_model.specs.declared.entry.Entry.TheVariants as entries
@@ -27,7 +27,7 @@ IsEntry table (entries.Life generation mode) = (1 ≤ generation) × FitsBits 32
 IsEntry table (entries.At t) = t ≤ 999990000000
 IsEntry table (entries.Arrive id sender to content) =
     IsId id × IsSender sender × (length content ≤ 10240000)
-    × IsListOf HasAddressForm to × (length to ≤ 50000)
+    × IsListOf HasAddressForm (map (λ r. r.address) to) × (length to ≤ 50000)
 IsEntry table (entries.Back id) = IsId id
 IsEntry table (entries.Admit id) = IsId id
 IsEntry table (entries.Load id from to) = IsId id × FitsBits 32 from × FitsBits 32 to
@@ -53,17 +53,22 @@ IsEntry table entries.End = Unit {0}
 abbrev pub IsLineOf : Table → List ℕ → Entry → Type 0
 IsLineOf table bytes e = IsEntry table e × (line table e ≡ bytes)
 
--- the entry with zeros for the bytes of an arrived content, of which a line has only the number
-abbrev pub with_zeros : Entry → Entry
-with_zeros (entries.Arrive id sender to content) =
-    entries.Arrive id sender to (replicate (length content) 0)
-with_zeros e = e
+-- a recipient by its address alone
+abbrev pub plain : Receiver → Receiver
+plain r = record { address = r.address; original = None }
+
+-- the entry as its line tells it: of an arrived content only the number of bytes, which are zeros here, and of
+-- its recipients no original address
+abbrev pub as_told : Entry → Entry
+as_told (entries.Arrive id sender to content) =
+    entries.Arrive id sender (map plain to) (replicate (length content) 0)
+as_told e = e
 
 -- no entry within these bounds has this line
 abbrev pub IsNoLine : Table → List ℕ → Type 0
 IsNoLine table text = (e : Entry) → IsEntry table e → line table e ≢ text
 
--- no other entry within them has its line, but for the bytes of an arrived content
+-- no other entry within them has its line, but for what a line doesn't tell
 abbrev pub IsAloneInLine : Table → Entry → Type 0
 IsAloneInLine table entry = (e : Entry) → IsEntry table entry
-    → IsLineOf table (line table entry) e → with_zeros e ≡ with_zeros entry
+    → IsLineOf table (line table entry) e → as_told e ≡ as_told entry

@@ -9,9 +9,10 @@ use Rattle.q_model.specs.declared.outcome.Why.TheVariants.{Expired, Refused}
 use Rattle.q_model.specs.IdTexts.{id_text}
 use Rattle.q_model.specs.Settings.{Table}
 use Rattle.q_model.specs.Texts.{is_hop}
+use Rattle.q_model.specs.Values.{Receiver}
 use Rattle.q_numbers.specs.Numbers.{number32_of, number_within}
 use Rattle.q_numbers.specs.Pieces.{one_or_more, words_in}
-use Rattle.q_text.specs.ValueTexts.{address_of, outcome_of}
+use Rattle.q_text.specs.ValueTexts.{outcome_of, plain_of}
 
 -- the number of bytes of an arrived content
 abbrev pub size_of : List ℕ → Option ℕ
@@ -37,10 +38,10 @@ id_of text =
     if is_id (id_like text) && bytes_eq (id_text (id_like text)) text then Some (id_like text)
     else None
 
--- 1 to 50,000 addresses
-abbrev pub addresses_of : List ℕ → Option (List (List ℕ))
+-- 1 to 50,000 recipients, by their addresses
+abbrev pub addresses_of : List ℕ → Option (List Receiver)
 addresses_of text =
-    if nat_le (length (words_in text)) 50000 then one_or_more address_of (words_in text) else None
+    if nat_le (length (words_in text)) 50000 then one_or_more plain_of (words_in text) else None
 
 -- at least one position
 abbrev pub positions_of : List ℕ → Option (List ℕ)

@@ -9,11 +9,11 @@ use Rattle.q_model.specs.IdTexts.{id_text}
 use Rattle.q_model.specs.Settings.{Table}
 use Rattle.q_model.specs.Text.{joined, outcome_text, sender_text, spaced, state_text, transport_text, words}
 use Rattle.q_model.specs.TextParts.{why_text}
-use Rattle.q_model.specs.Values.{Site}
+use Rattle.q_model.specs.Values.{Receiver, Site}
 
-abbrev pub arrive_words : Id → Option (List ℕ) → List (List ℕ) → List ℕ → List (List ℕ)
+abbrev pub arrive_words : Id → Option (List ℕ) → List Receiver → List ℕ → List (List ℕ)
 arrive_words id sender to content =
-    codes "arrive" ∷ id_text id ∷ sender_text sender ∷ decimal (length content) ∷ to
+    codes "arrive" ∷ id_text id ∷ sender_text sender ∷ decimal (length content) ∷ map (λ r. r.address) to
 
 abbrev pub reply_words : ℕ → SiteState → List Outcome → List (List ℕ)
 reply_words number state outcomes =

@@ -67,10 +67,11 @@ impl TraceLine {
     }
 
     pub(crate) fn addresses(&mut self, addresses: &Addresses) -> Result<(), NoMemory>
-        ensures { OnOk result (self.new ≡ self.old ++ flat_map spaced addresses.now) }
+        ensures { OnOk result (self.new
+            ≡ self.old ++ flat_map spaced (map (λ r. r.address) addresses.now)) }
     {
-        for address in addresses.as_slice() {
-            self.word(address.bytes())?;
+        for receiver in addresses.as_slice() {
+            self.word(receiver.address.bytes())?;
         }
         Ok(())
     }

@@ -8,7 +8,7 @@ use q_model::{Addresses, MOST_RECIPIENTS, Outcomes, Positions, SiteState};
 use q_text::{read_addresses, read_outcomes, read_positions};
 use std::alloc::Global;
 
-/// 1 to 50,000 addresses.
+/// 1 to 50,000 recipients, by their addresses.
 pub(crate) fn addresses(alloc: Global, text: &[u8]) -> Result<Addresses, EntryError>
     ensures { AnswersText result (addresses_of text.now) }
 {

@@ -3,7 +3,7 @@ ghost use Rattle.std.specs.Prelude.{◌≡◌, IfOk, IsErrOf, replicate};
 ghost use Rattle.q_model.specs.declared.entry.Entry.{Entry as EntryValue};
 ghost use Rattle.q_trace.specs.Answers.{AnswersText};
 ghost use Rattle.q_trace.specs.Bodies.{arrive_behind, entry_behind, entry_of_line, reply_behind, skip_behind, start_behind};
-ghost use Rattle.q_trace.specs.Bounds.{IsLineOf, with_zeros, IsNoLine};
+ghost use Rattle.q_trace.specs.Bounds.{IsLineOf, as_told, IsNoLine};
 ghost use Rattle.q_transport.specs.Routing.{table_of};
 
 use crate::bodies::plain;
@@ -142,17 +142,17 @@ fn entry(alloc: Global, text: &[u8], table: &Table) -> Result<Entry, EntryError>
 }
 
 /// The entry of a line, which ends with its LF. An `arrive` line has only the number of bytes of
-/// a content, so its entry has so many zeros.
+/// a content, so its entry has so many zeros, and no original addresses, so its recipients have none.
 ///
 /// `BadEntry` comes where no entry has this line: a word, a number, an id, an address, a next
 /// hop or an outcome isn't of its form or above its bound, a part is missing or too much, the
 /// table has no transport of this name, or parts aren't divided by single spaces.
 pub fn read_entry(alloc: Global, line: &[u8], table: &Table) -> Result<Entry, EntryError>
-    ensures ok { IfOk result (λ e. IsLineOf (table_of table.now) line.now e × (with_zeros e ≡ e)) }
+    ensures ok { IfOk result (λ e. IsLineOf (table_of table.now) line.now e × (as_told e ≡ e)) }
     ensures bad { IsErrOf result EntryError.BadEntry
         → IsNoLine (table_of table.now) line.now }
     ensures back { (e : EntryValue) → IsLineOf (table_of table.now) line.now e
-        → IfOk result (λ r. r ≡ with_zeros e) }
+        → IfOk result (λ r. r ≡ as_told e) }
 {
     match without_end(line) {
         Some(text) => entry(alloc, text, table),

@@ -221,7 +221,7 @@ fn entry_line(alloc: Global, entry: &Entry, table: &Table) -> Result<TraceLine, 
 /// The line of an entry, with its LF. A transport stands there by its name in the table.
 ///
 /// No two entries within the bounds of a trace have one line, unless they are the same but for
-/// the bytes of an arrived content.
+/// the bytes of an arrived content and the original addresses of an arrived message.
 #[tactic(auto, unfolding(q_model::specs::Text::line))]
 pub fn entry_text(alloc: Global, entry: &Entry, table: &Table) -> Result<Bytes, NoMemory>
     ensures text { IfOk result (λ bytes. bytes ≡ line (table_of table.now) entry.now) }

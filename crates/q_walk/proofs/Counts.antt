@@ -14,7 +14,7 @@ use Rattle.q_model.specs.Book.{Book}
 use Rattle.q_model.specs.declared.id.Id.{Id}
 use Rattle.q_model.specs.declared.rows.Place.{Place}
 use Rattle.q_model.specs.declared.rows.Place.TheVariants as places
-use Rattle.q_model.specs.FilesStand.{MessageStands, Stands}
+use Rattle.q_model.specs.FilesStand.{file_recipient, MessageStands, Stands}
 use Rattle.q_model.specs.Ids.{are_distinct, id_eq}
 use Rattle.q_model.specs.IdTexts.{IsId}
 use Rattle.q_model.specs.Lists.{places_from}
@@ -242,7 +242,7 @@ few_pending : (f : Files) (m : Message) → MessageStands f m → length (pendin
 few_pending f m stands =
     let places = few_places 0 (λ i r. not (is_marked r.mark || is_logged m i)) m.recipients in
     let few = stands.reads.lawful.few in
-    let same = length-map {B = FileRecipient} m.recipients (λ r. record { address = r.address; marked = is_marked r.mark }) in
+    let same = length-map {B = FileRecipient} m.recipients file_recipient in
     omega (arith, places, few, same)
 
 few_in : (f : Files) (ms : List Message) → AllByRecursion (MessageStands f) ms → sum_by (λ m. length (pending m)) ms ≤ 50000 * length ms

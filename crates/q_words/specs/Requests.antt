@@ -7,8 +7,9 @@ use Rattle.clap.specs.Words.{all_of, first_of, matches_of, one_of, Row, Text}
 use Rattle.q_model.specs.Lists.{has_none}
 use Rattle.q_shape.specs.Buckets.{IsShape}
 use Rattle.q_numbers.specs.Pieces.{one_or_more}
-use Rattle.q_text.specs.ValueTexts.{address_of, sender_of_text}
+use Rattle.q_text.specs.ValueTexts.{plain_of, sender_of_text}
 use Rattle.q_model.specs.declared.queues.Queues.{Queues}
+use Rattle.q_model.specs.Values.{Receiver}
 use Rattle.q_words.specs.declared.request.Request.{Request}
 use Rattle.q_words.specs.declared.request.Request.TheVariants as requests
 use Rattle.q_shape.specs.declared.request.TableRequest.{TableRequest}
@@ -23,8 +24,8 @@ abbrev pub sender_in : List Row → Option (Option Text)
 sender_in rows = option_and_then sender_of_text (first_of (codes "sender") rows)
 
 -- the recipients; None where a word is no address
-abbrev pub to_in : List Row → Option (List Text)
-to_in rows = one_or_more address_of (words_of (codes "to") rows)
+abbrev pub to_in : List Row → Option (List Receiver)
+to_in rows = one_or_more plain_of (words_of (codes "to") rows)
 
 -- a word that names a queue
 abbrev pub is_queue : Text → Bool
@@ -63,7 +64,7 @@ pub record IsTableRequest (rows : List Row) (t : TableRequest) : Type 0 where
   pub queues : t.queues ≡ queues_of (words_of (codes "queues") rows)
 
 -- the sender and the recipients that the words of `submit` name
-pub record IsSubmission (rows : List Row) (sender : Option Text) (to : List Text) : Type 0 where
+pub record IsSubmission (rows : List Row) (sender : Option Text) (to : List Receiver) : Type 0 where
   pub from : sender_in rows ≡ Some sender
   pub recipients : to_in rows ≡ Some to
 

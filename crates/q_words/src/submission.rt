@@ -2,7 +2,7 @@
 ghost use Rattle.std.specs.Prelude.{◌≡◌, IfOk, map, string_bytes};
 ghost use Rattle.clap.specs.Words.{found_of, matches_of, rows_of};
 ghost use Rattle.q_numbers.specs.Pieces.{each_some, one_or_more};
-ghost use Rattle.q_text.specs.ValueTexts.{address_of};
+ghost use Rattle.q_text.specs.ValueTexts.{plain_of};
 ghost use Rattle.q_words.specs.Commands.{submit_app};
 ghost use Rattle.q_words.specs.Requests.{IsSubmit, sender_in, to_in};
 ghost use Rattle.q_words.specs.Usages.{has_no_address, is_submit_usage, IsAnswer};
@@ -13,7 +13,7 @@ use crate::error::{WordsError, refused};
 use crate::request::Request;
 use clap::ArgMatches;
 use q_model::{Address, Addresses, NoMemory};
-use q_text::read_sender;
+use q_text::{read_plain, read_sender};
 use std::alloc::Global;
 
 fn sender_in<'a>(matches: &ArgMatches<'a>) -> Option<Option<Address>>
@@ -25,23 +25,23 @@ fn sender_in<'a>(matches: &ArgMatches<'a>) -> Option<Option<Address>>
     }
 }
 
-/// The addresses that the words are, if each is one.
+/// The recipients whose addresses the words are, if each is one.
 fn addresses(alloc: Global, words: &[&str]) -> Result<Option<Addresses>, NoMemory>
-    ensures { IfOk result (λ list. list ≡ each_some address_of (map (λ w. w.now) words.now)) }
+    ensures { IfOk result (λ list. list ≡ each_some plain_of (map (λ w. w.now) words.now)) }
 {
     let mut list = Addresses::new(alloc);
     for word in words {
-        let Some(address) = Address::new(word.as_bytes()) else {
+        let Some(receiver) = read_plain(word.as_bytes()) else {
             return Ok(None);
         };
-        list.push(address)?;
+        list.push(receiver)?;
     }
     Ok(Some(list))
 }
 
 /// The same of at least one word.
 fn some_addresses(alloc: Global, words: &[&str]) -> Result<Option<Addresses>, NoMemory>
-    ensures { IfOk result (λ list. list ≡ one_or_more address_of (map (λ w. w.now) words.now)) }
+    ensures { IfOk result (λ list. list ≡ one_or_more plain_of (map (λ w. w.now) words.now)) }
 {
     if words.is_empty() {
         return Ok(None);

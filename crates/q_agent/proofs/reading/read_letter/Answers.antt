@@ -4,7 +4,7 @@ use Rattle.q_message.specs.FileHeads.{IsHead}
 use Rattle.q_message.specs.Names.{AreNames}
 use Rattle.q_message.specs.Told.{TellsOf}
 use Rattle.q_message.specs.declared.error.MessageError.{MessageError}
-use Rattle.q_model.specs.Values.{FileHead}
+use Rattle.q_model.specs.Values.{FileHead, Receiver}
 use Rattle.q_agent.proofs.ReadingLaws.{all_below, count_says, letter_of, no_fault, read_none, read_some, says}
 use Rattle.q_agent.proofs.reading.read_letter.Goals as goal
 
@@ -40,5 +40,5 @@ returns-clause-letter g c =
     let head_read = read_some c.read_head.result file (sym c.readable.ensures ∙ c.in_ok-file.was ∙ ap Ok c.in-Some.is) in
     let names_read = read_some c.read_names.result to (sym c.readable-2.ensures ∙ c.in_ok-to.was ∙ ap Ok c.in-Some-2.is) in
     let head = subst (λ (r : Result FileHead MessageError). IfOk r (λ (h : FileHead). TellsOf g.H.Host.tells v s (IsHead h))) head_read c.read_head.ensures.head in
-    let names = subst (λ (r : Result (List (List ℕ)) MessageError). IfOk r (λ (names : List (List ℕ)). TellsOf g.H.Host.tells w s (AreNames c.args.positions.now names))) names_read c.read_names.ensures.names in
+    let names = subst (λ (r : Result (List Receiver) MessageError). IfOk r (λ (names : List Receiver). TellsOf g.H.Host.tells w s (AreNames c.args.positions.now names))) names_read c.read_names.ensures.names in
     letter_of g.H.Host.tells v w s c.args.positions.now file to head c.read_head.ensures.stays names (sym c.len.ensures ∙ c.if-len.false ∙ c.len-2.ensures)

@@ -1,4 +1,4 @@
-use Rattle.std.proofs.Common.{◌≡◌, ◌≤◌, ◌∙◌, ◌∷◌, [], IsTrue, length, List, None, Option, Some, subst, sym, ℕ}
+use Rattle.std.proofs.Common.{◌≡◌, ◌≤◌, ◌∙◌, ◌∷◌, [], IsTrue, length, List, None, Option, refl, Some, subst, sym, true, ℕ}
 use Rattle.std.specs.Prelude.{IfNone, IfSome}
 use Rattle.q_books.proofs.Joining.{kept_takes, kept_tries, reads_keep, reads_try}
 use Rattle.q_books.specs.HostStands.{TellsCrashes}
@@ -8,9 +8,11 @@ use Rattle.q_message.specs.Told.{TellsOf}
 use Rattle.q_model.specs.Ids.{bounce_of}
 use Rattle.q_model.specs.QueueFile.{queue_file}
 use Rattle.q_model.specs.SpoolFiles.{Files}
-use Rattle.q_model.specs.Values.{FileHead}
+use Rattle.q_message.specs.NewFile.{is_receiver}
+use Rattle.q_model.specs.Values.{FileHead, Receiver}
+use Rattle.std.specs.List.{list_all}
 use Rattle.q_engine.specs.BounceTexts.{TellsNotice}
-use Rattle.q_engine.proofs.Bounced.{adds_by, bounce_adds, notice_before, tried, unread_bounce, unsent_bounce}
+use Rattle.q_engine.proofs.Bounced.{adds_by, bounce_adds, notice_before, plain, tried, unread_bounce, unsent_bounce}
 use Rattle.q_engine.proofs.leaving.store_bounce.Goals as goal
 
 pub returns-in_err-head-clause-tries : goal.returns-in_err-head-clause-tries
@@ -104,7 +106,7 @@ returns-in_err-store-clause-tries g c t b k h adds =
     let noticed = subst (λ (o : Option (List ℕ)). IfSome o (λ text. IsTrue g.H.Host.tells → TellsNotice m c.args.spot c.args.id sender text)) c.in-Some-2.is c.in_ok-text.ensures.notice in
     let told = notice_before v m c.args.spot c.args.id sender text lawful same (noticed t) in
     let made = bounce_adds v x.files b k c.args.spot c.args.id c.args.arrival head sender text first.files h (read t) some told adds in
-    let stored = adds_by x.files (bounce_of c.args.id) c.bounce_of.result (record { sender = None; arrival = c.args.arrival }) (sender ∷ []) c.in_ok-to.to text c.as_slice.result.now b k c.bounce_of.ensures c.in_ok-to.ensures c.as_slice.ensures made in
+    let stored = adds_by x.files (bounce_of c.args.id) c.bounce_of.result (record { sender = None; arrival = c.args.arrival }) (plain sender ∷ []) c.in_ok-to.to text c.as_slice.result.now b k c.bounce_of.ensures c.in_ok-to.ensures c.as_slice.ensures made in
     kept_tries b k v x w keeps (c.in_err-store.ensures.err t b k keeps.stands stored)
 
 pub returns-clause-ok : goal.returns-clause-ok
@@ -125,7 +127,7 @@ returns-clause-ok g c t b k h adds =
     let noticed = subst (λ (o : Option (List ℕ)). IfSome o (λ text. IsTrue g.H.Host.tells → TellsNotice m c.args.spot c.args.id sender text)) c.in-Some-2.is c.in_ok-text.ensures.notice in
     let told = notice_before v m c.args.spot c.args.id sender text lawful same (noticed t) in
     let made = bounce_adds v x.files b k c.args.spot c.args.id c.args.arrival head sender text first.files h (read t) some told adds in
-    let stored = adds_by x.files (bounce_of c.args.id) c.bounce_of.result (record { sender = None; arrival = c.args.arrival }) (sender ∷ []) c.in_ok-to.to text c.as_slice.result.now b k c.bounce_of.ensures c.in_ok-to.ensures c.as_slice.ensures made in
+    let stored = adds_by x.files (bounce_of c.args.id) c.bounce_of.result (record { sender = None; arrival = c.args.arrival }) (plain sender ∷ []) c.in_ok-to.to text c.as_slice.result.now b k c.bounce_of.ensures c.in_ok-to.ensures c.as_slice.ensures made in
     kept_takes b k v x w keeps (c.in_ok-store.ensures.ok t b k keeps.stands stored)
 
 pub returns-clause-tries : goal.returns-clause-tries
@@ -146,7 +148,7 @@ returns-clause-tries g c t b k h adds =
     let noticed = subst (λ (o : Option (List ℕ)). IfSome o (λ text. IsTrue g.H.Host.tells → TellsNotice m c.args.spot c.args.id sender text)) c.in-Some-2.is c.in_ok-text.ensures.notice in
     let told = notice_before v m c.args.spot c.args.id sender text lawful same (noticed t) in
     let made = bounce_adds v x.files b k c.args.spot c.args.id c.args.arrival head sender text first.files h (read t) some told adds in
-    let stored = adds_by x.files (bounce_of c.args.id) c.bounce_of.result (record { sender = None; arrival = c.args.arrival }) (sender ∷ []) c.in_ok-to.to text c.as_slice.result.now b k c.bounce_of.ensures c.in_ok-to.ensures c.as_slice.ensures made in
+    let stored = adds_by x.files (bounce_of c.args.id) c.bounce_of.result (record { sender = None; arrival = c.args.arrival }) (plain sender ∷ []) c.in_ok-to.to text c.as_slice.result.now b k c.bounce_of.ensures c.in_ok-to.ensures c.as_slice.ensures made in
     kept_tries b k v x w keeps (tried b k x w (c.in_ok-store.ensures.ok t b k keeps.stands stored))
 
 pub notice_at-requires-clause-few : goal.notice_at-requires-clause-few
@@ -154,5 +156,8 @@ notice_at-requires-clause-few g c = subst (λ (o : Option FileHead). IfSome o (�
 
 pub store-requires-clause-short : goal.store-requires-clause-short
 store-requires-clause-short g c =
-    let short = subst (λ (o : Option (List ℕ)). IfSome o (λ text. length text ≤ 20000000)) c.in-Some-2.is c.in_ok-text.ensures.short in
-    subst (λ (x : List ℕ). length x ≤ 20000000) (sym c.as_slice.ensures) short
+    let short = subst (λ (o : Option (List ℕ)). IfSome o (λ text. length text ≤ 40000000)) c.in-Some-2.is c.in_ok-text.ensures.short in
+    subst (λ (x : List ℕ). length x ≤ 40000000) (sym c.as_slice.ensures) short
+
+pub store-requires-clause-others : goal.store-requires-clause-others
+store-requires-clause-others g c = subst (λ (to : List Receiver). list_all is_receiver to ≡ true) (sym c.in_ok-to.ensures) refl

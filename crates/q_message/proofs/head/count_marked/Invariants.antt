@@ -13,8 +13,8 @@ invariant-loop g l =
       disk_later : (faults l.fn.host).disk ≤ (faults l.host).disk;
       tell_later : (faults l.fn.host).tell ≤ (faults l.host).tell;
       counted : l.marked ≤ l.counter;
-      near : l.window.at ≤ l.fn.window.at + 260 * l.counter;
+      near : l.window.at ≤ l.fn.window.at + 519 * l.counter;
       shows : IsTrue g.H.Host.tells → (file : List ℕ) → (view l.fn.host).files l.spot.area l.spot.name ≡ Some file → Shows file l.fn.window → Shows file l.window;
       reads : IsTrue g.H.Host.tells → (file : List ℕ) → (view l.fn.host).files l.spot.area l.spot.name ≡ Some file → Shows file l.fn.window
-          → marks_counted l.marked (recipients_from (l.recipients - l.counter) l.window.at (drop l.window.at file)) ≡ marks_counted 0 (recipients_from l.recipients l.fn.window.at (drop l.fn.window.at file));
+          → marks_counted l.marked (recipients_from l.version (l.recipients - l.counter) l.window.at (drop l.window.at file)) ≡ marks_counted 0 (recipients_from l.version l.recipients l.fn.window.at (drop l.fn.window.at file));
     }

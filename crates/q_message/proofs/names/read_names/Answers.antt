@@ -3,7 +3,7 @@ use Rattle.std.proofs.lemmas.List.{take_all}
 use Rattle.std.specs.Prelude.{get_or}
 use Rattle.q_model.specs.QueueFileBytes.{recipient_at}
 use Rattle.q_model.specs.Values.{FileHead}
-use Rattle.q_message.specs.Names.{address_in}
+use Rattle.q_message.specs.Names.{receiver_in}
 use Rattle.q_message.proofs.NameLaws.{fresh, names_begin, names_end, names_more, stands_before, stands_later, stands_same}
 use Rattle.q_message.specs.Windows.{Seen}
 use Rattle.q_message.proofs.PendingLaws.{recipients_few}
@@ -14,9 +14,9 @@ pub loop-position-preserved : goal.loop-position-preserved
 loop-position-preserved g c =
     let loop = c.loop-position in
     record {
-      stays = λ t. stays_on _ _ _ (loop.invariant.stays t) (c.read_address.ensures.stays t);
-      disk_later = omega (arith, loop.invariant.disk_later, c.read_address.ensures.cause.disk_later);
-      tell_later = omega (arith, loop.invariant.tell_later, c.read_address.ensures.cause.tell_later);
+      stays = λ t. stays_on _ _ _ (loop.invariant.stays t) (c.read_receiver.ensures.stays t);
+      disk_later = omega (arith, loop.invariant.disk_later, c.read_receiver.ensures.cause.disk_later);
+      tell_later = omega (arith, loop.invariant.tell_later, c.read_receiver.ensures.cause.tell_later);
       reads = λ t m s within.
           let r = loop.invariant.reads t m s within in
           let items = c.as_slice-position-items.ensures in
@@ -27,9 +27,9 @@ loop-position-preserved g c =
           let next : p + 1 ≡ c.saturating_add-from.result = omega (arith, c.saturating_add-from.ensures, below, recipients_few s.bytes m s.reads) in
           let first : c.file.inside.first_at ≡ recipient_at m 0 = ap (λ (w : Seen). w.at) (sym c.new-window.ensures) ∙ s.place in
           let here = stands_later (g.H.Host.view c.args.host.now) (g.H.Host.view loop.host) c.args.spot m c.loop-position.from c.loop-position.window (loop.invariant.stays t) r.0 in
-          let there = stands_before (g.H.Host.view c.args.host.now) (g.H.Host.view loop.host) c.args.spot m (p + 1) c.read_address.new.window (loop.invariant.stays t) (c.in_ok-address.ensures.stands t m here first below) in (
-            stands_same _ m (p + 1) c.saturating_add-from.result c.read_address.new.window next there,
-            names_more m c.args.positions.now c.loop-position.position-index p c.loop-position.names c.push.new.self c.in_ok-address.address inside read r.1 (c.in_ok-address.ensures.address t m here first below) c.in_ok-push.ensures.ok,
+          let there = stands_before (g.H.Host.view c.args.host.now) (g.H.Host.view loop.host) c.args.spot m (p + 1) c.read_receiver.new.window (loop.invariant.stays t) (c.in_ok-receiver.ensures.stands t m here first below) in (
+            stands_same _ m (p + 1) c.saturating_add-from.result c.read_receiver.new.window next there,
+            names_more m c.args.positions.now c.loop-position.position-index p c.loop-position.names c.push.new.self c.in_ok-receiver.receiver inside read r.1 (c.in_ok-receiver.ensures.receiver t m here first below) c.in_ok-push.ensures.ok,
           );
     }
 
@@ -40,4 +40,4 @@ returns-clause-names g c t =
     let r = c.loop-position.invariant.reads t begin.0 begin.1 begin.2 in
     let all : length c.args.positions.now ≤ c.loop-position.position-index = omega (arith, c.loop-position-test.false, ap length c.as_slice-position-items.ensures) in
     names_end _ begin.0 0 c.new-window.result _ c.args.positions.now begin.1
-    (r.1 ∙ ap (map (address_in begin.0)) (take_all c.loop-position.position-index c.args.positions.now all))
+    (r.1 ∙ ap (map (receiver_in begin.0)) (take_all c.loop-position.position-index c.args.positions.now all))

@@ -2,7 +2,7 @@ use Rattle.std.proofs.Common.{◌≡◌, ◌<◌, ◌≤◌, IsTrue, length, map
 use Rattle.std.specs.List.{All}
 use Rattle.q_model.specs.QueueFile.{FileMessage}
 use Rattle.q_host.specs.Calls.{Stays}
-use Rattle.q_message.specs.Names.{StandsAt, address_in}
+use Rattle.q_message.specs.Names.{StandsAt, receiver_in}
 use Rattle.q_message.proofs.names.read_names.Given as goal
 
 abbrev pub invariant-loop-position : goal.invariant-loop-position
@@ -14,5 +14,5 @@ invariant-loop-position g l =
       disk_later : (faults l.fn.host).disk ≤ (faults l.host).disk;
       tell_later : (faults l.fn.host).tell ≤ (faults l.host).tell;
       reads : IsTrue g.H.Host.tells → (m : FileMessage) → StandsAt ((view l.fn.host).files l.spot.area l.spot.name) m 0 l.initial.window → All (λ p. p < length m.recipients) l.fn.positions
-          → StandsAt ((view l.fn.host).files l.spot.area l.spot.name) m l.from l.window × (l.names ≡ map (address_in m) (take l.position-index l.fn.positions));
+          → StandsAt ((view l.fn.host).files l.spot.area l.spot.name) m l.from l.window × (l.names ≡ map (receiver_in m) (take l.position-index l.fn.positions));
     }

@@ -1,13 +1,13 @@
 use Rattle.std.proofs.Common.{◌≡◌, ◌+◌, ◌<◌, ◌≤◌, ◌∷◌, ◌++◌, [], List, ℕ, Some, ap, arith, length, slice_get, subst, sym, ◌∙◌}
 use Rattle.std.proofs.lemmas.List.{length-append}
 use Rattle.q_model.specs.QueueFile.{FileRecipient}
-use Rattle.q_model.specs.QueueFileBytes.{recipient_at}
+use Rattle.q_model.specs.QueueFileBytes.{original_size, recipient_at, recipient_size}
 use Rattle.q_model.specs.Values.{Batch, Taken}
 use Rattle.q_model.specs.SpoolFiles.{Files}
 use Rattle.q_message.specs.Pending.{cursor_at, position_behind, taken_at, taken_from}
-use Rattle.q_message.specs.Readings.{front_recipient}
+use Rattle.q_message.specs.Readings.{version_at}
 use Rattle.q_message.specs.Windows.{Shows}
-use Rattle.q_message.proofs.PendingLaws.{IsLeft, cursor_is, cursor_with, each_told, few_more, left_end, left_marked, left_none, left_taken, next_at, recipient_is, recipient_missing, recipient_near, recipients_of, taken_is, taken_with, told}
+use Rattle.q_message.proofs.PendingLaws.{front_told, IsLeft, cursor_is, cursor_with, each_told, few_more, left_end, left_marked, left_none, left_taken, next_at, recipient_is, recipient_missing, recipient_near, recipients_of, taken_is, taken_with, told}
 use Rattle.q_host.proofs.Stays.{stays_on}
 use Rattle.q_message.proofs.WindowLaws.{moved_shows}
 use Rattle.q_message.proofs.recipients.read_recipients.Goals as goal
@@ -22,7 +22,7 @@ returns-in_default-clause-no_message g c place is t =
     let many = recipients_of ((g.H.Host.view c.args.host.now).files c.args.spot.area c.args.spot.name) k.0 m c.args.recipients c.args.cursor (c.requires.reading t) k.1 k.2.reads in
     let within : c.loop-position.position < length k.2.message.recipients = omega arith in
     let front = c.in_ok-fill.ensures.front t k.0 (ap (λ (f : Files). f c.args.spot.area c.args.spot.name) (loop.invariant.stays t).files ∙ k.1) r.shows in
-    recipient_missing k.0 m loop.position loop.window.at c.fill.new.self.bytes k.2.reads r.place within front (sym (c.front_recipient.ensures ∙ ap front_recipient c.bytes.ensures) ∙ c.in_default.is)
+    recipient_missing k.0 m loop.position loop.window.at c.fill.new.self.bytes k.2.reads r.place within front (sym (front_told _ _ _ c.fill.new.self.bytes c.front_recipient.ensures c.version_at-version.ensures c.bytes-front.ensures) ∙ c.in_default.is)
 
 pub loop-position-preserved : goal.loop-position-preserved
 loop-position-preserved g c =
@@ -54,12 +54,13 @@ loop-position-preserved g c =
           let there = ap (λ (f : Files). f c.args.spot.area c.args.spot.name) (loop.invariant.stays t).files ∙ here in
           let front = c.in_ok-fill.ensures.front t bytes there r.shows in
           let k = recipient_is bytes m loop.position loop.window.at c.fill.new.self.bytes given r.place within front in
-          let is : slice_get m.recipients c.loop-position.position ≡ Some c.in-Some.recipient = k.1 ∙ sym k.2 ∙ sym (c.front_recipient.ensures ∙ ap front_recipient c.bytes.ensures) ∙ c.in-Some.is in
+          let is : slice_get m.recipients c.loop-position.position ≡ Some c.in-Some.recipient = k.there ∙ sym k.found ∙ sym (front_told _ _ _ c.fill.new.self.bytes c.front_recipient.ensures c.version_at-version.ensures c.bytes-front.ensures) ∙ c.in-Some.is in
+          let version : c.version_at-version.result ≡ m.version = c.version_at-version.ensures ∙ ap version_at c.bytes-front.ensures ∙ k.version in
           let near = recipient_near bytes m loop.position given in
           let place = r.place in
           let same = c.fill.ensures.at in
           let moves = c.skip.ensures.at (omega (arith, c.recipient_size.ensures.few)) in
-          let size = c.recipient_size.ensures.size in
+          let size = c.recipient_size.ensures.size ∙ ap (λ (v : ℕ). recipient_size v c.in-Some.recipient) version in
           let mark : c.recipient.inside.marked ≡ c.in-Some.recipient.marked = ap (λ (x : FileRecipient). x.marked) c.recipient.view_is in
           let room : length c.loop-position.out.items < c.args.max = omega (arith, c.if-len-max.true, c.len.ensures) in
           record {
@@ -68,8 +69,10 @@ loop-position-preserved g c =
             within = omega arith;
             left = elim c.if-not-recipient.branch [
               | then-not-recipient w ↦
-                  let one = ap (λ (x : FileRecipient). taken_with c.loop-position.position w.saturating_add.result x.address) c.recipient.view_is
-                  ∙ taken_is bytes m loop.position c.at-at.result w.saturating_add.result c.in-Some.recipient given is (c.at-at.ensures ∙ same ∙ place) w.saturating_add.ensures in
+                  let begins = c.at-at.ensures ∙ same ∙ place in
+                  let marks = w.mark_at.ensures (omega (arith, near, begins)) ∙ ap (λ (v : ℕ). c.at-at.result + original_size v c.in-Some.recipient.original + 5) version in
+                  let one = ap (λ (x : FileRecipient). taken_with c.loop-position.position w.mark_at.result x.address) c.recipient.view_is
+                  ∙ taken_is bytes m loop.position c.at-at.result w.mark_at.result c.in-Some.recipient is begins marks in
                   let items : c.if-not-recipient.out.items ≡ c.loop-position.out.items ++ taken_at m c.loop-position.position ∷ [] =
                   ap (λ (b : Batch). b.items) w.out-is ∙ w.push.ensures.items ∙ ap (λ (x : Taken). c.loop-position.out.items ++ x ∷ []) one in
                   subst (λ (xs : List Taken). IsLeft m c.args.cursor.position c.args.max xs (c.loop-position.position + 1)) (sym items)

@@ -10,4 +10,4 @@ returns-clause-written c =
 pub returns-clause-reads : goal.returns-clause-reads
 returns-clause-reads c =
     file_reads c.args.head.now c.args.to.now c.args.content.now c.from_vec.result c.requires.arrival c.requires.some c.requires.few c.requires.short c.in_ok-out.ensures.form c.in_ok-push_recipients.ensures.forms
-    (returns-clause-written c)
+    c.requires.others (returns-clause-written c)

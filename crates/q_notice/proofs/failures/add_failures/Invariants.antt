@@ -5,5 +5,5 @@ use Rattle.q_notice.proofs.failures.add_failures.Given as goal
 abbrev pub invariant-loop-i : goal.invariant-loop-i
 invariant-loop-i l = record {
   text : l.text.items ≡ l.fn.text.items ++ named_failures (take l.i l.failures) (take l.i l.names);
-  short : length l.text.items ≤ length l.fn.text.items + 280 * l.i;
+  short : length l.text.items ≤ length l.fn.text.items + 541 * l.i;
 }

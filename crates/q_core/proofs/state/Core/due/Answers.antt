@@ -7,4 +7,4 @@ use Rattle.q_core.proofs.state.Core.due.Goals as goal
 
 pub returns : goal.returns
 returns c = subst (λ (s : State). c.due.result ≡ due_in s c.args.arrival) c.self.view_is (c.due.ensures (world_without_table c.self.inside.params)
-    (record { id = record { generation = 0; serial = 0; bounce = false }; sender = None; arrival = c.args.arrival; content = []; recipients = []; failures = []; place = Active }) refl refl)
+    (record { id = record { generation = 0; serial = 0; bounce = false }; version = 2; sender = None; arrival = c.args.arrival; content = []; recipients = []; failures = []; place = Active }) refl refl)

@@ -6,14 +6,14 @@ use Rattle.q_core.proofs.StepLaws.{HoldsRaw, due_law, due_rows, wake_law}
 use Rattle.q_core.proofs.NoteLaws.{note_law}
 use Rattle.q_core.proofs.TidyLaws.{tidy_law}
 use Rattle.q_core.proofs.UsedLaws.{asked_sites, asked_used, tidied_used}
-use Rattle.q_core.specs.Changes.{asked_when_due, revived_by, used_sites, with_sites}
+use Rattle.q_core.specs.Changes.{asked_when_due, woken_by, used_sites, with_sites}
 use Rattle.q_core.specs.declared.state.Core.{Core}
 use Rattle.q_core.proofs.state.Core.hear_at.Goals as goal
 
 pub returns-clause-exact : goal.returns-clause-exact
 unfolding after
 returns-clause-exact c = λ w l a.
-    let st = revived_by c.args.moment c.args.self.now in
+    let st = woken_by c.args.moment c.args.self.now in
     let y = c.wake.new.self in
     let z = c.ask_when_due.new.self in
     let is : z ≡ asked_when_due y = c.ask_when_due.ensures in

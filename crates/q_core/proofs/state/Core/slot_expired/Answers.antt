@@ -11,5 +11,5 @@ pub returns : goal.returns
 returns c =
     let slot = c.args.slot.now in
     subst (λ (s : State). c.expired.result ≡ slot_expired_in s slot) c.self.view_is (c.expired.ensures (world_without_table c.self.inside.params)
-    (record { id = slot.id; sender = sender_for slot.null_sender; arrival = slot.arrival; content = []; recipients = []; failures = []; place = Active }) refl refl (sender_is slot.null_sender)
+    (record { id = slot.id; version = 2; sender = sender_for slot.null_sender; arrival = slot.arrival; content = []; recipients = []; failures = []; place = Active }) refl refl (sender_is slot.null_sender)
     ∙ expired_as (state_of c.self.inside) slot)

@@ -1,12 +1,12 @@
 use Rattle.std.proofs.Common.{◌≡◌, ◌∙◌, ap, filter, map, refl, subst, sym, true}
 use Rattle.q_core.proofs.SiteChanges.{sites_kept}
 use Rattle.q_core.proofs.SiteViews.{due_apart, due_tied, due_used}
-use Rattle.q_core.specs.Changes.{revived_by}
+use Rattle.q_core.specs.Changes.{woken_by}
 use Rattle.q_core.specs.Known.{known_records}
 use Rattle.q_core.specs.State.{State}
 use Rattle.q_core.specs.Ties.{goes_to_dead}
-use Rattle.q_core.specs.UsedSites.{revive_due_in, used_in}
-use Rattle.q_dest.specs.Dests.{Dests, is_kept, revived_when_due}
+use Rattle.q_core.specs.UsedSites.{wake_due_in, used_in}
+use Rattle.q_dest.specs.Dests.{Dests, is_kept, woken_when_due}
 use Rattle.q_held.specs.Held.{AreHeldBy, rows_of}
 use Rattle.q_core.proofs.state.Core.wake.Goals as goal
 
@@ -19,8 +19,8 @@ hold_dead-requires c =
     let apart = c.stand_apart.ensures.apart in
     let tie = c.self.invariant.2 in
     let p = core.params in
-    let sites : c.revive_due.new.self.items ≡ filter is_kept (map (revived_when_due p c.args.moment) ds) = ap (λ (x : Dests). x.items) c.revive_due.ensures in
-    rw sites (sites_kept rows fs (map (revived_when_due p c.args.moment) ds) (due_apart rows fs ds apart tie p c.args.moment) (due_tied rows fs ds apart tie p c.args.moment)).waiting
+    let sites : c.wake_due.new.self.items ≡ filter is_kept (map (woken_when_due p c.args.moment) ds) = ap (λ (x : Dests). x.items) c.wake_due.ensures in
+    rw sites (sites_kept rows fs (map (woken_when_due p c.args.moment) ds) (due_apart rows fs ds apart tie p c.args.moment) (due_tied rows fs ds apart tie p c.args.moment)).waiting
 
 pub invariant_of-self : goal.invariant_of-self
 invariant_of-self c =
@@ -31,22 +31,22 @@ invariant_of-self c =
     let apart = c.stand_apart.ensures.apart in
     let tie = c.self.invariant.2 in
     let p = core.params in
-    let sites : c.revive_due.new.self.items ≡ filter is_kept (map (revived_when_due p c.args.moment) ds) = ap (λ (x : Dests). x.items) c.revive_due.ensures in
+    let sites : c.wake_due.new.self.items ≡ filter is_kept (map (woken_when_due p c.args.moment) ds) = ap (λ (x : Dests). x.items) c.wake_due.ensures in
     rw (sites, c.hold_dead.ensures.rows) (
       c.self.invariant.0,
       c.self.invariant.1,
-      sites_kept rows fs (map (revived_when_due p c.args.moment) ds) (due_apart rows fs ds apart tie p c.args.moment) (due_tied rows fs ds apart tie p c.args.moment),
+      sites_kept rows fs (map (woken_when_due p c.args.moment) ds) (due_apart rows fs ds apart tie p c.args.moment) (due_tied rows fs ds apart tie p c.args.moment),
       c.self.invariant.3,
       subst (λ es. AreHeldBy (goes_to_dead es) c.hold_dead.new.waiting.items) sites c.hold_dead.ensures.held,
       c.self.invariant.5,
       c.self.invariant.6,
-      rw (ap (λ (x : Dests). x.room) c.revive_due.ensures, c.hold_dead.ensures.room) c.self.invariant.7,
+      rw (ap (λ (x : Dests). x.room) c.wake_due.ensures, c.hold_dead.ensures.room) c.self.invariant.7,
       rw c.hold_dead.ensures.most c.self.invariant.8,
     )
 
 pub returns-clause-woken : goal.returns-clause-woken
 returns-clause-woken c = record {
-  rest = rw c.hold_dead.ensures.rows (ap (λ (s : State). record s { clock = record { seconds = c.new-self-inside.result.seconds }; timed = true; sites = revived_by c.args.moment c.args.self.now }) c.self.view_is);
+  rest = rw c.hold_dead.ensures.rows (ap (λ (s : State). record s { clock = record { seconds = c.new-self-inside.result.seconds }; timed = true; sites = woken_by c.args.moment c.args.self.now }) c.self.view_is);
   seconds = c.new-self-inside.ensures;
   sites = refl;
 }
@@ -56,7 +56,7 @@ returns-clause-used c =
     let core = c.self.inside in
     let rows = rows_of core.waiting.items in
     let fs = core.flights.items in
-    ap (λ (x : Dests). known_records x.items) c.revive_due.ensures
+    ap (λ (x : Dests). known_records x.items) c.wake_due.ensures
     ∙ due_used rows fs core.sites.items c.stand_apart.ensures.apart c.self.invariant.2 core.params c.args.moment
-    ∙ ap (λ (s : State). used_in rows fs (map (revive_due_in s.params s.flights c.args.moment) s.sites)) c.self.view_is
-    ∙ ap (λ rs. used_in rs fs (map (revive_due_in c.args.self.now.params c.args.self.now.flights c.args.moment) c.args.self.now.sites)) (sym c.hold_dead.ensures.rows)
+    ∙ ap (λ (s : State). used_in rows fs (map (wake_due_in s.params s.flights c.args.moment) s.sites)) c.self.view_is
+    ∙ ap (λ rs. used_in rs fs (map (wake_due_in c.args.self.now.params c.args.self.now.flights c.args.moment) c.args.self.now.sites)) (sym c.hold_dead.ensures.rows)

@@ -4,7 +4,7 @@ use Rattle.q_dest.proofs.Changes.{changed_none, found_named}
 use Rattle.q_dest.proofs.Kept.{kept_busy}
 use Rattle.q_dest.specs.Dests.{begun, Dests, is_at, is_kept}
 use Rattle.q_dest.specs.declared.dest.Dest.{Dest}
-use Rattle.q_model.specs.SiteRecords.{is_alive}
+use Rattle.q_model.specs.SiteRecords.{is_awake}
 use Rattle.q_dest.proofs.sites.Sites.begin.Goals as goal
 
 pub replace-requires-clause-same : goal.replace-requires-clause-same
@@ -19,4 +19,4 @@ returns-in_default c =
 
 pub replace-requires-clause-kept : goal.replace-requires-clause-kept
 replace-requires-clause-kept c =
-    ap is_kept c.begun-next.ensures ∙ kept_busy (is_alive c.in-Some.found.known.health) (c.in-Some.found.waiting - 1) c.in-Some.found.busy
+    ap is_kept c.begun-next.ensures ∙ kept_busy (is_awake c.in-Some.found.known) (c.in-Some.found.waiting - 1) c.in-Some.found.busy

@@ -11,12 +11,12 @@ pub returns-in_err-member : goal.returns-in_err-member
 returns-in_err-member c =
     let a = c.self.inside in
     c.from_residual.ensures
-    ∙ sym (dead_nowhere a.dests.items (sym (first_number dead_rank a.dests a.dead c.self.invariant.dead_are 1) ∙ ap (option_map (λ (e : E). e.key)) (sym c.first_within.ensures ∙ ap option_copied c.in_err-member.was)))
+    ∙ sym (dead_nowhere a.dests.items (sym (first_number dead_rank a.dests a.dead c.self.invariant.dead_are 0) ∙ ap (option_map (λ (e : E). e.key)) (sym c.first_within.ensures ∙ ap option_copied c.in_err-member.was)))
     ∙ ap (λ (p : Dests). find is_dead p.items) c.self.view_is
 
 pub returns : goal.returns
 returns c =
     let a = c.self.inside in
     c.copied.ensures ∙ c.get.ensures
-    ∙ dead_there a.dests.items c.in_ok-member.member.now.key c.stand_apart.ensures.apart (sym (first_number dead_rank a.dests a.dead c.self.invariant.dead_are 1) ∙ ap (option_map (λ (e : E). e.key)) (sym c.first_within.ensures ∙ ap option_copied c.in_ok-member.was))
+    ∙ dead_there a.dests.items c.in_ok-member.member.now.key c.stand_apart.ensures.apart (sym (first_number dead_rank a.dests a.dead c.self.invariant.dead_are 0) ∙ ap (option_map (λ (e : E). e.key)) (sym c.first_within.ensures ∙ ap option_copied c.in_ok-member.was))
     ∙ ap (λ (p : Dests). find is_dead p.items) c.self.view_is

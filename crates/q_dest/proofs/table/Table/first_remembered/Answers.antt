@@ -4,19 +4,19 @@ use Rattle.std.specs.Prelude.{find}
 use Rattle.q_dest.proofs.Firsts.{remembered_nowhere, remembered_there}
 use Rattle.q_dest.proofs.Registers.{E, first_number}
 use Rattle.q_dest.specs.Dests.{Dests, is_remembered}
-use Rattle.q_dest.specs.Ranks.{dead_rank}
+use Rattle.q_dest.specs.Ranks.{remembered_rank}
 use Rattle.q_dest.proofs.table.Table.first_remembered.Goals as goal
 
 pub returns-in_err-member : goal.returns-in_err-member
 returns-in_err-member c =
     let a = c.self.inside in
     c.from_residual.ensures
-    ∙ sym (remembered_nowhere a.dests.items (sym (first_number dead_rank a.dests a.dead c.self.invariant.dead_are 0) ∙ ap (option_map (λ (e : E). e.key)) (sym c.first_within.ensures ∙ ap option_copied c.in_err-member.was)))
+    ∙ sym (remembered_nowhere a.dests.items (sym (first_number remembered_rank a.dests a.remembered c.self.invariant.remembered_are 0) ∙ ap (option_map (λ (e : E). e.key)) (sym c.first_within.ensures ∙ ap option_copied c.in_err-member.was)))
     ∙ ap (λ (p : Dests). find is_remembered p.items) c.self.view_is
 
 pub returns : goal.returns
 returns c =
     let a = c.self.inside in
     c.copied.ensures ∙ c.get.ensures
-    ∙ remembered_there a.dests.items c.in_ok-member.member.now.key c.stand_apart.ensures.apart (sym (first_number dead_rank a.dests a.dead c.self.invariant.dead_are 0) ∙ ap (option_map (λ (e : E). e.key)) (sym c.first_within.ensures ∙ ap option_copied c.in_ok-member.was))
+    ∙ remembered_there a.dests.items c.in_ok-member.member.now.key c.stand_apart.ensures.apart (sym (first_number remembered_rank a.dests a.remembered c.self.invariant.remembered_are 0) ∙ ap (option_map (λ (e : E). e.key)) (sym c.first_within.ensures ∙ ap option_copied c.in_ok-member.was))
     ∙ ap (λ (p : Dests). find is_remembered p.items) c.self.view_is

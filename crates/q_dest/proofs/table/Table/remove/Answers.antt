@@ -7,7 +7,7 @@ use Rattle.q_dest.proofs.Numbered.{left_nowhere, left_there}
 use Rattle.q_dest.proofs.Registers.{less}
 use Rattle.q_dest.specs.declared.dest.Dest.{Dest}
 use Rattle.q_dest.specs.Dests.{AreBounded, Dests}
-use Rattle.q_dest.specs.Ranks.{dead_rank, time_rank}
+use Rattle.q_dest.specs.Ranks.{dead_rank, remembered_rank, time_rank}
 use Rattle.q_dest.specs.Sound.{numbers_by}
 use Rattle.q_dest.proofs.table.Table.remove.Goals as goal
 
@@ -20,6 +20,7 @@ invariant_of-self c =
     record {
       times_are = c.remove-time.ensures.items ∙ less time_rank a.dests a.times c.self.invariant.times_are n ∙ ap (numbers_by time_rank) next;
       dead_are = c.remove-dead.ensures.items ∙ less dead_rank a.dests a.dead c.self.invariant.dead_are n ∙ ap (numbers_by dead_rank) next;
+      remembered_are = c.remove-remembered.ensures.items ∙ less remembered_rank a.dests a.remembered c.self.invariant.remembered_are n ∙ ap (numbers_by remembered_rank) next;
       bounded = subst (λ (x : Items Dest). AreBounded (values_of x.items)) next
           (subst AreBounded (sym (left_there c.args.site.now n a.dests.items s.apart s.keys (sym c.find.ensures.is ∙ c.in-Some.is)))
           (bounded_left (is_else c.args.site.now) (values_of a.dests.items) c.self.invariant.bounded));

@@ -24,3 +24,9 @@ hear_reply-requires-clause-timed g c = (subst (λ (ev : Event). IsAdmissible c.a
 
 pub hear_reply-requires-clause-flies : goal.hear_reply-requires-clause-flies
 hear_reply-requires-clause-flies g c = (subst (λ (ev : Event). IsAdmissible c.args.self.now ev) c.in-Reply.is c.requires.admissible).1
+
+pub hear_mail-requires-clause-some : goal.hear_mail-requires-clause-some
+hear_mail-requires-clause-some g c = (subst (λ (ev : Event). IsEventInForm ev) c.in-Mail.is c.requires.form).1
+
+pub hear_mail-requires-clause-others : goal.hear_mail-requires-clause-others
+hear_mail-requires-clause-others g c = (subst (λ (ev : Event). IsEventInForm ev) c.in-Mail.is c.requires.form).0

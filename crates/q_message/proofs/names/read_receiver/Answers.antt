@@ -1,7 +1,7 @@
 use Rattle.std.proofs.Common.{◌≡◌, ◌+◌, ◌-◌, Err, ap, arith, length}
 use Rattle.q_message.specs.declared.error.MessageError.TheVariants.{NotAMessage}
 use Rattle.q_message.proofs.NameLaws.{not_within, same_error, stands_later, stands_same}
-use Rattle.q_message.proofs.names.read_address.Goals as goal
+use Rattle.q_message.proofs.names.read_receiver.Goals as goal
 
 pub returns-in_err-pass_recipients-clause-no_message : goal.returns-in_err-pass_recipients-clause-no_message
 returns-in_err-pass_recipients-clause-no_message g c place is t m s first =

@@ -1,0 +1,7 @@
+use Rattle.std.proofs.Common.{◌≡◌, true}
+use Rattle.std.specs.List.{list_all}
+use Rattle.q_message.specs.NewFile.{is_receiver}
+use Rattle.q_engine_cases.proofs.batches.at_two_domains.Given as goal
+
+abbrev pub invariant-loop-i : goal.invariant-loop-i
+invariant-loop-i l = list_all is_receiver l.to ≡ true
