@@ -5,7 +5,7 @@ use Rattle.q_model.specs.SpoolFiles.{Files}
 use Rattle.q_host.specs.Calls.{Stays}
 use Rattle.q_host.specs.View.{LeavesOnly, Remains, View}
 use Rattle.q_host.proofs.Moments.{leaves_on}
-use Rattle.q_books.specs.HostStands.{Between, HostStands, OwnLogs, Takes, TellsCrashes, Tries}
+use Rattle.q_books.specs.HostStands.{Between, HostStands, OwnLogs, Takes, TellsCrashes, Tries, TriesLoosely}
 use Rattle.q_books.proofs.Calls.{stayed}
 
 module _ (b k : Book) (u v w : View) where
@@ -31,6 +31,9 @@ module _ (b k : Book) (u v w : View) where
   pub kept_tries : Takes b b u v → Tries b k v w → Tries b k u w
   kept_tries p q = record { told = q.told ∙ p.told; stands = q.stands; moments = before_takes p.moments p.told q.moments }
 
+  pub kept_tries_loosely : (loose : Book) → Takes b b u v → TriesLoosely b k loose v w → TriesLoosely b k loose u w
+  kept_tries_loosely loose p q = record { told = q.told ∙ p.told; stands = q.stands; moments = before_takes p.moments p.told q.moments }
+
   -- a call that keeps the book behind one that changed it
   pub takes_kept : Takes b k u v → Takes k k v w → Takes b k u w
   takes_kept p q = record { told = q.told ∙ p.told; stands = q.stands; logs = λ own. q.logs (p.logs own); moments = behind_takes p.moments p.told q.moments }
@@ -48,3 +51,7 @@ module _ (b k : Book) (v w : View) (lawful : TellsCrashes v) where
   -- and was given up before it changed a book
   pub reads_try : Stays v w → HostStands v b → Tries b k v w
   reads_try st h = stayed b k v w lawful st h
+
+-- a call that was given up and left nothing loose
+pub tries_loosely : (b k loose : Book) (v w : View) → Tries b k v w → TriesLoosely b k loose v w
+tries_loosely b k loose v w t = record { told = t.told; stands = ⊎_elim (λ h. inl h) (λ h. inr (inl h)) t.stands; moments = t.moments }

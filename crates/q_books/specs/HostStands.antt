@@ -43,6 +43,13 @@ pub record Tries (b k : Book) (v w : View) : Type 0 where
   pub stands : HostStands w b ⊎ HostStands w k
   pub moments : LeavesOnly v w (Between b k v.told)
 
+-- The host stands for the one book or the other, or for the other one as long as the disk isn't sure
+-- of all of it.
+pub record TriesLoosely (b k loose : Book) (v w : View) : Type 0 where
+  pub told : w.told ≡ v.told
+  pub stands : HostStands w b ⊎ HostStands w k ⊎ HostStands w loose
+  pub moments : LeavesOnly v w (Between b k v.told)
+
 -- Where a host tells and stands for a book that is changed in this way, a call takes it to the
 -- changed book.
 abbrev pub TakesBy : {H : Type 0} → (Book → Book → Type 0) → Bool → (H → View) → H → H → Type 0
@@ -53,6 +60,11 @@ TakesBy Change tells view before after = IsTrue tells → (b k : Book) → HostS
 abbrev pub TriesBy : {H : Type 0} → (Book → Book → Type 0) → Bool → (H → View) → H → H → Type 0
 TriesBy Change tells view before after = IsTrue tells → (b k : Book) → HostStands (view before) b
     → Change b k → Tries b k (view before) (view after)
+
+-- The same where `cut` makes of the changed book the one of which the disk isn't sure yet.
+abbrev pub TriesLooselyBy : {H : Type 0} → (Book → Book → Type 0) → (Book → Book) → Bool → (H → View) → H → H → Type 0
+TriesLooselyBy Change cut tells view before after = IsTrue tells → (b k : Book) → HostStands (view before) b
+    → Change b k → TriesLoosely b k (cut k) (view before) (view after)
 
 -- no deferral log changed
 abbrev pub KeepsNotes : View → View → Type 0

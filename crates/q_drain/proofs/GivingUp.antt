@@ -1,6 +1,6 @@
 -- A drain that is given up, by what was told and what is still due.
 use native.Mathlib.Omega.{arith}
-use Rattle.std.proofs.Common.{◌≡◌, ◌≤◌, ◌⊎◌, inl, ℕ, List, [], ◌++◌, length, length-append, take, refl, sym, ap, ◌∙◌, subst, append-nil, append_assoc}
+use Rattle.std.proofs.Common.{◌≡◌, ◌≤◌, ℕ, List, [], ◌++◌, length, length-append, take, refl, sym, ap, ◌∙◌, subst, append-nil, append_assoc}
 use Rattle.std.proofs.lemmas.Grind.{flat_map-append}
 use Rattle.q_books.specs.HostStands.{HostStands, Takes, TellsCrashes}
 use Rattle.q_drain.proofs.Rooming.{told_allowed}
@@ -12,7 +12,7 @@ use Rattle.q_drain.specs.Standing.{Outside}
 use Rattle.q_drain.specs.Stories.{Story}
 use Rattle.q_drain.specs.Told.{event_of, events_of}
 use Rattle.q_entries.proofs.Playing.{halts_behind, plays_none, plays_reads, plays_then, Reads}
-use Rattle.q_entries.specs.Runs.{HaltsRun, PlaysRun, next_book, next_line}
+use Rattle.q_entries.specs.Runs.{HaltsRun, next_book, next_line, PlaysRun, StandsAroundNext}
 use Rattle.q_host.specs.View.{View as HostView}
 use Rattle.q_host.specs.declared.error.HostError.{HostError}
 use Rattle.q_model.proofs.RunLaws.{after_all-append}
@@ -59,7 +59,7 @@ halts_after w k es fs all m error u v x parts is p q =
         told = q.told ∙ ap (λ (xs : List ℕ). xs ++ take q.part (next_line w.table q.rest))
             (ap (λ (xs : List ℕ). xs ++ text w.table q.done) p.told ∙ append_assoc u.told (text w.table es) (text w.table q.done) ∙ ap (λ (xs : List ℕ). u.told ++ xs) (sym (text_added w.table es q.done)));
         only_tell = q.only_tell;
-        stands = subst (λ (n : Ledger). HostStands x n.book ⊎ HostStands x (next_book w n q.rest)) there q.stands;
+        stands = subst (λ (n : Ledger). StandsAroundNext w n q.rest error x) there q.stands;
         disk_first = λ some. subst (λ (n : Ledger). HostStands x (next_book w n q.rest)) there (q.disk_first some);
         moments = behind.moments;
       },
@@ -108,7 +108,7 @@ gives_up_whole w l a z u v error s r es own p told gave = record {
     short = omega arith;
     told = p.told ∙ sym (append-nil (u.told ++ text w.table es));
     only_tell = λ other. refl;
-    stands = inl p.stands;
+    stands = p.stands;
     disk_first = λ some. absurd (omega arith);
     moments = p.moments;
   };

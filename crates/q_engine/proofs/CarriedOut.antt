@@ -1,6 +1,7 @@
 -- An entry that the core has taken over, carried out on disk and told.
-use Rattle.std.proofs.Common.{◌≡◌, ◌+◌, ◌-◌, ◌^◌, ℕ, min, false, true, Some, sym, subst, refl, ◌∙◌}
+use Rattle.std.proofs.Common.{◌≡◌, ◌≢◌, ◌+◌, ◌-◌, ◌^◌, ℕ, min, false, true, Some, sym, subst, refl, ◌∙◌}
 use Rattle.q_model.specs.Book.{Book}
+use Rattle.q_model.specs.CutOff.{cut_off}
 use Rattle.q_model.specs.declared.id.Id.{Id}
 use Rattle.q_model.specs.Ledger.{Ledger}
 use Rattle.q_model.specs.Past.{is_arrive, is_life}
@@ -8,14 +9,15 @@ use Rattle.q_model.specs.Settings.{Table, World}
 use Rattle.q_model.specs.Step.{after, change}
 use Rattle.q_model.specs.declared.entry.Entry.{Entry}
 use Rattle.q_host.specs.declared.error.HostError.{HostError}
+use Rattle.q_host.specs.declared.error.HostError.TheVariants.{Tell}
 use Rattle.q_host.specs.View.{View}
 use Rattle.q_lives.proofs.Books.{after_is}
 use Rattle.q_lives.specs.Standing.{is_remove_of}
 use Rattle.q_transport.specs.Routing.{table_of}
 use Rattle.q_core.specs.declared.decision.Decision.{Decision}
-use Rattle.q_books.specs.HostStands.{Takes, TellsCrashes, Tries}
+use Rattle.q_books.specs.HostStands.{Takes, TellsCrashes, Tries, TriesLoosely}
 use Rattle.q_entries.specs.Entries.{DoesEntry, StopsEntry}
-use Rattle.q_entries.proofs.Lines.{as_it_was, changed_does, changed_stops, may_stop, stands_still}
+use Rattle.q_entries.proofs.Lines.{as_it_was, changed_does, changed_stops, may_stop, may_stop_loosely, stands_still}
 use Rattle.q_engine.specs.KeptNotes.{StoresNotes}
 use Rattle.q_places.specs.Kept.{IsFewer}
 use Rattle.q_places.specs.declared.places.Places.{Places}
@@ -101,6 +103,10 @@ module _ (w : World) (l : Ledger) (d : Decision) (e : Entry) (engine : Engine) (
   -- the disk refused
   pub refused : (k : Book) (error : HostError) (m : View) → k ≡ (change w l e).book → Tries l.book k v m → WasGivenUp w l error v m
   refused k error m is tries = given_up k error m is (may_stop lines e l.book k error v m tries)
+
+  -- disk or memory refused, and what was changed may be loose
+  pub refused_loosely : (k : Book) (error : HostError) (m : View) → error ≢ Tell → k ≡ (change w l e).book → TriesLoosely l.book k (cut_off e k) v m → WasGivenUp w l error v m
+  refused_loosely k error m other is tries = given_up k error m is (may_stop_loosely lines e l.book k error v m other tries)
 
   -- nothing was done
   pub untouched : (error : HostError) → TellsCrashes v → WasGivenUp w l error v v

@@ -1,8 +1,8 @@
 -- A refusal of the host becomes one of the engine, and has its cause.
-use Rattle.std.proofs.Common.{◌≡◌, ◌∙◌, ap, arith, Bool, false, None, Option, refl, Some, subst, sym, true}
-use Rattle.std.specs.Prelude.{◌||◌, Err, IsErrOf, Ok, Result}
+use Rattle.std.proofs.Common.{◌≡◌, ◌≢◌, ◌∙◌, ap, arith, Bool, false, None, Option, refl, Some, subst, sym, true}
+use Rattle.std.specs.Prelude.{◌||◌, Err, IsErrAnd, IsErrOf, Ok, Result}
 use Rattle.q_entries.specs.Causes.{HostCause}
-use Rattle.q_host.specs.Faults.{Faults, TellCause}
+use Rattle.q_host.specs.Faults.{DiskCause, Faults, TellCause}
 use Rattle.q_host.specs.declared.error.HostError.{HostError}
 use Rattle.q_host.specs.declared.error.HostError.TheVariants as faults
 use Rattle.q_engine.specs.Beginnings.{is_of_spool}
@@ -20,6 +20,13 @@ pub told_cause : {T S : Type 0} (before after : Faults) (inner : HostError) (mad
 told_cause before after faults.Disk made r how is h = absurd (h.no_disk how)
 told_cause before after faults.Tell made r how is h = record { disk_later = h.disk_later; tell_later = h.tell_later; disk = λ of. absurd cc; tell = λ of. h.tell how }
 told_cause before after faults.NoMemory made r how is h = record { disk_later = h.disk_later; tell_later = h.tell_later; disk = λ of. absurd cc; tell = λ of. absurd cc }
+
+-- what the disk or memory refused, and was passed on, is none of the output
+pub never_told : {T S : Type 0} (before after : Faults) (r : Result T HostError) (inner error : HostError) → IsErrAnd r (λ x. x ≡ inner) → IsErrOf r error → DiskCause {T = S} before after (Err inner) → error ≢ faults.Tell
+never_told before after (Ok v) inner error is of h told = is
+never_told before after (Err x) inner error is of h told =
+    let same : x ≡ error = cc in
+    h.no_tell (ap (λ (y : HostError). Err y) (sym is ∙ same ∙ told))
 
 -- Nothing was refused.
 pub ok_cause : {T S : Type 0} (before after : Faults) (r : Result T HostError) (made : S) → TellCause before after r → EngineCause {T = S} before after (Ok made)

@@ -3,6 +3,7 @@ use Rattle.std.proofs.Common.{◌≡◌, ◌≢◌, ◌⊎◌, inl, inr, ⊎_eli
 use Rattle.std.specs.Prelude.{Err, IsErrOf, Ok, OnErr, Result}
 use Rattle.q_model.specs.declared.entry.Entry.{Entry}
 use Rattle.q_model.specs.Book.{Book}
+use Rattle.q_model.specs.CutOff.{cut_off}
 use Rattle.q_model.specs.FilesStand.{Stands}
 use Rattle.q_model.specs.Settings.{Table}
 use Rattle.q_model.specs.SpoolFiles.{Files}
@@ -12,8 +13,8 @@ use Rattle.q_host.specs.declared.error.HostError.{HostError}
 use Rattle.q_host.specs.declared.error.HostError.TheVariants.{Disk, NoMemory, Tell}
 use Rattle.q_host.specs.View.{LeavesOnly, Remains, View}
 use Rattle.q_host.proofs.Moments.{leaves_by, leaves_on}
-use Rattle.q_books.specs.HostStands.{Between, HostStands, IsLeftOf, OwnLogs, Takes, TellsCrashes, Tries}
-use Rattle.q_entries.specs.Entries.{DoesEntry, StopsEntry, IsWithinEntry}
+use Rattle.q_books.specs.HostStands.{Between, HostStands, IsLeftOf, OwnLogs, Takes, TellsCrashes, Tries, TriesLoosely}
+use Rattle.q_entries.specs.Entries.{DoesEntry, IsWithinEntry, StandsAround, StopsEntry}
 
 -- what an error means, of one error
 pub of_err : {T : Type 0} {E : Type 0} {P : Type 0} (r : Result T E) (e : E) → IsErrOf r e → OnErr r P → P
@@ -54,26 +55,34 @@ module _ (table : Table) (e : Entry) where
       short = d.short;
       told = d.told ∙ ap (λ (x : List ℕ). x ++ take d.part whole) t.told;
       only_tell = d.only_tell;
-      stands = inr (either d.stands);
+      stands = inr (⊎_elim (λ h. inl h) (λ h. h) d.stands);
       disk_first = d.disk_first;
       moments = line_moments d.moments;
     }
 
-  -- the disk refused
-  pub may_stop : (b k : Book) (error : HostError) (v w : View) → Tries b k v w → StopsEntry table e b k error v w
-  may_stop b k error v w t = record {
+  -- nothing of the line was told
+  stopped_at : (b k : Book) (error : HostError) (v w : View) → w.told ≡ v.told → LeavesOnly v w (Between b k v.told) → StandsAround e b k error w → StopsEntry table e b k error v w
+  stopped_at b k error v w same moments around = record {
     part = 0;
     short = omega arith;
-    told = t.told ∙ sym (append-nil v.told);
+    told = same ∙ sym (append-nil v.told);
     only_tell = λ h. refl;
-    stands = t.stands;
+    stands = around;
     disk_first = λ some. absurd (omega arith);
     moments = record {
-      later = t.moments.later;
-      each = λ c left. before_line b k v.told c (t.moments.each c left);
-      before = λ at c le left. ⊎_elim (λ was. inl was) (λ p. inr (before_line b k v.told c p)) (t.moments.before at c le left);
+      later = moments.later;
+      each = λ c left. before_line b k v.told c (moments.each c left);
+      before = λ at c le left. ⊎_elim (λ was. inl was) (λ p. inr (before_line b k v.told c p)) (moments.before at c le left);
     };
   }
+
+  -- Disk or memory refused, and the book may be the one after it as it was cut off.
+  pub may_stop_loosely : (b k : Book) (error : HostError) (v w : View) → error ≢ Tell → TriesLoosely b k (cut_off e k) v w → StopsEntry table e b k error v w
+  may_stop_loosely b k error v w other t = stopped_at b k error v w t.told t.moments (⊎_elim (λ h. inl h) (λ h. inr (⊎_elim (λ i. inl i) (λ i. inr (other, i)) h)) t.stands)
+
+  -- the disk refused
+  pub may_stop : (b k : Book) (error : HostError) (v w : View) → Tries b k v w → StopsEntry table e b k error v w
+  may_stop b k error v w t = stopped_at b k error v w t.told t.moments (⊎_elim (λ h. inl h) (λ h. inr (inl h)) t.stands)
 
   -- ---- telling a line
 

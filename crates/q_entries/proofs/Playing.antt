@@ -12,8 +12,8 @@ use Rattle.q_host.specs.View.{LeavesOnly, Remains, View}
 use Rattle.q_host.specs.declared.error.HostError.{HostError}
 use Rattle.q_host.proofs.Moments.{leaves_here, leaves_on}
 use Rattle.q_books.specs.HostStands.{Between, HostStands, IsLeftOf, OwnLogs, Takes, TellsCrashes}
-use Rattle.q_entries.specs.Entries.{DoesEntry, StopsEntry, IsWithinEntry}
-use Rattle.q_entries.specs.Runs.{HaltsRun, IsLeftOfRun, next_book, next_line, PlaysRun}
+use Rattle.q_entries.specs.Entries.{DoesEntry, IsWithinEntry, StandsAround, StopsEntry}
+use Rattle.q_entries.specs.Runs.{HaltsRun, IsLeftOfRun, next_book, next_line, PlaysRun, StandsAroundNext}
 
 text-append : (t : Table) (es fs : List Entry) → text t (es ++ fs) ≡ text t es ++ text t fs
 unfolding text
@@ -109,6 +109,11 @@ leaves_wider P R u v p step = record {
   before = λ at c le left. ⊎_elim (λ was. inl was) (λ h. inr (step c h)) (p.before at c le left);
 }
 
+-- nothing of the next entry was done
+pub stands_before : (w : World) (l : Ledger) (es : List Entry) (error : HostError) (v : View) → HostStands v l.book → StandsAroundNext w l es error v
+stands_before w l [] error v h = h
+stands_before w l (e ∷ es) error v h = inl h
+
 -- no entry
 pub plays_none : (w : World) (l : Ledger) (u : View) → TellsCrashes u → HostStands u l.book → PlaysRun w l [] u u
 plays_none w l u lawful h =
@@ -153,7 +158,7 @@ plays_halts w l es e more k error u v x is p d = record {
   short = d.short;
   told = d.told ∙ ap (λ (xs : List ℕ). xs ++ take d.part (line w.table e)) p.told;
   only_tell = d.only_tell;
-  stands = subst (λ (b : Book). HostStands x (after_all w l es).book ⊎ HostStands x b) is d.stands;
+  stands = subst (λ (b : Book). StandsAround e (after_all w l es).book b error x) is d.stands;
   disk_first = λ some. subst (HostStands x) is (d.disk_first some);
   moments = leaves_on (IsLeftOfRun w l (es ++ e ∷ more) u.told) p.moments d.moments (λ c a. allowed_more w l u.told c es (e ∷ more) a)
       (λ c a. subst (λ (xs : List Entry). IsLeftOfRun w l xs u.told c) (append_assoc es (e ∷ []) more) (allowed_more w l u.told c (es ++ e ∷ []) more (allowed_next w l u.told c es e k is (subst (λ (xs : List ℕ). IsWithinEntry w.table e (after_all w l es).book k xs c) p.told a))));
@@ -183,7 +188,7 @@ halts_behind w l es fs error u v x p q =
       short = q.short;
       told = q.told ∙ ap (λ (xs : List ℕ). xs ++ take q.part (next_line w.table q.rest)) (ap (λ (xs : List ℕ). xs ++ text w.table q.done) p.told ∙ append_assoc u.told (text w.table es) (text w.table q.done) ∙ ap (λ (xs : List ℕ). u.told ++ xs) (sym (text-append w.table es q.done)));
       only_tell = q.only_tell;
-      stands = subst (λ (m : Ledger). HostStands x m.book ⊎ HostStands x (next_book w m q.rest)) there q.stands;
+      stands = subst (λ (m : Ledger). StandsAroundNext w m q.rest error x) there q.stands;
       disk_first = λ some. subst (λ (m : Ledger). HostStands x (next_book w m q.rest)) there (q.disk_first some);
       moments = leaves_on (IsLeftOfRun w l (es ++ fs) u.told) p.moments q.moments (λ c a. allowed_more w l u.told c es fs a)
           (λ c a. allowed_behind w l u.told c es fs (subst (λ (xs : List ℕ). IsLeftOfRun w (after_all w l es) fs xs c) p.told a));
@@ -231,7 +236,7 @@ plays_given_up w l es more error u v p = record {
   short = omega arith;
   told = p.told ∙ sym (append-nil (u.told ++ text w.table es));
   only_tell = λ other. refl;
-  stands = inl p.stands;
+  stands = stands_before w (after_all w l es) more error v p.stands;
   disk_first = λ some. absurd (omega arith);
   moments = leaves_wider (IsLeftOfRun w l es u.told) (IsLeftOfRun w l (es ++ more) u.told) u v p.moments (λ c a. allowed_more w l u.told c es more a);
 }
@@ -277,7 +282,7 @@ halts_more w l es fs error u x p = by p.rest p.all p.short p.told p.stands p.dis
     moments = leaves_wider (IsLeftOfRun w l es u.told) (IsLeftOfRun w l (es ++ fs) u.told) u x p.moments (λ c a. allowed_more w l u.told c es fs a)
 
     by : (rest : List Entry) → es ≡ p.done ++ rest → p.part ≤ length (next_line w.table rest) → x.told ≡ (u.told ++ text w.table p.done) ++ take p.part (next_line w.table rest)
-        → HostStands x (after_all w l p.done).book ⊎ HostStands x (next_book w (after_all w l p.done) rest) → (0 < p.part → HostStands x (next_book w (after_all w l p.done) rest)) → HaltsRun w l (es ++ fs) error u x
+        → StandsAroundNext w (after_all w l p.done) rest error x → (0 < p.part → HostStands x (next_book w (after_all w l p.done) rest)) → HaltsRun w l (es ++ fs) error u x
     by [] all short told stands first = record {
       done = p.done;
       rest = fs;
@@ -286,7 +291,7 @@ halts_more w l es fs error u x p = by p.rest p.all p.short p.told p.stands p.dis
       short = omega arith;
       told = told ∙ ap (λ (n : ℕ). (u.told ++ text w.table p.done) ++ take n []) (none_of p.part short);
       only_tell = λ other. refl;
-      stands = inl (⊎_elim (λ h. h) (λ h. h) stands);
+      stands = stands_before w (after_all w l p.done) fs error x stands;
       disk_first = λ some. absurd (omega arith);
       moments = moments;
     }

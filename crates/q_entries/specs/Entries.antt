@@ -2,6 +2,7 @@
 use Rattle.std.specs.Prelude.{◌≡◌, ◌≢◌, ◌<◌, ◌≤◌, ◌⊎◌, ℕ, List, ◌++◌, length, take}
 use Rattle.q_model.specs.declared.entry.Entry.{Entry}
 use Rattle.q_model.specs.Book.{Book}
+use Rattle.q_model.specs.CutOff.{cut_off}
 use Rattle.q_model.specs.Settings.{Table}
 use Rattle.q_model.specs.Text.{line}
 use Rattle.q_host.specs.View.{LeavesOnly, Remains, View}
@@ -25,6 +26,12 @@ pub record DoesEntry (table : Table) (e : Entry) (b k : Book) (v w : View) : Typ
   pub logs : OwnLogs v.files b → OwnLogs w.files k
   pub moments : LeavesOnly v w (IsWithinEntry table e b k v.told)
 
+-- The host stands for the book before the entry or the one after it. Where disk or memory failed, it may
+-- stand for the one after as it was cut off: of a `log` the failure may still be gone after a crash.
+abbrev pub StandsAround : Entry → Book → Book → HostError → View → Type 0
+StandsAround e b k error w =
+    HostStands w b ⊎ HostStands w k ⊎ ((error ≢ Tell) × HostStands w (cut_off e k))
+
 -- The entry was given up: its line is told in part by a failed output alone, and then the book is
 -- the one after.
 pub record StopsEntry (table : Table) (e : Entry) (b k : Book) (error : HostError) (v w : View) : Type 0 where
@@ -32,7 +39,7 @@ pub record StopsEntry (table : Table) (e : Entry) (b k : Book) (error : HostErro
   pub short : part ≤ length (line table e)
   pub told : w.told ≡ v.told ++ take part (line table e)
   pub only_tell : error ≢ Tell → part ≡ 0
-  pub stands : HostStands w b ⊎ HostStands w k
+  pub stands : StandsAround e b k error w
   pub disk_first : 0 < part → HostStands w k
   pub moments : LeavesOnly v w (IsWithinEntry table e b k v.told)
 

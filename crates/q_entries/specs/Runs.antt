@@ -10,6 +10,7 @@ use Rattle.q_host.specs.View.{LeavesOnly, Remains, View}
 use Rattle.q_host.specs.declared.error.HostError.{HostError}
 use Rattle.q_host.specs.declared.error.HostError.TheVariants.{Tell}
 use Rattle.q_books.specs.HostStands.{HostStands, IsLeftOf, OwnLogs}
+use Rattle.q_entries.specs.Entries.{StandsAround}
 
 -- the line of the next entry, where there is one
 abbrev pub next_line : Table → List Entry → List ℕ
@@ -42,6 +43,11 @@ pub record PlaysRun (w : World) (l : Ledger) (es : List Entry) (u v : View) : Ty
   pub logs : OwnLogs u.files l.book → OwnLogs v.files (after_all w l es).book
   pub moments : LeavesOnly u v (IsLeftOfRun w l es u.told)
 
+-- The host stands for the book around the next entry, where there is one.
+abbrev pub StandsAroundNext : World → Ledger → List Entry → HostError → View → Type 0
+StandsAroundNext w l [] error v = HostStands v l.book
+StandsAroundNext w l (e ∷ es) error v = StandsAround e l.book (after w l e).book error v
+
 -- Some were, and the next was given up: its line is told in part by a failed output alone, and then
 -- the book is the one after it.
 pub record HaltsRun (w : World) (l : Ledger) (es : List Entry) (error : HostError) (u v : View) : Type 0 where
@@ -52,7 +58,6 @@ pub record HaltsRun (w : World) (l : Ledger) (es : List Entry) (error : HostErro
   pub short : part ≤ length (next_line w.table rest)
   pub told : v.told ≡ (u.told ++ text w.table done) ++ take part (next_line w.table rest)
   pub only_tell : error ≢ Tell → part ≡ 0
-  pub stands :
-      HostStands v (after_all w l done).book ⊎ HostStands v (next_book w (after_all w l done) rest)
+  pub stands : StandsAroundNext w (after_all w l done) rest error v
   pub disk_first : 0 < part → HostStands v (next_book w (after_all w l done) rest)
   pub moments : LeavesOnly u v (IsLeftOfRun w l es u.told)

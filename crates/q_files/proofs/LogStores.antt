@@ -23,14 +23,12 @@ use Rattle.q_model.proofs.IdLaws.{id_text-injective}
 use Rattle.q_model.proofs.StandChanges.{Stands-message}
 use Rattle.q_model.proofs.StandLaws.{IsSameBut, true_false}
 use Rattle.q_model.proofs.StandLogs.{IsSaid, Stands-logged, Stands-logged_crash}
-use Rattle.q_host.specs.Calls.{Stays}
 use Rattle.q_host.specs.View.{Goes, LeavesOnly, Remains, View}
 use Rattle.q_host.proofs.Puts.{other_area}
 use Rattle.q_store.specs.Stores.{Holds, IsAsBefore, IsStored, Leaves, MayHold, MayStore, Stores}
 use Rattle.q_books.specs.HostStands.{Between, HostStands, IsLeftOf, OwnLogs, Takes, TellsCrashes, Tries}
 use Rattle.q_books.proofs.Calls.{meanwhile, tried}
 use Rattle.q_books.proofs.Ids.{stands-changed}
-use Rattle.q_books.proofs.Joining.{kept_takes, kept_tries, reads_keep}
 use Rattle.q_files.specs.Changes.{AddsFailure}
 use Rattle.q_files.proofs.MessageStores.{kept_stands}
 use Rattle.q_files.proofs.OtherPlaces.{other_place}
@@ -49,7 +47,7 @@ new_position : (m : Message) (p : ℕ) → has_position p (map (λ (l : Logged).
 new_position m p = any-map (λ (f : Failure). f.position == p) (λ (l : Logged). l.failure) m.failures
 
 -- a message with one failure more is said by the records that were read and this one
-said : (f : Files) (b : Book) (id : Id) (m : Message) (failure : Failure) (log : List ℕ) → message_of b id ≡ Some m → failure.position < length m.recipients → is_logged m failure.position ≡ false
+pub said : (f : Files) (b : Book) (id : Id) (m : Message) (failure : Failure) (log : List ℕ) → message_of b id ≡ Some m → failure.position < length m.recipients → is_logged m failure.position ≡ false
     → log_records log ≡ logged_in f id ++ failure ∷ [] → Stands f b → IsSaid (with_failure failure m) log
 said f b id m failure log found here new reads h =
     let old = Stands-message f b id m h found in
@@ -126,17 +124,14 @@ module _ (t : List ℕ) (id : Id) (failure : Failure) (log : List ℕ) (b k : Bo
       may_log_failure (inl s) = subst (λ (x : Book). Tries b x v w) (sym ch.changed) (left_out s)
       may_log_failure (inr s) = tried b k v w lawful (logs_failure s)
 
--- ---- the call: the log is read, and written anew
+-- ---- the call, with the records that were read and one more
 
-module _ (t name : List ℕ) (id : Id) (failure : Failure) (fs : List Failure) (b k : Book) (ch : AddsFailure id failure b k) (u v w : View) (lawful : TellsCrashes u) (then_lawful : TellsCrashes v) (is : name ≡ id_text id) (read : fs ≡ logged_in u.files id ++ failure ∷ []) (fit : AllByRecursion IsFailure fs) (st : Stays u v) (h : HostStands u b) where
-  first : Takes b b u v
-  first = reads_keep b b u v lawful st h
-
+module _ (t name : List ℕ) (id : Id) (failure : Failure) (fs : List Failure) (b k : Book) (ch : AddsFailure id failure b k) (v w : View) (lawful : TellsCrashes v) (is : name ≡ id_text id) (read : fs ≡ logged_in v.files id ++ failure ∷ []) (fit : AllByRecursion IsFailure fs) (h : HostStands v b) where
   says : IsSaid (with_failure failure ch.message) (log_bytes fs)
-  says = said u.files b id ch.message failure (log_bytes fs) ch.found ch.here ch.fresh (log_records-log_bytes fs fit ∙ read) h.reads
+  says = said v.files b id ch.message failure (log_bytes fs) ch.found ch.here ch.fresh (log_records-log_bytes fs fit ∙ read) h.reads
 
-  pub fails : Holds t areas.Bounce name (log_bytes fs) v w → Takes b k u w
-  fails d = kept_takes b k u v w first (logs_failure t id failure (log_bytes fs) b k ch says v w then_lawful first.stands (subst (λ (n : List ℕ). Holds t areas.Bounce n (log_bytes fs) v w) is d))
+  pub fails : Holds t areas.Bounce name (log_bytes fs) v w → Takes b k v w
+  fails d = logs_failure t id failure (log_bytes fs) b k ch says v w lawful h (subst (λ (n : List ℕ). Holds t areas.Bounce n (log_bytes fs) v w) is d)
 
-  pub may_fail : MayHold t areas.Bounce name (log_bytes fs) v w → Tries b k u w
-  may_fail d = kept_tries b k u v w first (may_log_failure t id failure (log_bytes fs) b k ch says v w then_lawful first.stands (subst (λ (n : List ℕ). MayHold t areas.Bounce n (log_bytes fs) v w) is d))
+  pub may_fail : MayHold t areas.Bounce name (log_bytes fs) v w → Tries b k v w
+  may_fail d = may_log_failure t id failure (log_bytes fs) b k ch says v w lawful h (subst (λ (n : List ℕ). MayHold t areas.Bounce n (log_bytes fs) v w) is d)

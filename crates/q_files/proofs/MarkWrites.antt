@@ -28,7 +28,7 @@ use Rattle.q_books.specs.HostStands.{Between, HostStands, IsLeftOf, Takes, Tells
 use Rattle.q_books.proofs.Calls.{meanwhile, tried}
 use Rattle.q_books.proofs.Ids.{own_logs-changed}
 use Rattle.q_files.proofs.OtherPlaces.{same_but}
-use Rattle.q_files.proofs.TornBytes.{nothing_written, torn_byte, torn_nothing}
+use Rattle.q_logfile.proofs.TornBytes.{nothing_written, torn_byte, torn_nothing}
 
 module _ (b : Book) (id : Id) (m : Message) (position at : ℕ) (found : message_of b id ≡ Some m) (here : position < length m.recipients) (is : at ≡ mark_at (file_message m) position) where
   abbrev marked : Book

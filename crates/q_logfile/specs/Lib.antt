@@ -1,3 +1,4 @@
+pub mod Appends
 pub mod Codes
 pub mod Flags
 pub mod HasRecords

@@ -6,12 +6,14 @@
 //! The reason is `R` (refused) or `X` (expired) in a failure log, and `L` (later) in a deferral log.
 #![tactic(auto)]
 
+mod appending;
 mod flags;
 mod log;
 mod reading;
 mod record;
 mod writing;
 
+pub use appending::{append, appendable};
 pub use flags::{flags_of, is_set};
 pub use log::log_of;
 pub use reading::{notes, records};

@@ -8,8 +8,10 @@ use q_model::{Failure, NoMemory, Note, Why};
 /// How many bytes a record has.
 pub(crate) const SIZE: usize = 8;
 
-/// The gate of a record that counts.
-const OPEN: u8 = b'O';
+/// The gate of a record that counts, and the gate behind the last one.
+pub(crate) const OPEN: u8 = b'O';
+
+pub(crate) const CLOSED: u8 = 0;
 
 /// A record whose gate is open and whose code is lawful.
 #[derive(Clone, Copy, Debug)]
@@ -80,7 +82,7 @@ pub(crate) fn note(bytes: &[u8]) -> Option<Note>
     })
 }
 
-fn why_byte(why: Why) -> u8
+pub(crate) fn why_byte(why: Why) -> u8
     ensures { result ≡ why_byte why }
 {
     match why {

@@ -10,14 +10,11 @@ ghost use Rattle.q_logfile.specs.HasRecords.{HasRecords, LeavesRecords};
 ghost use Rattle.q_logfile.specs.StoredLogs.{HoldsLog, LeavesLog, MayGoLog, MayHoldLog};
 ghost use Rattle.q_logfile.specs.TmpNames.{log_prefix, tmp_name};
 
-use crate::record::push_failure;
+use crate::record::{CLOSED, push_failure};
 use q_host::{Host, HostError};
 use q_model::{Area, Name, NoMemory, Records, Spot};
 use q_store::store_file;
 use std::alloc::Global;
-
-/// The gate behind the last record.
-const CLOSED: u8 = 0;
 
 fn log_prefix(area: Area) -> &'static [u8]
     ensures { result.now ≡ log_prefix area }

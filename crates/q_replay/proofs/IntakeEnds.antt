@@ -5,7 +5,8 @@ use Rattle.std.specs.Option.{option_map_or}
 use Rattle.std.specs.Prelude.{◌&&◌, Err, not, Ok, Result}
 use Rattle.q_books.specs.HostStands.{HostStands, IsLeftOf, OwnLogs}
 use Rattle.q_engine.specs.KeptNotes.{admitted_after, next_admitted, was_admitted}
-use Rattle.q_entries.specs.Runs.{HaltsRun, IsLeftOfRun, next_book, PlaysRun}
+use Rattle.q_entries.specs.Entries.{StandsAround}
+use Rattle.q_entries.specs.Runs.{HaltsRun, IsLeftOfRun, next_book, PlaysRun, StandsAroundNext}
 use Rattle.q_host.specs.View.{Remains, View}
 use Rattle.q_host.specs.declared.error.HostError.{HostError}
 use Rattle.q_model.specs.Book.{Book}
@@ -15,7 +16,7 @@ use Rattle.q_model.specs.Orderly.{is_orderly}
 use Rattle.q_model.specs.Run.{turn}
 use Rattle.q_model.specs.Settings.{Settings, World}
 use Rattle.q_model.specs.SpoolFiles.{Files}
-use Rattle.q_model.specs.Step.{after_all}
+use Rattle.q_model.specs.Step.{after, after_all}
 use Rattle.q_model.specs.declared.entry.Entry.{Entry}
 use Rattle.q_model.specs.declared.entry.Entry.TheVariants as entries
 use Rattle.q_model.specs.declared.event.LifeEvent.{LifeEvent}
@@ -49,6 +50,12 @@ read_same w l (bad n) h = refl
 read_same w l past_limit h = refl
 
 -- ---- entries that were carried out
+
+-- by the books before and behind the next entry
+around_same : (v w : World) (l m : Ledger) (es : List Entry) (error : HostError) (x : View) → l.book ≡ m.book → next_book v l es ≡ next_book w m es → StandsAroundNext v l es error x → StandsAroundNext w m es error x
+around_same v w l m [] error x here next h = subst (HostStands x) here h
+around_same v w l m (e ∷ es) error x here next h =
+    subst (λ (b : Book). StandsAround e b (after w m e).book error x) here (subst (λ (k : Book). StandsAround e l.book k error x) next h)
 
 module _ (w : World) (l : Ledger) (h : HoldsNothing l) where
   next_book_same : (es : List Entry) → BringNothing es → next_book (intake_world w) l es ≡ next_book w l es
@@ -102,7 +109,8 @@ module _ (w : World) (l : Ledger) (h : HoldsNothing l) (es : List Entry) (k : Br
     short = p.short;
     told = p.told;
     only_tell = p.only_tell;
-    stands = either_same p.done p.rest p.all (λ b. HostStands v b) p.stands;
+    stands = around_same (intake_world w) w (after_all (intake_world w) l p.done) (after_all w l p.done) p.rest error v
+        (ap (λ (m : Ledger). m.book) (behind_same p.done p.rest p.all)) (beyond_same p.done p.rest p.all) p.stands;
     disk_first = λ some. subst (λ (b : Book). HostStands v b) (beyond_same p.done p.rest p.all) (p.disk_first some);
     moments = leaves_wider (IsLeftOfRun (intake_world w) l es u.told) (IsLeftOfRun w l es u.told) p.moments (left_same u.told);
   }

@@ -1,20 +1,24 @@
 -- What a run that was told, whole or in part, leaves is what a life leaves.
 use Rattle.std.proofs.Common.{◌≡◌, ◌<◌, ◌⊎◌, inl, inr, ⊎_elim, ℕ, zero, suc, List, [], ◌∷◌, ◌++◌, length, take, true, refl, sym, ap, ◌∙◌, subst, arith, append-nil, append_assoc}
 use Rattle.std.proofs.lemmas.List.{take_at}
+use Rattle.std.specs.Option.{option_map_or}
+use Rattle.std.specs.Prelude.{slice_get}
 use Rattle.q_books.specs.HostStands.{Between, HostStands, IsLeftOf, Takes}
 use Rattle.q_host.proofs.Moments.{leaves_on}
-use Rattle.q_entries.specs.Runs.{HaltsRun, IsLeftOfRun, next_book, next_line, PlaysRun}
+use Rattle.q_entries.specs.Runs.{HaltsRun, IsLeftOfRun, next_book, next_line, PlaysRun, StandsAroundNext}
 use Rattle.q_host.specs.View.{LeavesOnly, Remains, View}
 use Rattle.q_host.specs.declared.error.HostError.{HostError}
 use Rattle.q_laws.specs.Consistency.{IsUsable}
 use Rattle.q_laws.specs.Traces.{AreAllowed}
-use Rattle.q_lives.specs.Lives.{IsLeftBy, IsLife, IsOrderly, Life, life_entries}
+use Rattle.q_lives.specs.Lives.{cut_book, IsEnd, IsLeftBy, IsLife, IsOrderly, Life, life_entries}
+use Rattle.q_lives.proofs.Books.{after_is}
 use Rattle.q_lives.proofs.LawfulLives.{lives_lawful}
 use Rattle.q_lives.proofs.Throughout.{lives_orderly}
 use Rattle.q_model.proofs.RunLaws.{after_all-append}
 use Rattle.q_model.proofs.CrashLaws.{is_lawful-crash, is_orderly-crash}
 use Rattle.q_model.specs.Book.{Book}
 use Rattle.q_model.specs.Crashes.{IsCrashOf}
+use Rattle.q_model.specs.CutOff.{cut_off}
 use Rattle.q_model.specs.Ledger.{Ledger, opening}
 use Rattle.q_model.specs.Ids.{are_distinct}
 use Rattle.q_model.specs.Orderly.{is_lawful}
@@ -41,6 +45,12 @@ no_text t = refl
 one_more : (w : World) (l : Ledger) (es : List Entry) (e : Entry) → after_all w l (es ++ e ∷ []) ≡ after w (after_all w l es) e
 unfolding after_all
 one_more w l es e = after_all-append w l es (e ∷ [])
+
+-- the last entry was cut off
+cut_last : (w : World) (l : Ledger) (e : Entry) → cut_off e (after w l e).book ≡ cut_book (after w l e)
+cut_last w l e =
+    let k : Book = (after w l e).book in
+    sym (ap (λ (es : List Entry). option_map_or (λ (x : Entry). cut_off x k) (slice_get es 0) k) (after_is w l e).past)
 
 -- items of a call: none, or a life begins with them
 abbrev pub BeginsLife : List LifeEvent → Type 0
@@ -76,15 +86,15 @@ module _ (b : Book) (orderly : IsOrderly b) (before : List ℕ) where
     unfolding run_of
     entries_to done rest left is = ap (take (length done)) is ∙ take_at done rest (length done) refl
 
-    is_life : (done rest : List Entry) (left : Book) → all ≡ done ++ rest → IsOf (after_all w first done).book left → IsLife b (life_to (length done) left)
-    is_life done rest left is of = record {
+    is_life : (done rest : List Entry) (end left : Book) → all ≡ done ++ rest → IsEnd (after_all w first done) end → IsOf end left → IsLife b (life_to (length done) left)
+    is_life done rest end left is ends of = record {
       usable = usable;
       fits = fits;
       left = subst (λ (es : List Entry). IsLeftBy (after_all w first es) [] left) (sym (entries_to done rest left is)) (record {
-        end = (after_all w first done).book;
-        ends = inl refl;
+        end = end;
+        ends = ends;
         may = refl;
-        worked = (after_all w first done).book;
+        worked = end;
         works = inl refl;
         leaves = of;
       });
@@ -113,12 +123,12 @@ module _ (b : Book) (orderly : IsOrderly b) (before : List ℕ) where
     }
 
     pub life_whole : (done rest : List Entry) (left : Book) (told : List ℕ) → all ≡ done ++ rest → told ≡ before ++ text w.table done → IsOf (after_all w first done).book left → IsLeft b before told left
-    life_whole done rest left told is told_is of = by_life (life_to (length done) left) told (is_life done rest left is of) (lines_whole done rest left told is told_is)
+    life_whole done rest left told is told_is of = by_life (life_to (length done) left) told (is_life done rest (after_all w first done).book left is (inl refl) of) (lines_whole done rest left told is told_is)
 
-    life_part : (done rest : List Entry) (e : Entry) (part : ℕ) (left : Book) (told : List ℕ) → all ≡ done ++ (e ∷ rest) → told ≡ (before ++ text w.table done) ++ take part (line w.table e) → IsOf (after w (after_all w first done) e).book left → IsLeft b before told left
-    life_part done rest e part left told is told_is of =
+    life_part : (done rest : List Entry) (e : Entry) (part : ℕ) (end left : Book) (told : List ℕ) → all ≡ done ++ (e ∷ rest) → told ≡ (before ++ text w.table done) ++ take part (line w.table e) → IsEnd (after w (after_all w first done) e) end → IsOf end left → IsLeft b before told left
+    life_part done rest e part end left told is told_is ends of =
         let apart : all ≡ (done ++ e ∷ []) ++ rest = is ∙ sym (append_assoc done (e ∷ []) rest) in
-        by_life (life_to (length (done ++ e ∷ [])) left) told (is_life (done ++ e ∷ []) rest left apart (subst (λ (l : Ledger). IsOf l.book left) (sym (one_more w first done e)) of)) (lines_part done rest e part left told apart told_is)
+        by_life (life_to (length (done ++ e ∷ [])) left) told (is_life (done ++ e ∷ []) rest end left apart (subst (λ (l : Ledger). IsEnd l end) (sym (one_more w first done e)) ends) of) (lines_part done rest e part left told apart told_is)
 
     -- a run that was cut off, where Q is what stands for a book
     module _ (Q : Book → Type 0) (told : List ℕ) (done : List Entry) where
@@ -137,7 +147,7 @@ module _ (b : Book) (orderly : IsOrderly b) (before : List ℕ) where
           none (suc n) = append-nil (before ++ text w.table done)
 
       cut_next : (e : Entry) (rest : List Entry) (part : ℕ) → all ≡ done ++ (e ∷ rest) → told ≡ (before ++ text w.table done) ++ take part (line w.table e) → Q (after w here e).book → Stood
-      cut_next e rest part is told_is q = ((after w here e).book, q, λ left of. life_part done rest e part left told is told_is of)
+      cut_next e rest part is told_is q = ((after w here e).book, q, λ left of. life_part done rest e part (after w here e).book left told is told_is (inl refl) of)
 
       pub cut : (rest : List Entry) (part : ℕ) → all ≡ done ++ rest → told ≡ (before ++ text w.table done) ++ take part (next_line w.table rest) → Q here.book ⊎ Q (next_book w here rest) → (0 < part → Q (next_book w here rest)) → Stood
       cut [] part is told_is (inl q) first_disk = cut_end part is told_is q
@@ -145,6 +155,10 @@ module _ (b : Book) (orderly : IsOrderly b) (before : List ℕ) where
       cut (e ∷ rest) zero is told_is (inl q) first_disk = (here.book, q, λ left of. life_whole done (e ∷ rest) left told is (told_is ∙ append-nil (before ++ text w.table done)) of)
       cut (e ∷ rest) (suc n) is told_is (inl q) first_disk = cut_next e rest (suc n) is told_is (first_disk (omega arith))
       cut (e ∷ rest) part is told_is (inr q) first_disk = cut_next e rest part is told_is q
+
+      -- the entry was cut off
+      pub cut_loosely : (e : Entry) (rest : List Entry) (part : ℕ) → all ≡ done ++ (e ∷ rest) → told ≡ (before ++ text w.table done) ++ take part (line w.table e) → Q (cut_off e (after w here e).book) → Stood
+      cut_loosely e rest part is told_is q = (cut_off e (after w here e).book, q, λ left of. life_part done rest e part (cut_off e (after w here e).book) left told is told_is (inr (cut_last w here e)) of)
 
 -- ---- nothing was done
 
@@ -184,9 +198,23 @@ module _ (w : World) (mode : Mode) (b : Book) (orderly : IsOrderly b) (usable : 
         moments = leaves_wider (IsLeftOfRun w (opening mode b) (run w (opening mode b) (Begin ∷ items)) u.told) (LeftAt b u.told) p.moments (crash_left u.told);
       }
 
+  -- a run that was given up
+  module _ (error : HostError) (v : View) (before : List ℕ) (done : List Entry) (part : ℕ) where
+    abbrev behind : Ledger
+    behind = after_all w (opening mode b) done
+
+    abbrev Stands : Type 0
+    Stands = (k : Book) × HostStands v k × ((left : Book) → IsOf k left → IsLeft b before v.told left)
+
+    around : (rest : List Entry) → run w (opening mode b) (Begin ∷ items) ≡ done ++ rest → v.told ≡ (before ++ text w.table done) ++ take part (next_line w.table rest) → StandsAroundNext w behind rest error v → (0 < part → HostStands v (next_book w behind rest)) → Stands
+    around [] is told h disk = cut b orderly before w mode usable items fits (HostStands v) v.told done [] part is told (inl h) disk
+    around (e ∷ rest) is told (inl h) disk = cut b orderly before w mode usable items fits (HostStands v) v.told done (e ∷ rest) part is told (inl h) disk
+    around (e ∷ rest) is told (inr (inl h)) disk = cut b orderly before w mode usable items fits (HostStands v) v.told done (e ∷ rest) part is told (inr h) disk
+    around (e ∷ rest) is told (inr (inr loose)) disk = cut_loosely b orderly before w mode usable items fits (HostStands v) v.told done e rest part is told loose.1
+
   halted_on : (error : HostError) (u v : View) → HaltsRun w (opening mode b) (run w (opening mode b) (Begin ∷ items)) error u v → LeavesLives b u v
   halted_on error u v p =
-      let s = cut b orderly u.told w mode usable items fits (HostStands v) v.told p.done p.rest p.part p.all p.told p.stands p.disk_first in record {
+      let s = around error v u.told p.done p.part p.rest p.all p.told p.stands p.disk_first in record {
         at_end = (s.0, s.1, s.2 s.0 (inl refl));
         moments = leaves_wider (IsLeftOfRun w (opening mode b) (run w (opening mode b) (Begin ∷ items)) u.told) (LeftAt b u.told) p.moments (crash_left u.told);
       }
@@ -204,6 +232,12 @@ module _ (w : World) (mode : Mode) (b : Book) (orderly : IsOrderly b) where
   same_book Q [] [] is (inr q) = q
   same_book Q [] (e ∷ rest) is q = absurd cc
   same_book Q (e ∷ done) rest is q = absurd cc
+
+  same_stands : (error : HostError) (v : View) (done rest : List Entry) → [] ≡ done ++ rest → StandsAroundNext w (after_all w (opening mode b) done) rest error v → HostStands v b
+  unfolding after_all
+  same_stands error v [] [] is h = h
+  same_stands error v [] (e ∷ rest) is h = absurd cc
+  same_stands error v (e ∷ done) rest is h = absurd cc
 
   same_told : (before told : List ℕ) (done rest : List Entry) (part : ℕ) → [] ≡ done ++ rest → told ≡ (before ++ text w.table done) ++ take part (next_line w.table rest) → told ≡ before
   same_told before told [] [] zero is told_is = told_is ∙ append-nil (before ++ text w.table []) ∙ ap (λ xs. before ++ xs) (no_text w.table) ∙ append-nil before
@@ -224,7 +258,7 @@ module _ (w : World) (mode : Mode) (b : Book) (orderly : IsOrderly b) where
 
   none_halted : (error : HostError) (u v : View) → HaltsRun w (opening mode b) [] error u v → LeavesLives b u v
   none_halted error u v p = record {
-    at_end = (b, same_book (HostStands v) p.done p.rest p.all p.stands, still_left b orderly u.told v.told b (same_told u.told v.told p.done p.rest p.part p.all p.told) (inl refl));
+    at_end = (b, same_stands error v p.done p.rest p.all p.stands, still_left b orderly u.told v.told b (same_told u.told v.told p.done p.rest p.part p.all p.told) (inl refl));
     moments = leaves_wider (IsLeftOfRun w (opening mode b) [] u.told) (LeftAt b u.told) p.moments (none_crash u.told);
   }
 

@@ -187,7 +187,7 @@ module _ (params : Settings) (table : Contents) (mode : Mode) (w : World) (l : L
     short = omega arith;
     told = none_told stops.part v.told stops.told (λ some. never_stands v spent (stops.disk_first some));
     only_tell = λ other. refl;
-    stands = inl (⊎_elim (λ h. h) (λ h. absurd (never_stands v spent h)) stops.stands);
+    stands = ⊎_elim (λ h. h) (λ more. absurd (never_stands v spent (⊎_elim (λ h. h) (λ h. h.1) more))) stops.stands;
     disk_first = λ some. absurd (omega arith);
     moments = leaves_on (IsLeftOfRun w l [] u.told) (leaves_here (IsLeftOfRun w l [] u.told) u lawful.only (λ c left. none_left c left)) stops.moments (λ c a. a) (λ c a. left_none c spent a);
   }

@@ -1,67 +1,55 @@
-use Rattle.std.proofs.Common.{List, ℕ, inr, sym, ap, ◌∙◌, ◌++◌, ◌∷◌, [], Some}
-use Rattle.std.specs.Option.{option_map}
-use Rattle.q_model.specs.declared.outcome.Failure.{Failure}
-use Rattle.q_model.specs.declared.spot.Area.TheVariants as areas
-use Rattle.q_model.specs.FailureLog.{log_bytes, log_records}
-use Rattle.q_model.specs.SpoolFiles.{Files}
-use Rattle.q_logfile.specs.TmpNames.{tmp_name}
+use Rattle.q_model.specs.CutOff.{cut_off}
+use Rattle.q_model.specs.declared.entry.Entry.TheVariants as entries
 use Rattle.q_books.specs.HostStands.{TellsCrashes}
-use Rattle.q_books.proofs.Joining.{reads_try}
+use Rattle.q_books.proofs.Joining.{kept_takes, kept_tries_loosely, reads_keep, reads_try, tries_loosely}
 use Rattle.q_books.proofs.Results.{on_err, on_ok}
-use Rattle.q_files.proofs.LogStores.{fails, may_fail, records_there}
-use Rattle.q_files.proofs.MessageStores.{stores_no_notes}
-use Rattle.q_files.proofs.Outcomes.{always_err, either}
+use Rattle.q_files.proofs.Outcomes.{always_err}
 use Rattle.q_files.proofs.failing.store_failure.Goals as goal
 
 pub returns-in_err-log-clause-err : goal.returns-in_err-log-clause-err
 returns-in_err-log-clause-err g c = always_err c.from_residual.result (λ t b k h ch.
     let u = g.H.Host.view c.args.host.now in
+    let v = g.H.Host.view c.read_file.new.host in
     let lawful : TellsCrashes u = (record { only = g.met.H.Host.only_now c.args.host.now; told = g.met.H.Host.told_stays c.args.host.now }) in
-    reads_try b k u (g.H.Host.view c.read_file.new.host) lawful (c.read_file.ensures.stays t) h)
+    tries_loosely b k (cut_off (entries.Log c.args.id c.args.failure) k) u v (reads_try b k u v lawful (c.read_file.ensures.stays t) h))
 
-pub returns-in_err-records-clause-err : goal.returns-in_err-records-clause-err
-returns-in_err-records-clause-err g c = always_err c.from_residual-in_err-records.result (λ t b k h ch.
+pub returns-in_err-count-clause-err : goal.returns-in_err-count-clause-err
+returns-in_err-count-clause-err g c = always_err c.from_residual-in_err-count.result (λ t b k h ch.
     let u = g.H.Host.view c.args.host.now in
+    let v = g.H.Host.view c.read_file.new.host in
     let lawful : TellsCrashes u = (record { only = g.met.H.Host.only_now c.args.host.now; told = g.met.H.Host.told_stays c.args.host.now }) in
-    reads_try b k u (g.H.Host.view c.read_file.new.host) lawful (c.read_file.ensures.stays t) h)
+    tries_loosely b k (cut_off (entries.Log c.args.id c.args.failure) k) u v (reads_try b k u v lawful (c.read_file.ensures.stays t) h))
+
+pub returns-in_default-clause-ok : goal.returns-in_default-clause-ok
+returns-in_default-clause-ok g c = on_ok c.replace_log.result (λ d t b k h ch.
+    let u = g.H.Host.view c.args.host.now in
+    let v = g.H.Host.view c.read_file.new.host in
+    let lawful : TellsCrashes u = (record { only = g.met.H.Host.only_now c.args.host.now; told = g.met.H.Host.told_stays c.args.host.now }) in
+    let first = reads_keep b b u v lawful (c.read_file.ensures.stays t) h in
+    kept_takes b k u v (g.H.Host.view c.replace_log.new.host) first (d t b k first.stands ch)) c.replace_log.ensures.ok
+
+pub returns-in_default-clause-err : goal.returns-in_default-clause-err
+returns-in_default-clause-err g c = on_err c.replace_log.result (λ d t b k h ch.
+    let u = g.H.Host.view c.args.host.now in
+    let v = g.H.Host.view c.read_file.new.host in
+    let w = g.H.Host.view c.replace_log.new.host in
+    let lawful : TellsCrashes u = (record { only = g.met.H.Host.only_now c.args.host.now; told = g.met.H.Host.told_stays c.args.host.now }) in
+    let first = reads_keep b b u v lawful (c.read_file.ensures.stays t) h in
+    let cut = cut_off (entries.Log c.args.id c.args.failure) k in
+    kept_tries_loosely b k u v w cut first (tries_loosely b k cut v w (d t b k first.stands ch))) c.replace_log.ensures.err
 
 pub returns-clause-ok : goal.returns-clause-ok
-returns-clause-ok g c = on_ok c.replace.result (λ d t b k h ch.
+returns-clause-ok g c = on_ok c.append_to_log.result (λ d t b k h ch.
     let u = g.H.Host.view c.args.host.now in
     let v = g.H.Host.view c.read_file.new.host in
-    let w = g.H.Host.view c.replace.new.host in
-    let name = c.id_name-name.result in
-    let fs = c.in_ok-records.records in
     let lawful : TellsCrashes u = (record { only = g.met.H.Host.only_now c.args.host.now; told = g.met.H.Host.told_stays c.args.host.now }) in
-    let then_lawful : TellsCrashes v = (record { only = g.met.H.Host.only_now c.read_file.new.host; told = g.met.H.Host.told_stays c.read_file.new.host }) in
-    let read = c.in_ok-records.ensures.records ∙ ap (λ (rs : List Failure). rs ++ c.args.failure ∷ []) (records_there u.files c.args.id name c.deref.result.now c.id_name-name.ensures (c.deref.ensures.value ∙ c.in_ok-log.ensures.bytes t)) in
-    fails (tmp_name areas.Bounce name) name c.args.id c.args.failure fs b k ch u v w lawful then_lawful c.id_name-name.ensures read c.in_ok-records.ensures.lawful (c.read_file.ensures.stays t) h (d t)) c.replace.ensures.ok
+    let first = reads_keep b b u v lawful (c.read_file.ensures.stays t) h in
+    kept_takes b k u v (g.H.Host.view c.append_to_log.new.host) first (d t b k first.stands ch)) c.append_to_log.ensures.ok
 
 pub returns-clause-err : goal.returns-clause-err
-returns-clause-err g c = on_err c.replace.result (λ d t b k h ch.
+returns-clause-err g c = on_err c.append_to_log.result (λ d t b k h ch.
     let u = g.H.Host.view c.args.host.now in
     let v = g.H.Host.view c.read_file.new.host in
-    let w = g.H.Host.view c.replace.new.host in
-    let name = c.id_name-name.result in
-    let fs = c.in_ok-records.records in
     let lawful : TellsCrashes u = (record { only = g.met.H.Host.only_now c.args.host.now; told = g.met.H.Host.told_stays c.args.host.now }) in
-    let then_lawful : TellsCrashes v = (record { only = g.met.H.Host.only_now c.read_file.new.host; told = g.met.H.Host.told_stays c.read_file.new.host }) in
-    let read = c.in_ok-records.ensures.records ∙ ap (λ (rs : List Failure). rs ++ c.args.failure ∷ []) (records_there u.files c.args.id name c.deref.result.now c.id_name-name.ensures (c.deref.ensures.value ∙ c.in_ok-log.ensures.bytes t)) in
-    may_fail (tmp_name areas.Bounce name) name c.args.id c.args.failure fs b k ch u v w lawful then_lawful c.id_name-name.ensures read c.in_ok-records.ensures.lawful (c.read_file.ensures.stays t) h (d t)) c.replace.ensures.err
-
-pub returns-clause-records : goal.returns-clause-records
-returns-clause-records g c = on_ok c.replace.result (λ d t.
-    let u = g.H.Host.view c.args.host.now in
-    let w = g.H.Host.view c.replace.new.host in
-    let name = c.id_name-name.result in
-    let read = c.in_ok-records.ensures.records ∙ ap (λ (rs : List Failure). rs ++ c.args.failure ∷ []) (records_there u.files c.args.id name c.deref.result.now c.id_name-name.ensures (c.deref.ensures.value ∙ c.in_ok-log.ensures.bytes t)) in
-    ap (λ (n : List ℕ). option_map log_records (w.files areas.Bounce n)) (sym c.id_name-name.ensures) ∙ d t ∙ ap (λ (rs : List Failure). Some rs) read) c.replace.ensures.again
-
-pub returns-clause-notes : goal.returns-clause-notes
-returns-clause-notes g c t n =
-    let v = g.H.Host.view c.read_file.new.host in
-    let w = g.H.Host.view c.replace.new.host in
-    let name = c.id_name-name.result in
-    let keep = stores_no_notes (tmp_name areas.Bounce name) areas.Bounce name (log_bytes c.in_ok-records.records) v w (λ e. cc) in
-    either c.replace.result (λ d. keep (inr (d t)) n) (λ d. keep (d t) n) c.replace.ensures.ok c.replace.ensures.err
-    ∙ ap (λ (f : Files). f areas.Defer n) (c.read_file.ensures.stays t).files
+    let first = reads_keep b b u v lawful (c.read_file.ensures.stays t) h in
+    kept_tries_loosely b k u v (g.H.Host.view c.append_to_log.new.host) (cut_off (entries.Log c.args.id c.args.failure) k) first (d t b k first.stands ch)) c.append_to_log.ensures.err

@@ -5,7 +5,8 @@ use Rattle.q_model.specs.Step.{change}
 use Rattle.q_model.specs.declared.entry.Entry.TheVariants as entries
 use Rattle.q_model.specs.declared.entry.Entry.{Entry}
 use Rattle.q_engine.specs.Stands.{HasDecided}
-use Rattle.q_engine.proofs.CarriedOut.{carried_behind, given_up_behind, refused}
+use Rattle.q_engine.proofs.CarriedOut.{carried_behind, given_up_behind, refused_loosely}
+use Rattle.q_engine.proofs.Causes.{never_told}
 use Rattle.q_engine.proofs.OutcomeArms.{log_changes}
 use Rattle.q_engine.proofs.StoredNotes.{plain_told}
 use Rattle.q_engine.proofs.engine.Engine.log.Goals as goal
@@ -17,7 +18,8 @@ returns-in_err-store_failure-clause-err g c error is t w l n =
     let v = g.H.Host.view c.args.host.now in
     let h = subst (λ (x : Entry). HasDecided w l d x c.args.self.now v) n.1.of n.1 in
     let k = (change w l e).book in
-    refused w l d e c.args.self.now v h k error (g.H.Host.view c.store_failure.new.host) refl
+    let other = never_told (g.H.Host.faults c.args.host.now) (g.H.Host.faults c.store_failure.new.host) c.from_residual.result c.in_err-store_failure.field-0.0 error c.from_residual.ensures.1 is c.in_err-store_failure.ensures.cause in
+    refused_loosely w l d e c.args.self.now v h k error (g.H.Host.view c.store_failure.new.host) other refl
     (c.in_err-store_failure.ensures.err t l.book k h.host (log_changes w l c.args.id c.args.failure c.args.self.now v h))
 
 pub returns-clause-ok : goal.returns-clause-ok
