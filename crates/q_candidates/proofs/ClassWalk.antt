@@ -20,7 +20,7 @@ use Rattle.q_candidates.specs.declared.candidate.Candidate.{Candidate}
 use Rattle.q_candidates.specs.declared.lane.Lane.{Lane}
 use Rattle.q_candidates.specs.declared.wanted.Wanted.{Wanted}
 use Rattle.q_candidates.specs.Filing.{class_for, lane_of}
-use Rattle.q_candidates.specs.Walking.{AreOrdered, first_in_lane, is_open, is_past, is_wanted, IsFoundBy, nearer}
+use Rattle.q_candidates.specs.Walking.{AreOrdered, AreShut, first_in_lane, is_open, is_past, is_wanted, IsFoundBy, nearer}
 use Rattle.q_candidates.proofs.LaneHeads.{has_ticket, its_class, lane_nearest, lane_proper, not_before_key}
 
 -- where the walk stands
@@ -125,12 +125,12 @@ abbrev IsLeft : Option Ticket → Ticket → Type 0
 IsLeft at x = (h : Ticket) × (at ≡ Some h) × (goes_ahead x h ≡ false)
 
 pub record InWalk (key : Candidate → ℕ) (lanes : List (Numbered Lane)) (ks : List (Numbered Candidate)) (s : Lanes) (ds : List Dest) (w : Wanted) (found at : Option Ticket) : Type 0 where
-  pub heads : (x : Ticket) → IsHeadOf (class_for w.transport w.need) s x → IsDone key lanes ds w ks found x ⊎ IsLeft at x
+  pub heads : (x : Ticket) → IsHeadOf (class_for false w.transport w.need) s x → IsDone key lanes ds w ks found x ⊎ IsLeft at x
   pub proper : IfSome found (IsWantedAt key ds w ks)
 
-module _ (key : Candidate → ℕ) (lanes : List (Numbered Lane)) (ks : List (Numbered Candidate)) (s : Lanes) (order : AreOrdered key lanes ks s) (rising : Rises s.items) (ds : List Dest) (w : Wanted) where
+module _ (key : Candidate → ℕ) (lanes : List (Numbered Lane)) (ks : List (Numbered Candidate)) (s : Lanes) (order : AreOrdered key lanes ks s) (rising : Rises s.items) (ds : List Dest) (shut : AreShut ds lanes) (w : Wanted) where
   abbrev class : ℕ
-  class = class_for w.transport w.need
+  class = class_for false w.transport w.need
 
   first_left : (x : Ticket) → IsHeadOf class s x → (o : Option Ticket) → foremost (heads_of class s) ≡ o → IsLeft o x
   first_left x is None first = absurd (no_head class s x first is)
@@ -171,12 +171,12 @@ module _ (key : Candidate → ℕ) (lanes : List (Numbered Lane)) (ks : List (Nu
 
   -- The lane of a candidate that is wanted has a head of the class.
   module _ (n : ℕ) (c : Candidate) (there : item_at n ks ≡ Some c) (wanted : is_wanted ds w c ≡ true) where
-    open_parts : (c.site.transport ≡ w.transport) × (c.need ≡ w.need)
+    open_parts : (c.site.transport ≡ w.transport) × (c.need ≡ w.need) × (has_space_at ds c.site ≡ true)
     open_parts =
         let outer = and_parts (is_open ds w c) (not (id_eq c.id w.except)) wanted in
         let inner = and_parts ((c.site.transport == w.transport) && (c.need == w.need)) (has_space_at ds c.site) outer.0 in
         let parts = and_parts (c.site.transport == w.transport) (c.need == w.need) inner.0 in
-        (eqb-true c.site.transport w.transport parts.0, eqb-true c.need w.need parts.1)
+        (eqb-true c.site.transport w.transport parts.0, eqb-true c.need w.need parts.1, inner.1)
 
     record HasLaneHead : Type 0 where
       head : Ticket
@@ -188,7 +188,7 @@ module _ (key : Candidate → ℕ) (lanes : List (Numbered Lane)) (ks : List (Nu
     lane_head =
         let e = has_ticket key lanes ks s order rising n c there in
         let of : class_of e.ticket.group s.classes ≡ class =
-        its_class key lanes ks s order rising c e.ticket.group e.lane ∙ ap (λ t. class_for t c.need) open_parts.0 ∙ ap (class_for w.transport) open_parts.1 in
+        its_class key lanes ks s order rising ds shut c e.ticket.group open_parts.2 e.lane ∙ ap (λ t. class_for false t c.need) open_parts.0 ∙ ap (class_for false w.transport) open_parts.1 in
         let has = has_head class s e.ticket of rising e.there in
         record {
           head = has.head;

@@ -15,7 +15,7 @@ use Rattle.q_model.specs.Values.{Site}
 use Rattle.q_rounds.proofs.Entered.{entered, ticket_own}
 use Rattle.q_rounds.specs.declared.peer.PeerKey.{PeerKey}
 use Rattle.q_rounds.specs.KeyLaws.{key_eq-refl, key_eq-true}
-use Rattle.q_rounds.specs.Rounds.{key_eq}
+use Rattle.q_rounds.specs.Rounds.{has_space_at, key_eq}
 use Rattle.q_sorted.specs.declared.ticket.Ticket.{Ticket}
 use Rattle.q_sorted.specs.Tickets.{goes_before, is_of, Rises}
 use Rattle.q_candidates.specs.declared.candidate.Candidate.{Candidate}
@@ -23,10 +23,10 @@ use Rattle.q_candidates.specs.declared.lane.Lane.{Lane}
 use Rattle.q_candidates.specs.declared.wanted.Wanted.{Wanted}
 use Rattle.q_candidates.specs.Candidates.{key_of}
 use Rattle.q_candidates.specs.Filing.{class_for, is_lane, lane_of, ticket_at, ticket_with}
-use Rattle.q_candidates.specs.Walking.{AreOrdered, first_in_lane, is_open, is_wanted, wanted_in}
+use Rattle.q_candidates.specs.Walking.{AreOrdered, AreShut, first_in_lane, is_open, is_wanted, wanted_in}
 use Rattle.q_candidates.proofs.TicketLaws.{some_from, ticket_is, ticket_tells, TicketOf}
 use Rattle.q_candidates.proofs.Keys.{one_number}
-use Rattle.q_candidates.proofs.Lanes.{lane_named, lane_parts}
+use Rattle.q_candidates.proofs.Lanes.{lane_named, lane_parts, not_suspended}
 
 -- two of one group stand by their keys
 pub not_before_key : (x y : Ticket) → x.group ≡ y.group → goes_before x y ≡ false → y.key ≤ x.key
@@ -63,12 +63,14 @@ module _ (key : Candidate → ℕ) (lanes : List (Numbered Lane)) (ks : List (Nu
       let e = ticket_with key lane.0 n c in
       record { ticket = e; there = entered (ticket_at key lanes ks) s.items n e order.placed (ticket_is key lanes ks n lane.0 c there lane.1) refl; item = refl; keyed = refl; lane = lane.1 }
 
-  -- the class of its lane
-  pub its_class : (c : Candidate) (lane : ℕ) → lane_of c.site c.need lanes ≡ Some lane → class_of lane s.classes ≡ class_for c.site.transport c.need
-  its_class c lane found =
+  -- the class of its lane, where its site has space
+  pub its_class : (ds : List Dest) → AreShut ds lanes → (c : Candidate) (lane : ℕ) → has_space_at ds c.site ≡ true → lane_of c.site c.need lanes ≡ Some lane → class_of lane s.classes ≡ class_for false c.site.transport c.need
+  its_class ds shut c lane space found =
       let it = held_item (is_lane c.site c.need) lane lanes order.lanes_apart found in
       let parts = lane_parts c.site c.need it.0 it.2 in
-      (order.lanes_are lane it.0 it.1).class ∙ ap (λ (x : Site). class_for x.transport it.0.need) parts.0 ∙ ap (class_for c.site.transport) parts.1
+      let walked = not_suspended ds lanes shut lane it.0 it.1 (ap (has_space_at ds) parts.0 ∙ space) in
+      (order.lanes_are lane it.0 it.1).class ∙ ap (λ b. class_for b it.0.site.transport it.0.need) walked
+      ∙ ap (λ (x : Site). class_for false x.transport it.0.need) parts.0 ∙ ap (class_for false c.site.transport) parts.1
 
   -- candidates of one lane are of one site and one need
   one_lane : (a b : Candidate) (lane : ℕ) → lane_of a.site a.need lanes ≡ Some lane → lane_of b.site b.need lanes ≡ Some lane → (a.site ≡ b.site) × (a.need ≡ b.need)

@@ -1,19 +1,22 @@
 -- The lanes of candidates, of which there are no more than candidates.
-use Rattle.std.proofs.Common.{◌≡◌, ◌≢◌, ◌∙◌, ◌∷◌, ◌≤◌, [], ap, arith, length, List, Some, sym, true, ℕ}
-use Rattle.std.proofs.lemmas.Bool.{and_from, and_parts, both_ways, eq-eqb, eqb-true}
+use Rattle.std.proofs.Common.{◌≡◌, ◌≢◌, ◌∙◌, ◌∷◌, ◌≤◌, [], ap, arith, false, length, List, Some, sym, true, ℕ}
+use Rattle.std.proofs.lemmas.Bool.{and_from, and_parts, both_ways, eq-eqb, eqb-true, false_from_ne_true}
 use Rattle.std.specs.Option.{is_some}
 use Rattle.std.specs.Prelude.{◌==◌}
+use Rattle.q_dest.specs.declared.dest.Dest.{Dest}
 use Rattle.q_keyed.proofs.Values.{held_item, none_passes}
 use Rattle.q_keyed.specs.Numbered.{AreApart, AreKeysApart, item_at, Numbered, without_number}
 use Rattle.q_model.proofs.IdLaws.{site_eq-refl, site_eq-true}
 use Rattle.q_model.specs.Sites.{site_eq}
 use Rattle.q_model.specs.Values.{Site}
 use Rattle.q_rounds.proofs.Lookups.{fewer_at, here_at, later_at, none_at, other_left}
+use Rattle.q_rounds.specs.Rounds.{has_space_at}
 use Rattle.q_candidates.specs.declared.candidate.Candidate.{Candidate}
 use Rattle.q_candidates.specs.declared.lane.Lane.{Lane}
 use Rattle.q_candidates.specs.Filing.{is_lane, key_of_lane, lane_eq, lane_of}
 use Rattle.q_candidates.specs.LaneLaws.{lane_eq-refl, lane_eq-true}
 use Rattle.q_candidates.specs.Sound.{IsUsed}
+use Rattle.q_candidates.specs.Walking.{AreShut}
 use Rattle.q_candidates.proofs.Keys.{own_found}
 
 pub lane_parts : (site : Site) (need : ℕ) (l : Lane) → is_lane site need l ≡ true → (l.site ≡ site) × (l.need ≡ need)
@@ -35,6 +38,10 @@ lane_named site need n lanes l apart found there =
 -- and it is found by them
 pub lane_own : (n : ℕ) (l : Lane) (lanes : List (Numbered Lane)) → AreKeysApart lane_eq key_of_lane lanes → item_at n lanes ≡ Some l → lane_of l.site l.need lanes ≡ Some n
 lane_own n l lanes keys there = own_found lane_eq key_of_lane lane_eq-true lane_eq-refl n l lanes keys there
+
+-- a lane whose site has space isn't suspended
+pub not_suspended : (ds : List Dest) (lanes : List (Numbered Lane)) → AreShut ds lanes → (n : ℕ) (l : Lane) → item_at n lanes ≡ Some l → has_space_at ds l.site ≡ true → l.suspended ≡ false
+not_suspended ds lanes shut n l there space = false_from_ne_true l.suspended (λ h. both_ways (has_space_at ds l.site) (shut n l there h) space)
 
 pub few_lanes : (lanes : List (Numbered Lane)) (ks : List (Numbered Candidate)) → AreApart lanes → AreKeysApart lane_eq key_of_lane lanes → ((n : ℕ) (l : Lane) → item_at n lanes ≡ Some l → IsUsed l.site l.need ks) → length lanes ≤ length ks
 few_lanes [] ks apart keys used = omega arith

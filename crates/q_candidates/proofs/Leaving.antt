@@ -16,20 +16,15 @@ use Rattle.q_sorted.specs.Tickets.{Tickets, is_another, is_of}
 use Rattle.q_candidates.specs.declared.candidate.Candidate.{Candidate}
 use Rattle.q_candidates.specs.declared.index.Index.{Index}
 use Rattle.q_candidates.specs.declared.lane.Lane.{Lane}
-use Rattle.q_candidates.specs.Filing.{age_key, ticket_at, ticket_with, IsChanged, is_lane, key_of_lane, lane_eq, lane_of, need_at, need_ticket, rank_key}
+use Rattle.q_candidates.specs.Filing.{age_key, AreLeft, ticket_at, ticket_with, IsChanged, is_lane, key_of_lane, lane_eq, lane_of, need_at, need_ticket, rank_key, site_at, site_ticket}
 use Rattle.q_candidates.specs.Sound.{IsFiled, IsLaid, IsUsed}
 use Rattle.q_candidates.proofs.TicketLaws.{ticket_is, ticket_none, ticket_same, ticket_stays, ticket_tells}
 use Rattle.q_candidates.proofs.Lanes.{lane_named, lane_own, lane_parts}
 
 module _ (i : Index) (apart : AreApart i.lanes.items) (keys : AreKeysApart lane_eq key_of_lane i.lanes.items) (c : Candidate) (n lane : ℕ) (own : lane_of c.site c.need i.lanes.items ≡ Some lane) where
-  abbrev gone_lane : Lane
-  gone_lane = record { site = c.site; need = c.need }
-
-  pub lane_there : item_at lane i.lanes.items ≡ Some gone_lane
-  lane_there =
-      let it = held_item (is_lane c.site c.need) lane i.lanes.items apart own in
-      let parts = lane_parts c.site c.need it.0 it.2 in
-      it.1 ∙ ap (λ s. Some (record it.0 { site = s })) parts.0 ∙ ap (λ d. Some (record gone_lane { need = d })) parts.1
+  -- it is there
+  pub lane_there : (l : Lane) × (item_at lane i.lanes.items ≡ Some l)
+  lane_there = let it = held_item (is_lane c.site c.need) lane i.lanes.items apart own in (it.0, it.1)
 
   -- the lane's own key leads to it alone
   is_its : (m : ℕ) (l : Lane) → item_at m i.lanes.items ≡ Some l → l.site ≡ c.site → l.need ≡ c.need → m ≡ lane
@@ -85,10 +80,10 @@ module _ (i : Index) (apart : AreApart i.lanes.items) (keys : AreKeysApart lane_
 
         lane_stays : (m : ℕ) (q : Candidate) → item_at m new ≡ Some q → lane_of q.site q.need rest ≡ lane_of q.site q.need i.lanes.items
         lane_stays m q h =
-            such_left (is_lane q.site q.need) lane gone_lane i.lanes.items apart lane_there
-            (false_from_ne_true (is_lane q.site q.need gone_lane) (λ mine.
-            let parts = lane_parts q.site q.need gone_lane mine in
-            not_its m q h (ap (λ s. lane_of s q.need i.lanes.items) (sym parts.0) ∙ ap (λ d. lane_of c.site d i.lanes.items) (sym parts.1) ∙ own)))
+            such_left (is_lane q.site q.need) lane lane_there.0 i.lanes.items apart lane_there.1
+            (false_from_ne_true (is_lane q.site q.need lane_there.0) (λ mine.
+            let parts = lane_parts q.site q.need lane_there.0 mine in
+            not_its m q h (ap (λ s. lane_of s q.need i.lanes.items) (sym parts.0) ∙ ap (λ d. lane_of lane_there.0.site d i.lanes.items) (sym parts.1) ∙ lane_own lane lane_there.0 i.lanes.items keys lane_there.1)))
 
         left_for : (key : Candidate → ℕ) (zs : List Ticket) → AreTickets (ticket_at key i.lanes.items new) zs → AreTickets (ticket_at key rest new) zs
         left_for key zs are = alike (ticket_at key i.lanes.items new) (ticket_at key rest new) zs are (λ m. ticket_same key i.lanes.items rest new m (λ q h. lane_stays m q h))
@@ -99,8 +94,8 @@ module _ (i : Index) (apart : AreApart i.lanes.items) (keys : AreKeysApart lane_
         lane_was : (m : ℕ) (l : Lane) → item_at m rest ≡ Some l → item_at m i.lanes.items ≡ Some l
         lane_was m l h = sym (other_left lane m i.lanes.items (not_gone m l h)) ∙ h
 
-        pub filed_less : (lanes : Items Lane) (ages ranks : Lanes) (needs : Tickets) → lanes.items ≡ rest → ages.items ≡ xs → ranks.items ≡ ys → IsFiled new (record { lanes = lanes; ages = ages; ranks = ranks; needs = needs })
-        filed_less lanes ages ranks needs r a k = record {
+        pub filed_less : (lanes : Items Lane) (ages ranks : Lanes) (needs sites : Tickets) → lanes.items ≡ rest → ages.items ≡ xs → ranks.items ≡ ys → IsFiled new (record { lanes = lanes; ages = ages; ranks = ranks; needs = needs; sites = sites })
+        filed_less lanes ages ranks needs sites r a k = record {
           aged = subst (AreTickets (ticket_at age_key lanes.items new)) (sym a) (subst (λ ls. AreTickets (ticket_at age_key ls new) xs) (sym r) (left_for age_key xs aged));
           ranked = subst (AreTickets (ticket_at rank_key lanes.items new)) (sym k) (subst (λ ls. AreTickets (ticket_at rank_key ls new) ys) (sym r) (left_for rank_key ys ranked));
           laned = λ m q h. ap (λ ls. is_some (lane_of q.site q.need ls)) r ∙ ap is_some (lane_stays m q h) ∙ filed.laned m q (was m q h);
@@ -111,28 +106,34 @@ module _ (i : Index) (apart : AreApart i.lanes.items) (keys : AreKeysApart lane_
         }
 
   -- the lanes that are left
-  pub laid_less : (lanes : Items Lane) (needs : Tickets) (j : Index) → IsLaid j → j.lanes ≡ i.lanes → lanes ≡ record i.lanes { items = without_number lane i.lanes.items } → needs ≡ record j.needs { items = filter (is_another (need_ticket lane gone_lane)) j.needs.items } →
-      IsLaid (record j { lanes = lanes; needs = needs })
-  laid_less lanes needs j laid same l_is n_is =
-      subst (λ (x : Items Lane). IsLaid (record j { lanes = x; needs = needs })) (sym l_is)
-      (subst (λ (x : Tickets). IsLaid (record j { lanes = record i.lanes { items = without_number lane i.lanes.items }; needs = x })) (sym n_is)
-      (record {
-        ages = λ m l h. laid.ages m l (there m l h);
-        ranks = λ m l h. laid.ranks m l (there m l h);
-        listed = go (need_at i.lanes.items) (need_at (without_number lane i.lanes.items)) j.needs.items (subst (λ (x : Items Lane). AreTickets (need_at x.items) j.needs.items) same laid.listed) lane
-            (λ m other. ap (option_map (need_ticket m)) (other_left lane m i.lanes.items other))
-            (need_ticket lane gone_lane) (ap (option_map (need_ticket lane)) lane_there) (ap (option_map (need_ticket lane)) (own_left lane i.lanes.items)) refl;
-        age_lanes = laid.age_lanes ∙ room;
-        age_room = laid.age_room ∙ room;
-        rank_lanes = laid.rank_lanes ∙ room;
-        rank_room = laid.rank_room ∙ room;
-        need_room = laid.need_room ∙ room;
-      }))
-    where
-      room : j.lanes.room ≡ i.lanes.room
-      room = ap (λ (x : Items Lane). x.room) same
+  pub lanes_left : AreLeft i.lanes.items (without_number lane i.lanes.items)
+  lanes_left m l h =
+      let other : m ≢ lane = λ at. unless_none (item_at lane (without_number lane i.lanes.items)) l (own_left lane i.lanes.items) (ap (λ x. item_at x (without_number lane i.lanes.items)) (sym at) ∙ h) in
+      sym (other_left lane m i.lanes.items other) ∙ h
 
-      there : (m : ℕ) (l : Lane) → item_at m (without_number lane i.lanes.items) ≡ Some l → item_at m j.lanes.items ≡ Some l
-      there m l h =
-          let other : m ≢ lane = λ at. unless_none (item_at lane (without_number lane i.lanes.items)) l (own_left lane i.lanes.items) (ap (λ x. item_at x (without_number lane i.lanes.items)) (sym at) ∙ h) in
-          ap (λ (x : Items Lane). item_at m x.items) same ∙ sym (other_left lane m i.lanes.items other) ∙ h
+  abbrev pub less_lane : Lane → Lanes → Lanes → Index
+  less_lane gone ages ranks = record {
+    lanes = record i.lanes { items = without_number lane i.lanes.items };
+    ages = ages;
+    ranks = ranks;
+    needs = record i.needs { items = filter (is_another (need_ticket lane gone)) i.needs.items };
+    sites = record i.sites { items = filter (is_another (site_ticket lane gone)) i.sites.items };
+  }
+
+  pub laid_less : (gone : Lane) (ages ranks : Lanes) → item_at lane i.lanes.items ≡ Some gone → IsLaid (record i { ages = ages; ranks = ranks }) → IsLaid (less_lane gone ages ranks)
+  laid_less gone ages ranks there laid = record {
+    ages = λ m l h. laid.ages m l (lanes_left m l h);
+    ranks = λ m l h. laid.ranks m l (lanes_left m l h);
+    listed = go (need_at i.lanes.items) (need_at (without_number lane i.lanes.items)) i.needs.items laid.listed lane
+        (λ m other. ap (option_map (need_ticket m)) (other_left lane m i.lanes.items other))
+        (need_ticket lane gone) (ap (option_map (need_ticket lane)) there) (ap (option_map (need_ticket lane)) (own_left lane i.lanes.items)) refl;
+    sited = go (site_at i.lanes.items) (site_at (without_number lane i.lanes.items)) i.sites.items laid.sited lane
+        (λ m other. ap (option_map (site_ticket m)) (other_left lane m i.lanes.items other))
+        (site_ticket lane gone) (ap (option_map (site_ticket lane)) there) (ap (option_map (site_ticket lane)) (own_left lane i.lanes.items)) refl;
+    age_lanes = laid.age_lanes;
+    age_room = laid.age_room;
+    rank_lanes = laid.rank_lanes;
+    rank_room = laid.rank_room;
+    need_room = laid.need_room;
+    site_room = laid.site_room;
+  }

@@ -5,6 +5,9 @@ pub mod Making
 pub mod Entering
 pub mod Leaving
 pub mod Listing
+pub mod Setting
+pub mod SiteWalk
+pub mod SuspendedSites
 pub mod Found
 pub mod Steps
 pub mod Views

@@ -12,8 +12,8 @@ use Rattle.q_rounds.specs.Listing.{AreTickets}
 use Rattle.q_sorted.specs.declared.ticket.Ticket.{Ticket}
 use Rattle.q_sorted.specs.Tickets.{goes_before, Rises}
 use Rattle.q_candidates.specs.declared.lane.Lane.{Lane}
-use Rattle.q_candidates.specs.Choosing.{cut_at, IsNextNeed}
-use Rattle.q_candidates.specs.Filing.{need_at, need_ticket}
+use Rattle.q_candidates.specs.Choosing.{cut_at, IsNextNeed, IsWalked}
+use Rattle.q_candidates.specs.Filing.{group_for, need_at, need_ticket}
 
 past_cut : (x : Ticket) (transport from : ℕ) → x.group ≡ transport → from ≤ x.key → goes_before x (cut_at transport from) ≡ false
 past_cut x transport from a b = grind (arith, nat_tests)
@@ -31,6 +31,10 @@ lane_step : (o : Option Lane) (n : ℕ) (e : Ticket) → option_map (need_ticket
 lane_step None n e h = absurd cc
 lane_step (Some l) n e h = let same : need_ticket n l ≡ e = cc in (l, refl, ap (λ (x : Ticket). x.key) (sym same))
 
+-- the group of a lane that is walked along is its transport
+group_is : (n : ℕ) (l : Lane) (transport : ℕ) → IsWalked transport l → (need_ticket n l).group ≡ transport
+group_is n l transport at = ap (λ b. group_for b l.site.transport) at.0 ∙ at.1
+
 module _ (lanes : List (Numbered Lane)) (needs : List Ticket) (listed : AreTickets (need_at lanes) needs) (rising : Rises needs) (transport from most : ℕ) where
   abbrev past : Ticket → Bool
   past x = not (goes_before x (cut_at transport from))
@@ -39,8 +43,8 @@ module _ (lanes : List (Numbered Lane)) (needs : List Ticket) (listed : AreTicke
   stood : (n : ℕ) (l : Lane) → item_at n lanes ≡ Some l → stands (need_ticket n l) needs ≡ true
   stood n l there = entered (need_at lanes) needs n (need_ticket n l) listed (ap (option_map (need_ticket n)) there) refl
 
-  passes : (n : ℕ) (l : Lane) → l.site.transport ≡ transport → from ≤ l.need → past (need_ticket n l) ≡ true
-  passes n l at low = not_from_false (goes_before (need_ticket n l) (cut_at transport from)) (past_cut (need_ticket n l) transport from at low)
+  passes : (n : ℕ) (l : Lane) → IsWalked transport l → from ≤ l.need → past (need_ticket n l) ≡ true
+  passes n l at low = not_from_false (goes_before (need_ticket n l) (cut_at transport from)) (past_cut (need_ticket n l) transport from (group_is n l transport at) low)
 
   pub none_from : find past needs ≡ None → IsNextNeed transport from most lanes None
   none_from none = λ n l there at low few. both_ways (past (need_ticket n l)) (none_found past (need_ticket n l) needs none (stood n l there)) (passes n l at low)
@@ -49,11 +53,11 @@ module _ (lanes : List (Numbered Lane)) (needs : List Ticket) (listed : AreTicke
     its : (stands e needs ≡ true) × (past e ≡ true)
     its = found past e needs next
 
-    not_before : (n : ℕ) (l : Lane) → item_at n lanes ≡ Some l → l.site.transport ≡ transport → from ≤ l.need → goes_before (need_ticket n l) e ≡ false
+    not_before : (n : ℕ) (l : Lane) → item_at n lanes ≡ Some l → IsWalked transport l → from ≤ l.need → goes_before (need_ticket n l) e ≡ false
     not_before n l there at low = first_found past e (need_ticket n l) needs rising next (stood n l there) (passes n l at low)
 
     pub other_from : e.group ≢ transport → IsNextNeed transport from most lanes None
-    other_from other = λ n l there at low few. other (cut_group (need_ticket n l) e transport from at (not_before n l there at low) its.1)
+    other_from other = λ n l there at low few. other (cut_group (need_ticket n l) e transport from (group_is n l transport at) (not_before n l there at low) its.1)
 
     pub lane_there : (l : Lane) × (item_at e.item lanes ≡ Some l) × (e.key ≡ l.need)
     lane_there = lane_step (item_at e.item lanes) e.item e (ticket_own (need_at lanes) needs e listed its.0)
@@ -61,13 +65,13 @@ module _ (lanes : List (Numbered Lane)) (needs : List Ticket) (listed : AreTicke
     pub no_lane : item_at e.item lanes ≡ None → ⊥
     no_lane none = unless_none (item_at e.item lanes) lane_there.0 none lane_there.1
 
-    low_from : (l : Lane) → item_at e.item lanes ≡ Some l → e.group ≡ transport → (from ≤ l.need) × ((n : ℕ) (k : Lane) → item_at n lanes ≡ Some k → k.site.transport ≡ transport → from ≤ k.need → l.need ≤ k.need)
+    low_from : (l : Lane) → item_at e.item lanes ≡ Some l → e.group ≡ transport → (from ≤ l.need) × ((n : ℕ) (k : Lane) → item_at n lanes ≡ Some k → IsWalked transport k → from ≤ k.need → l.need ≤ k.need)
     low_from l there own =
         let both : Some lane_there.0 ≡ Some l = sym lane_there.1 ∙ there in
         let one : lane_there.0 ≡ l = cc in
         let need : e.key ≡ l.need = lane_there.2 ∙ ap (λ (x : Lane). x.need) one in (
           omega (arith, cut_key e transport from own its.1, need),
-          λ n k here at low. omega (arith, key_before (need_ticket n k) e (at ∙ sym own) (not_before n k here at low), need),
+          λ n k here at low. omega (arith, key_before (need_ticket n k) e (group_is n k transport at ∙ sym own) (not_before n k here at low), need),
         )
 
     pub lane_from : (l : Lane) → item_at e.item lanes ≡ Some l → e.group ≡ transport → l.need ≤ most → IsNextNeed transport from most lanes (Some l.need)

@@ -17,15 +17,15 @@ use Rattle.q_candidates.specs.declared.index.Index.{Index}
 use Rattle.q_candidates.specs.declared.lane.Lane.{Lane}
 use Rattle.q_candidates.specs.declared.wanted.Wanted.{Wanted}
 use Rattle.q_candidates.specs.Candidates.{age_at, goes_first, IsBest, is_of, key_of, may_preempt}
-use Rattle.q_candidates.specs.Choosing.{better_of, goes_first_at, is_over, IsBestOf, IsNextHope, IsNextNeed}
+use Rattle.q_candidates.specs.Choosing.{better_of, goes_first_at, is_over, IsBestOf, IsNextHope, IsNextNeed, IsWalked}
 use Rattle.q_candidates.specs.Filing.{is_lane, lane_of}
 use Rattle.q_candidates.specs.Sound.{IsOrdered}
-use Rattle.q_candidates.specs.Walking.{is_open, is_wanted}
+use Rattle.q_candidates.specs.Walking.{AreShut, is_open, is_wanted}
 use Rattle.q_candidates.proofs.Better.{first_along, first_back, over_first}
 use Rattle.q_candidates.proofs.TicketLaws.{some_from}
 use Rattle.q_candidates.proofs.ItemSame.{same_item}
 use Rattle.q_candidates.proofs.Keys.{own_found}
-use Rattle.q_candidates.proofs.Lanes.{lane_parts}
+use Rattle.q_candidates.proofs.Lanes.{lane_parts, not_suspended}
 use Rattle.q_candidates.proofs.Steps.{AreFit}
 
 abbrev pub wanted_with : ℕ → ℕ → Id → Wanted
@@ -153,7 +153,7 @@ own_one : (now : ℕ) (wanted test : Candidate → Bool) (ks : List (Numbered Ca
 own_one now wanted test ks None may best = tt
 own_one now wanted test ks (Some n) may best = (best.candidate, best.there, may best.candidate best.passes)
 
-module _ (v : Items Candidate) (i : Index) (sound : IsOrdered v i) (lanes_apart : AreApart i.lanes.items) (now : ℕ) (ds : List Dest) (transport most : ℕ) (except : Id) where
+module _ (v : Items Candidate) (i : Index) (sound : IsOrdered v i) (lanes_apart : AreApart i.lanes.items) (now : ℕ) (ds : List Dest) (shut : AreShut ds i.lanes.items) (transport most : ℕ) (except : Id) where
   abbrev may : Candidate → Bool
   may c = may_preempt ds transport most except c
 
@@ -168,9 +168,9 @@ module _ (v : Items Candidate) (i : Index) (sound : IsOrdered v i) (lanes_apart 
       let lane = some_from (lane_of c.site c.need i.lanes.items) (sound.filed.laned m c there) in
       let it = held_item (is_lane c.site c.need) lane.0 i.lanes.items lanes_apart lane.1 in
       let parts = lane_parts c.site c.need it.0 it.2 in
-      step lane.0 it.0 it.1 (ap (λ (s : Site). s.transport) parts.0 ∙ p.at) (omega (arith, parts.1, low)) (omega (arith, parts.1, p.few)) parts.1 o is
+      step lane.0 it.0 it.1 (not_suspended ds i.lanes.items shut lane.0 it.0 it.1 (ap (has_space_at ds) parts.0 ∙ p.space), ap (λ (s : Site). s.transport) parts.0 ∙ p.at) (omega (arith, parts.1, low)) (omega (arith, parts.1, p.few)) parts.1 o is
     where
-      step : (n : ℕ) (l : Lane) → item_at n i.lanes.items ≡ Some l → l.site.transport ≡ transport → from ≤ l.need → l.need ≤ most → l.need ≡ c.need → (o : Option ℕ) → IsNextNeed transport from most i.lanes.items o → IsToCome o c
+      step : (n : ℕ) (l : Lane) → item_at n i.lanes.items ≡ Some l → IsWalked transport l → from ≤ l.need → l.need ≤ most → l.need ≡ c.need → (o : Option ℕ) → IsNextNeed transport from most i.lanes.items o → IsToCome o c
       step n l here at low few same None is = absurd (is n l here at low few)
       step n l here at low few same (Some d) is = (d, refl, omega (arith, is.2 n l here at low, same))
 

@@ -10,9 +10,11 @@ use Rattle.q_rounds.specs.declared.peer.PeerKey.{PeerKey}
 use Rattle.q_rounds.specs.Rounds.{has_space_at}
 use Rattle.q_candidates.specs.declared.candidate.Candidate.{Candidate}
 
--- the candidates in the order in which they came, and how many have room
+-- the candidates in the order in which they came, the sites of those that `best` passes without a
+-- step, and how many candidates have room
 pub record Listed : Type 0 where
   pub items : List Candidate
+  pub suspended : List Site
   pub room : ℕ
 
 abbrev pub key_of : Candidate → PeerKey

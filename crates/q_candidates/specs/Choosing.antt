@@ -11,12 +11,16 @@ use Rattle.q_candidates.specs.Candidates.{age_at, goes_first}
 abbrev pub cut_at : ℕ → ℕ → Ticket
 cut_at transport from = record { key = from; group = transport; item = 0 }
 
--- the least need of the lanes of the transport that is this one or more, up to the most
+-- the lane is one of the transport that are walked along
+abbrev pub IsWalked : ℕ → Lane → Type 0
+IsWalked transport l = (l.suspended ≡ false) × (l.site.transport ≡ transport)
+
+-- the least need of these lanes that is this one or more, up to the most
 abbrev pub IsNextNeed : ℕ → ℕ → ℕ → List (Numbered Lane) → Option ℕ → Type 0
 IsNextNeed transport from most lanes None = (n : ℕ) (l : Lane) → item_at n lanes ≡ Some l
-    → l.site.transport ≡ transport → from ≤ l.need → l.need ≤ most → ⊥
+    → IsWalked transport l → from ≤ l.need → l.need ≤ most → ⊥
 IsNextNeed transport from most lanes (Some d) = (from ≤ d) × (d ≤ most) × ((n : ℕ) (l : Lane)
-    → item_at n lanes ≡ Some l → l.site.transport ≡ transport → from ≤ l.need → d ≤ l.need)
+    → item_at n lanes ≡ Some l → IsWalked transport l → from ≤ l.need → d ≤ l.need)
 
 -- no candidate of so great a need and of no greater age goes before the best one so far
 abbrev pub is_over : List (Numbered Candidate) → ℕ → ℕ → Option ℕ → ℕ → Bool

@@ -1,6 +1,6 @@
 -- The lanes of candidates, and where the number of a candidate stands in them.
 use Rattle.std.specs.Option.{is_some}
-use Rattle.std.specs.Prelude.{◌≡◌, ◌≢◌, ◌%◌, ◌*◌, ◌^◌, ◌&&◌, ◌+◌, ◌==◌, ◌⊎◌, Bool, List, Option, option_and_then, option_map, Some, true, ℕ}
+use Rattle.std.specs.Prelude.{◌≡◌, ◌≢◌, ◌%◌, ◌*◌, ◌^◌, ◌&&◌, ◌+◌, ◌==◌, ◌⊎◌, Bool, if◌then◌else◌, List, Option, option_and_then, option_map, Some, true, ℕ}
 use Rattle.q_keyed.specs.Numbered.{first_such, item_at, Numbered}
 use Rattle.q_model.specs.Sites.{site_eq}
 use Rattle.q_model.specs.Values.{Site}
@@ -21,9 +21,16 @@ lane_eq a b = site_eq a.site b.site && (a.need == b.need)
 abbrev pub lane_hash : LaneKey → ℕ
 lane_hash k = (site_hash k.site * 31 + k.need % 2147483647) % 2147483647
 
--- the class of the lanes of a transport and a need; needs that differ by 2^24 share one
-abbrev pub class_for : ℕ → ℕ → ℕ
-class_for transport need = need % 16777216 * 256 + transport
+-- the lanes of a transport that are walked along, or those that are suspended
+abbrev pub group_for : Bool → ℕ → ℕ
+group_for suspended transport = if suspended then transport + 256 else transport
+
+-- the class of those of them that are of a need; needs that differ by 2^23 share one
+abbrev pub class_for : Bool → ℕ → ℕ → ℕ
+class_for suspended transport need = need % 8388608 * 512 + group_for suspended transport
+
+abbrev pub class_of_lane : Lane → ℕ
+class_of_lane l = class_for l.suspended l.site.transport l.need
 
 -- the lane of the site and the need
 abbrev pub is_lane : Site → ℕ → Lane → Bool
@@ -54,10 +61,21 @@ ticket_at key lanes ks number = option_and_then (ticket_in key lanes number) (it
 
 -- the ticket of a lane among the needs
 abbrev pub need_ticket : ℕ → Lane → Ticket
-need_ticket number l = record { key = l.need; group = l.site.transport; item = number }
+need_ticket number l = record {
+  key = l.need;
+  group = group_for l.suspended l.site.transport;
+  item = number;
+}
 
 abbrev pub need_at : List (Numbered Lane) → ℕ → Option Ticket
 need_at lanes number = option_map (need_ticket number) (item_at number lanes)
+
+-- the ticket of a lane among those of its site
+abbrev pub site_ticket : ℕ → Lane → Ticket
+site_ticket number l = record { key = l.need; group = site_hash l.site; item = number }
+
+abbrev pub site_at : List (Numbered Lane) → ℕ → Option Ticket
+site_at lanes number = option_map (site_ticket number) (item_at number lanes)
 
 -- the ticket of a candidate among those of its transport, by its arrival
 abbrev pub arrival_ticket : ℕ → Candidate → Ticket
@@ -71,13 +89,23 @@ pub record IsChanged (n : ℕ) (o : Option Candidate) (ks new : List (Numbered C
   pub own : item_at n new ≡ o
   pub others : (m : ℕ) → m ≢ n → item_at m new ≡ item_at m ks
 
+-- each lane stood before
+abbrev pub AreLeft : List (Numbered Lane) → List (Numbered Lane) → Type 0
+AreLeft old new = (n : ℕ) (l : Lane) → item_at n new ≡ Some l → item_at n old ≡ Some l
+
+-- each lane stood before, or is one of the site, which is suspended or isn't
+abbrev pub AreFrom : Site → Bool → List (Numbered Lane) → List (Numbered Lane) → Type 0
+AreFrom site suspended old new = (n : ℕ) (l : Lane) → item_at n new ≡ Some l
+    → (item_at n old ≡ Some l) ⊎ ((l.site ≡ site) × (l.suspended ≡ suspended))
+
 -- the site and the need may have got a lane, the lanes that there were stay, and so do all tickets
 -- of candidates
-pub record HasGrown (site : Site) (need : ℕ) (old new : Index) : Type 0 where
+pub record HasGrown (site : Site) (need : ℕ) (suspended : Bool) (old new : Index) : Type 0 where
   pub kept : (s : Site) (d : ℕ) → is_some (lane_of s d old.lanes.items) ≡ true
       → lane_of s d new.lanes.items ≡ lane_of s d old.lanes.items
   pub lanes : (n : ℕ) (l : Lane) → item_at n new.lanes.items ≡ Some l
-      → (item_at n old.lanes.items ≡ Some l) ⊎ ((l.site ≡ site) × (l.need ≡ need))
+      → (item_at n old.lanes.items ≡ Some l)
+      ⊎ ((l.site ≡ site) × (l.need ≡ need) × (l.suspended ≡ suspended))
   pub ages : new.ages.items ≡ old.ages.items
   pub ranks : new.ranks.items ≡ old.ranks.items
   pub room : new.lanes.room ≡ old.lanes.room

@@ -1,5 +1,6 @@
 pub mod Candidates
 pub mod Filing
+pub mod Suspending
 pub mod Sound
 pub mod LaneLaws
 pub mod Walking

@@ -9,28 +9,30 @@ use Rattle.q_sorted.specs.Tickets.{Tickets}
 use Rattle.q_candidates.specs.declared.candidate.Candidate.{Candidate}
 use Rattle.q_candidates.specs.declared.index.Index.{Index}
 use Rattle.q_candidates.specs.declared.lane.Lane.{Lane}
-use Rattle.q_candidates.specs.Filing.{age_key, arrival_at, class_for, lane_of, need_at, rank_key, ticket_at}
+use Rattle.q_candidates.specs.Filing.{age_key, arrival_at, class_of_lane, lane_of, need_at, rank_key, site_at, ticket_at}
 
--- a lane of the class of its transport and need
+-- a lane of its class
 pub record IsLane (number : ℕ) (l : Lane) (heads : Lanes) : Type 0 where
   pub below : number < heads.lanes
-  pub class : class_of number heads.classes ≡ class_for l.site.transport l.need
+  pub class : class_of number heads.classes ≡ class_of_lane l
 
 abbrev pub AreLanes : List (Numbered Lane) → Lanes → Type 0
 AreLanes lanes heads = (number : ℕ) (l : Lane) → item_at number lanes ≡ Some l
     → IsLane number l heads
 
--- each lane has a class and stands among the needs, and there is room for as many as there are
--- candidates
+-- each lane has a class and stands among the needs and among those of its site, and there is room
+-- for as many as there are candidates
 pub record IsLaid (i : Index) : Type 0 where
   pub ages : AreLanes i.lanes.items i.ages
   pub ranks : AreLanes i.lanes.items i.ranks
   pub listed : AreTickets (need_at i.lanes.items) i.needs.items
+  pub sited : AreTickets (site_at i.lanes.items) i.sites.items
   pub age_lanes : i.ages.lanes ≡ i.lanes.room
   pub age_room : i.ages.room ≡ i.lanes.room
   pub rank_lanes : i.ranks.lanes ≡ i.lanes.room
   pub rank_room : i.ranks.room ≡ i.lanes.room
   pub need_room : i.needs.room ≡ i.lanes.room
+  pub site_room : i.sites.room ≡ i.lanes.room
 
 -- a candidate at the site that needs so many deliveries
 pub record IsUsed (site : Site) (need : ℕ) (ks : List (Numbered Candidate)) : Type 0 where

@@ -57,6 +57,11 @@ pub record AreOrdered (key : Candidate → ℕ) (lanes : List (Numbered Lane)) (
       → is_some (lane_of c.site c.need lanes) ≡ true
   pub placed : AreTickets (ticket_at key lanes ks) heads.items
 
+-- a lane that is suspended is at a site without space
+abbrev pub AreShut : List Dest → List (Numbered Lane) → Type 0
+AreShut ds lanes = (n : ℕ) (l : Lane) → item_at n lanes ≡ Some l → l.suspended ≡ true
+    → has_space_at ds l.site ≡ false
+
 -- the ticket is of a candidate that passes, and none that passes has a lesser key
 pub record IsLeastBy (key : Candidate → ℕ) (test : Candidate → Bool) (ks : List (Numbered Candidate)) (e : Ticket) : Type 0 where
   pub candidate : Candidate

@@ -4,7 +4,8 @@ ghost use Rattle.std.specs.Option.{option_copied};
 ghost use Rattle.q_candidates.specs.Candidates.{IsBest};
 ghost use Rattle.q_candidates.specs.Choosing.{better_of, goes_first_at, is_over, IsBestOf, IsNextHope};
 ghost use Rattle.q_candidates.specs.Sound.{IsLaid, IsOrdered};
-ghost use Rattle.q_candidates.specs.Walking.{is_wanted};
+ghost use Rattle.q_candidates.specs.Suspending.{HaveNoSpace};
+ghost use Rattle.q_candidates.specs.Walking.{AreShut, is_wanted};
 
 use crate::arrivals::greatest_age;
 use crate::candidate::{Candidate, weight};
@@ -25,7 +26,8 @@ fn best_wanted(
     now: Moment,
     sites: &Sites,
 ) -> Option<u32>
-    requires { IsOrdered candidates.now index.now }
+    requires ordered { IsOrdered candidates.now index.now }
+    requires shut { AreShut sites.now.items index.now.lanes.items }
     ensures { IsBestOf now (is_wanted sites.now.items wanted.now) candidates.now.items result }
 {
     candidates.stand_apart();
@@ -121,7 +123,8 @@ fn next_hope(
 
 impl Candidates {
     /// The best of the candidates of the transport that need so many deliveries at most, are of
-    /// another message than this one and whose sites have space.
+    /// another message than this one and whose sites have space. Sites that are suspended are passed
+    /// without a step, and have none.
     pub fn best(
         &self,
         transport: u8,
@@ -130,6 +133,7 @@ impl Candidates {
         except: Id,
         sites: &Sites,
     ) -> Option<&Candidate>
+        requires { HaveNoSpace sites.now.items self.now.suspended }
         ensures { IsBest sites.now.items transport most now except self.now.items
             (option_copied result) }
     {

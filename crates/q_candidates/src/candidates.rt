@@ -3,6 +3,7 @@ ghost use Rattle.std.specs.Prelude.{◌≡◌, ◌≤◌, ◌<◌, ◌-◌, ◌^
 ghost use Rattle.std.specs.List.{AllByRecursion};
 ghost use Rattle.std.specs.Option.{option_copied};
 ghost use Rattle.q_candidates.specs.Candidates.{AreApart, is_of, put_in};
+ghost use Rattle.q_candidates.specs.Suspending.{AreIn, AreInAnew, AreInWith};
 
 use crate::arrivals::arrival_ticket;
 use crate::candidate::Candidate;
@@ -27,10 +28,15 @@ impl Model for Candidates {
     ghost use Rattle.q_keyed.specs.Numbered.{values_of};
     ghost use Rattle.q_candidates.specs.Candidates.{Listed};
     ghost use Rattle.q_candidates.specs.Sound.{IsSound};
+    ghost use Rattle.q_candidates.specs.Suspending.{sites_of};
 
     ghost Value = { Listed };
 
-    ghost view = { λ a. record { items = values_of a.candidates.items; room = a.candidates.room } };
+    ghost view = { λ a. record {
+      items = values_of a.candidates.items;
+      suspended = sites_of a.index.lanes.items;
+      room = a.candidates.room;
+    } };
 
     ghost invariant = { λ a. IsSound a.candidates a.index a.arrivals };
 }
@@ -40,7 +46,8 @@ impl Candidates {
     pub fn new(alloc: Global, room: u32) -> Result<Candidates, AllocError>
         requires some { 1 ≤ room }
         requires few { room < 2 ^ 30 }
-        ensures { IfOk result (λ made. made ≡ record { items = []; room = room }) }
+        ensures { IfOk result (λ made. made ≡ record
+            { items = []; suspended = []; room = room }) }
     {
         let candidates = Keyed::new(alloc, room)?;
         let index = Index::new(alloc, room)?;
@@ -87,18 +94,23 @@ impl Candidates {
         self.candidates.get(number)
     }
 
-    /// Puts a candidate in the place of that of the same message and site, or behind all others.
-    pub fn put(&mut self, candidate: Candidate)
+    /// Puts a candidate in the place of that of the same message and site, or behind all others. Its
+    /// site is suspended or isn't.
+    pub fn put(&mut self, candidate: Candidate, suspended: bool)
         requires some { 1 ≤ candidate.need }
         requires room { find (is_of candidate.id candidate.site) self.old.items ≡ None
             → length self.old.items < self.old.room }
-        ensures { self.new ≡ record self.old { items = put_in candidate self.old.items } }
+        ensures put { self.new ≡ record self.old
+            { items = put_in candidate self.old.items; suspended = self.new.suspended } }
+        ensures suspended { AreInWith candidate.site suspended self.old.suspended
+            self.new.suspended }
     {
         self.arrivals.stand_sorted();
         let Some(number) = self.candidates.find(&candidate.key()) else {
             let number = self.candidates.push(candidate);
-            self.index.enter(number, &candidate);
+            self.index.enter(number, &candidate, suspended);
             self.arrivals.insert(arrival_ticket(number, &candidate));
+            self.index.lanes.stand_apart();
             return;
         };
         let Some(was) = self.candidates.get(number).copied() else {
@@ -108,14 +120,18 @@ impl Candidates {
         self.arrivals.remove(&arrival_ticket(number, &was));
         self.arrivals.stand_sorted();
         self.candidates.put(number, candidate);
-        self.index.enter(number, &candidate);
+        self.index.enter(number, &candidate, suspended);
         self.arrivals.insert(arrival_ticket(number, &candidate));
+        self.index.lanes.stand_apart();
     }
 
     /// Takes the candidate of the message at the site out, and does nothing where there is none.
     pub fn remove(&mut self, id: Id, site: &Site)
-        ensures { self.new ≡ record self.old
-            { items = filter (λ c. not (is_of id site.now c)) self.old.items } }
+        ensures left { self.new ≡ record self.old {
+          items = filter (λ c. not (is_of id site.now c)) self.old.items;
+          suspended = self.new.suspended;
+        } }
+        ensures suspended { AreIn self.old.suspended self.new.suspended }
     {
         let Some(number) = self.candidates.find(&PeerKey { id, site: *site }) else {
             return;
@@ -126,5 +142,15 @@ impl Candidates {
         self.index.leave(number, &candidate);
         self.arrivals.remove(&arrival_ticket(number, &candidate));
         let _candidate = self.candidates.remove(number);
+        self.index.lanes.stand_apart();
+    }
+
+    /// The site is suspended: `best` passes its candidates without a step. Or it isn't any more.
+    pub fn set_suspended(&mut self, site: &Site, suspended: bool)
+        ensures rest { self.new ≡ record self.old { suspended = self.new.suspended } }
+        ensures suspended { AreInAnew site.now suspended self.old.suspended self.new.suspended }
+    {
+        self.index.set_suspended(site, suspended);
+        self.index.lanes.stand_apart();
     }
 }

@@ -1,13 +1,14 @@
 //! How candidates are found in order.
 ghost use Rattle.std.specs.Prelude.{◌≡◌, ◌<◌, ◌≤◌, ◌*◌, ◌+◌, ◌^◌, [], IfOk};
-ghost use Rattle.q_candidates.specs.Filing.{age_key, need_ticket, rank_key, ticket_with};
+ghost use Rattle.q_candidates.specs.Filing.{age_key, need_ticket, rank_key, site_ticket, ticket_with};
 ghost use Rattle.q_candidates.specs.Sound.{IsFiled, IsLaid};
 
 use crate::candidate::Candidate;
-use crate::lane::Lane;
+use crate::lane::{Lane, group_for};
 use q_heads::Heads;
 use q_keyed::Keyed;
 use q_model::Moment;
+use q_peers::site_hash;
 use q_sorted::{Sorted, Ticket};
 use std::alloc::{AllocError, Global};
 
@@ -20,8 +21,10 @@ pub(crate) struct Index {
     pub(crate) ages: Heads,
     /// In each lane by rank, for those that came after the moment that is now.
     pub(crate) ranks: Heads,
-    /// The lanes, by transport and then by need.
+    /// The lanes, by transport and then by need. Those that are suspended stand apart.
     pub(crate) needs: Sorted,
+    /// The lanes, by the buckets of their sites.
+    pub(crate) sites: Sorted,
 }
 
 /// As many as there are ranks.
@@ -62,7 +65,18 @@ pub(crate) fn need_ticket(number: u32, lane: &Lane) -> Ticket
 {
     Ticket {
         key: u128::from(lane.need),
-        group: u32::from(lane.site.transport),
+        group: group_for(lane.suspended, lane.site.transport),
+        item: number,
+    }
+}
+
+/// The ticket of a lane among those of its site.
+pub(crate) fn site_ticket(number: u32, lane: &Lane) -> Ticket
+    ensures { result ≡ site_ticket number lane.now }
+{
+    Ticket {
+        key: u128::from(lane.need),
+        group: site_hash(&lane.site),
         item: number,
     }
 }
@@ -74,17 +88,19 @@ impl Index {
         requires few { room < 2 ^ 30 }
         ensures laid { IfOk result IsLaid }
         ensures filed { IfOk result (IsFiled []) }
-        ensures room { IfOk result (λ made. made.lanes.room ≡ room) }
+        ensures lanes { IfOk result (λ made. made.lanes ≡ record { items = []; room = room }) }
     {
         let lanes = Keyed::new(alloc, room)?;
         let ages = Heads::new(alloc, room, room)?;
         let ranks = Heads::new(alloc, room, room)?;
         let needs = Sorted::new(alloc, room)?;
+        let sites = Sorted::new(alloc, room)?;
         Ok(Index {
             lanes,
             ages,
             ranks,
             needs,
+            sites,
         })
     }
 }

@@ -1,6 +1,6 @@
 //! A lane.
-ghost use Rattle.std.specs.Prelude.{◌≡◌};
-ghost use Rattle.q_candidates.specs.Filing.{class_for, lane_hash, lane_of};
+ghost use Rattle.std.specs.Prelude.{◌≡◌, ◌<◌};
+ghost use Rattle.q_candidates.specs.Filing.{class_for, class_of_lane, group_for, lane_hash, lane_of};
 
 use q_keyed::{HasKey, Keyed};
 use q_model::Site;
@@ -11,6 +11,8 @@ use q_peers::site_hash;
 pub(crate) struct Lane {
     pub(crate) site: Site,
     pub(crate) need: u64,
+    /// Whether it isn't walked along.
+    pub(crate) suspended: bool,
 }
 
 /// What a lane is found by.
@@ -37,12 +39,31 @@ pub(crate) fn lane_of(lanes: &Keyed<Lane>, site: &Site, need: u64) -> Option<u32
     lanes.find(&LaneKey { site: *site, need })
 }
 
-/// The class of the lanes of a transport in which so many deliveries are needed. Needs that differ
-/// by 2^24 share one.
-pub(crate) fn class_for(transport: u8, need: u64) -> u32
-    ensures { result ≡ class_for transport need }
+/// The group of the lanes of a transport, where they are suspended or where they aren't.
+pub(crate) fn group_for(suspended: bool, transport: u8) -> u32
+    ensures is { result ≡ group_for suspended transport }
+    ensures few { result < 512 }
 {
-    (need % 16_777_216) as u32 * 256 + u32::from(transport)
+    if suspended {
+        u32::from(transport) + 256
+    } else {
+        u32::from(transport)
+    }
+}
+
+/// The class of those of them in which so many deliveries are needed. Needs that differ by 2^23
+/// share one.
+pub(crate) fn class_for(suspended: bool, transport: u8, need: u64) -> u32
+    ensures { result ≡ class_for suspended transport need }
+{
+    (need % 8_388_608) as u32 * 512 + group_for(suspended, transport)
+}
+
+/// The class of a lane.
+pub(crate) fn class_of(lane: &Lane) -> u32
+    ensures { result ≡ class_of_lane lane.now }
+{
+    class_for(lane.suspended, lane.site.transport, lane.need)
 }
 
 impl HasKey for Lane {

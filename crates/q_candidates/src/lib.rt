@@ -13,9 +13,15 @@
 //! that is now are all of one age; where no older one is left, the lanes are walked by rank. Each
 //! other call takes a few searches.
 //!
+//! A site can be suspended, as one is that rests by default_destination_rate_delay. Its lanes then
+//! stand apart from those that are walked along, so `best` passes neither them nor their needs.
+//! That takes a few searches for each need of the site.
+//!
 //! Room is made once, by `new`; no other call takes memory or can fail. It is an error to put a
-//! candidate that needs no delivery, or one more than have room. It is none to put one whose
-//! message has one at the site, whose place it takes, or to remove one that isn't there.
+//! candidate that needs no delivery, or one more than have room, and to ask for the best while a site
+//! that is suspended has space. It is none to put one whose message has one at the site, whose place
+//! it takes, or to remove one that isn't there; nor to put one at a site that is suspended and not to
+//! say so, which only lets `best` take a step more.
 #![tactic(auto)]
 
 mod arrivals;
@@ -26,6 +32,7 @@ mod filing;
 mod index;
 mod lane;
 mod needs;
+mod suspending;
 mod walking;
 mod wanted;
 

@@ -18,7 +18,8 @@ fn cut_at(transport: u8, from: u64) -> Ticket
 }
 
 impl Index {
-    /// The least need of the transport that is this one or more, and no more than the other.
+    /// The least need of the transport that is this one or more, and no more than the other. It is
+    /// one of lanes that aren't suspended.
     pub(crate) fn next_need(&self, transport: u8, from: u64, most: u64) -> Option<u64>
         requires { IsLaid self.now }
         ensures { IsNextNeed transport from most self.now.lanes.items result }

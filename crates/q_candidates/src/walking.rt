@@ -2,7 +2,7 @@
 ghost use Rattle.std.specs.Prelude.{◌≡◌, List, ℕ};
 ghost use Rattle.q_candidates.specs.declared.candidate.Candidate.{Candidate};
 ghost use Rattle.q_candidates.specs.declared.lane.Lane.{Lane};
-ghost use Rattle.q_candidates.specs.Walking.{AreOrdered, first_in_lane, is_past, is_wanted, IsFoundBy, nearer};
+ghost use Rattle.q_candidates.specs.Walking.{AreOrdered, AreShut, first_in_lane, is_past, is_wanted, IsFoundBy, nearer};
 ghost use Rattle.q_keyed.specs.Numbered.{Numbered};
 
 use crate::candidate::Candidate;
@@ -66,12 +66,12 @@ pub(crate) fn first_wanted(
     sites: &Sites,
 ) -> Option<Ticket>
     ensures { (key : Candidate → ℕ) (lanes : List (Numbered Lane))
-        → AreOrdered key lanes candidates.now.items heads.now
+        → AreOrdered key lanes candidates.now.items heads.now → AreShut sites.now.items lanes
         → IsFoundBy key (is_wanted sites.now.items wanted.now) candidates.now.items result }
 {
     heads.stand_sorted();
     let mut found = None;
-    let mut at = heads.first(class_for(wanted.transport, wanted.need));
+    let mut at = heads.first(class_for(false, wanted.transport, wanted.need));
     while let Some(head) = at {
         if is_past(found, &head) {
             return found;

@@ -1,16 +1,16 @@
 -- What is decided can be done, on whatever answers.
 use Rattle.q_jobs.specs.Jobs.{behind_jobs}
-use Rattle.std.proofs.Common.{◌≡◌, ◌<◌, ◌≤◌, ◌+◌, ℕ, arith, Bool, false, List, None, Option, option_map, refl, Some, subst, suc, true, zero}
+use Rattle.std.proofs.Common.{◌≡◌, ◌<◌, ◌≤◌, ◌+◌, ℕ, arith, Bool, false, List, None, Option, option_map, refl, Some, suc, true, zero}
 use Rattle.std.specs.List.{list_all}
 use Rattle.std.specs.Option.{option_map_or, option_or}
 use Rattle.std.specs.Prelude.{◌&&◌, ◌^◌, find, if◌then◌else◌, nat_lt, not, option_and_then, position, slice_get}
 use Rattle.q_core.proofs.CodeLaws.{first_all}
-use Rattle.q_core.specs.Choosing.{best_in, choice_in, choices_from, choose_in, current_in, jobs_at, need_in, next_start_in, preempt_or}
+use Rattle.q_core.specs.Choosing.{best_in, choice_in, choices_from, choose_in, current_in, jobs_at, next_start_in, preempt_or}
 use Rattle.q_core.specs.Deciding.{CanBeDone, clearing_on, decide_in, first_rule_in, IsFoundDamaged, IsPicked, scan_look_in}
 use Rattle.q_core.specs.Facts.{deferred_place, file_pending, file_wants_bounce, IsDated, is_nothing, IsSeenDated, picked, picked_decision, picked_place}
 use Rattle.q_core.specs.Held.{due_in, finish_in, free_in, is_dead_in, is_idle_in, may_read_in, wants_sync_in}
 use Rattle.q_core.specs.Rooms.{can_be_logged, is_loggable}
-use Rattle.q_core.specs.Rules.{admission_in, admission_seen, clear_found_in, clear_in, clear_marked_in, decision_of, first_need_in, has_message_room_in, is_synced_in, needed_in, next_admission_in, next_clearing_in, next_finish_in, next_read_in, next_skip_in, next_sync_in, skip_at, skip_decision}
+use Rattle.q_core.specs.Rules.{admission_in, admission_seen, clear_marked_in, decision_of, first_need_in, has_message_room_in, is_synced_in, needed_in, next_admission_in, next_clearing_in, next_finish_in, next_read_in, next_skip_in, next_sync_in, skip_at, skip_decision}
 use Rattle.q_core.specs.Starting.{next_row_in, start_of_row}
 use Rattle.q_core.specs.declared.decision.Decision.{Decision}
 use Rattle.q_core.specs.declared.decision.Decision.TheVariants as decisions

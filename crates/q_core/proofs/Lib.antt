@@ -55,6 +55,7 @@ pub mod PlacedLaws
 pub mod RestLaws
 pub mod DueLaws
 pub mod DeadLaws
+pub mod SuspendedLaws
 mod DeadRows
 mod DeferLaws
 pub mod RemoveLaws

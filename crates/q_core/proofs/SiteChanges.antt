@@ -17,7 +17,7 @@ use Rattle.q_dest.proofs.Hearing.{heard_in_site}
 use Rattle.q_model.proofs.IdLaws.{site_eq-refl, site_eq-true}
 use Rattle.q_model.specs.Lists.{drop_first}
 use Rattle.q_model.specs.Settings.{Settings}
-use Rattle.q_model.specs.SiteRecords.{is_alive, is_awake}
+use Rattle.q_model.specs.SiteRecords.{is_awake}
 use Rattle.q_model.specs.Sites.{site_eq}
 use Rattle.q_model.specs.Values.{Site}
 use Rattle.q_model.specs.declared.outcome.SiteState.{SiteState}

@@ -34,7 +34,7 @@ use Rattle.q_model.specs.Next.{start_rule}
 use Rattle.q_model.specs.Past.{starts}
 use Rattle.q_model.specs.Places.{is_active}
 use Rattle.q_model.specs.Settings.{Settings, World}
-use Rattle.q_model.specs.SiteRecords.{is_alive, is_awake}
+use Rattle.q_model.specs.SiteRecords.{is_awake}
 use Rattle.q_model.specs.Startable.{can_start, current, is_startable, line_of}
 use Rattle.q_model.specs.Values.{Served, Site, SiteRecord}
 use Rattle.q_model.specs.declared.entry.Entry.{Entry}

@@ -22,7 +22,7 @@ use Rattle.q_model.specs.Ledger.{Ledger}
 use Rattle.q_model.specs.Memory.{unread_of}
 use Rattle.q_model.specs.Scans.{scan_next, tidy_scan, tidy_scan_at}
 use Rattle.q_model.specs.Settings.{Settings, World}
-use Rattle.q_model.specs.SiteRecords.{is_alive, is_awake}
+use Rattle.q_model.specs.SiteRecords.{is_awake}
 use Rattle.q_model.specs.Startable.{line_of}
 use Rattle.q_model.specs.Step.{tidy_line, tidied, stays}
 use Rattle.q_model.specs.UnusedSites.{forget_oldest, is_unused, tidied_sites}

@@ -26,6 +26,7 @@ pub record AreNew (p : Settings) (transports : ℕ) (made : Dests × Pooled × S
       { items = []; room = p.active_limit; sync_limit = p.mark_sync_limit; minimum = p.recipient_minimum }
   pub lines : made.2.lines ≡ replicate transports []
   pub peers : made.2.peers ≡ []
+  pub suspended : made.2.suspended ≡ []
   pub messages : made.2.messages ≡ []
   pub message_room : made.2.message_room ≡ p.active_limit
   pub site_room : made.0.room ≡ most_sites p transports

@@ -1,7 +1,7 @@
 -- What always holds of the parts of a core.
 use Rattle.std.specs.List.{AllByRecursion}
 use Rattle.std.specs.Option.{option_map_or}
-use Rattle.std.specs.Prelude.{◌≡◌, ◌≤◌, ◌&&◌, ◌||◌, [], Bool, count_by, false, find, List, map, not, true, ℕ, ◌∷◌}
+use Rattle.std.specs.Prelude.{◌≡◌, ◌≤◌, ◌<◌, ◌+◌, ◌&&◌, ◌||◌, [], Bool, count_by, false, find, List, map, not, true, ℕ, ◌∷◌}
 use Rattle.q_core.specs.Known.{site_of}
 use Rattle.q_dest.specs.declared.dest.Dest.{Dest}
 use Rattle.q_dest.specs.Dests.{is_at, is_dead}
@@ -12,6 +12,7 @@ use Rattle.q_model.specs.declared.rows.Row.{Row}
 use Rattle.q_model.specs.declared.rows.Unsettled.{Unsettled}
 use Rattle.q_model.specs.Ids.{id_eq}
 use Rattle.q_model.specs.Settings.{Settings}
+use Rattle.q_model.specs.Values.{Site}
 use Rattle.q_pool.specs.Pooled.{Pooled}
 use Rattle.q_pool.specs.Kept.{unread_of}
 use Rattle.q_pool.specs.declared.kept.Kept.{Kept}
@@ -20,6 +21,7 @@ use Rattle.q_rounds.specs.declared.peer.Peer.{Peer}
 use Rattle.q_rounds.specs.Rounds.{is_started, key_eq, key_of}
 use Rattle.q_schedule.specs.declared.admitted.Admitted.{Admitted}
 use Rattle.q_schedule.specs.Schedule.{Scheduling}
+use Rattle.q_suspended.specs.declared.suspension.Suspension.{Suspension}
 
 module _ {K D : Type 0} (eq : K → K → Bool) (key : D → K) where
   -- what is kept under the key, 0 where nothing is
@@ -104,6 +106,18 @@ pub record AreTurnsTied (ps : List Peer) (rows : List Row) (starts : ℕ) : Type
   pub counts : ArePeersTied ps rows
   pub order : AreInOrder rows ps
   pub known : AllByRecursion (λ p. p.last ≤ starts) ps
+
+-- one more than the moment up to which it rests, 0 where it doesn't rest
+abbrev pub rest_of : Dest → ℕ
+rest_of d = option_map_or (λ t. t + 1) d.known.rest 0
+
+-- that of the site, 0 where it has no record
+abbrev pub rest_at : List Dest → Site → ℕ
+rest_at ds site = tally_of site_eq site_of rest_of ds site
+
+-- each site that is suspended rests at least until it is resumed
+abbrev pub AreSuspended : List Dest → List Suspension → Type 0
+AreSuspended ds suspended = AllByRecursion (λ s. s.until < rest_at ds s.site) suspended
 
 -- the row goes to a site that is dead
 abbrev pub goes_to_dead : List Dest → Row → Bool

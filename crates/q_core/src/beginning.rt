@@ -39,15 +39,31 @@ fn registers(alloc: Global, params: &Params, transports: u8) -> Result<Registers
 {
     let messages = params.qmgr_message_active_limit;
     let room = params.qmgr_message_recipient_limit;
-    let sites = Sites::new(alloc, 2 * room + most_flights(params, transports))?;
+    let most_sites = 2 * room + most_flights(params, transports);
+    let sites = Sites::new(alloc, most_sites)?;
     let admitted = Pool::new(
         alloc,
         messages,
         params.mark_sync_limit,
         params.qmgr_message_recipient_minimum,
     )?;
-    let schedule = Schedule::new(alloc, transports, messages, room)?;
+    let suspended = most_suspended(params, most_sites);
+    let schedule = Schedule::new(alloc, transports, messages, room, suspended)?;
     Ok((sites, admitted, schedule))
+}
+
+/// How many sites may be suspended: all that can be known, where there is a delay between deliveries,
+/// and else next to none, since none rests.
+fn most_suspended(params: &Params, sites: u32) -> u32
+    requires { 1 ≤ sites }
+    ensures some { 1 ≤ result }
+    ensures few { result ≤ sites }
+{
+    if params.default_destination_rate_delay == 0 {
+        1
+    } else {
+        sites
+    }
 }
 
 /// How many deliveries can be in flight: as many as there are processes of all transports.

@@ -32,6 +32,7 @@ impl Core {
         self.timed = true;
         self.sites.stand_apart();
         self.sites.wake_due(&self.params, moment);
+        self.schedule.resume_due(moment);
         hold_dead(&mut self.waiting, &self.sites);
     }
 

@@ -4,7 +4,8 @@ ghost use Rattle.std.specs.List.{enumerate_from, list_all, list_any};
 ghost use Rattle.q_core.specs.Loading.{AreRowsOf, can_join, joined_within, joins_in, new_sites};
 ghost use Rattle.q_core.specs.Known.{known_records};
 ghost use Rattle.q_core.specs.ServedRows.{served_rows};
-ghost use Rattle.q_core.specs.Ties.{AreBusyTied, ArePeersTied, AreTurnsTied, AreWaitingTied, goes_to_dead};
+ghost use Rattle.q_core.specs.Ties.{AreBusyTied, ArePeersTied, AreTurnsTied, AreWaitingTied, goes_to_dead, rest_at};
+ghost use Rattle.q_model.specs.Values.{Site as SiteOf};
 ghost use Rattle.q_model.specs.declared.rows.Delivery.{Delivery};
 ghost use Rattle.q_held.specs.Held.{rows_of};
 ghost use Rattle.q_model.specs.declared.rows.Row.{Row};
@@ -39,6 +40,7 @@ pub(crate) fn count_rows(sites: &mut Sites, rows: &RowList, waiting: &Rows, para
     ensures busy { (fs : List Delivery) → AreBusyTied sites.old.items fs
         → AreBusyTied sites.new.items fs }
     ensures dead { (r : Row) → goes_to_dead sites.new.items r ≡ goes_to_dead sites.old.items r }
+    ensures rests { (s : SiteOf) → rest_at sites.new.items s ≡ rest_at sites.old.items s }
     ensures room { sites.new.room ≡ sites.old.room }
 {
     for i in 0..rows.len() {

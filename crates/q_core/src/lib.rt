@@ -62,6 +62,7 @@ mod scan;
 mod skip;
 mod startable;
 mod state;
+mod suspending;
 mod sync;
 mod tidy;
 mod tidy_touched;

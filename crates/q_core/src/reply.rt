@@ -15,6 +15,7 @@ use crate::counting::{end_flight, gain_unsettled};
 use crate::dead_rows::hold_at;
 use crate::needs::add_needs;
 use crate::state::Core;
+use crate::suspending::suspend_at;
 use q_flights::Flights;
 use q_model::{Entry, Outcome, Site, SiteState, Unsettled};
 use q_queue::Queue;
@@ -77,7 +78,7 @@ impl Core {
     }
 
     /// Lets the site hear of a delivery that is still in flight. Its rows are held back where it
-    /// died.
+    /// died, and it is suspended for as long as it rests.
     fn hear_site(&mut self, site: &Site, state: SiteState)
         requires { 1 ≤ busy_in self.old.flights site.now }
         ensures { IsSiteHeard self.old self.new site.now state }
@@ -88,6 +89,7 @@ impl Core {
         self.sites.hear(site, &self.params, moment, state);
         let is_dead = self.sites.is_dead(site);
         hold_at(&mut self.waiting, site, was_dead, is_dead);
+        suspend_at(&mut self.schedule, &self.sites, site);
     }
 
     /// The delivery of this number is over. Where nothing goes to its site any more, the site is

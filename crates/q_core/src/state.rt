@@ -90,7 +90,7 @@ impl Model for Core {
     ghost view = { state_of };
 
     ghost use Rattle.q_core.specs.Rooms.{AreWithinBounds, HasRoomForLoads, HasRoomForPositions};
-    ghost use Rattle.q_core.specs.Ties.{AreMessagesTied, AreSitesTied, AreTied, AreTurnsTied, goes_to_dead};
+    ghost use Rattle.q_core.specs.Ties.{AreMessagesTied, AreSitesTied, AreSuspended, AreTied, AreTurnsTied, goes_to_dead};
     ghost use Rattle.q_core.specs.Touched.{IsTidyBut};
     ghost use Rattle.q_held.specs.Held.{AreHeldBy, rows_of};
     ghost use Rattle.q_pool.specs.Kept.{heads};
@@ -107,7 +107,8 @@ impl Model for Core {
         × HasRoomForLoads a.params a.transports a.waiting.room a.sites.room a.schedule.room
         a.schedule.line_room
         × HasRoomForPositions a.params a.waiting.most a.flights.most a.skipped a.rows.room
-        a.rows.most a.open_rows.room };
+        a.rows.most a.open_rows.room
+        × AreSuspended a.sites.items a.schedule.suspended };
 }
 
 impl Core {

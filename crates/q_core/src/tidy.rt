@@ -3,7 +3,7 @@ ghost use Rattle.std.specs.Prelude.{◌≡◌, ◌<◌, false, filter, find, len
 ghost use Rattle.std.specs.List.{enumerate_from};
 ghost use Rattle.std.specs.Option.{option_copied};
 ghost use Rattle.q_core.specs.Changes.{IsTidied};
-ghost use Rattle.q_core.specs.Ties.{ArePeersTied};
+ghost use Rattle.q_core.specs.Ties.{ArePeersTied, AreSuspended};
 ghost use Rattle.q_core.specs.Known.{forgotten};
 ghost use Rattle.q_jobs.specs.Jobs.{is_job_of_another};
 ghost use Rattle.q_pool.specs.Kept.{heads};
@@ -117,12 +117,19 @@ pub(crate) fn tidy_lines(schedule: &mut Schedule, admitted: &Pool, waiting: &Row
     }
 }
 
-/// Forgets the dead site that nothing goes to for the longest time, where more than `limit` are.
-fn forget_oldest(sites: &mut Sites, limit: usize)
-    ensures { sites.new ≡ record sites.old { items = forgotten limit sites.old.items } }
+/// Forgets the site that nothing goes to for the longest time, where more than `limit` are only
+/// remembered. It isn't suspended any more.
+fn forget_oldest(sites: &mut Sites, schedule: &mut Schedule, limit: usize)
+    ensures sites { sites.new ≡ record sites.old { items = forgotten limit sites.old.items } }
+    ensures rest { schedule.new ≡ record schedule.old { suspended = schedule.new.suspended } }
+    ensures suspended { AreSuspended sites.old.items schedule.old.suspended
+        → AreSuspended sites.new.items schedule.new.suspended }
 {
-    if sites.remembered() as usize > limit {
-        sites.forget();
+    if sites.remembered() as usize <= limit {
+        return;
+    }
+    if let Some(site) = sites.forget() {
+        schedule.resume(&site);
     }
 }
 
@@ -136,7 +143,7 @@ impl Core {
         self.sites.stand_apart();
         self.schedule.stand_apart();
         tidy_touched_lines(&mut self.schedule, message, &self.admitted, &self.waiting);
-        forget_oldest(&mut self.sites, limit);
+        forget_oldest(&mut self.sites, &mut self.schedule, limit);
         self.touched_message = Touched::Nothing;
     }
 }

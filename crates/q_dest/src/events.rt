@@ -1,5 +1,5 @@
 //! What happens to a site: rows come for it and leave, and deliveries to it begin, reply and end.
-ghost use Rattle.std.specs.Prelude.{◌≡◌, ◌<◌, ◌≤◌, ◌+◌, ◌^◌, filter, length, map};
+ghost use Rattle.std.specs.Prelude.{◌≡◌, ◌<◌, ◌≤◌, ◌+◌, ◌^◌, filter, find, length, map, option_map};
 ghost use Rattle.q_dest.specs.Dests.{begun, busy_at, changed_at, gained_at, heard, is_kept, is_remembered, landed, left, settled, waiting_at};
 ghost use Rattle.q_model.specs.Lists.{drop_first};
 
@@ -72,14 +72,17 @@ impl Sites {
         }
     }
 
-    /// Forgets the dead site that is unused for the longest time.
-    pub fn forget(&mut self)
-        ensures { self.new ≡ record self.old
+    /// Forgets the site that is only remembered for the longest time, and gives it.
+    pub fn forget(&mut self) -> Option<Site>
+        ensures site { result
+            ≡ option_map (λ d. d.known.site) (find is_remembered self.old.items) }
+        ensures sites { self.new ≡ record self.old
             { items = drop_first is_remembered self.old.items } }
     {
         self.stand_apart();
-        if let Some(found) = self.table.first_remembered() {
-            self.remove(found.site(), &found);
-        }
+        let found = self.table.first_remembered()?;
+        let site = *found.site();
+        self.remove(&site, &found);
+        Some(site)
     }
 }

@@ -3,6 +3,7 @@ pub mod Foremost
 pub mod Walk
 pub mod Marking
 pub mod Marked
+pub mod Classing
 pub mod Renewal
 pub mod LaneRows
 pub mod LaneWalk

@@ -14,12 +14,12 @@ use Rattle.q_heads.proofs.Marking.{first_as_one_comes, first_as_one_goes, known_
 use Rattle.q_heads.proofs.Standing.{first_found, found, none_found, stands_filtered}
 
 -- The marks after a change of the tickets of one lane.
-not_both : (a b : Bool) → (a || (b && not b)) ≡ a
+pub not_both : (a b : Bool) → (a || (b && not b)) ≡ a
 not_both true b = refl
 not_both false true = refl
 not_both false false = refl
 
-only_first : (b : Bool) → (false || (b && not false)) ≡ b
+pub only_first : (b : Bool) → (false || (b && not false)) ≡ b
 only_first true = refl
 only_first false = refl
 

@@ -117,13 +117,17 @@ impl Heads {
         renew(&mut self.marks, from, to);
     }
 
-    /// Lets a lane without tickets be of the class.
+    /// Lets a lane be of the class, with the tickets that stand in it.
     pub fn set_class(&mut self, lane: u32, class: u32)
-        requires known { lane < self.old.lanes }
-        requires free { find (is_of lane) self.old.items ≡ None }
+        requires { lane < self.old.lanes }
         ensures { self.new ≡ record self.old { classes = set self.old.classes lane class } }
     {
+        self.marks.stand_sorted();
+        let old = class_of(&self.classes, lane);
+        let from = mark_in(&self.tickets, old, lane);
+        let to = mark_in(&self.tickets, class, lane);
         self.classes[lane as usize] = class;
+        renew(&mut self.marks, from, to);
     }
 
     /// The first ticket of the lane.

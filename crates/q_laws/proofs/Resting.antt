@@ -1,6 +1,6 @@
 -- A site rests after each delivery, so that the next one to it begins the delay later.
-use Rattle.std.proofs.Common.{◌≡◌, ℕ, ◌+◌, ◌≤◌, ◌<◌, Bool, true, false, cond, not, List, [], ◌∷◌, ◌++◌, filter, find, length, is_none, is_some, map, Option, Some, None, ◌⊎◌, inl, inr, refl, sym, ap, ◌∙◌, subst, arith, if◌then◌else◌, le_trans, ◌&&◌, ◌||◌}
-use Rattle.std.proofs.lemmas.Bool.{and_from, and_parts, eqb-true, le-leb, leb-true, lt-ltb, ltb-false, ltb-true, not-true, or_left, or_right}
+use Rattle.std.proofs.Common.{◌≡◌, ℕ, ◌+◌, ◌≤◌, ◌<◌, Bool, true, false, not, List, [], ◌∷◌, ◌++◌, filter, length, is_none, is_some, map, Option, Some, None, ◌⊎◌, inl, inr, refl, sym, ap, ◌∙◌, subst, arith, if◌then◌else◌, ◌&&◌, ◌||◌}
+use Rattle.std.proofs.lemmas.Bool.{and_from, and_parts, eqb-true, leb-true, lt-ltb, ltb-false, ltb-true, not-true, or_left, or_right}
 use Rattle.std.specs.List.{list_any}
 use Rattle.std.specs.Option.{option_map_or}
 use Rattle.std.specs.Prelude.{◌*◌, ◌==◌, nat_le, nat_lt, replicate}
@@ -48,16 +48,16 @@ use Rattle.q_model.specs.declared.rows.Request.{Request}
 use Rattle.q_model.specs.declared.rows.Scan.{Scan}
 use Rattle.q_model.specs.declared.outcome.Outcome.TheVariants as outcomes
 use Rattle.q_model.specs.declared.rows.Request.TheVariants as requests
-use Rattle.q_model.specs.Revival.{is_due, is_rest_over, rest_ended, revive_all, revived_if_due}
+use Rattle.q_model.specs.Revival.{is_due, is_rest_over, rest_ended}
 use Rattle.q_model.specs.Settings.{window_limit, World}
 use Rattle.q_model.specs.SiteRecords.{initial_window, is_alive, is_awake, new_record, record_of, with_record}
 use Rattle.q_model.specs.Sites.{site_eq}
 use Rattle.q_model.specs.Startable.{is_startable}
 use Rattle.q_model.specs.Starts.{is_row}
-use Rattle.q_model.specs.Step.{after, after_all, allowed, change, may, noted, tidied}
-use Rattle.q_model.specs.UnusedSites.{forget_oldest, is_remembered, is_unused, tidied_sites}
+use Rattle.q_model.specs.Step.{after, after_all, allowed, change, may, noted}
+use Rattle.q_model.specs.UnusedSites.{is_remembered, is_unused, tidied_sites}
 use Rattle.q_model.specs.Values.{Site, SiteRecord}
-use Rattle.q_model.specs.Windows.{after_down, after_state, after_up, down_alive, more_cohorts, narrowed, rested, revived, up_alive}
+use Rattle.q_model.specs.Windows.{after_down, after_state, after_up, more_cohorts, rested, revived}
 
 -- the rest goes on up to the moment, or longer
 abbrev IsLater : ℕ → Option ℕ → Type 0

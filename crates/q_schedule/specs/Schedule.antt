@@ -7,18 +7,22 @@ use Rattle.q_model.specs.Ids.{id_eq}
 use Rattle.q_model.specs.Lists.{least}
 use Rattle.q_rounds.specs.declared.peer.Peer.{Peer}
 use Rattle.q_rounds.specs.Rounds.{rows_left}
+use Rattle.q_suspended.specs.declared.suspension.Suspension.{Suspension}
 use Rattle.q_turns.specs.Turns.{is_able}
 use Rattle.q_schedule.specs.declared.admitted.Admitted.{Admitted}
 use Rattle.q_turns.specs.Filing.{is_fresh}
 
--- The jobs of each transport in their order, the peers, the messages in the order of their
--- admission, how many jobs each line has room for, and how many peers and how many messages have.
+-- The jobs of each transport in their order, the peers, the sites that are suspended, the messages in
+-- the order of their admission, how many jobs each line has room for, and how many peers, suspended
+-- sites and messages have.
 pub record Scheduling : Type 0 where
   pub lines : List (List Job)
   pub peers : List Peer
+  pub suspended : List Suspension
   pub messages : List Admitted
   pub line_room : ℕ
   pub room : ℕ
+  pub suspended_room : ℕ
   pub message_room : ℕ
 
 -- the message has this id

@@ -14,6 +14,7 @@ use Rattle.q_turns.specs.Turns.{Turning}
 use Rattle.q_schedule.specs.declared.admitted.Admitted.{Admitted}
 use Rattle.q_schedule.specs.declared.ranked.Ranked.{Ranked}
 use Rattle.q_turns.specs.Filing.{candidate_at}
+use Rattle.q_turns.specs.Suspending.{AreTied}
 use Rattle.q_turns.specs.declared.filing.Facts.{Facts}
 
 -- the messages without their ranks
@@ -55,3 +56,4 @@ pub record IsSound (turns : Turning) (messages : Items Ranked) (candidates : Lis
   pub ranked : AreRanked next (values_of messages.items)
   pub few : AllByRecursion (λ r. r.message.unread < 2 ^ 32) (values_of messages.items)
   pub room : candidates.room ≡ turns.room
+  pub tied : AreTied turns.suspended candidates.suspended

@@ -5,6 +5,7 @@ ghost use Rattle.q_schedule.specs.Best.{IsOwn, sooner};
 ghost use Rattle.q_model.specs.Ids.{id_eq};
 ghost use Rattle.q_schedule.specs.Schedule.{best_in};
 ghost use Rattle.q_turns.specs.Filing.{is_fresh};
+ghost use Rattle.q_turns.specs.Suspending.{HaveNoSpace};
 
 use crate::lines::is_fresh;
 use crate::messages::message;
@@ -75,7 +76,8 @@ fn sooner(now: Moment, a: Option<Candidate>, b: Option<Candidate>) -> Option<Can
 impl Schedule {
     /// The message that preempts another one at the transport: of those that began no delivery
     /// there, can be sent to and need so many deliveries at most the one with the greatest
-    /// (age + 1) / need; of equals the one admitted first.
+    /// (age + 1) / need; of equals the one admitted first. Sites that are suspended are passed without
+    /// a step.
     pub fn best(
         &self,
         transport: u8,
@@ -84,6 +86,7 @@ impl Schedule {
         except: Id,
         sites: &Sites,
     ) -> Option<Id>
+        requires { HaveNoSpace sites.now.items self.now.suspended }
         ensures { result ≡ option_map (λ m. m.id) (best_in sites.now.items self.now.lines
             self.now.peers transport most now except self.now.messages) }
     {

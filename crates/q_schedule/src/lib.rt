@@ -28,6 +28,7 @@ mod ranked;
 mod ranking;
 mod schedule;
 mod stale;
+mod suspending;
 
 pub use admitted::Admitted;
 pub use schedule::Schedule;

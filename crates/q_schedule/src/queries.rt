@@ -4,6 +4,7 @@ ghost use Rattle.std.specs.List.{list_any};
 ghost use Rattle.std.specs.Option.{option_copied};
 ghost use Rattle.q_jobs.specs.Jobs.{behind_jobs, first_job, is_job_of};
 ghost use Rattle.q_rounds.specs.Rounds.{is_passed, next_in, rows_left};
+ghost use Rattle.q_turns.specs.Suspending.{HaveNoSpace};
 ghost use Rattle.q_turns.specs.Turns.{is_able, last_for, line_at, waiting_for};
 
 use crate::schedule::Schedule;
@@ -51,8 +52,9 @@ impl Schedule {
     }
 
     /// The first job of the transport of which a row may be sent to its site. The walk passes only
-    /// sites that are full or dead.
+    /// sites that are full or dead, and aren't suspended.
     pub fn current(&self, transport: usize, sites: &Sites) -> Option<&Job>
+        requires { HaveNoSpace sites.now.items self.now.suspended }
         ensures { option_copied result
             ≡ find (λ j. is_able sites.now.items self.now.peers transport j.id)
             (line_at transport self.now.lines) }

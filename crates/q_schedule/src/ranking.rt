@@ -4,6 +4,7 @@ ghost use Rattle.std.specs.Option.{is_some};
 ghost use Rattle.q_keyed.specs.Numbered.{item_at, values_of};
 ghost use Rattle.q_schedule.specs.Ranking.{anew, ranked_at};
 ghost use Rattle.q_schedule.specs.Sound.{AreKept, AreRanked, messages_of};
+ghost use Rattle.q_turns.specs.Suspending.{AreTied};
 
 use crate::ranked::Ranked;
 use crate::stale::touch;
@@ -22,10 +23,12 @@ fn rank_one(
     rank: u64,
 )
     requires room { candidates.old.room ≡ turns.now.room }
+    requires tied { AreTied turns.now.suspended candidates.old.suspended }
     requires kept { AreKept turns.now.lines turns.now.peers (values_of messages.old.items)
         stale.old candidates.old.items }
     requires there { is_some (item_at number messages.old.items) ≡ true }
     ensures room { candidates.new.room ≡ candidates.old.room }
+    ensures tied { AreTied turns.now.suspended candidates.new.suspended }
     ensures kept { AreKept turns.now.lines turns.now.peers (values_of messages.new.items)
         stale.new candidates.new.items }
     ensures ranked { messages.new ≡ record messages.old
@@ -48,9 +51,11 @@ pub(crate) fn rank_anew(
     stale: &mut Option<Id>,
 ) -> u64
     requires room { candidates.old.room ≡ turns.now.room }
+    requires tied { AreTied turns.now.suspended candidates.old.suspended }
     requires kept { AreKept turns.now.lines turns.now.peers (values_of messages.old.items)
         stale.old candidates.old.items }
     ensures room { candidates.new.room ≡ candidates.old.room }
+    ensures tied { AreTied turns.now.suspended candidates.new.suspended }
     ensures kept { AreKept turns.now.lines turns.now.peers (values_of messages.new.items)
         stale.new candidates.new.items }
     ensures ranked { messages.new ≡ record messages.old { items = anew 0 messages.old.items } }
@@ -78,10 +83,12 @@ pub(crate) fn next_rank(
     next: u64,
 ) -> u64
     requires room { candidates.old.room ≡ turns.now.room }
+    requires tied { AreTied turns.now.suspended candidates.old.suspended }
     requires kept { AreKept turns.now.lines turns.now.peers (values_of messages.old.items)
         stale.old candidates.old.items }
     requires ranked { AreRanked next (values_of messages.old.items) }
     ensures room { candidates.new.room ≡ candidates.old.room }
+    ensures tied { AreTied turns.now.suspended candidates.new.suspended }
     ensures kept { AreKept turns.now.lines turns.now.peers (values_of messages.new.items)
         stale.new candidates.new.items }
     ensures ranked { AreRanked result (values_of messages.new.items) }

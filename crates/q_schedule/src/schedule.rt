@@ -36,9 +36,11 @@ impl Model for Schedule {
     ghost view = { λ a. record {
       lines = a.turns.lines;
       peers = a.turns.peers;
+      suspended = a.turns.suspended;
       messages = messages_of (values_of a.messages.items);
       line_room = a.turns.line_room;
       room = a.turns.room;
+      suspended_room = a.turns.suspended_room;
       message_room = a.messages.room;
     } };
 
@@ -47,27 +49,33 @@ impl Model for Schedule {
 
 impl Schedule {
     /// No job, no peer and no message, and room for so many messages, of which each may have a job
-    /// at each of so many transports, and for so many peers. An error says that memory is wanting.
+    /// at each of so many transports, for so many peers, and for so many sites that are suspended. An
+    /// error says that memory is wanting.
     pub fn new(
         alloc: Global,
         transports: u8,
         messages: u32,
         peers: u32,
+        suspended: u32,
     ) -> Result<Schedule, AllocError>
         requires messages { 1 ≤ messages }
         requires few_messages { messages < 2 ^ 30 }
         requires peers { 1 ≤ peers }
         requires few_peers { peers < 2 ^ 30 }
+        requires suspended { 1 ≤ suspended }
+        requires few_suspended { suspended < 2 ^ 30 }
         ensures { IfOk result (λ made. made ≡ record {
           lines = replicate transports [];
           peers = [];
+          suspended = [];
           messages = [];
           line_room = messages;
           room = peers;
+          suspended_room = suspended;
           message_room = messages;
         }) }
     {
-        let turns = Turns::new(alloc, transports, messages, peers)?;
+        let turns = Turns::new(alloc, transports, messages, peers, suspended)?;
         let messages = Keyed::new(alloc, messages)?;
         let candidates = Candidates::new(alloc, peers)?;
         Ok(Schedule {

@@ -2,6 +2,7 @@
 ghost use Rattle.std.specs.Prelude.{◌≡◌, None, Some, true};
 ghost use Rattle.q_keyed.specs.Numbered.{values_of};
 ghost use Rattle.q_schedule.specs.Sound.{AreKept, is_stale};
+ghost use Rattle.q_turns.specs.Suspending.{AreTied};
 
 use crate::messages::facts_at;
 use crate::ranked::Ranked;
@@ -23,9 +24,11 @@ fn is_stale(stale: Option<Id>, id: Id) -> bool
 /// Files the candidates of the message that was stale.
 fn settle(turns: &Turns, messages: &Keyed<Ranked>, candidates: &mut Candidates, stale: Option<Id>)
     requires room { candidates.old.room ≡ turns.now.room }
+    requires tied { AreTied turns.now.suspended candidates.old.suspended }
     requires kept { AreKept turns.now.lines turns.now.peers (values_of messages.now.items) stale
         candidates.old.items }
     ensures room { candidates.new.room ≡ candidates.old.room }
+    ensures tied { AreTied turns.now.suspended candidates.new.suspended }
     ensures kept { AreKept turns.now.lines turns.now.peers (values_of messages.now.items) None
         candidates.new.items }
 {
@@ -44,9 +47,11 @@ pub(crate) fn touch(
     id: Id,
 )
     requires room { candidates.old.room ≡ turns.now.room }
+    requires tied { AreTied turns.now.suspended candidates.old.suspended }
     requires kept { AreKept turns.now.lines turns.now.peers (values_of messages.now.items) stale.old
         candidates.old.items }
     ensures room { candidates.new.room ≡ candidates.old.room }
+    ensures tied { AreTied turns.now.suspended candidates.new.suspended }
     ensures stale { stale.new ≡ Some id }
     ensures kept { AreKept turns.now.lines turns.now.peers (values_of messages.now.items) (Some id)
         candidates.new.items }
@@ -69,9 +74,11 @@ pub(crate) fn touch_where(
     is_changed: bool,
 )
     requires room { candidates.old.room ≡ turns.now.room }
+    requires tied { AreTied turns.now.suspended candidates.old.suspended }
     requires kept { AreKept turns.now.lines turns.now.peers (values_of messages.now.items) stale.old
         candidates.old.items }
     ensures room { candidates.new.room ≡ candidates.old.room }
+    ensures tied { AreTied turns.now.suspended candidates.new.suspended }
     ensures stale { is_changed ≡ true → stale.new ≡ Some id }
     ensures kept { AreKept turns.now.lines turns.now.peers (values_of messages.now.items) stale.new
         candidates.new.items }

@@ -1,5 +1,5 @@
 -- The head whose peer may be sent is that of the first job that can be.
-use Rattle.std.proofs.Common.{◌≡◌, ◌∙◌, ◌∷◌, ◌+◌, ◌<◌, ◌≤◌, [], ap, arith, Bool, cond, false, inl, inr, length, List, None, Option, option_map, refl, Some, subst, sym, true, ℕ}
+use Rattle.std.proofs.Common.{◌≡◌, ◌∙◌, ◌∷◌, ◌+◌, ◌*◌, ◌<◌, ◌≤◌, [], ap, arith, Bool, cond, false, inl, inr, length, List, None, Option, option_map, refl, Some, subst, sym, true, ℕ}
 use Rattle.std.proofs.lemmas.Bool.{and_from, and_parts, both_ways, eq-eqb, eqb-true, false_from_ne_true, or_cases, or_left, or_right}
 use Rattle.std.proofs.lemmas.Bool.Decides.{nat_tests}
 use Rattle.std.specs.List.{list_any}
@@ -24,16 +24,19 @@ use Rattle.q_model.specs.Ids.{id_eq}
 use Rattle.q_model.specs.Values.{Site}
 use Rattle.q_sorted.specs.declared.ticket.Ticket.{Ticket}
 use Rattle.q_sorted.specs.Tickets.{is_of, Rises}
+use Rattle.q_suspended.specs.declared.suspension.Suspension.{Suspension}
 use Rattle.q_turns.specs.declared.lane.Lane.{Lane}
 use Rattle.q_rounds.specs.declared.peer.Peer.{Peer}
 use Rattle.q_turns.specs.Heading.{head_at, head_with, is_lane_of, lane_of, rank_at, rank_by, sent_in}
 use Rattle.q_turns.specs.Sound.{ArePlaced}
+use Rattle.q_turns.specs.Suspending.{class_at, class_in, HaveNoSpace, transport_of}
 use Rattle.q_rounds.specs.Rounds.{has_space_at, is_peer_for}
 use Rattle.q_turns.specs.Turns.{is_able}
 use Rattle.q_rounds.proofs.Fewer.{fewer_pass}
 use Rattle.q_rounds.proofs.Entered.{entered, ticket_own}
-use Rattle.q_turns.proofs.HeadLaws.{at_is, at_tells, head_made, HeadAt, lane_class}
+use Rattle.q_turns.proofs.HeadLaws.{at_is, at_tells, head_made, HeadAt, lane_class, lane_transport, lanes_laned}
 use Rattle.q_turns.proofs.LaneLaws.{some_from}
+use Rattle.q_turns.proofs.SuspensionLaws.{not_suspended}
 use Rattle.q_rounds.proofs.Lookups.{here_at, later_at}
 
 -- A peer that passes a test, under its number.
@@ -69,11 +72,15 @@ sent_step ds p id false e h = absurd cc
 abbrev pub sends : List Dest → List (Numbered Peer) → Ticket → Bool
 sends ds ks x = is_some (sent_in ds x.item ks)
 
+-- the transport of a class that is walked along
+open_transport : (t : ℕ) → transport_of (t * 2) ≡ t
+open_transport t = omega arith
+
 abbrev is_sent : List Dest → Id → ℕ → Peer → Bool
 is_sent ds id t p = is_peer_for id t p && has_space_at ds p.site
 
 module _ (ds : List Dest) (lines : List Jobs) (t : ℕ) (l : Jobs) (at_line : slice_get lines t ≡ Some l) (below : t < length lines) (apart : AreOfOthers l.jobs) (each : length l.ranks ≡ length l.jobs) (rise : AreRising l.ranks)
-    (lanes : List (Numbered Lane)) (lanes_apart : AreApart lanes) (ks : List (Numbered Peer)) (peers_apart : AreApart ks) (s : Lanes) (rising : Rises s.items) (places : ArePlaced (rank_by lines) (length lines) lanes ks s) where
+    (lanes : List (Numbered Lane)) (lanes_apart : AreApart lanes) (ks : List (Numbered Peer)) (peers_apart : AreApart ks) (s : Lanes) (rising : Rises s.items) (suspended : List Suspension) (shut : HaveNoSpace ds suspended) (places : ArePlaced (class_at suspended) (rank_by lines) (length lines) lanes ks s) where
   abbrev passes : Ticket → Bool
   passes x = sends ds ks x
 
@@ -99,10 +106,14 @@ module _ (ds : List Dest) (lines : List Jobs) (t : ℕ) (l : Jobs) (at_line : sl
       let same : it.0 ≡ other.0 = cc in
       sym (site_eq-true it.0.site a it.2) ∙ ap (λ (y : Lane). y.site) same ∙ site_eq-true other.0.site b other.2
 
+  -- the class of a lane whose site has space
+  open_class : (site : Site) → has_space_at ds site ≡ true → class_at suspended site ≡ site.transport * 2
+  open_class site space = ap (λ b. class_in b site.transport) (not_suspended ds site space suspended shut)
+
   -- a head that passes, of no greater rank
   record HasAble (r : ℕ) : Type 0 where
     head : Ticket
-    is : IsHeadOf t s head
+    is : IsHeadOf (t * 2) s head
     sends : passes head ≡ true
     low : head.key ≤ r
 
@@ -114,15 +125,15 @@ module _ (ds : List Dest) (lines : List Jobs) (t : ℕ) (l : Jobs) (at_line : sl
       let e = head_with lane m r in
       let stood = entered (head_at (rank_by lines) lanes ks) s.items m e places.placed (at_is (rank_by lines) lanes ks m (Some q) there ∙ head_made (rank_by lines) lanes m lane r q laned rank) refl in
       let mine = own e stood in
-      let of : class_of lane s.classes ≡ t = lane_class (rank_by lines) lanes ks s m q e lanes_apart places.lanes_are (record { item = refl; lane = laned; ranked = rank }) ∙ at in
-      let has = has_head t s e of rising stood in
+      let of : class_of lane s.classes ≡ t * 2 = lane_class (class_at suspended) (rank_by lines) lanes ks s m q e lanes_apart places.lanes_are (record { item = refl; lane = laned; ranked = rank }) ∙ open_class q.site space ∙ ap (λ n. n * 2) at in
+      let has = has_head (t * 2) s e of rising stood in
       let its = own has.head (found (is_of has.head.group) has.head s.items has.is.first).0 in
       let site : its.peer.site ≡ q.site = one_site its.peer.site q.site lane (its.head.lane ∙ ap Some has.lane) laned in
       record {
         head = has.head;
         is = has.is;
         sends = passes_from has.head its.peer its.there (ap (has_space_at ds) site ∙ space);
-        low = behind_key e has.head (not_ahead_of_head t s e has);
+        low = behind_key e has.head (not_ahead_of_head (t * 2) s e has);
       }
 
   -- where a message can be sent, whose job has this rank
@@ -140,18 +151,18 @@ module _ (ds : List Dest) (lines : List Jobs) (t : ℕ) (l : Jobs) (at_line : sl
   job_rank id j h = some_from (rank_of id l.jobs l.ranks) (ranked_with_job id l.jobs l.ranks each ∙ ap is_some h)
 
   -- no head passes, so no job can be sent anything
-  none_step : (o : Option Job) → find able l.jobs ≡ o → ((x : Ticket) → IsHeadOf t s x → passes x ≡ false) → o ≡ None
+  none_step : (o : Option Job) → find able l.jobs ≡ o → ((x : Ticket) → IsHeadOf (t * 2) s x → passes x ≡ false) → o ≡ None
   none_step None h fails = refl
   none_step (Some j) h fails =
       let rank = job_rank j.id j (found_own able j l.jobs apart h) in
       let has = able_from j.id rank.0 (find-passes able l.jobs j h) rank.1 in
       absurd (both_ways (passes has.head) (fails has.head has.is) has.sends)
 
-  pub none_able : ((x : Ticket) → IsHeadOf t s x → passes x ≡ false) → find able l.jobs ≡ None
+  pub none_able : ((x : Ticket) → IsHeadOf (t * 2) s x → passes x ≡ false) → find able l.jobs ≡ None
   none_able fails = none_step (find able l.jobs) refl fails
 
   -- The head passes, and none ahead of it does.
-  module _ (h : Ticket) (is : IsHeadOf t s h) (fail : FailAhead t s passes h) (id : Id) (sent : sent_in ds h.item ks ≡ Some id) where
+  module _ (h : Ticket) (is : IsHeadOf (t * 2) s h) (fail : FailAhead (t * 2) s passes h) (id : Id) (sent : sent_in ds h.item ks ≡ Some id) where
     mine : HeadAt (rank_by lines) lanes ks h.item h
     mine = own h (found (is_of h.group) h s.items is.first).0
 
@@ -161,7 +172,9 @@ module _ (ds : List Dest) (lines : List Jobs) (t : ℕ) (l : Jobs) (at_line : sl
         (ap (option_and_then (λ (p : Peer). cond (has_space_at ds p.site) (Some p.id) None)) (sym mine.there) ∙ sent)
 
     its_transport : mine.peer.site.transport ≡ t
-    its_transport = sym (lane_class (rank_by lines) lanes ks s h.item mine.peer h lanes_apart places.lanes_are mine.head) ∙ is.of_class
+    its_transport =
+        sym (lane_transport (rank_by lines) lanes s h.item mine.peer h lanes_apart (lanes_laned suspended lanes ks s places.lanes_are) mine.head)
+        ∙ ap transport_of is.of_class ∙ open_transport t
 
     rank : rank_of id l.jobs l.ranks ≡ Some h.key
     rank = sym (ap (λ n. rank_at lines n mine.peer.id) its_transport ∙ ap (rank_at lines t) parts.1 ∙ line_rank id) ∙ mine.head.ranked

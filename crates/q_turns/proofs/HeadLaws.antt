@@ -1,6 +1,7 @@
 -- The ticket of a peer in the lane of its site.
-use Rattle.std.proofs.Common.{◌≡◌, ◌∙◌, ◌∷◌, ◌<◌, ◌≤◌, [], ap, arith, length, List, None, Option, option_map, refl, Some, subst, suc, sym, true, zero, ℕ}
+use Rattle.std.proofs.Common.{◌≡◌, ◌∙◌, ◌∷◌, ◌<◌, ◌≤◌, [], ap, arith, Bool, false, length, List, None, Option, option_map, refl, Some, subst, suc, sym, true, zero, ℕ}
 use Rattle.std.proofs.lemmas.Bool.{both_ways, eq-eqb}
+use Rattle.std.specs.List.{list_any}
 use Rattle.std.specs.Prelude.{◌==◌, find, IfSome, option_and_then, slice_get}
 use Rattle.q_heads.proofs.Standing.{none_found}
 use Rattle.q_heads.specs.Lanes.{class_of, Lanes, stands}
@@ -11,10 +12,13 @@ use Rattle.q_model.proofs.IdLaws.{site_eq-true}
 use Rattle.q_model.specs.Values.{Site}
 use Rattle.q_sorted.specs.declared.ticket.Ticket.{Ticket}
 use Rattle.q_sorted.specs.Tickets.{is_of}
+use Rattle.q_suspended.specs.Suspensions.{is_at}
+use Rattle.q_suspended.specs.declared.suspension.Suspension.{Suspension}
 use Rattle.q_turns.specs.declared.lane.Lane.{Lane}
 use Rattle.q_rounds.specs.declared.peer.Peer.{Peer}
 use Rattle.q_turns.specs.Heading.{head_at, head_in, head_with, is_lane_of, lane_of, rank_by}
-use Rattle.q_turns.specs.Sound.{AreLanes}
+use Rattle.q_turns.specs.Sound.{AreLaned, AreLanes}
+use Rattle.q_turns.specs.Suspending.{class_at, class_in, transport_of}
 
 -- what a ticket tells of its peer
 pub record HeadOf (rank : Peer → Option ℕ) (lanes : List (Numbered Lane)) (number : ℕ) (p : Peer) (e : Ticket) : Type 0 where
@@ -97,33 +101,51 @@ pub lane_named : (site : Site) (lane : ℕ) (lanes : List (Numbered Lane)) (l : 
 lane_named site lane lanes l apart found h =
     let it = held_item (is_lane_of site) lane lanes apart found in lane_at_step site lane lanes it.0 l it.1 it.2 h
 
--- the class of a ticket is its peer's transport
-pub lane_class : (rank : Peer → Option ℕ) (lanes : List (Numbered Lane)) (peers : List (Numbered Peer)) (heads : Lanes) (number : ℕ) (p : Peer) (e : Ticket) → AreApart lanes → AreLanes lanes peers heads → HeadOf rank lanes number p e → class_of e.group heads.classes ≡ p.site.transport
-lane_class rank lanes peers heads number p e apart are head =
+-- the class of a ticket's lane is that of its peer's site
+pub lane_class : (class : Site → ℕ) (rank : Peer → Option ℕ) (lanes : List (Numbered Lane)) (peers : List (Numbered Peer)) (heads : Lanes) (number : ℕ) (p : Peer) (e : Ticket) → AreApart lanes → AreLanes class lanes peers heads → HeadOf rank lanes number p e → class_of e.group heads.classes ≡ class p.site
+lane_class class rank lanes peers heads number p e apart are head =
     let it = held_item (is_lane_of p.site) e.group lanes apart head.lane in
-    (are e.group it.0 it.1).class ∙ ap (λ (s : Site). s.transport) (site_eq-true it.0.site p.site it.2)
+    (are e.group it.0 it.1).classed ∙ ap class (site_eq-true it.0.site p.site it.2)
 
-pub head_below : (rank : Peer → Option ℕ) (lanes : List (Numbered Lane)) (peers : List (Numbered Peer)) (heads : Lanes) (number : ℕ) (p : Peer) (e : Ticket) → AreApart lanes → AreLanes lanes peers heads → head_in rank lanes number p ≡ Some e → e.group < heads.lanes
-head_below rank lanes peers heads number p e apart are h =
+-- which is one of its transport
+pub lane_transport : (rank : Peer → Option ℕ) (lanes : List (Numbered Lane)) (heads : Lanes) (number : ℕ) (p : Peer) (e : Ticket) → AreApart lanes → AreLaned lanes heads → HeadOf rank lanes number p e → transport_of (class_of e.group heads.classes) ≡ p.site.transport
+lane_transport rank lanes heads number p e apart are head =
+    let it = held_item (is_lane_of p.site) e.group lanes apart head.lane in
+    (are e.group it.0 it.1).1 ∙ ap (λ (s : Site). s.transport) (site_eq-true it.0.site p.site it.2)
+
+class_step : (suspended : Bool) (transport : ℕ) → transport_of (class_in suspended transport) ≡ transport
+class_step true transport = omega arith
+class_step false transport = omega arith
+
+pub lanes_laned : (suspended : List Suspension) (lanes : List (Numbered Lane)) (peers : List (Numbered Peer)) (heads : Lanes) → AreLanes (class_at suspended) lanes peers heads → AreLaned lanes heads
+lanes_laned suspended lanes peers heads are j l h =
+    let is = are j l h in (is.below, ap transport_of is.classed ∙ class_step (list_any (is_at l.site) suspended) l.site.transport)
+
+pub head_below : (rank : Peer → Option ℕ) (lanes : List (Numbered Lane)) (heads : Lanes) (number : ℕ) (p : Peer) (e : Ticket) → AreApart lanes → AreLaned lanes heads → head_in rank lanes number p ≡ Some e → e.group < heads.lanes
+head_below rank lanes heads number p e apart are h =
     let it = held_item (is_lane_of p.site) e.group lanes apart (head_tells rank lanes number p e h).lane in
-    (are e.group it.0 it.1).below
+    (are e.group it.0 it.1).0
 
-below_step : (rank : Peer → Option ℕ) (lanes : List (Numbered Lane)) (peers : List (Numbered Peer)) (heads : Lanes) (number : ℕ) (p : Peer) (o : Option Ticket) → AreApart lanes → AreLanes lanes peers heads → head_in rank lanes number p ≡ o → IfSome o (λ e. e.group < heads.lanes)
-below_step rank lanes peers heads number p None apart are h = tt
-below_step rank lanes peers heads number p (Some e) apart are h = head_below rank lanes peers heads number p e apart are h
+below_step : (rank : Peer → Option ℕ) (lanes : List (Numbered Lane)) (heads : Lanes) (number : ℕ) (p : Peer) (o : Option Ticket) → AreApart lanes → AreLaned lanes heads → head_in rank lanes number p ≡ o → IfSome o (λ e. e.group < heads.lanes)
+below_step rank lanes heads number p None apart are h = tt
+below_step rank lanes heads number p (Some e) apart are h = head_below rank lanes heads number p e apart are h
 
-pub heads_below : (rank : Peer → Option ℕ) (lanes : List (Numbered Lane)) (peers : List (Numbered Peer)) (heads : Lanes) (number : ℕ) (p : Peer) (o : Option Ticket) → AreApart lanes → AreLanes lanes peers heads → o ≡ head_in rank lanes number p → IfSome o (λ e. e.group < heads.lanes)
-heads_below rank lanes peers heads number p o apart are is = below_step rank lanes peers heads number p o apart are (sym is)
+pub heads_below : (rank : Peer → Option ℕ) (lanes : List (Numbered Lane)) (heads : Lanes) (number : ℕ) (p : Peer) (o : Option Ticket) → AreApart lanes → AreLaned lanes heads → o ≡ head_in rank lanes number p → IfSome o (λ e. e.group < heads.lanes)
+heads_below rank lanes heads number p o apart are is = below_step rank lanes heads number p o apart are (sym is)
 
 pub if_some : (o : Option Ticket) (P : Type 0) → P → IfSome o (λ e. P)
 if_some None P h = tt
 if_some (Some e) P h = h
 
 -- lanes look at classes alone
-pub lanes_alike : (lanes : List (Numbered Lane)) (ks : List (Numbered Peer)) (before after : Lanes) → after.lanes ≡ before.lanes → after.classes ≡ before.classes → AreLanes lanes ks before → AreLanes lanes ks after
-lanes_alike lanes ks before after count classes are j l h =
+pub lanes_alike : (class : Site → ℕ) (lanes : List (Numbered Lane)) (ks : List (Numbered Peer)) (before after : Lanes) → after.lanes ≡ before.lanes → after.classes ≡ before.classes → AreLanes class lanes ks before → AreLanes class lanes ks after
+lanes_alike class lanes ks before after count classes are j l h =
     let is = are j l h in
-    record { below = subst (λ m. j < m) (sym count) is.below; class = ap (class_of j) classes ∙ is.class; used = is.used }
+    record { below = subst (λ m. j < m) (sym count) is.below; classed = ap (class_of j) classes ∙ is.classed; used = is.used }
+
+pub laned_alike : (lanes : List (Numbered Lane)) (before after : Lanes) → after.lanes ≡ before.lanes → after.classes ≡ before.classes → AreLaned lanes before → AreLaned lanes after
+laned_alike lanes before after count classes are j l h =
+    let is = are j l h in (subst (λ m. j < m) (sym count) is.0, ap (λ cs. transport_of (class_of j cs)) classes ∙ is.1)
 
 -- a lane with a ticket isn't empty
 pub not_empty : (e : Ticket) (lane : ℕ) (items : List Ticket) → stands e items ≡ true → e.group ≡ lane → find (is_of lane) items ≡ None → ⊥

@@ -5,7 +5,7 @@ use Rattle.std.proofs.lemmas.List.{get_or-set_other, get_or-set_same}
 use Rattle.std.specs.Option.{is_some}
 use Rattle.std.specs.Prelude.{◌==◌, find, option_and_then}
 use Rattle.q_heads.proofs.Standing.{found}
-use Rattle.q_heads.specs.Lanes.{class_of, Lanes, stands}
+use Rattle.q_heads.specs.Lanes.{class_of, Lanes}
 use Rattle.q_keyed.proofs.Values.{held_item}
 use Rattle.q_keyed.specs.Numbered.{AreApart, AreKeysApart, first_such, has_number, item_at, Numbered, without_number}
 use Rattle.q_model.proofs.IdLaws.{site_eq-refl, site_eq-true}
@@ -36,8 +36,8 @@ pub unless_none : {A : Type 0} (o : Option A) (x : A) → o ≡ None → o ≡ S
 unless_none {A} o x none some = let both : ◌≡◌ {A = Option A} None (Some x) = sym none ∙ some in absurd cc
 
 -- A lane is made, or was there.
-pub lane_was : (site : Site) (lanes : List (Numbered Lane)) (heads : Lanes) → is_some (lane_of site lanes) ≡ true → HasMade site lanes lanes heads heads
-lane_was site lanes heads there = record {
+pub lane_was : (class : Site → ℕ) (site : Site) (lanes : List (Numbered Lane)) (heads : Lanes) → is_some (lane_of site lanes) ≡ true → HasMade class site lanes lanes heads heads
+lane_was class site lanes heads there = record {
   there = there;
   kept = λ h. refl;
   others = λ other h. refl;
@@ -45,7 +45,7 @@ lane_was site lanes heads there = record {
   heads = refl;
 }
 
-module _ (site : Site) (lanes : List (Numbered Lane)) (heads : Lanes) (n : ℕ) (fresh : find (has_number n) lanes ≡ None) (none : lane_of site lanes ≡ None) (below : n < heads.lanes) (within : length heads.classes ≡ heads.lanes) where
+module _ (class : Site → ℕ) (site : Site) (lanes : List (Numbered Lane)) (heads : Lanes) (n : ℕ) (fresh : find (has_number n) lanes ≡ None) (none : lane_of site lanes ≡ None) (below : n < heads.lanes) (within : length heads.classes ≡ heads.lanes) where
   abbrev the_lane : Lane
   the_lane = record { site = site }
 
@@ -53,18 +53,18 @@ module _ (site : Site) (lanes : List (Numbered Lane)) (heads : Lanes) (n : ℕ) 
   more = lanes ++ record { number = n; item = the_lane } ∷ []
 
   abbrev after : Lanes
-  after = record heads { classes = set heads.classes n site.transport }
+  after = record heads { classes = set heads.classes n (class site) }
 
-  made_step : (j : ℕ) (l : Lane) → item_at j more ≡ Some l → (j ≡ n) ⊎ (j ≢ n) → IsOldOrMade site lanes heads after j l
+  made_step : (j : ℕ) (l : Lane) → item_at j more ≡ Some l → (j ≡ n) ⊎ (j ≢ n) → IsOldOrMade class site lanes heads after j l
   made_step j l h (inl same) =
       let some : Some the_lane ≡ Some l = sym (own_more n the_lane lanes fresh) ∙ ap (λ i. item_at i more) (sym same) ∙ h in
       let its : the_lane ≡ l = cc in
       let low : n < length heads.classes = omega (arith, below, within) in
-      inr (ap (λ (y : Lane). y.site) (sym its), omega (arith, same, below), ap (λ i. class_of i after.classes) same ∙ get_or-set_same heads.classes n site.transport 0 low)
+      inr (ap (λ (y : Lane). y.site) (sym its), omega (arith, same, below), ap (λ i. class_of i after.classes) same ∙ get_or-set_same heads.classes n (class site) 0 low)
   made_step j l h (inr other) =
-      inl (sym (other_more n j the_lane lanes other) ∙ h, get_or-set_other heads.classes n j site.transport 0 other)
+      inl (sym (other_more n j the_lane lanes other) ∙ h, get_or-set_other heads.classes n j (class site) 0 other)
 
-  pub lane_made : HasMade site lanes more heads after
+  pub lane_made : HasMade class site lanes more heads after
   lane_made = record {
     there = ap is_some (such_more (is_lane_of site) (record { number = n; item = the_lane }) lanes none (site_eq-refl site));
     kept = λ h. absurd (both_ways (is_some (lane_of site lanes)) (ap is_some none) h);
@@ -74,7 +74,7 @@ module _ (site : Site) (lanes : List (Numbered Lane)) (heads : Lanes) (n : ℕ) 
   }
 
 -- A peer comes, whose site has a lane now.
-module _ (rank : Peer → Option ℕ) (transports : ℕ) (lanes more : List (Numbered Lane)) (ks : List (Numbered Peer)) (before after : Lanes) (site : Site) (places : ArePlaced rank transports lanes ks before) (unranked : (q : Peer) → transports ≤ q.site.transport → rank q ≡ None) (made : HasMade site lanes more before after) where
+module _ (class : Site → ℕ) (rank : Peer → Option ℕ) (transports : ℕ) (lanes more : List (Numbered Lane)) (ks : List (Numbered Peer)) (before after : Lanes) (site : Site) (places : ArePlaced class rank transports lanes ks before) (unranked : (q : Peer) → transports ≤ q.site.transport → rank q ≡ None) (made : HasMade class site lanes more before after) where
   own_same : (m : ℕ) (q : Peer) → item_at m ks ≡ Some q → q.site ≡ site → (is_some (lane_of site lanes) ≡ true) ⊎ (is_some (lane_of site lanes) ≡ false) → head_in rank more m q ≡ head_in rank lanes m q
   own_same m q h own (inl there) = head_same rank rank lanes more m q q (ap (λ s. lane_of s more) own ∙ made.kept there ∙ ap (λ s. lane_of s lanes) (sym own)) refl
   own_same m q h own (inr none) =
@@ -102,25 +102,25 @@ module _ (rank : Peer → Option ℕ) (transports : ℕ) (lanes more : List (Num
         let its : p ≡ q = cc in
         absurd (both_ways (site_eq site q.site) other (ap (λ (y : Peer). site_eq site y.site) (sym its) ∙ ap (site_eq site) at ∙ site_eq-refl site))
 
-    lane_step : (j : ℕ) (l : Lane) → IsOldOrMade site lanes before after j l → IsLane j l (with_peer n p ks) after
+    lane_step : (j : ℕ) (l : Lane) → IsOldOrMade class site lanes before after j l → IsLane class j l (with_peer n p ks) after
     lane_step j l (inl old) =
         let is = places.lanes_are j l old.0 in
         let other : is.used.number ≢ n = λ same. unless_none (item_at n ks) is.used.peer (free_at n ks free) (ap (λ i. item_at i ks) (sym same) ∙ is.used.there) in
         record {
           below = subst (λ (s : Lanes). j < s.lanes) (sym made.heads) is.below;
-          class = old.1 ∙ is.class;
+          classed = old.1 ∙ is.classed;
           used = record { number = is.used.number; peer = is.used.peer; there = other_more n is.used.number p ks other ∙ is.used.there; at = is.used.at };
         }
     lane_step j l (inr new) = record {
       below = subst (λ (s : Lanes). j < s.lanes) (sym made.heads) new.1;
-      class = new.2 ∙ ap (λ (s : Site). s.transport) (sym new.0);
+      classed = new.2 ∙ ap class (sym new.0);
       used = record { number = n; peer = p; there = own_more n p ks free; at = at ∙ sym new.0 };
     }
 
     pub laned_more : HaveLanes transports more (with_peer n p ks)
     laned_more m q h below = laned_step m q h below (cases_eq m n) (cases_Bool (site_eq site q.site))
 
-    pub lanes_more : AreLanes more (with_peer n p ks) after
+    pub lanes_more : AreLanes class more (with_peer n p ks) after
     lanes_more j l h = lane_step j l (made.lanes j l h)
 
 -- The lane of its own site is found.
@@ -143,8 +143,8 @@ none_tells true m h = refl
 none_tells false m h = absurd cc
 
 -- A peer went, and with it the lane, where it was the last one there.
-module _ (rank : Peer → Option ℕ) (transports : ℕ) (lanes : List (Numbered Lane)) (apart : AreApart lanes) (keys : AreKeysApart site_eq (λ (l : Lane). l.site) lanes) (ks : List (Numbered Peer)) (n : ℕ) (p : Peer) (there : item_at n ks ≡ Some p) (before after : Lanes) (same_lanes : after.lanes ≡ before.lanes) (same_classes : after.classes ≡ before.classes)
-    (laned : HaveLanes transports lanes ks) (lanes_are : AreLanes lanes ks before) (ranked : (m : ℕ) (q : Peer) → item_at m ks ≡ Some q → q.site.transport < transports → is_some (rank q) ≡ true) (placed : AreTickets (head_at rank lanes (without_number n ks)) after.items) where
+module _ (class : Site → ℕ) (rank : Peer → Option ℕ) (transports : ℕ) (lanes : List (Numbered Lane)) (apart : AreApart lanes) (keys : AreKeysApart site_eq (λ (l : Lane). l.site) lanes) (ks : List (Numbered Peer)) (n : ℕ) (p : Peer) (there : item_at n ks ≡ Some p) (before after : Lanes) (same_lanes : after.lanes ≡ before.lanes) (same_classes : after.classes ≡ before.classes)
+    (laned : HaveLanes transports lanes ks) (lanes_are : AreLanes class lanes ks before) (ranked : (m : ℕ) (q : Peer) → item_at m ks ≡ Some q → q.site.transport < transports → is_some (rank q) ≡ true) (placed : AreTickets (head_at rank lanes (without_number n ks)) after.items) where
   abbrev rest : List (Numbered Peer)
   rest = without_number n ks
 
@@ -172,14 +172,14 @@ module _ (rank : Peer → Option ℕ) (transports : ℕ) (lanes : List (Numbered
       let e = some_from (find (is_of j) after.items) (ticket (ap (λ x. lane_of x lanes) (sym site) ∙ such_at j l lanes keys h)) in
       used_by j l e.0 h e.1
 
-  lane_from : (j : ℕ) (l : Lane) → IsLane j l ks before → IsUsed l.site rest → IsLane j l rest after
-  lane_from j l is used = record { below = subst (λ m. j < m) (sym same_lanes) is.below; class = ap (class_of j) same_classes ∙ is.class; used = used }
+  lane_from : (j : ℕ) (l : Lane) → IsLane class j l ks before → IsUsed l.site rest → IsLane class j l rest after
+  lane_from j l is used = record { below = subst (λ m. j < m) (sym same_lanes) is.below; classed = ap (class_of j) same_classes ∙ is.classed; used = used }
 
   ticket_there : (o : Option ℕ) (j : ℕ) → lane_of p.site lanes ≡ o → option_and_then (λ m. cond (is_some (find (is_of m) after.items)) None (Some m)) o ≡ None → o ≡ Some j → is_some (find (is_of j) after.items) ≡ true
   ticket_there None j l none h = absurd cc
   ticket_there (Some m) j l none h = let same : m ≡ j = cc in ap (λ i. is_some (find (is_of i) after.items)) (sym same) ∙ none_tells (is_some (find (is_of m) after.items)) m none
 
-  pub places_kept : empty_lane p.site lanes after.items ≡ None → ArePlaced rank transports lanes rest after
+  pub places_kept : empty_lane p.site lanes after.items ≡ None → ArePlaced class rank transports lanes rest after
   places_kept none = record {
     placed = placed;
     laned = λ m q h. laned m q (was m q h);
@@ -213,7 +213,7 @@ module _ (rank : Peer → Option ℕ) (transports : ℕ) (lanes : List (Numbered
         absurd (both_ways (is_some (rank q)) (ap is_some unranked) (ranked m q (was m q h) below))
     laned_left m q h below (inr other) = ap is_some (left_same q other) ∙ laned m q (was m q h) below
 
-    lane_left : (j : ℕ) (l : Lane) → item_at j (without_number d lanes) ≡ Some l → IsLane j l rest after
+    lane_left : (j : ℕ) (l : Lane) → item_at j (without_number d lanes) ≡ Some l → IsLane class j l rest after
     lane_left j l h =
         let other : j ≢ d = λ same. unless_none (item_at d (without_number d lanes)) l (own_left d lanes) (ap (λ i. item_at i (without_number d lanes)) (sym same) ∙ h) in
         let h0 = sym (other_left d j lanes other) ∙ h in
@@ -223,27 +223,10 @@ module _ (rank : Peer → Option ℕ) (transports : ℕ) (lanes : List (Numbered
         let same : d ≡ j = cc in
         absurd (other (sym same))))
 
-    pub places_left : ArePlaced rank transports (without_number d lanes) rest after
+    pub places_left : ArePlaced class rank transports (without_number d lanes) rest after
     places_left = record {
       placed = alike (head_at rank lanes rest) (head_at rank (without_number d lanes) rest) after.items placed
           (λ m. at_same rank rank lanes (without_number d lanes) rest m (λ q h. one_left m q h (cases_Bool (site_eq p.site q.site))));
       laned = λ m q h below. laned_left m q h below (cases_Bool (site_eq p.site q.site));
       lanes_are = λ j l h. lane_left j l h;
     }
-
--- a lane that isn't there has no ticket
-free_step : (n : ℕ) (lanes : List (Numbered Lane)) (items : List Ticket) (o : Option Ticket) → ((e : Ticket) → stands e items ≡ true → is_some (item_at e.group lanes) ≡ true) → item_at n lanes ≡ None → find (is_of n) items ≡ o → o ≡ None
-free_step n lanes items None inside none h = refl
-free_step n lanes items (Some e) inside none h =
-    let it = found (is_of n) e items h in
-    let gone : is_some (item_at e.group lanes) ≡ false = ap (λ i. is_some (item_at i lanes)) (eqb-true e.group n it.1) ∙ ap is_some none in
-    absurd (both_ways (is_some (item_at e.group lanes)) gone (inside e it.0))
-
-pub free_lane : (n : ℕ) (lanes : List (Numbered Lane)) (items : List Ticket) → ((e : Ticket) → stands e items ≡ true → is_some (item_at e.group lanes) ≡ true) → find (has_number n) lanes ≡ None → find (is_of n) items ≡ None
-free_lane n lanes items inside fresh = free_step n lanes items (find (is_of n) items) inside (ap (option_map (λ (k : Numbered Lane). k.item)) fresh) refl
-
--- the tickets of peers stand in lanes that there are
-pub inside : (rank : Peer → Option ℕ) (lanes : List (Numbered Lane)) (ks : List (Numbered Peer)) (items : List Ticket) → AreApart lanes → AreTickets (head_at rank lanes ks) items → (e : Ticket) → stands e items ≡ true → is_some (item_at e.group lanes) ≡ true
-inside rank lanes ks items apart placed e there =
-    let own = at_tells rank lanes ks e.item e (ticket_own (head_at rank lanes ks) items e placed there) in
-    ap is_some (held_item (is_lane_of own.peer.site) e.group lanes apart own.head.lane).1

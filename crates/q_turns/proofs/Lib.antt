@@ -18,3 +18,6 @@ mod FilingLaws
 mod PlacedAnew
 mod TurnViews
 mod TurnSteps
+mod SuspensionLaws
+pub mod TiedLaws
+mod Reclassing

@@ -15,7 +15,7 @@ use Rattle.q_rounds.specs.declared.peer.Peer.{Peer}
 use Rattle.q_rounds.specs.Listing.{AreTickets}
 use Rattle.q_turns.specs.Heading.{head_at, head_in, rank_by, ranked_elsewhere}
 use Rattle.q_turns.specs.Moving.{missing_head}
-use Rattle.q_turns.specs.Sound.{AreLanes}
+use Rattle.q_turns.specs.Sound.{AreLaned}
 use Rattle.q_rounds.proofs.Entered.{alike, come, fewer_tickets, go, none_does, StayBut}
 use Rattle.q_turns.proofs.HeadLaws.{at_is, head_below, at_tells, head_same, head_tells, no_rank}
 use Rattle.q_rounds.proofs.NumberedWalk.{from_first, from_on, lacks_own, one_on}
@@ -132,12 +132,12 @@ module _ (t : ℕ) (lines : List Jobs) (lanes : List (Numbered Lane)) (ks : List
     put_room xs room are rising within =
         subst (λ o. IfSome o (λ e. length xs < room)) (sym missing) (room_step xs room (x.site.transport == t) (head_in (rank_by lines) lanes n x) refl are rising within)
 
-    known_step : (lanes_apart : AreApart lanes) (heads : Lanes) → AreLanes lanes ks heads → (b : Bool) (o : Option Ticket) → head_in (rank_by lines) lanes n x ≡ o → IfSome (cond b o None) (λ e. e.group < heads.lanes)
+    known_step : (lanes_apart : AreApart lanes) (heads : Lanes) → AreLaned lanes heads → (b : Bool) (o : Option Ticket) → head_in (rank_by lines) lanes n x ≡ o → IfSome (cond b o None) (λ e. e.group < heads.lanes)
     known_step lanes_apart heads are false o head = tt
     known_step lanes_apart heads are true None head = tt
-    known_step lanes_apart heads are true (Some d) head = head_below (rank_by lines) lanes ks heads n x d lanes_apart are head
+    known_step lanes_apart heads are true (Some d) head = head_below (rank_by lines) lanes heads n x d lanes_apart are head
 
     -- its lane is one that there is
-    pub put_known : (lanes_apart : AreApart lanes) (heads : Lanes) → AreLanes lanes ks heads → IfSome (missing_head t lines lanes ks n) (λ e. e.group < heads.lanes)
+    pub put_known : (lanes_apart : AreApart lanes) (heads : Lanes) → AreLaned lanes heads → IfSome (missing_head t lines lanes ks n) (λ e. e.group < heads.lanes)
     put_known lanes_apart heads are =
         subst (λ o. IfSome o (λ e. e.group < heads.lanes)) (sym missing) (known_step lanes_apart heads are (x.site.transport == t) (head_in (rank_by lines) lanes n x) refl)

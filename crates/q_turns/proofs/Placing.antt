@@ -122,7 +122,7 @@ module _ (n : ℕ) (p x : Peer) (ks : List (Numbered Peer)) (there : item_at n k
       let was = was_step m q h (cases_eq m n) in
       ap (λ s. is_some (lane_of s lanes)) (sym was.at) ∙ have m was.peer was.there (subst (λ (s : Site). s.transport < transports) (sym was.at) below)
 
-  pub lanes_put : (lanes : List (Numbered Lane)) (heads : Lanes) → AreLanes lanes ks heads → AreLanes lanes (map (put_at n x) ks) heads
-  lanes_put lanes heads are j l h =
+  pub lanes_put : (class : Site → ℕ) (lanes : List (Numbered Lane)) (heads : Lanes) → AreLanes class lanes ks heads → AreLanes class lanes (map (put_at n x) ks) heads
+  lanes_put class lanes heads are j l h =
       let is = are j l h in
-      record { below = is.below; class = is.class; used = now_step is.used.number l.site is.used.peer is.used.there is.used.at (cases_eq is.used.number n) }
+      record { below = is.below; classed = is.classed; used = now_step is.used.number l.site is.used.peer is.used.there is.used.at (cases_eq is.used.number n) }

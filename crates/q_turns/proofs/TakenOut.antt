@@ -1,12 +1,14 @@
 -- All tickets of a class are taken out.
-use Rattle.std.proofs.Common.{◌≡◌, ◌∙◌, ◌&&◌, ◌<◌, ap, arith, Bool, false, length, List, None, not, refl, Some, sym, true, ℕ}
+use Rattle.std.proofs.Common.{◌≡◌, ◌∙◌, ◌&&◌, ◌<◌, ◌+◌, ◌*◌, ◌/◌, ap, arith, Bool, false, length, List, None, not, refl, Some, sym, true, ℕ}
 use Rattle.std.proofs.lemmas.Bool.{both_ways, eq-eqb, eqb-true, false_from_ne_true}
+use Rattle.std.proofs.lemmas.Bool.Decides.{nat_tests}
 use Rattle.std.specs.Prelude.{◌==◌, filter}
 use Rattle.q_heads.proofs.Standing.{fewer_left, found, same_is, stands_left}
 use Rattle.q_heads.proofs.Walk.{first_is_head, has_head, no_head}
 use Rattle.q_heads.specs.Lanes.{class_of, foremost, heads_of, is_same, Lanes, stands}
 use Rattle.q_sorted.specs.declared.ticket.Ticket.{Ticket}
 use Rattle.q_sorted.specs.Tickets.{is_another, is_of, Rises}
+use Rattle.q_turns.specs.Suspending.{class_in, transport_of}
 
 abbrev pub with_items : Lanes → List Ticket → Lanes
 with_items s xs = record s { items = xs }
@@ -57,3 +59,21 @@ all_taken t first cur rest rising none stay x = one (class_of x.group first.clas
         no_head t cur has.head none has.is)
         ∙ sym (ap (λ b. stands x first.items && not b) e ∙ and_false (stands x first.items))
     one false e = stay x e ∙ sym (ap (λ b. stands x first.items && not b) e ∙ and_true (stands x first.items))
+
+-- of two classes, which are all of a transport
+both_classes : (c t : ℕ) → (not (c == t * 2) && not (c == t * 2 + 1)) ≡ not (c / 2 == t)
+both_classes c t = grind (arith, nat_tests)
+
+and_along : (a b c : Bool) → ((a && b) && c) ≡ (a && (b && c))
+and_along true b c = refl
+and_along false b c = refl
+
+pub transport_taken : (t : ℕ) (first next last : Lanes) → next ≡ with_items first next.items → ((x : Ticket) → stands x next.items ≡ (stands x first.items && not (class_of x.group first.classes == class_in false t))) →
+    ((x : Ticket) → stands x last.items ≡ (stands x next.items && not (class_of x.group next.classes == class_in true t))) → (x : Ticket) → stands x last.items ≡ (stands x first.items && not (transport_of (class_of x.group first.classes) == t))
+transport_taken t first next last rest once twice x =
+    let c = class_of x.group first.classes in
+    twice x
+    ∙ ap (λ (s : Lanes). stands x next.items && not (class_of x.group s.classes == class_in true t)) rest
+    ∙ ap (λ b. b && not (c == class_in true t)) (once x)
+    ∙ and_along (stands x first.items) (not (c == class_in false t)) (not (c == class_in true t))
+    ∙ ap (λ b. stands x first.items && b) (both_classes c t)

@@ -13,6 +13,8 @@ use Rattle.q_model.specs.Sites.{site_eq}
 use Rattle.q_model.specs.Values.{Site}
 use Rattle.q_sorted.specs.declared.ticket.Ticket.{Ticket}
 use Rattle.q_sorted.specs.Tickets.{inserted, is_another, is_of, Rises, Tickets}
+use Rattle.q_suspended.specs.Suspensions.{Suspensions}
+use Rattle.q_turns.specs.Suspending.{class_at}
 use Rattle.q_turns.specs.declared.lane.Lane.{Lane}
 use Rattle.q_rounds.specs.declared.peer.Peer.{Peer}
 use Rattle.q_rounds.specs.Listing.{AreTickets}
@@ -48,15 +50,15 @@ own_lane site lanes items (Some m) d l h =
     (l ∙ ap Some both.0, ap (λ i. find (is_of i) items) (sym both.0) ∙ both.1)
 
 -- the same in other words
-pub sound_from : (lines : List Jobs) (p q : Items Peer) (l m : Items Lane) (h k : Lanes) (e f : Tickets) (room : ℕ) → q ≡ p → m ≡ l → k ≡ h → f ≡ e → IsSound lines p l h e room → IsSound lines q m k f room
-sound_from lines p q l m h k e f room peers lanes heads messages sound =
-    subst (λ v. IsSound lines v m k f room) (sym peers) (subst (λ v. IsSound lines p v k f room) (sym lanes) (subst (λ v. IsSound lines p l v f room) (sym heads) (subst (λ v. IsSound lines p l h v room) (sym messages) sound)))
+pub sound_from : (lines : List Jobs) (p q : Items Peer) (l m : Items Lane) (h k : Lanes) (e f : Tickets) (s : Suspensions) (room : ℕ) → q ≡ p → m ≡ l → k ≡ h → f ≡ e → IsSound lines p l h e s room → IsSound lines q m k f s room
+sound_from lines p q l m h k e f s room peers lanes heads messages sound =
+    subst (λ v. IsSound lines v m k f s room) (sym peers) (subst (λ v. IsSound lines p v k f s room) (sym lanes) (subst (λ v. IsSound lines p l v f s room) (sym heads) (subst (λ v. IsSound lines p l h v s room) (sym messages) sound)))
 
 ranked_empty : (line_room n : ℕ) → AreRanked (replicate n (empty_line line_room))
 ranked_empty line_room zero = tt
 ranked_empty line_room (suc n) = (refl, ranked_empty line_room n)
 
-module _ (lines : List Jobs) (peers : Items Peer) (lanes : Items Lane) (heads : Lanes) (messages : Tickets) (line_room : ℕ) (sound : IsSound lines peers lanes heads messages line_room) where
+module _ (lines : List Jobs) (peers : Items Peer) (lanes : Items Lane) (heads : Lanes) (messages : Tickets) (suspended : Suspensions) (line_room : ℕ) (sound : IsSound lines peers lanes heads messages suspended line_room) where
   -- tickets are no more than peers
   pub few_heads : Rises heads.items → length heads.items ≤ length peers.items
   few_heads rising = most_tickets (head_at (rank_by lines) lanes.items peers.items) heads.items peers.items sound.places.placed rising (λ m e h. ap is_some (at_tells (rank_by lines) lanes.items peers.items m e h).there)
@@ -71,11 +73,11 @@ module _ (lines : List Jobs) (peers : Items Peer) (lanes : Items Lane) (heads : 
   unranked q past = no_line lines q past
 
   -- a peer comes
-  pub sound_more : (n : ℕ) (p : Peer) (more : List (Numbered Lane)) (after : Lanes) (o : Option Ticket) → find (has_number n) peers.items ≡ None → HasMade p.site lanes.items more heads after → waits p ≡ true → may_wait (jobs_of lines) p.site.transport p.id ≡ true → o ≡ head_in (rank_by lines) more n p →
-      IsSound lines (record peers { items = with_peer n p peers.items }) (record lanes { items = more }) (record after { items = with_mark o after.items }) (record messages { items = inserted (message_ticket n p) messages.items }) line_room
+  pub sound_more : (n : ℕ) (p : Peer) (more : List (Numbered Lane)) (after : Lanes) (o : Option Ticket) → find (has_number n) peers.items ≡ None → HasMade (class_at suspended.items) p.site lanes.items more heads after → waits p ≡ true → may_wait (jobs_of lines) p.site.transport p.id ≡ true → o ≡ head_in (rank_by lines) more n p →
+      IsSound lines (record peers { items = with_peer n p peers.items }) (record lanes { items = more }) (record after { items = with_mark o after.items }) (record messages { items = inserted (message_ticket n p) messages.items }) suspended line_room
   sound_more n p more after o free made w m is =
       let old = sound.lines_are in
-      let placed = placed_made (rank_by lines) (length lines) lanes.items more peers.items heads after p.site sound.places unranked made in
+      let placed = placed_made (class_at suspended.items) (rank_by lines) (length lines) lanes.items more peers.items heads after p.site sound.places unranked made in
       record {
         lines_are = record {
           room = old.room;
@@ -86,9 +88,9 @@ module _ (lines : List Jobs) (peers : Items Peer) (lanes : Items Lane) (heads : 
         };
         places = record {
           placed = placed_more (rank_by lines) more peers.items after.items n p o (subst (λ xs. AreTickets (head_at (rank_by lines) more peers.items) xs) (sym (ap (λ (s : Lanes). s.items) made.heads)) placed) free is;
-          laned = laned_more (rank_by lines) (length lines) lanes.items more peers.items heads after p.site sound.places unranked made n p free refl;
-          lanes_are = lanes_alike more (with_peer n p peers.items) after (record after { items = with_mark o after.items }) refl refl
-              (lanes_more (rank_by lines) (length lines) lanes.items more peers.items heads after p.site sound.places unranked made n p free refl);
+          laned = laned_more (class_at suspended.items) (rank_by lines) (length lines) lanes.items more peers.items heads after p.site sound.places unranked made n p free refl;
+          lanes_are = lanes_alike (class_at suspended.items) more (with_peer n p peers.items) after (record after { items = with_mark o after.items }) refl refl
+              (lanes_more (class_at suspended.items) (rank_by lines) (length lines) lanes.items more peers.items heads after p.site sound.places unranked made n p free refl);
         };
         listed = listed_more peers.items messages.items n p sound.listed free;
         lane_room = sound.lane_room;
@@ -99,7 +101,7 @@ module _ (lines : List Jobs) (peers : Items Peer) (lanes : Items Lane) (heads : 
 
   -- a peer changes, but for its message and site
   pub sound_put : (n : ℕ) (p x : Peer) → item_at n peers.items ≡ Some p → x.id ≡ p.id → x.site ≡ p.site → HaveJobs (jobs_of lines) (values_of (map (put_at n x) peers.items)) →
-      IsSound lines (record peers { items = map (put_at n x) peers.items }) lanes heads messages line_room
+      IsSound lines (record peers { items = map (put_at n x) peers.items }) lanes heads messages suspended line_room
   sound_put n p x there id site jobs =
       let old = sound.lines_are in
       let rank : rank_by lines x ≡ rank_by lines p = ap (λ (s : Site). rank_by lines (record x { site = s })) site ∙ ap (λ (i : Id). rank_by lines (record p { id = i })) id in
@@ -108,7 +110,7 @@ module _ (lines : List Jobs) (peers : Items Peer) (lanes : Items Lane) (heads : 
         places = record {
           placed = placed_put n p x peers.items there id site (rank_by lines) lanes.items heads.items rank sound.places.placed;
           laned = laned_put n p x peers.items there id site (length lines) lanes.items sound.places.laned;
-          lanes_are = lanes_put n p x peers.items there id site lanes.items heads sound.places.lanes_are;
+          lanes_are = lanes_put n p x peers.items there id site (class_at suspended.items) lanes.items heads sound.places.lanes_are;
         };
         listed = listed_put n p x peers.items there id site messages.items sound.listed;
         lane_room = sound.lane_room;
@@ -122,19 +124,19 @@ module _ (lines : List Jobs) (peers : Items Peer) (lanes : Items Lane) (heads : 
     abbrev after : Lanes
     after = record heads { items = without o heads.items }
 
-    places_step : (d : Option ℕ) → empty_lane p.site lanes.items after.items ≡ d → ArePlaced (rank_by lines) (length lines) (lanes_without d lanes.items) (without_number n peers.items) after
+    places_step : (d : Option ℕ) → empty_lane p.site lanes.items after.items ≡ d → ArePlaced (class_at suspended.items) (rank_by lines) (length lines) (lanes_without d lanes.items) (without_number n peers.items) after
     places_step None h =
-        places_kept (rank_by lines) (length lines) lanes.items apart keys peers.items n p there heads after refl refl sound.places.laned sound.places.lanes_are
+        places_kept (class_at suspended.items) (rank_by lines) (length lines) lanes.items apart keys peers.items n p there heads after refl refl sound.places.laned sound.places.lanes_are
         (peer_ranked lines peers.items line_room sound.lines_are)
         (placed_less (rank_by lines) lanes.items peers.items heads.items n p o sound.places.placed there is) h
     places_step (Some d) h =
         let own = own_lane p.site lanes.items after.items (lane_of p.site lanes.items) d refl h in
-        places_left (rank_by lines) (length lines) lanes.items apart keys peers.items n p there heads after refl refl sound.places.laned sound.places.lanes_are
+        places_left (class_at suspended.items) (rank_by lines) (length lines) lanes.items apart keys peers.items n p there heads after refl refl sound.places.laned sound.places.lanes_are
         (peer_ranked lines peers.items line_room sound.lines_are)
         (placed_less (rank_by lines) lanes.items peers.items heads.items n p o sound.places.placed there is) d own.0 own.1
 
     pub sound_less : HaveJobs (jobs_of lines) (values_of (without_number n peers.items)) →
-        IsSound lines (record peers { items = without_number n peers.items }) (record lanes { items = lanes_without (empty_lane p.site lanes.items after.items) lanes.items }) after (record messages { items = filter (is_another (message_ticket n p)) messages.items }) line_room
+        IsSound lines (record peers { items = without_number n peers.items }) (record lanes { items = lanes_without (empty_lane p.site lanes.items after.items) lanes.items }) after (record messages { items = filter (is_another (message_ticket n p)) messages.items }) suspended line_room
     sound_less jobs =
         let old = sound.lines_are in
         record {
@@ -167,13 +169,13 @@ module _ (lines : List Jobs) (peers : Items Peer) (lanes : Items Lane) (heads : 
         }
 
     -- where the tickets stand as the ranks of its jobs say
-    pub sound_line : (after : Lanes) → after ≡ record heads { items = after.items } → AreTickets (head_at (rank_by (set lines t new)) lanes.items peers.items) after.items → IsSound (set lines t new) peers lanes after messages line_room
+    pub sound_line : (after : Lanes) → after ≡ record heads { items = after.items } → AreTickets (head_at (rank_by (set lines t new)) lanes.items peers.items) after.items → IsSound (set lines t new) peers lanes after messages suspended line_room
     sound_line after rest placed = record {
       lines_are = lines_set;
       places = record {
         placed = placed;
         laned = λ m q h below. sound.places.laned m q h (subst (λ n. q.site.transport < n) (count_set t new lines) below);
-        lanes_are = lanes_alike lanes.items peers.items heads after (ap (λ (s : Lanes). s.lanes) rest) (ap (λ (s : Lanes). s.classes) rest) sound.places.lanes_are;
+        lanes_are = lanes_alike (class_at suspended.items) lanes.items peers.items heads after (ap (λ (s : Lanes). s.lanes) rest) (ap (λ (s : Lanes). s.classes) rest) sound.places.lanes_are;
       };
       listed = sound.listed;
       lane_room = sound.lane_room;
@@ -186,8 +188,8 @@ module _ (lines : List Jobs) (peers : Items Peer) (lanes : Items Lane) (heads : 
 abbrev pub no_lanes : ℕ → Lanes
 no_lanes room = record { items = []; classes = replicate room 0; room = room; lanes = room }
 
-pub sound_empty : (n line_room room : ℕ) → n < 2 ^ 32 → IsSound (replicate n (empty_line line_room)) (record { items = []; room = room }) (record { items = []; room = room }) (no_lanes room) (record { items = []; room = room }) line_room
-sound_empty n line_room room few = record {
+pub sound_empty : (n line_room room : ℕ) (suspended : Suspensions) → n < 2 ^ 8 → IsSound (replicate n (empty_line line_room)) (record { items = []; room = room }) (record { items = []; room = room }) (no_lanes room) (record { items = []; room = room }) suspended line_room
+sound_empty n line_room room suspended few = record {
   lines_are = record {
     room = room_empty line_room n;
     apart = subst AreLinesApart (sym (jobs_empty line_room n)) (apart_empty n);

@@ -10,21 +10,21 @@ use Rattle.q_sorted.specs.Tickets.{is_of}
 use Rattle.q_turns.specs.declared.lane.Lane.{Lane}
 use Rattle.q_turns.specs.Heading.{lane_of}
 
--- a lane that was there, or that of the site, of its transport
-abbrev pub IsOldOrMade : Site → List (Numbered Lane) → Lanes → Lanes → ℕ → Lane → Type 0
-IsOldOrMade site old before after number l =
+-- a lane that was there, or that of the site, of its class
+abbrev pub IsOldOrMade : (Site → ℕ) → Site → List (Numbered Lane) → Lanes → Lanes → ℕ → Lane → Type 0
+IsOldOrMade class site old before after number l =
     ((item_at number old ≡ Some l)
     × (class_of number after.classes ≡ class_of number before.classes))
     ⊎ ((l.site ≡ site) × (number < before.lanes)
-    × (class_of number after.classes ≡ site.transport))
+    × (class_of number after.classes ≡ class site))
 
 -- the site has a lane, and all that there were stay
-pub record HasMade (site : Site) (old new : List (Numbered Lane)) (before after : Lanes) : Type 0 where
+pub record HasMade (class : Site → ℕ) (site : Site) (old new : List (Numbered Lane)) (before after : Lanes) : Type 0 where
   pub there : is_some (lane_of site new) ≡ true
   pub kept : is_some (lane_of site old) ≡ true → lane_of site new ≡ lane_of site old
   pub others : (other : Site) → site_eq site other ≡ false → lane_of other new ≡ lane_of other old
   pub lanes : (number : ℕ) (l : Lane) → item_at number new ≡ Some l
-      → IsOldOrMade site old before after number l
+      → IsOldOrMade class site old before after number l
   pub heads : after ≡ record before { classes = after.classes }
 
 -- the number of the site's lane, where no ticket stands in it

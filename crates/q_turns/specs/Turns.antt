@@ -9,14 +9,17 @@ use Rattle.q_model.specs.declared.id.Id.{Id}
 use Rattle.q_model.specs.Values.{Site}
 use Rattle.q_rounds.specs.declared.peer.Peer.{Peer}
 use Rattle.q_rounds.specs.Rounds.{gained, has_space_at, is_peer, is_peer_for, lost, new_peer, started, waits}
+use Rattle.q_suspended.specs.declared.suspension.Suspension.{Suspension}
 
--- the jobs of each transport in their order, the peers, how many jobs each line has room for, and
--- how many peers have room
+-- the jobs of each transport in their order, the peers, the sites that are suspended, how many jobs
+-- each line has room for, and how many peers and how many suspended sites have
 pub record Turning : Type 0 where
   pub lines : List (List Job)
   pub peers : List Peer
+  pub suspended : List Suspension
   pub line_room : ℕ
   pub room : ℕ
+  pub suspended_room : ℕ
 
 -- the jobs of a transport
 abbrev pub line_at : ℕ → List (List Job) → List Job

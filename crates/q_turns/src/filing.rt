@@ -2,6 +2,7 @@
 ghost use Rattle.std.specs.Prelude.{◌≡◌, IfSome, true};
 ghost use Rattle.std.specs.List.{list_any};
 ghost use Rattle.q_rounds.specs.Rounds.{is_peer};
+ghost use Rattle.q_turns.specs.Suspending.{AreTied};
 ghost use Rattle.q_turns.specs.Filing.{AreOfPeers, candidate_at, is_fresh, IsFiled, IsFiledAt, site_in};
 
 use crate::heading::{is_of_message, least_of};
@@ -63,7 +64,9 @@ impl Turns {
         requires room { candidates.old.room ≡ self.now.room }
         requires peers { AreOfPeers self.now.peers candidates.old.items }
         requires there { IfSome site (λ s. list_any (is_peer id s) self.now.peers ≡ true) }
+        requires tied { AreTied self.now.suspended candidates.old.suspended }
         ensures room { candidates.new.room ≡ candidates.old.room }
+        ensures tied { AreTied self.now.suspended candidates.new.suspended }
         ensures filed { IsFiledAt self.now.lines self.now.peers id site facts
             candidates.old.items candidates.new.items }
     {
@@ -73,7 +76,7 @@ impl Turns {
             return;
         };
         match self.candidate_at(id, &site, facts) {
-            Some(candidate) => candidates.put(candidate),
+            Some(candidate) => candidates.put(candidate, self.suspended.has(&site)),
             None => candidates.remove(id, &site),
         }
     }
@@ -83,7 +86,9 @@ impl Turns {
     pub fn file(&self, id: Id, facts: Option<Facts>, candidates: &mut Candidates)
         requires room { candidates.old.room ≡ self.now.room }
         requires peers { AreOfPeers self.now.peers candidates.old.items }
+        requires tied { AreTied self.now.suspended candidates.old.suspended }
         ensures room { candidates.new.room ≡ candidates.old.room }
+        ensures tied { AreTied self.now.suspended candidates.new.suspended }
         ensures filed { IsFiled self.now.lines self.now.peers id facts
             candidates.old.items candidates.new.items }
         ensures peers { AreOfPeers self.now.peers candidates.new.items }

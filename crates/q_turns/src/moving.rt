@@ -7,11 +7,12 @@ ghost use Rattle.q_sorted.specs.declared.ticket.Ticket.{Ticket};
 ghost use Rattle.q_rounds.specs.Listing.{AreTickets};
 ghost use Rattle.q_turns.specs.Heading.{head_at, message_at, rank_at, rank_by, ranked_before, ranked_elsewhere};
 ghost use Rattle.q_turns.specs.Moving.{job_head, missing_head, moved_head, with_key};
-ghost use Rattle.q_turns.specs.Sound.{AreLanes};
+ghost use Rattle.q_turns.specs.Sound.{AreLaned};
+ghost use Rattle.q_turns.specs.Suspending.{transport_of};
 
 use crate::heading::{head_of, is_of_message, is_peer_for, least_of};
 use crate::lane::Lane;
-use crate::laning::put_in;
+use crate::laning::{class_in, put_in};
 use q_heads::Heads;
 use q_jobs::Line;
 use q_keyed::Keyed;
@@ -19,16 +20,27 @@ use q_model::Id;
 use q_rounds::Rounds;
 use q_sorted::{Sorted, Ticket};
 
-/// Takes all tickets of the transport out.
-pub(crate) fn take_all_out(heads: &mut Heads, transport: u32)
+/// Takes all tickets of the class out.
+fn take_class_out(heads: &mut Heads, class: u32)
     ensures rest { heads.new ≡ record heads.old { items = heads.new.items } }
     ensures gone { (x : Ticket) → stands x heads.new.items ≡ (stands x heads.old.items
-        && not (class_of x.group heads.old.classes == transport)) }
+        && not (class_of x.group heads.old.classes == class)) }
 {
-    while let Some(head) = heads.first(transport) {
+    while let Some(head) = heads.first(class) {
         heads.remove(&head);
     }
     heads.stand_sorted();
+}
+
+/// Takes all tickets of the transport out.
+fn take_all_out(heads: &mut Heads, transport: u32)
+    requires { transport < 2 ^ 8 }
+    ensures rest { heads.new ≡ record heads.old { items = heads.new.items } }
+    ensures gone { (x : Ticket) → stands x heads.new.items ≡ (stands x heads.old.items
+        && not (transport_of (class_of x.group heads.old.classes) == transport)) }
+{
+    take_class_out(heads, class_in(false, transport));
+    take_class_out(heads, class_in(true, transport));
 }
 
 /// Puts the ticket of the peer in, where it is at the transport.
@@ -66,7 +78,7 @@ pub(crate) fn put_all_in(
     transport: usize,
 )
     requires room { heads.old.room ≡ peers.now.room }
-    requires lanes_are { AreLanes lanes.now.items peers.now.items heads.old }
+    requires laned { AreLaned lanes.now.items heads.old }
     requires placed { AreTickets (head_at (ranked_elsewhere transport lines.now.items)
         lanes.now.items peers.now.items) heads.old.items }
     ensures rest { heads.new ≡ record heads.old { items = heads.new.items } }
@@ -92,11 +104,11 @@ pub(crate) fn place_anew(
     peers: &Rounds,
     transport: usize,
 )
-    requires few { transport < 2 ^ 32 }
+    requires few { transport < 2 ^ 8 }
     requires room { heads.old.room ≡ peers.now.room }
-    requires lanes_are { AreLanes lanes.now.items peers.now.items heads.old }
-    requires elsewhere { (x : Ticket) → (class_of x.group heads.old.classes ≡ transport → ⊥)
-        → stands x heads.old.items ≡ is_the x (head_at (ranked_elsewhere transport
+    requires laned { AreLaned lanes.now.items heads.old }
+    requires elsewhere { (x : Ticket)
+        → (transport_of (class_of x.group heads.old.classes) ≡ transport → ⊥) → stands x heads.old.items ≡ is_the x (head_at (ranked_elsewhere transport
         lines.now.items) lanes.now.items peers.now.items x.item) }
     ensures rest { heads.new ≡ record heads.old { items = heads.new.items } }
     ensures placed { AreTickets (head_at (rank_by lines.now.items) lanes.now.items

@@ -22,7 +22,7 @@ impl Turns {
         self.lanes.stand_apart();
         self.heads.stand_sorted();
         self.messages.stand_sorted();
-        make_lane(&mut self.lanes, &mut self.heads, site);
+        make_lane(&mut self.lanes, &mut self.heads, &self.suspended, site);
         self.lanes.stand_apart();
         let number = self.peers.add(id, site, 0);
         let peer = Peer {

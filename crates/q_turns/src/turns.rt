@@ -13,6 +13,7 @@ use q_keyed::Keyed;
 use q_model::Id;
 use q_rounds::Rounds;
 use q_sorted::Sorted;
+use q_suspended::Suspended;
 use std::alloc::{AllocError, Global};
 use std::marker::Model;
 
@@ -27,6 +28,8 @@ pub struct Turns {
     pub(crate) heads: Heads,
     /// The numbers of peers, by their messages.
     pub(crate) messages: Sorted,
+    /// The sites whose lanes aren't walked along.
+    pub(crate) suspended: Suspended,
     /// How many jobs each line has room for.
     pub(crate) line_room: u32,
 }
@@ -41,11 +44,14 @@ impl Model for Turns {
     ghost view = { λ a. record {
       lines = jobs_of a.lines.items;
       peers = values_of a.peers.items;
+      suspended = a.suspended.items;
       line_room = a.line_room;
       room = a.peers.room;
+      suspended_room = a.suspended.room;
     } };
 
-    ghost invariant = { λ a. IsSound a.lines.items a.peers a.lanes a.heads a.messages a.line_room };
+    ghost invariant = { λ a. IsSound a.lines.items a.peers a.lanes a.heads a.messages a.suspended
+        a.line_room };
 }
 
 /// So many lines without a job, each with room for so many.
@@ -64,32 +70,43 @@ fn empty_lines(alloc: Global, transports: u8, room: u32) -> Result<Vec<Line>, Al
 }
 
 impl Turns {
-    /// No job and no peer, room for so many jobs in each line of so many transports, and for so
-    /// many peers. An error says that memory is wanting.
+    /// No job and no peer, room for so many jobs in each line of so many transports, for so many
+    /// peers, and for so many sites that are suspended. An error says that memory is wanting.
     pub fn new(
         alloc: Global,
         transports: u8,
         line_room: u32,
         room: u32,
+        suspended_room: u32,
     ) -> Result<Turns, AllocError>
         requires jobs { 1 ≤ line_room }
         requires few_jobs { line_room < 2 ^ 30 }
         requires peers { 1 ≤ room }
         requires few_peers { room < 2 ^ 30 }
-        ensures { IfOk result (λ made. made ≡ record
-            { lines = replicate transports []; peers = []; line_room = line_room; room = room }) }
+        requires suspended { 1 ≤ suspended_room }
+        requires few_suspended { suspended_room < 2 ^ 30 }
+        ensures { IfOk result (λ made. made ≡ record {
+          lines = replicate transports [];
+          peers = [];
+          suspended = [];
+          line_room = line_room;
+          room = room;
+          suspended_room = suspended_room;
+        }) }
     {
         let lines = empty_lines(alloc, transports, line_room)?;
         let peers = Rounds::new(alloc, room)?;
         let lanes = Keyed::new(alloc, room)?;
         let heads = Heads::new(alloc, room, room)?;
         let messages = Sorted::new(alloc, room)?;
+        let suspended = Suspended::new(alloc, suspended_room)?;
         Ok(Turns {
             lines,
             peers,
             lanes,
             heads,
             messages,
+            suspended,
             line_room,
         })
     }

@@ -16,7 +16,7 @@ returns-in_err-oldest c =
     let s = c.stand_apart.ensures in
     let l = c.stand_apart-2.ensures in
     subst (IsBestOf c.args.now (is_wanted ds w) v.items) (sym c.from_residual.ensures)
-    (best_none v i c.requires l.apart l.keys s.keys c.args.now ds w age_key c.first_wanted.result c.in_err-oldest.was (c.first_wanted.ensures age_key i.lanes.items (by_age v i c.requires l.apart l.keys s.keys)))
+    (best_none v i c.requires.ordered l.apart l.keys s.keys c.args.now ds w age_key c.first_wanted.result c.in_err-oldest.was (c.first_wanted.ensures age_key i.lanes.items (by_age v i c.requires.ordered l.apart l.keys s.keys) c.requires.shut))
 
 pub returns-in_err-candidate : goal.returns-in_err-candidate
 returns-in_err-candidate c =
@@ -26,7 +26,7 @@ returns-in_err-candidate c =
     let w = c.args.wanted.now in
     let s = c.stand_apart.ensures in
     let l = c.stand_apart-2.ensures in
-    let is = subst (IsFoundBy age_key (is_wanted ds w) v.items) c.in_ok-oldest.was (c.first_wanted.ensures age_key i.lanes.items (by_age v i c.requires l.apart l.keys s.keys)) in
+    let is = subst (IsFoundBy age_key (is_wanted ds w) v.items) c.in_ok-oldest.was (c.first_wanted.ensures age_key i.lanes.items (by_age v i c.requires.ordered l.apart l.keys s.keys) c.requires.shut) in
     absurd (unless_none _ is.candidate (sym c.get.ensures ∙ ap option_copied c.in_err-candidate.was) is.there)
 
 pub returns-then-candidate-now : goal.returns-then-candidate-now
@@ -37,8 +37,8 @@ returns-then-candidate-now c =
     let w = c.args.wanted.now in
     let s = c.stand_apart.ensures in
     let l = c.stand_apart-2.ensures in
-    let is = subst (IsFoundBy age_key (is_wanted ds w) v.items) c.in_ok-oldest.was (c.first_wanted.ensures age_key i.lanes.items (by_age v i c.requires l.apart l.keys s.keys)) in
-    best_oldest v i c.requires l.apart l.keys s.keys c.args.now ds w c.in_ok-oldest.oldest c.in_ok-candidate.candidate.now (sym c.get.ensures ∙ ap option_copied c.in_ok-candidate.was) is c.if-candidate-now.true
+    let is = subst (IsFoundBy age_key (is_wanted ds w) v.items) c.in_ok-oldest.was (c.first_wanted.ensures age_key i.lanes.items (by_age v i c.requires.ordered l.apart l.keys s.keys) c.requires.shut) in
+    best_oldest v i c.requires.ordered l.apart l.keys s.keys c.args.now ds w c.in_ok-oldest.oldest c.in_ok-candidate.candidate.now (sym c.get.ensures ∙ ap option_copied c.in_ok-candidate.was) is c.if-candidate-now.true
 
 pub returns-in_err-first : goal.returns-in_err-first
 returns-in_err-first c =
@@ -49,7 +49,7 @@ returns-in_err-first c =
     let s = c.stand_apart.ensures in
     let l = c.stand_apart-2.ensures in
     subst (IsBestOf c.args.now (is_wanted ds w) v.items) (sym c.from_residual-in_err-first.ensures)
-    (best_none v i c.requires l.apart l.keys s.keys c.args.now ds w rank_key c.first_wanted-2.result c.in_err-first.was (c.first_wanted-2.ensures rank_key i.lanes.items (by_rank v i c.requires l.apart l.keys s.keys)))
+    (best_none v i c.requires.ordered l.apart l.keys s.keys c.args.now ds w rank_key c.first_wanted-2.result c.in_err-first.was (c.first_wanted-2.ensures rank_key i.lanes.items (by_rank v i c.requires.ordered l.apart l.keys s.keys) c.requires.shut))
 
 pub returns : goal.returns
 returns c =
@@ -59,6 +59,6 @@ returns c =
     let w = c.args.wanted.now in
     let s = c.stand_apart.ensures in
     let l = c.stand_apart-2.ensures in
-    let is = subst (IsFoundBy age_key (is_wanted ds w) v.items) c.in_ok-oldest.was (c.first_wanted.ensures age_key i.lanes.items (by_age v i c.requires l.apart l.keys s.keys)) in
-    let least = subst (IsFoundBy rank_key (is_wanted ds w) v.items) c.in_ok-first.was (c.first_wanted-2.ensures rank_key i.lanes.items (by_rank v i c.requires l.apart l.keys s.keys)) in
-    best_first v i c.requires l.apart l.keys s.keys c.args.now ds w c.in_ok-oldest.oldest c.in_ok-candidate.candidate.now (sym c.get.ensures ∙ ap option_copied c.in_ok-candidate.was) is c.if-candidate-now.false c.in_ok-first.first least
+    let is = subst (IsFoundBy age_key (is_wanted ds w) v.items) c.in_ok-oldest.was (c.first_wanted.ensures age_key i.lanes.items (by_age v i c.requires.ordered l.apart l.keys s.keys) c.requires.shut) in
+    let least = subst (IsFoundBy rank_key (is_wanted ds w) v.items) c.in_ok-first.was (c.first_wanted-2.ensures rank_key i.lanes.items (by_rank v i c.requires.ordered l.apart l.keys s.keys) c.requires.shut) in
+    best_first v i c.requires.ordered l.apart l.keys s.keys c.args.now ds w c.in_ok-oldest.oldest c.in_ok-candidate.candidate.now (sym c.get.ensures ∙ ap option_copied c.in_ok-candidate.was) is c.if-candidate-now.false c.in_ok-first.first least

@@ -55,6 +55,7 @@ invariant_of-result c =
         positions = ap (λ (x : Rows). x.most) u.rows;
         places = u.places;
       },
+      rw r.suspended tt,
     )
 
 pub returns : goal.returns

@@ -10,6 +10,7 @@ returns c = record {
   admitted = c.in_ok-admitted.ensures ∙ ap (λ (p : Settings). record { items = []; room = p.active_limit; sync_limit = p.mark_sync_limit; minimum = p.recipient_minimum }) c.params.view_is;
   lines = ap (λ (x : Scheduling). x.lines) c.in_ok-schedule.ensures;
   peers = ap (λ (x : Scheduling). x.peers) c.in_ok-schedule.ensures;
+  suspended = ap (λ (x : Scheduling). x.suspended) c.in_ok-schedule.ensures;
   messages = ap (λ (x : Scheduling). x.messages) c.in_ok-schedule.ensures;
   message_room = ap (λ (x : Scheduling). x.message_room) c.in_ok-schedule.ensures ∙ ap (λ (p : Settings). p.active_limit) c.params.view_is;
   sites = ap (λ (x : Dests). x.items) c.in_ok-sites.ensures;

@@ -9,9 +9,10 @@ use Rattle.q_core.proofs.CountedLaws.{one_more}
 use Rattle.q_core.proofs.DeadLaws.{alike_gained}
 use Rattle.q_core.proofs.SiteChanges.{busy_gained, known_gained, one_site_more, waiting_gained}
 use Rattle.q_core.proofs.SiteViews.{known_more}
+use Rattle.q_core.proofs.SuspendedLaws.{rest_gained}
 use Rattle.q_core.specs.Known.{known_records}
 use Rattle.q_core.specs.Loading.{new_sites}
-use Rattle.q_core.specs.Ties.{AreBusyTied, AreWaitingTied, goes_to_dead}
+use Rattle.q_core.specs.Ties.{AreBusyTied, AreWaitingTied, goes_to_dead, rest_at}
 use Rattle.q_dest.specs.Dests.{Dests, gained_at, is_at, new_dest}
 use Rattle.q_model.specs.declared.rows.Row.{Row}
 use Rattle.q_model.specs.Sites.{site_eq}
@@ -50,6 +51,7 @@ loop-i-preserved c =
       rw is (omega (arith, one_site_more r ds new refl b, c.loop-i.invariant.3)),
       ap (λ (x : Dests). x.room) c.gain.ensures ∙ c.loop-i.invariant.4,
       λ x. ap (λ ds. goes_to_dead ds x) is ∙ alike_gained r ds new refl refl b x ∙ c.loop-i.invariant.5 x,
+      λ s. ap (λ ds. rest_at ds s) is ∙ rest_gained r ds new refl refl b s ∙ c.loop-i.invariant.6 s,
     )
 
 pub gain-requires-clause-few : goal.gain-requires-clause-few

@@ -1,4 +1,4 @@
-use Rattle.std.proofs.Common.{Bool, ℕ, Err, ◌≡◌, ◌+◌, ◌∙◌, ap, arith, subst, sym}
+use Rattle.std.proofs.Common.{Bool, ℕ, ◌≡◌, ◌+◌, ◌∙◌, ap, arith, subst, sym}
 use Rattle.q_model.specs.QueueFile.{FileRecipient}
 use Rattle.q_model.specs.SpoolFiles.{Files}
 use Rattle.q_model.specs.QueueFileBytes.{recipient_size}

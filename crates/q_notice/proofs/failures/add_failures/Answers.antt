@@ -1,4 +1,4 @@
-use Rattle.std.proofs.Common.{◌++◌, ◌∙◌, ap, arith, length, length-append, List, ℕ}
+use Rattle.std.proofs.Common.{◌++◌, ◌∙◌, ap, arith, length, length-append}
 use Rattle.std.specs.Prelude.{slice_index_or}
 use Rattle.q_model.specs.Values.{Receiver}
 use Rattle.q_notice.specs.NoticeTexts.{named_failure}

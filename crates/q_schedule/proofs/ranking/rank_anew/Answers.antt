@@ -11,6 +11,7 @@ loop-at-init c =
     let ks = c.args.messages.now.items in
     record {
       room = refl;
+      tied = c.requires.tied;
       kept = c.requires.kept;
       same = refl;
       apart = c.stand_apart.ensures.apart;
@@ -45,6 +46,7 @@ loop-at-preserved c =
     let count : length (from_on next c.rank_one.new.messages.items) ≡ length (from_on next (ranked_at n rank ks)) = ap (λ xs. length (from_on next xs)) now in
     record {
       room = c.rank_one.ensures.room ∙ inv.room;
+      tied = c.rank_one.ensures.tied;
       kept = c.rank_one.ensures.kept;
       same = ap (λ (v : Items Ranked). v.room) c.rank_one.ensures.ranked ∙ inv.same;
       apart = c.stand_apart-in-Some.ensures.apart;

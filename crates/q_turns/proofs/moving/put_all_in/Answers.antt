@@ -1,6 +1,6 @@
 use Rattle.std.proofs.Common.{◌∙◌, ap, arith, refl, subst, sym}
 use Rattle.q_heads.specs.Lanes.{Lanes}
-use Rattle.q_turns.proofs.HeadLaws.{lanes_alike}
+use Rattle.q_turns.proofs.HeadLaws.{laned_alike}
 use Rattle.q_turns.proofs.MovingLaws.{put_begins, put_goes, put_known, put_room, put_smaller, put_so_far}
 use Rattle.q_rounds.proofs.NumberedWalk.{first_stands, item_stands, next_stands}
 use Rattle.q_turns.proofs.TakenOut.{rest_goes}
@@ -31,7 +31,7 @@ put_one_in-requires-clause-known c =
     let inv = c.loop-at.invariant in
     let it = item_stands c.in-Some.number c.loop-at.at ks c.in-Some.is inv.stood in
     put_known c.args.transport c.args.lines.now.items c.args.lanes.now.items ks c.stand_apart.ensures.apart c.loop-at.at _ c.in-Some.number it.0 c.in-Some.is it.1 refl c.stand_apart-2.ensures.apart c.loop-at.heads
-    (lanes_alike c.args.lanes.now.items ks c.args.heads.now c.loop-at.heads (ap (λ (s : Lanes). s.lanes) inv.rest) (ap (λ (s : Lanes). s.classes) inv.rest) c.requires.lanes_are)
+    (laned_alike c.args.lanes.now.items c.args.heads.now c.loop-at.heads (ap (λ (s : Lanes). s.lanes) inv.rest) (ap (λ (s : Lanes). s.classes) inv.rest) c.requires.laned)
 
 pub loop-at-smaller : goal.loop-at-smaller
 loop-at-smaller c =

@@ -1,7 +1,7 @@
 use Rattle.std.proofs.Common.{◌∙◌, ap, arith, length}
 use Rattle.q_sorted.specs.Tickets.{inserted}
 use Rattle.q_candidates.specs.Filing.{age_key, rank_key}
-use Rattle.q_candidates.proofs.Entering.{filed_with, inside, laid_with, lane_below, most_heads}
+use Rattle.q_candidates.proofs.Entering.{filed_with, laid_with, lane_below, lanes_from, most_heads}
 use Rattle.q_candidates.proofs.Lanes.{few_lanes}
 use Rattle.q_candidates.proofs.index.Index.enter.Goals as goal
 
@@ -9,12 +9,6 @@ pub make_lane-lane-requires-clause-room : goal.make_lane-lane-requires-clause-ro
 make_lane-lane-requires-clause-room c =
     let space = c.requires.space in
     omega (arith, few_lanes c.args.self.now.lanes.items space.candidates c.stand_apart.ensures.apart c.stand_apart.ensures.keys space.filed.used, space.fewer)
-
-pub make_lane-lane-requires-clause-ages : goal.make_lane-lane-requires-clause-ages
-make_lane-lane-requires-clause-ages c = inside age_key c.args.self.now.lanes.items c.requires.space.candidates c.args.self.now.ages.items c.stand_apart.ensures.apart c.requires.space.filed.aged
-
-pub make_lane-lane-requires-clause-ranks : goal.make_lane-lane-requires-clause-ranks
-make_lane-lane-requires-clause-ranks c = inside rank_key c.args.self.now.lanes.items c.requires.space.candidates c.args.self.now.ranks.items c.stand_apart.ensures.apart c.requires.space.filed.ranked
 
 pub insert-requires-clause-room : goal.insert-requires-clause-room
 insert-requires-clause-room c =
@@ -46,6 +40,11 @@ returns-clause-laid c = laid_with c.make_lane-lane.new.self c.insert.new.self c.
 pub returns-clause-filed : goal.returns-clause-filed
 returns-clause-filed c = λ ks new filed free changed.
     let j = c.make_lane-lane.new.self in
-    filed_with c.args.candidate.now c.args.number c.make_lane-lane.result c.args.self.now j c.make_lane-lane.ensures.grown c.make_lane-lane.ensures.own ks new filed free changed c.insert.new.self c.insert-2.new.self
+    filed_with c.args.candidate.now c.args.number c.make_lane-lane.result c.args.self.now j c.args.suspended c.make_lane-lane.ensures.grown c.make_lane-lane.ensures.own ks new filed free changed c.insert.new.self c.insert-2.new.self
     (c.insert.ensures ∙ ap (λ e. record j.ages { items = inserted e j.ages.items }) c.age_ticket.ensures)
     (c.insert-2.ensures ∙ ap (λ e. record j.ranks { items = inserted e j.ranks.items }) c.rank_ticket.ensures)
+
+pub returns-clause-lanes : goal.returns-clause-lanes
+returns-clause-lanes c =
+    let q = c.args.candidate.now in
+    lanes_from q.site q.need c.args.suspended c.args.self.now c.make_lane-lane.new.self c.make_lane-lane.ensures.grown

@@ -54,6 +54,7 @@ invariant_of-self c =
       c.self.invariant.6,
       rw (ap (λ (x : Scheduling). x.room) c.admit.ensures, ap (λ (x : Scheduling). x.line_room) c.admit.ensures) c.self.invariant.7,
       c.self.invariant.8,
+      rw (ap (λ (x : Scheduling). x.suspended) c.admit.ensures) c.self.invariant.9,
     )
 
 pub returns : goal.returns

@@ -90,6 +90,7 @@ invariant_of-self c =
       },
       c.self.invariant.7,
       c.self.invariant.8,
+      c.self.invariant.9,
     )
 
 pub returns-clause-busy : goal.returns-clause-busy

@@ -27,6 +27,7 @@ use Rattle.q_schedule.specs.Schedule.{Scheduling}
 use Rattle.q_turns.specs.Turns.{may_wait}
 use Rattle.q_held.proofs.Tested.{tested_alike}
 use Rattle.q_held.specs.Held.{HeldRow, rows_of}
+use Rattle.q_core.proofs.SuspendedLaws.{suspended_same}
 use Rattle.q_core.proofs.state.Core.add_rows.Goals as goal
 
 pub group-requires-clause-room : goal.group-requires-clause-room
@@ -116,6 +117,7 @@ invariant_of-self c = (
   c.self.invariant.6,
   c.self.invariant.7,
   rw (ap (λ (x : RowValues). x.room) c.group.ensures.rows, ap (λ (x : RowValues). x.most) c.group.ensures.rows, c.group.ensures.room) c.self.invariant.8,
+  c.self.invariant.9,
 )
 
 pub invariant_of-self-2 : goal.invariant_of-self-2
@@ -151,6 +153,7 @@ invariant_of-self-2 c =
       c.self.invariant.6,
       rw (c.add_all.ensures.room, c.count_rows.ensures.room, ap (λ (x : Scheduling). x.room) c.count_peers.ensures.rest, ap (λ (x : Scheduling). x.line_room) c.count_peers.ensures.rest, ap (λ (x : Scheduling). x.room) schedule, ap (λ (x : Scheduling). x.line_room) schedule) c.self.invariant.7,
       rw (c.add_all.ensures.most, ap (λ (x : RowValues). x.room) c.group.ensures.rows, ap (λ (x : RowValues). x.most) c.group.ensures.rows, c.group.ensures.room) c.self.invariant.8,
+      rw (ap (λ (x : Scheduling). x.suspended) c.count_peers.ensures.rest, ap (λ (x : Scheduling). x.suspended) schedule) (suspended_same ds c.count_rows.new.sites.items core.schedule.suspended c.count_rows.ensures.rests c.self.invariant.9),
     )
 
 pub returns-clause-added : goal.returns-clause-added

@@ -6,6 +6,7 @@ use Rattle.q_core.proofs.AbleLaws.{able_known}
 use Rattle.q_core.proofs.BestLaws.{best_found, few_job_left, has_process, none_best}
 use Rattle.q_core.proofs.CountLaws.{count_within}
 use Rattle.q_core.proofs.MessageTies.{slots_found}
+use Rattle.q_core.proofs.SuspendedLaws.{suspended_full}
 use Rattle.q_core.proofs.TurnTies.{rows_left_counted}
 use Rattle.q_core.specs.Choosing.{best_in, current_in, job_left_in, jobs_at, pays_in}
 use Rattle.q_core.specs.Held.{slot_in}
@@ -15,6 +16,10 @@ use Rattle.q_core.specs.View.{state_of}
 use Rattle.q_held.specs.Held.{HeldRow, rows_of}
 use Rattle.q_jobs.specs.Jobs.{AreOfOthers, behind_jobs}
 use Rattle.q_core.proofs.state.Core.best.Goals as goal
+
+-- no site that is suspended has space
+pub best-requires : goal.best-requires
+best-requires c = suspended_full c.self.inside.sites.items c.self.inside.schedule.suspended c.self.invariant.9
 
 pub returns-in_err-most : goal.returns-in_err-most
 returns-in_err-most c =

@@ -13,7 +13,7 @@ pub invariant_of-self : goal.invariant_of-self
 invariant_of-self c =
     let lines = ap (λ (x : Scheduling). x.lines) c.count_start.ensures in
     let peers = ap (λ (x : Scheduling). x.peers) c.count_start.ensures in
-    rw (lines, peers) (c.self.invariant.0, start_counted c.args.id _ c.self.invariant.1, c.self.invariant.2, c.self.invariant.3, c.self.invariant.4, messages_stay c.self.inside.params c.self.inside.schedule (heads c.self.inside.admitted.items) c.self.invariant.5 _ (ap (λ (x : Scheduling). x.messages) c.count_start.ensures) (ap (λ (x : Scheduling). x.message_room) c.count_start.ensures), c.self.invariant.6, rw (ap (λ (x : Scheduling). x.room) c.count_start.ensures, ap (λ (x : Scheduling). x.line_room) c.count_start.ensures) c.self.invariant.7, c.self.invariant.8)
+    rw (lines, peers) (c.self.invariant.0, start_counted c.args.id _ c.self.invariant.1, c.self.invariant.2, c.self.invariant.3, c.self.invariant.4, messages_stay c.self.inside.params c.self.inside.schedule (heads c.self.inside.admitted.items) c.self.invariant.5 _ (ap (λ (x : Scheduling). x.messages) c.count_start.ensures) (ap (λ (x : Scheduling). x.message_room) c.count_start.ensures), c.self.invariant.6, rw (ap (λ (x : Scheduling). x.room) c.count_start.ensures, ap (λ (x : Scheduling). x.line_room) c.count_start.ensures) c.self.invariant.7, c.self.invariant.8, rw (ap (λ (x : Scheduling). x.suspended) c.count_start.ensures) c.self.invariant.9)
 
 pub returns : goal.returns
 returns c =

@@ -2,6 +2,7 @@ use Rattle.std.proofs.Common.{rules, ◌≡◌, ◌∙◌, ap, false, find, sym,
 use Rattle.std.specs.Prelude.{nat_lt}
 use Rattle.q_core.proofs.AbleLaws.{current_known}
 use Rattle.q_core.proofs.EarlyLaws.{no_process}
+use Rattle.q_core.proofs.SuspendedLaws.{suspended_full}
 use Rattle.q_core.specs.Choosing.{current_in}
 use Rattle.q_core.specs.Starting.{flights_at}
 use Rattle.q_core.specs.State.{State}
@@ -13,6 +14,10 @@ pub returns-then-not-has_process : goal.returns-then-not-has_process
 returns-then-not-has_process c =
     let none : c.has_process.result ≡ false = search rules in
     sym (no_process c.args.self.now c.args.transport (sym c.has_process.ensures ∙ none))
+
+-- no site that is suspended has space
+pub current-requires : goal.current-requires
+current-requires c = suspended_full c.self.inside.sites.items c.self.inside.schedule.suspended c.self.invariant.9
 
 pub returns : goal.returns
 returns c =

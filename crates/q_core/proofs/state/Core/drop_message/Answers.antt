@@ -29,6 +29,7 @@ invariant_of-self c =
       c.self.invariant.6,
       rw (ap (λ (x : Scheduling). x.room) c.remove-2.ensures, ap (λ (x : Scheduling). x.line_room) c.remove-2.ensures) c.self.invariant.7,
       c.self.invariant.8,
+      rw (ap (λ (x : Scheduling). x.suspended) c.remove-2.ensures) c.self.invariant.9,
     )
 
 pub returns : goal.returns

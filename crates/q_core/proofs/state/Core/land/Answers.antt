@@ -22,6 +22,7 @@ use Rattle.q_core.proofs.DeadLaws.{alike_settled}
 use Rattle.q_core.specs.Ties.{goes_to_dead}
 use Rattle.q_held.proofs.Tested.{tested_alike}
 use Rattle.q_held.specs.Held.{rows_of}
+use Rattle.q_core.proofs.SuspendedLaws.{rest_settled, suspended_same}
 use Rattle.q_core.proofs.state.Core.land.Goals as goal
 
 -- none has the number
@@ -71,6 +72,7 @@ invariant_of-self c =
       }),
       rw (ap (λ (x : Dests). x.room) c.land.ensures) c.self.invariant.7,
       rw (ap (λ (v : Flying). v.most) c.remove.ensures.items) c.self.invariant.8,
+      rw sites (suspended_same a.sites.items (filter is_kept (settled f.row.site landed a.sites.items)) a.schedule.suspended (rest_settled f.row.site landed (λ d. refl) a.sites.items c.stand_apart-2.ensures.apart) c.self.invariant.9),
     )
 
 pub returns-clause-landed : goal.returns-clause-landed

@@ -16,7 +16,7 @@ pub invariant_of-self : goal.invariant_of-self
 invariant_of-self c =
     let lines = ap (λ (x : Scheduling). x.lines) c.preempt.ensures in
     let peers = ap (λ (x : Scheduling). x.peers) c.preempt.ensures in
-    rw (lines, peers) (c.self.invariant.0, job_moved c.args.child c.args.parent c.args.transport c.args.need c.args.left c.self.invariant.1, c.self.invariant.2, c.self.invariant.3, c.self.invariant.4, messages_stay c.self.inside.params c.self.inside.schedule (heads c.self.inside.admitted.items) c.self.invariant.5 _ (ap (λ (x : Scheduling). x.messages) c.preempt.ensures) (ap (λ (x : Scheduling). x.message_room) c.preempt.ensures), c.self.invariant.6, rw (ap (λ (x : Scheduling). x.room) c.preempt.ensures, ap (λ (x : Scheduling). x.line_room) c.preempt.ensures) c.self.invariant.7, c.self.invariant.8)
+    rw (lines, peers) (c.self.invariant.0, job_moved c.args.child c.args.parent c.args.transport c.args.need c.args.left c.self.invariant.1, c.self.invariant.2, c.self.invariant.3, c.self.invariant.4, messages_stay c.self.inside.params c.self.inside.schedule (heads c.self.inside.admitted.items) c.self.invariant.5 _ (ap (λ (x : Scheduling). x.messages) c.preempt.ensures) (ap (λ (x : Scheduling). x.message_room) c.preempt.ensures), c.self.invariant.6, rw (ap (λ (x : Scheduling). x.room) c.preempt.ensures, ap (λ (x : Scheduling). x.line_room) c.preempt.ensures) c.self.invariant.7, c.self.invariant.8, rw (ap (λ (x : Scheduling). x.suspended) c.preempt.ensures) c.self.invariant.9)
 
 pub returns : goal.returns
 returns c =

@@ -8,6 +8,7 @@ use Rattle.q_core.specs.Ties.{goes_to_dead}
 use Rattle.q_core.specs.UsedSites.{revive_dead_in, used_in}
 use Rattle.q_dest.specs.Dests.{Dests, is_kept, revived_when_dead}
 use Rattle.q_held.specs.Held.{AreHeldBy, rows_of}
+use Rattle.q_core.proofs.SuspendedLaws.{rest_revived, suspended_same}
 use Rattle.q_core.proofs.state.Core.revive_all.Goals as goal
 
 pub hold_dead-requires : goal.hold_dead-requires
@@ -42,6 +43,7 @@ invariant_of-self c =
       c.self.invariant.6,
       rw (ap (λ (x : Dests). x.room) c.revive_all.ensures, c.hold_dead.ensures.room) c.self.invariant.7,
       rw c.hold_dead.ensures.most c.self.invariant.8,
+      suspended_same ds (filter is_kept (map (revived_when_dead p) ds)) core.schedule.suspended (rest_revived p ds apart) c.self.invariant.9,
     )
 
 pub returns-clause-revived : goal.returns-clause-revived

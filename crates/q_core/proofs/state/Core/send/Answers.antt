@@ -39,6 +39,7 @@ use Rattle.q_core.specs.Tidied.{tidied_served}
 use Rattle.q_rounds.specs.declared.peer.PeerKey.{PeerKey}
 use Rattle.q_schedule.specs.Schedule.{Scheduling}
 use Rattle.q_turns.specs.Turns.{lost_at, started_at}
+use Rattle.q_core.proofs.SuspendedLaws.{rest_changed, suspended_same}
 use Rattle.q_core.proofs.state.Core.send.Goals as goal
 
 -- the row that goes has the transport that was asked for
@@ -86,6 +87,7 @@ invariant_of-self c =
       }),
       rw (c.take_row.ensures.room, ap (λ (x : Dests). x.room) c.begin.ensures, ap (λ (x : Scheduling). x.room) c.lose.ensures, ap (λ (x : Scheduling). x.line_room) c.lose.ensures, ap (λ (x : Scheduling). x.room) c.start.ensures, ap (λ (x : Scheduling). x.line_room) c.start.ensures) c.self.invariant.7,
       rw (c.take_row.ensures.most, ap (λ (v : Flying). v.most) c.push.ensures) c.self.invariant.8,
+      rw (sites, ap (λ (x : Scheduling). x.suspended) c.lose.ensures, ap (λ (x : Scheduling). x.suspended) c.start.ensures) (suspended_same a.sites.items (map (changed_at row.site begun) a.sites.items) a.schedule.suspended (rest_changed row.site begun (λ d. refl) a.sites.items) c.self.invariant.9),
     )
 
 pub push-requires-clause-room : goal.push-requires-clause-room

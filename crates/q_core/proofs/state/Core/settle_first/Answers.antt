@@ -50,6 +50,7 @@ invariant_of-self c =
       },
       c.self.invariant.7,
       c.self.invariant.8,
+      c.self.invariant.9,
     )
 
 pub returns-clause-change : goal.returns-clause-change

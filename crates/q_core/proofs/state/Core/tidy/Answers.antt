@@ -1,4 +1,4 @@
-use Rattle.std.proofs.Common.{◌≡◌, ◌∙◌, ap, map, sym}
+use Rattle.std.proofs.Common.{◌≡◌, ◌∙◌, ap, map, subst, sym}
 use Rattle.std.specs.List.{enumerate_from}
 use Rattle.q_core.proofs.MessageTies.{messages_stay}
 use Rattle.q_core.specs.State.{State}
@@ -16,24 +16,29 @@ use Rattle.q_dest.specs.Dests.{Dests}
 use Rattle.q_pool.specs.Kept.{heads}
 use Rattle.q_held.specs.Held.{rows_of}
 use Rattle.q_schedule.specs.Schedule.{Scheduling}
+use Rattle.q_core.specs.Ties.{AreSuspended}
 use Rattle.q_core.proofs.state.Core.tidy.Goals as goal
 
 pub invariant_of-self : goal.invariant_of-self
 invariant_of-self c =
     let core = c.self.inside in
     let f = tidied_line (heads core.admitted.items) (rows_of core.waiting.items) in
-    let lines = ap (λ (x : Scheduling). x.lines) c.tidy_touched_lines.ensures in
-    let sites : c.forget_oldest.new.sites.items ≡ forgotten c.record_limit-limit.result core.sites.items = ap (λ (x : Dests). x.items) c.forget_oldest.ensures in
-    rw (lines, ap (λ (x : Scheduling). x.peers) c.tidy_touched_lines.ensures, sites) (
+    let rest = c.forget_oldest.ensures.rest in
+    let tidied = c.tidy_touched_lines.ensures in
+    let lines = ap (λ (x : Scheduling). x.lines) rest ∙ ap (λ (x : Scheduling). x.lines) tidied in
+    let peers = ap (λ (x : Scheduling). x.peers) rest ∙ ap (λ (x : Scheduling). x.peers) tidied in
+    let sites : c.forget_oldest.new.sites.items ≡ forgotten c.record_limit-limit.result core.sites.items = ap (λ (x : Dests). x.items) c.forget_oldest.ensures.sites in
+    rw (lines, peers, sites) (
       c.self.invariant.0,
       now_tidy (heads core.admitted.items) (rows_of core.waiting.items) core.schedule.lines,
       sites_forgotten (rows_of core.waiting.items) core.flights.items c.record_limit-limit.result core.sites.items c.stand_apart.ensures.apart c.self.invariant.2,
       c.self.invariant.3,
       held_forgotten c.record_limit-limit.result core.sites.items core.waiting.items c.stand_apart.ensures.apart c.self.invariant.2.waiting c.self.invariant.4,
-      messages_stay core.params core.schedule (heads core.admitted.items) c.self.invariant.5 _ (ap (λ (x : Scheduling). x.messages) c.tidy_touched_lines.ensures) (ap (λ (x : Scheduling). x.message_room) c.tidy_touched_lines.ensures),
+      messages_stay core.params core.schedule (heads core.admitted.items) c.self.invariant.5 _ (ap (λ (x : Scheduling). x.messages) rest ∙ ap (λ (x : Scheduling). x.messages) tidied) (ap (λ (x : Scheduling). x.message_room) rest ∙ ap (λ (x : Scheduling). x.message_room) tidied),
       c.self.invariant.6,
-      rw (ap (λ (x : Scheduling). x.room) c.tidy_touched_lines.ensures, ap (λ (x : Scheduling). x.line_room) c.tidy_touched_lines.ensures, ap (λ (x : Dests). x.room) c.forget_oldest.ensures) c.self.invariant.7,
+      rw (ap (λ (x : Scheduling). x.room) rest, ap (λ (x : Scheduling). x.line_room) rest, ap (λ (x : Scheduling). x.room) tidied, ap (λ (x : Scheduling). x.line_room) tidied, ap (λ (x : Dests). x.room) c.forget_oldest.ensures.sites) c.self.invariant.7,
       c.self.invariant.8,
+      subst (λ es. AreSuspended es c.forget_oldest.new.schedule.suspended) sites (c.forget_oldest.ensures.suspended (subst (AreSuspended core.sites.items) (sym (ap (λ (x : Scheduling). x.suspended) tidied)) c.self.invariant.9)),
     )
 
 pub returns : goal.returns
@@ -43,12 +48,13 @@ returns c =
     let fs = core.flights.items in
     let ds = core.sites.items in
     let f = tidied_line (heads core.admitted.items) rows in
-    let lines = ap (λ (x : Scheduling). x.lines) c.tidy_touched_lines.ensures in
-    let peers = ap (λ (x : Scheduling). x.peers) c.tidy_touched_lines.ensures in
+    let rest = c.forget_oldest.ensures.rest in
+    let lines = ap (λ (x : Scheduling). x.lines) rest ∙ ap (λ (x : Scheduling). x.lines) c.tidy_touched_lines.ensures in
+    let peers = ap (λ (x : Scheduling). x.peers) rest ∙ ap (λ (x : Scheduling). x.peers) c.tidy_touched_lines.ensures in
     let counts = counts_of ds rows fs c.stand_apart.ensures.apart c.self.invariant.2 in
     let whole : used_in rows fs (known_records ds) ≡ known_records ds = used_is rows fs ds counts ∙ ap known_records (kept_whole ds c.stand_apart.ensures.kept) in
     let sites : known_records c.forget_oldest.new.sites.items ≡ forget_in rows fs core.params.recipient_limit (used_in rows fs (known_records ds)) =
-    ap (λ (x : Dests). known_records x.items) c.forget_oldest.ensures
+    ap (λ (x : Dests). known_records x.items) c.forget_oldest.ensures.sites
     ∙ ap (λ n. known_records (forgotten n ds)) c.record_limit-limit.ensures
     ∙ sym (forgotten_is rows fs ds counts core.params.recipient_limit)
     ∙ ap (forget_in rows fs core.params.recipient_limit) (sym whole) in

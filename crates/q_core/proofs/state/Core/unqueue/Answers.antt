@@ -43,6 +43,7 @@ use Rattle.q_pool.specs.Kept.{heads}
 use Rattle.q_pool.specs.Pooled.{Pooled}
 use Rattle.q_queue.specs.Queued.{Queued}
 use Rattle.q_schedule.specs.Schedule.{Scheduling}
+use Rattle.q_core.proofs.SuspendedLaws.{rest_settled, suspended_same}
 use Rattle.q_core.proofs.state.Core.unqueue.Goals as goal
 
 pub unreachable-requires : goal.unreachable-requires
@@ -139,6 +140,7 @@ invariant_of-self c =
       },
       rw (c.take_row.ensures.room, ap (λ (x : Dests). x.room) c.leave.ensures, ap (λ (x : Scheduling). x.room) c.lose.ensures, ap (λ (x : Scheduling). x.line_room) c.lose.ensures) c.self.invariant.7,
       rw (c.take_row.ensures.most, c.set.ensures) (room_kept row.positions c.self.invariant.8),
+      rw (sites, ap (λ (x : Scheduling). x.suspended) c.lose.ensures) (suspended_same a.sites.items (filter is_kept (settled row.site left_dest a.sites.items)) a.schedule.suspended (rest_settled row.site left_dest (λ d. refl) a.sites.items c.stand_apart-2.ensures.apart) c.self.invariant.9),
     )
 
 pub returns-clause-left : goal.returns-clause-left

@@ -8,6 +8,11 @@ use Rattle.q_core.specs.Ties.{goes_to_dead}
 use Rattle.q_core.specs.UsedSites.{wake_due_in, used_in}
 use Rattle.q_dest.specs.Dests.{Dests, is_kept, woken_when_due}
 use Rattle.q_held.specs.Held.{AreHeldBy, rows_of}
+use Rattle.q_core.proofs.MessageTies.{messages_stay}
+use Rattle.q_core.proofs.SuspendedLaws.{suspended_woken}
+use Rattle.q_dest.proofs.Hearing.{woken_due_site}
+use Rattle.q_pool.specs.Kept.{heads}
+use Rattle.q_schedule.specs.Schedule.{Scheduling}
 use Rattle.q_core.proofs.state.Core.wake.Goals as goal
 
 pub hold_dead-requires : goal.hold_dead-requires
@@ -32,21 +37,23 @@ invariant_of-self c =
     let tie = c.self.invariant.2 in
     let p = core.params in
     let sites : c.wake_due.new.self.items ≡ filter is_kept (map (woken_when_due p c.args.moment) ds) = ap (λ (x : Dests). x.items) c.wake_due.ensures in
-    rw (sites, c.hold_dead.ensures.rows) (
+    let resumed = c.resume_due.ensures in
+    rw (sites, c.hold_dead.ensures.rows, ap (λ (x : Scheduling). x.lines) resumed, ap (λ (x : Scheduling). x.peers) resumed) (
       c.self.invariant.0,
       c.self.invariant.1,
       sites_kept rows fs (map (woken_when_due p c.args.moment) ds) (due_apart rows fs ds apart tie p c.args.moment) (due_tied rows fs ds apart tie p c.args.moment),
       c.self.invariant.3,
       subst (λ es. AreHeldBy (goes_to_dead es) c.hold_dead.new.waiting.items) sites c.hold_dead.ensures.held,
-      c.self.invariant.5,
+      messages_stay core.params core.schedule (heads core.admitted.items) c.self.invariant.5 _ (ap (λ (x : Scheduling). x.messages) resumed) (ap (λ (x : Scheduling). x.message_room) resumed),
       c.self.invariant.6,
-      rw (ap (λ (x : Dests). x.room) c.wake_due.ensures, c.hold_dead.ensures.room) c.self.invariant.7,
+      rw (ap (λ (x : Dests). x.room) c.wake_due.ensures, c.hold_dead.ensures.room, ap (λ (x : Scheduling). x.room) resumed, ap (λ (x : Scheduling). x.line_room) resumed) c.self.invariant.7,
       rw c.hold_dead.ensures.most c.self.invariant.8,
+      rw (ap (λ (x : Scheduling). x.suspended) resumed) (suspended_woken p c.args.moment (woken_due_site p c.args.moment) ds apart core.schedule.suspended c.self.invariant.9),
     )
 
 pub returns-clause-woken : goal.returns-clause-woken
 returns-clause-woken c = record {
-  rest = rw c.hold_dead.ensures.rows (ap (λ (s : State). record s { clock = record { seconds = c.new-self-inside.result.seconds }; timed = true; sites = woken_by c.args.moment c.args.self.now }) c.self.view_is);
+  rest = rw (c.hold_dead.ensures.rows, ap (λ (x : Scheduling). x.lines) c.resume_due.ensures, ap (λ (x : Scheduling). x.peers) c.resume_due.ensures) (ap (λ (s : State). record s { clock = record { seconds = c.new-self-inside.result.seconds }; timed = true; sites = woken_by c.args.moment c.args.self.now }) c.self.view_is);
   seconds = c.new-self-inside.ensures;
   sites = refl;
 }

@@ -32,6 +32,7 @@ invariant_of-self c =
       },
       c.self.invariant.7,
       c.self.invariant.8,
+      c.self.invariant.9,
     )
 
 pub returns-in-Some-clause-change : goal.returns-in-Some-clause-change

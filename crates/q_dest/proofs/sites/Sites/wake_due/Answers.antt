@@ -1,4 +1,4 @@
-use Rattle.std.proofs.Common.{◌≡◌, ◌∙◌, ◌<◌, ap, map, refl, Some, subst, sym}
+use Rattle.std.proofs.Common.{◌≡◌, ◌∙◌, ◌<◌, ap, map, Some, subst, sym}
 use Rattle.std.specs.Prelude.{filter, find}
 use Rattle.q_dest.proofs.Changes.{found_passes}
 use Rattle.q_dest.proofs.Revivals.{all_changed, found_own, rest_fewer, rest_same}

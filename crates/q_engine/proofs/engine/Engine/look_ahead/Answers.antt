@@ -1,9 +1,8 @@
-use Rattle.std.proofs.Common.{◌≡◌, ◌∙◌, arith, ap, sym, subst, Option, true}
+use Rattle.std.proofs.Common.{◌≡◌, ◌∙◌, arith, ap, sym}
 use Rattle.q_entries.proofs.Playing.{reads_then}
 use Rattle.q_core.specs.Changes.{is_looked_at}
-use Rattle.q_core.specs.Deciding.{decide_in, is_answered, is_look, question_for}
+use Rattle.q_core.specs.Deciding.{decide_in, is_look, question_for}
 use Rattle.q_core.specs.Looking.{looks_left}
-use Rattle.q_core.specs.declared.decision.Decision.{Decision}
 use Rattle.q_core.specs.declared.state.Core.{Core}
 use Rattle.q_engine.specs.declared.engine.Engine.{Engine}
 use Rattle.q_engine.proofs.Looking.{always_err, answers_lent, answers_some, look_found, scan_asked}

@@ -37,8 +37,8 @@ invariant_of-self c =
     let rs = values_of n.new.messages.items in
     let few = few_from rs (subst (AllByRecursion (λ (m : Admitted). m.unread < 2 ^ 32)) (sym n.ensures.messages) (few_messages (values_of a.messages.items) c.self.invariant.few)) in
     let low : c.args.message.unread < 2 ^ 32 = omega arith in
-    let mid : IsSound a.turns n.new.messages n.new.candidates n.new.stale rank = record { kept = n.ensures.kept; ranked = n.ensures.ranked; few = few; room = n.ensures.room ∙ c.self.invariant.room } in
-    sound_known a.turns n.new.messages n.new.candidates c.touch.new.candidates n.new.stale rank mid c.args.message.id c.touch.new.stale c.push-number.new.self (rs ++ r ∷ []) (rank + 1) c.touch.ensures.stale c.touch.ensures.kept c.touch.ensures.room
+    let mid : IsSound a.turns n.new.messages n.new.candidates n.new.stale rank = record { kept = n.ensures.kept; ranked = n.ensures.ranked; few = few; room = n.ensures.room ∙ c.self.invariant.room; tied = n.ensures.tied } in
+    sound_known a.turns n.new.messages n.new.candidates c.touch.new.candidates n.new.stale rank mid c.args.message.id c.touch.new.stale c.push-number.new.self (rs ++ r ∷ []) (rank + 1) c.touch.ensures.stale c.touch.ensures.kept c.touch.ensures.room c.touch.ensures.tied
     (ap (λ (v : Items Ranked). values_of v.items) c.push-number.ensures.items ∙ values_more n.new.messages.items _)
     (ranked_more rank r refl rs n.ensures.ranked) (few_more r rs few low)
     (λ i other. facts_more c.args.message.id i other r refl rs)
@@ -48,8 +48,8 @@ returns c =
     let a = c.self.inside in
     let n = c.next_rank-rank in
     let r : Ranked = record { message = c.args.message; rank = n.result } in
-    ap (λ (v : Items Ranked). record { lines = a.turns.lines; peers = a.turns.peers; messages = messages_of (values_of v.items); line_room = a.turns.line_room; room = a.turns.room; message_room = v.room }) c.push-number.ensures.items
-    ∙ ap (λ rs. record { lines = a.turns.lines; peers = a.turns.peers; messages = messages_of rs; line_room = a.turns.line_room; room = a.turns.room; message_room = n.new.messages.room }) (values_more n.new.messages.items _)
-    ∙ ap (λ ms. record { lines = a.turns.lines; peers = a.turns.peers; messages = ms; line_room = a.turns.line_room; room = a.turns.room; message_room = n.new.messages.room }) (messages_more r (values_of n.new.messages.items) ∙ ap (λ ms. ms ++ c.args.message ∷ []) n.ensures.messages)
-    ∙ ap (λ room. record { lines = a.turns.lines; peers = a.turns.peers; messages = messages_of (values_of a.messages.items) ++ c.args.message ∷ []; line_room = a.turns.line_room; room = a.turns.room; message_room = room }) n.ensures.message_room
+    ap (λ (v : Items Ranked). record { lines = a.turns.lines; peers = a.turns.peers; suspended = a.turns.suspended; messages = messages_of (values_of v.items); line_room = a.turns.line_room; room = a.turns.room; suspended_room = a.turns.suspended_room; message_room = v.room }) c.push-number.ensures.items
+    ∙ ap (λ rs. record { lines = a.turns.lines; peers = a.turns.peers; suspended = a.turns.suspended; messages = messages_of rs; line_room = a.turns.line_room; room = a.turns.room; suspended_room = a.turns.suspended_room; message_room = n.new.messages.room }) (values_more n.new.messages.items _)
+    ∙ ap (λ ms. record { lines = a.turns.lines; peers = a.turns.peers; suspended = a.turns.suspended; messages = ms; line_room = a.turns.line_room; room = a.turns.room; suspended_room = a.turns.suspended_room; message_room = n.new.messages.room }) (messages_more r (values_of n.new.messages.items) ∙ ap (λ ms. ms ++ c.args.message ∷ []) n.ensures.messages)
+    ∙ ap (λ room. record { lines = a.turns.lines; peers = a.turns.peers; suspended = a.turns.suspended; messages = messages_of (values_of a.messages.items) ++ c.args.message ∷ []; line_room = a.turns.line_room; room = a.turns.room; suspended_room = a.turns.suspended_room; message_room = room }) n.ensures.message_room
     ∙ ap (λ (v : Scheduling). record v { messages = v.messages ++ c.args.message ∷ [] }) c.self.view_is

@@ -7,7 +7,16 @@ use Rattle.q_schedule.proofs.Waiting.{all_wait}
 use Rattle.q_schedule.proofs.Winners.{best_won}
 use Rattle.q_schedule.specs.declared.admitted.Admitted.{Admitted}
 use Rattle.q_schedule.specs.Schedule.{best_in, Scheduling}
+use Rattle.q_turns.proofs.TiedLaws.{tied_shut}
+use Rattle.q_turns.specs.Suspending.{HaveNoSpace}
 use Rattle.q_schedule.proofs.schedule.Schedule.best.Goals as goal
+
+-- no site that is suspended has space
+pub best-kept-requires : goal.best-kept-requires
+best-kept-requires c =
+    let a = c.self.inside in
+    let ds = c.args.sites.now.items in
+    tied_shut ds a.turns.suspended a.candidates.suspended (subst (λ (v : Scheduling). HaveNoSpace ds v.suspended) (sym c.self.view_is) c.requires) c.self.invariant.tied
 
 pub returns-in_err-best : goal.returns-in_err-best
 returns-in_err-best c =

@@ -28,7 +28,7 @@ invariant_of-self c =
     let a = c.self.inside in
     let s = c.find.ensures in
     let f = with_unread c.args.unread in
-    sound_known a.turns a.messages a.candidates c.touch.new.candidates a.stale a.next c.self.invariant c.args.id c.touch.new.stale c.put.new.self _ a.next c.touch.ensures.stale c.touch.ensures.kept c.touch.ensures.room
+    sound_known a.turns a.messages a.candidates c.touch.new.candidates a.stale a.next c.self.invariant c.args.id c.touch.new.stale c.put.new.self _ a.next c.touch.ensures.stale c.touch.ensures.kept c.touch.ensures.room c.touch.ensures.tied
     (ap (λ (v : Items Ranked). values_of v.items) c.put.ensures ∙ put_known c.args.id c.in-Some.number a.messages.items s.apart s.keys (sym c.find.ensures.is ∙ c.in-Some.is) f c.in-Some-copied.ranked _ (sym (c.copied.ensures ∙ c.get.ensures) ∙ c.in-Some-copied.is) refl)
     (ranked_changed c.args.id f (λ q. refl) a.next (values_of a.messages.items) c.self.invariant.ranked) (few_changed c.args.id f (λ q low. c.ranges.unread.fits) (values_of a.messages.items) c.self.invariant.few)
     (λ i other. facts_changed c.args.id i other f (λ q. refl) (values_of a.messages.items))
@@ -37,8 +37,8 @@ pub returns : goal.returns
 returns c =
     let a = c.self.inside in
     let s = c.find.ensures in
-    ap (λ (v : Items Ranked). record { lines = a.turns.lines; peers = a.turns.peers; messages = messages_of (values_of v.items); line_room = a.turns.line_room; room = a.turns.room; message_room = v.room }) c.put.ensures
-    ∙ ap (λ rs. record { lines = a.turns.lines; peers = a.turns.peers; messages = messages_of rs; line_room = a.turns.line_room; room = a.turns.room; message_room = a.messages.room })
+    ap (λ (v : Items Ranked). record { lines = a.turns.lines; peers = a.turns.peers; suspended = a.turns.suspended; messages = messages_of (values_of v.items); line_room = a.turns.line_room; room = a.turns.room; suspended_room = a.turns.suspended_room; message_room = v.room }) c.put.ensures
+    ∙ ap (λ rs. record { lines = a.turns.lines; peers = a.turns.peers; suspended = a.turns.suspended; messages = messages_of rs; line_room = a.turns.line_room; room = a.turns.room; suspended_room = a.turns.suspended_room; message_room = a.messages.room })
     (put_known c.args.id c.in-Some.number a.messages.items s.apart s.keys (sym c.find.ensures.is ∙ c.in-Some.is) (with_unread c.args.unread) c.in-Some-copied.ranked _ (sym (c.copied.ensures ∙ c.get.ensures) ∙ c.in-Some-copied.is) refl)
-    ∙ ap (λ ms. record { lines = a.turns.lines; peers = a.turns.peers; messages = ms; line_room = a.turns.line_room; room = a.turns.room; message_room = a.messages.room }) (messages_read c.args.id c.args.unread (values_of a.messages.items))
+    ∙ ap (λ ms. record { lines = a.turns.lines; peers = a.turns.peers; suspended = a.turns.suspended; messages = ms; line_room = a.turns.line_room; room = a.turns.room; suspended_room = a.turns.suspended_room; message_room = a.messages.room }) (messages_read c.args.id c.args.unread (values_of a.messages.items))
     ∙ ap (λ (v : Scheduling). record v { messages = map (read_to c.args.id c.args.unread) v.messages }) c.self.view_is

@@ -21,7 +21,7 @@ pub invariant_of-self : goal.invariant_of-self
 invariant_of-self c =
     let a = c.self.inside in
     let s = c.find.ensures in
-    sound_known a.turns a.messages a.candidates c.touch.new.candidates a.stale a.next c.self.invariant c.args.id c.touch.new.stale c.remove-ranked.new.self _ a.next c.touch.ensures.stale c.touch.ensures.kept c.touch.ensures.room
+    sound_known a.turns a.messages a.candidates c.touch.new.candidates a.stale a.next c.self.invariant c.args.id c.touch.new.stale c.remove-ranked.new.self _ a.next c.touch.ensures.stale c.touch.ensures.kept c.touch.ensures.room c.touch.ensures.tied
     (ap (λ (v : Items Ranked). values_of v.items) c.remove-ranked.ensures.items ∙ left_known c.args.id c.in-Some.number a.messages.items s.apart s.keys (sym c.find.ensures.is ∙ c.in-Some.is))
     (ranked_left a.next c.args.id (values_of a.messages.items) c.self.invariant.ranked) (few_left c.args.id (values_of a.messages.items) c.self.invariant.few)
     (λ i other. facts_left c.args.id i other (values_of a.messages.items))
@@ -30,8 +30,8 @@ pub returns : goal.returns
 returns c =
     let a = c.self.inside in
     let s = c.find.ensures in
-    ap (λ (v : Items Ranked). record { lines = a.turns.lines; peers = a.turns.peers; messages = messages_of (values_of v.items); line_room = a.turns.line_room; room = a.turns.room; message_room = v.room }) c.remove-ranked.ensures.items
-    ∙ ap (λ rs. record { lines = a.turns.lines; peers = a.turns.peers; messages = messages_of rs; line_room = a.turns.line_room; room = a.turns.room; message_room = a.messages.room })
+    ap (λ (v : Items Ranked). record { lines = a.turns.lines; peers = a.turns.peers; suspended = a.turns.suspended; messages = messages_of (values_of v.items); line_room = a.turns.line_room; room = a.turns.room; suspended_room = a.turns.suspended_room; message_room = v.room }) c.remove-ranked.ensures.items
+    ∙ ap (λ rs. record { lines = a.turns.lines; peers = a.turns.peers; suspended = a.turns.suspended; messages = messages_of rs; line_room = a.turns.line_room; room = a.turns.room; suspended_room = a.turns.suspended_room; message_room = a.messages.room })
     (left_known c.args.id c.in-Some.number a.messages.items s.apart s.keys (sym c.find.ensures.is ∙ c.in-Some.is))
-    ∙ ap (λ ms. record { lines = a.turns.lines; peers = a.turns.peers; messages = ms; line_room = a.turns.line_room; room = a.turns.room; message_room = a.messages.room }) (messages_left c.args.id (values_of a.messages.items))
+    ∙ ap (λ ms. record { lines = a.turns.lines; peers = a.turns.peers; suspended = a.turns.suspended; messages = ms; line_room = a.turns.line_room; room = a.turns.room; suspended_room = a.turns.suspended_room; message_room = a.messages.room }) (messages_left c.args.id (values_of a.messages.items))
     ∙ ap (λ (v : Scheduling). record v { messages = filter (is_another c.args.id) v.messages }) c.self.view_is

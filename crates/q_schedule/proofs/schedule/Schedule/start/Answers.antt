@@ -10,5 +10,5 @@ pub invariant_of-self : goal.invariant_of-self
 invariant_of-self c =
     let a = c.self.inside in
     subst (λ (t : Turning). IsSound t a.messages a.candidates a.stale a.next) (sym c.start.ensures)
-    (sound_stays a.turns a.messages a.candidates a.candidates a.stale a.next c.self.invariant _ refl
+    (sound_stays a.turns a.messages a.candidates a.candidates a.stale a.next c.self.invariant _ refl c.self.invariant.tied
     (λ i s. started_same c.args.id c.args.site.now a.turns.lines c.args.last a.turns.peers (facts_at (values_of a.messages.items) i) i s))

@@ -20,6 +20,7 @@ loop-at-init c =
     let is = c.first_from-at.ensures.is ∙ ap (λ (e : Ticket). find (λ (x : Ticket). not (goes_before x e)) items) c.least_of.ensures in
     record {
       room = refl;
+      tied = c.requires.tied;
       stood = stands_found _ items c.first_from-at.result is;
       filed = filing_begins c.args.id a.peers.items c.stand_apart.ensures.apart c.stand_apart.ensures.keys items c.self.invariant.listed c.first_from-at.ensures.rising c.args.self.now.lines c.args.facts c.first_from-at.result c.args.candidates.now.items is;
     }
@@ -66,6 +67,7 @@ loop-at-preserved c =
     (subst (λ (t : Turning). IsFiledAt lines t.peers c.args.id c.site_in-site.result c.args.facts c.loop-at.candidates.items c.file_at.new.candidates.items) (sym c.self.view_is) c.file_at.ensures.filed) in
     record {
       room = c.file_at.ensures.room ∙ inv.room;
+      tied = c.file_at.ensures.tied;
       stood = stands_found (goes_before e) items c.behind-at.result c.behind-at.ensures.is;
       filed = filing_goes c.args.id ks c.stand_apart.ensures.apart c.stand_apart.ensures.keys items c.self.invariant.listed c.first_from-at.ensures.rising lines c.args.facts e c.loop-at.at c.behind-at.result c.in-Some.is stood of c.behind-at.ensures.is
           c.args.candidates.now.items c.loop-at.candidates.items c.file_at.new.candidates.items inv.filed filed;

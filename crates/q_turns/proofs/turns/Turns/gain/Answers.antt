@@ -48,9 +48,9 @@ invariant_of-self c =
     let ks = a.peers.items in
     let found = sym c.find.ensures ∙ c.in-Some.is in
     let it = held_item (is_peer id site) n ks s.apart found in
-    sound_from a.lines.items _ c.gain.new.self a.lanes a.lanes a.heads a.heads a.messages a.messages a.line_room
+    sound_from a.lines.items _ c.gain.new.self a.lanes a.lanes a.heads a.heads a.messages a.messages a.suspended a.line_room
     (c.gain.ensures ∙ ap (λ (xs : List (Numbered Peer)). record a.peers { items = xs }) (sym (changed_put n gained it.0 ks s.apart it.1))) refl refl refl
-    (sound_put a.lines.items a.peers a.lanes a.heads a.messages a.line_room c.self.invariant n it.0 (gained it.0) it.1 refl refl
+    (sound_put a.lines.items a.peers a.lanes a.heads a.messages a.suspended a.line_room c.self.invariant n it.0 (gained it.0) it.1 refl refl
     (have_there id site n it.0 ks s.apart s.keys found it.1 (jobs_of a.lines.items) (gained it.0) c.self.invariant.lines_are.jobs refl refl (one_waits it.0)))
 
 pub returns : goal.returns
@@ -62,7 +62,7 @@ returns c =
     let n = c.in-Some.number in
     let found = sym c.find.ensures ∙ c.in-Some.is in
     let it = held_item (is_peer id site) n a.peers.items s.apart found in
-    peers_seen a.lines.items a.peers c.gain.new.self a.line_room c.args.self.now (gained_at id site) c.self.view_is
+    peers_seen a.lines.items a.peers c.gain.new.self a.suspended a.line_room c.args.self.now (gained_at id site) c.self.view_is
     (ap (λ (v : Items Peer). v.room) c.gain.ensures)
     (ap (λ (v : Items Peer). values_of v.items) c.gain.ensures
     ∙ gain_there id site n it.0 a.peers.items s.apart s.keys found it.1)

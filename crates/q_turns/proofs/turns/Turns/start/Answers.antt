@@ -16,7 +16,7 @@ pub returns-in_default : goal.returns-in_default
 returns-in_default c =
     let a = c.self.inside in
     sym c.self.view_is
-    ∙ peers_seen a.lines.items a.peers a.peers a.line_room c.args.self.now (started_at c.args.id c.args.site.now c.args.last) c.self.view_is refl
+    ∙ peers_seen a.lines.items a.peers a.peers a.suspended a.line_room c.args.self.now (started_at c.args.id c.args.site.now c.args.last) c.self.view_is refl
     (sym (start_nowhere c.args.id c.args.site.now a.peers.items (sym c.find.ensures ∙ c.in_default.is) c.args.last))
 
 pub start-requires-clause-own : goal.start-requires-clause-own
@@ -32,9 +32,9 @@ invariant_of-self c =
     let ks = a.peers.items in
     let found = sym c.find.ensures ∙ c.in-Some.is in
     let it = held_item (is_peer id site) n ks s.apart found in
-    sound_from a.lines.items _ c.start.new.self a.lanes a.lanes a.heads a.heads a.messages a.messages a.line_room
+    sound_from a.lines.items _ c.start.new.self a.lanes a.lanes a.heads a.heads a.messages a.messages a.suspended a.line_room
     (c.start.ensures ∙ ap (λ (xs : List (Numbered Peer)). record a.peers { items = xs }) (sym (changed_put n (started c.args.last) it.0 ks s.apart it.1))) refl refl refl
-    (sound_put a.lines.items a.peers a.lanes a.heads a.messages a.line_room c.self.invariant n it.0 (started c.args.last it.0) it.1 refl refl
+    (sound_put a.lines.items a.peers a.lanes a.heads a.messages a.suspended a.line_room c.self.invariant n it.0 (started c.args.last it.0) it.1 refl refl
     (have_started id site n it.0 ks s.apart s.keys found it.1 (jobs_of a.lines.items) c.args.last c.self.invariant.lines_are.jobs))
 
 pub returns : goal.returns
@@ -46,7 +46,7 @@ returns c =
     let n = c.in-Some.number in
     let found = sym c.find.ensures ∙ c.in-Some.is in
     let it = held_item (is_peer id site) n a.peers.items s.apart found in
-    peers_seen a.lines.items a.peers c.start.new.self a.line_room c.args.self.now (started_at id site c.args.last) c.self.view_is
+    peers_seen a.lines.items a.peers c.start.new.self a.suspended a.line_room c.args.self.now (started_at id site c.args.last) c.self.view_is
     (ap (λ (v : Items Peer). v.room) c.start.ensures)
     (ap (λ (v : Items Peer). values_of v.items) c.start.ensures
     ∙ change_there id site n it.0 a.peers.items s.apart s.keys found it.1 (started c.args.last))
