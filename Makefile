@@ -26,3 +26,4 @@ bench: build
 	bench/spool
 	bench/drain
 	bench/marks
+	bench/intake

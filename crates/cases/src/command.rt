@@ -1,9 +1,11 @@
 //! A command of a case, as the program runs it.
+use crate::client::door_for;
 use crate::fault::Given;
 use crate::flaw::Flaw;
 use crate::server::hops_to;
 use crate::snapshot::Snapshot;
 use crate::stage::Stage;
+use q_door::ScriptDoor;
 use q_link::ScriptHops;
 use q_model::Moment;
 use q_silent_host::SilentHost;
@@ -29,10 +31,11 @@ pub(crate) fn run_on(
     source: &mut MemSource,
     moments: &[Moment],
     hops: &mut ScriptHops,
+    door: &mut ScriptDoor,
 ) -> Result<Status, Flaw> {
     let words = words_of(alloc, words)?;
     let mut clock = MemClock::new(alloc, moments)?;
-    Ok(qmgr(alloc, &words, source, host, &mut clock, hops))
+    Ok(qmgr(alloc, &words, source, host, &mut clock, hops, door))
 }
 
 impl Stage {
@@ -47,6 +50,7 @@ impl Stage {
             words,
             input,
             moments,
+            clients: self.clients.as_slice(),
         };
         fault.plan(self.alloc, given, &mut self.host)
     }
@@ -62,13 +66,18 @@ impl Stage {
         self.links_seen = 0;
         self.hops = hops_to(alloc, self.servers.as_slice())?;
         self.servers = Vec::new(alloc);
-        let fails = mem::replace(&mut self.fails, Vec::new(alloc));
         let piece = self.piece.max(1);
+        self.door = door_for(alloc, self.clients.as_slice(), piece == 1)?;
+        self.clients = Vec::new(alloc);
+        self.clients_seen = 0;
+        let fails = mem::replace(&mut self.fails, Vec::new(alloc));
         let mut source = MemSource::new(alloc, input, piece, fails.as_slice())?;
         let host = &mut self.host;
         let hops = &mut self.hops;
+        let door = &mut self.door;
         let moments = moments.as_slice();
-        self.ended = Some(run_on(alloc, host, words, &mut source, moments, hops)?);
+        let status = run_on(alloc, host, words, &mut source, moments, hops, door)?;
+        self.ended = Some(status);
         Ok(())
     }
 }

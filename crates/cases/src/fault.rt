@@ -1,7 +1,9 @@
 //! A fault of disk or output in the midst of a command, at a call that is named by a line.
+use crate::client::door_for;
 use crate::command::run_on;
 use crate::flaw::Flaw;
 use crate::places::{number_of, spot_of};
+use crate::server::Act;
 use crate::snapshot::Snapshot;
 use q_link::ScriptHops;
 use q_model::{Moment, Spot};
@@ -47,6 +49,7 @@ pub(crate) struct Given<'a> {
     pub(crate) words: &'a str,
     pub(crate) input: &'a [u8],
     pub(crate) moments: &'a [Moment],
+    pub(crate) clients: &'a [Vec<Act>],
 }
 
 /// The place that is written as a number of calls, `before` or `behind`, and a line.
@@ -81,6 +84,7 @@ fn is_told(alloc: Global, given: Given<'_>, calls: u64, line: &str) -> Result<bo
     host.stop_after(calls);
     let mut source = MemSource::new(alloc, given.input, 4_096, &[])?;
     let mut hops = ScriptHops::new(alloc);
+    let mut door = door_for(alloc, given.clients, false)?;
     let words = given.words;
     run_on(
         alloc,
@@ -89,6 +93,7 @@ fn is_told(alloc: Global, given: Given<'_>, calls: u64, line: &str) -> Result<bo
         &mut source,
         given.moments,
         &mut hops,
+        &mut door,
     )?;
     Ok(host.told().lines().any(|told| told == line))
 }

@@ -122,6 +122,30 @@ impl Stage {
         same(self.alloc, wanted, self.hops.sent(link))
     }
 
+    /// The next client whose link was closed was sent these bytes.
+    fn judge_answered(&mut self, wanted: &[u8]) -> Result<(), Flaw> {
+        let link = self.clients_seen;
+        self.clients_seen = link.saturating_add(1);
+        if link >= self.door.closed() {
+            return Err(Flaw::NoStep("no client more was served"));
+        }
+        same(self.alloc, wanted, self.door.sent(link))
+    }
+
+    /// Holds what came over connections against a step. Whether it says what must have come.
+    fn judge_connections(&mut self, step: &Step<'_>) -> Result<bool, Flaw> {
+        let rest = step.rest();
+        let wanted = self.wanted(step, b"\r\n")?;
+        match step.word() {
+            "sent" => self.judge_sent(wanted.as_slice())?,
+            "answered" => self.judge_answered(wanted.as_slice())?,
+            "links" => same_number(self.alloc, number_of(rest)?, self.hops.closed() as u64)?,
+            "clients" => same_number(self.alloc, number_of(rest)?, self.door.closed() as u64)?,
+            _ => return Ok(false),
+        }
+        Ok(true)
+    }
+
     /// Holds what came against a step. Whether it says what must have come.
     pub(crate) fn judge(&mut self, step: &Step<'_>) -> Result<bool, Flaw> {
         let rest = step.rest();
@@ -144,15 +168,10 @@ impl Stage {
                 let came = self.host.calls().saturating_sub(self.calls_before);
                 same_number(self.alloc, number_of(rest)?, came)?;
             }
-            "sent" => {
-                let wanted = self.wanted(step, b"\r\n")?;
-                self.judge_sent(wanted.as_slice())?;
-            }
             "entries" => self.judge_entries(step, true)?,
             "no-entries" => self.judge_entries(step, false)?,
             "no-entry" => self.judge_no_entry(step)?,
-            "links" => same_number(self.alloc, number_of(rest)?, self.hops.closed() as u64)?,
-            _ => return Ok(false),
+            _ => return self.judge_connections(step),
         }
         Ok(true)
     }

@@ -8,6 +8,7 @@
 #![tactic(auto)]
 
 mod bytes;
+mod client;
 mod command;
 mod fault;
 mod flaw;

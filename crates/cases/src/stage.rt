@@ -7,6 +7,7 @@ use crate::server::Act;
 use crate::snapshot::Snapshot;
 use crate::step::Step;
 use crate::sweep::{Life, Sweep};
+use q_door::ScriptDoor;
 use q_link::ScriptHops;
 use q_mem_host::Rot;
 use q_model::Moment;
@@ -32,6 +33,9 @@ pub(crate) struct Stage {
     pub(crate) piece: usize,
     pub(crate) fails: Vec<u64>,
     pub(crate) servers: Vec<Vec<Act>>,
+    /// The clients that come at its door, and whether the next act is one of theirs.
+    pub(crate) clients: Vec<Vec<Act>>,
+    is_of_client: bool,
     /// The fault of disk or output in its midst, or the file that rots there.
     pub(crate) fault: Option<Fault>,
     /// How the last command ended, unless the page has said it.
@@ -44,6 +48,20 @@ pub(crate) struct Stage {
     /// Its links, and how many of them a page has asked after.
     pub(crate) hops: ScriptHops,
     pub(crate) links_seen: usize,
+    /// The same of its clients.
+    pub(crate) door: ScriptDoor,
+    pub(crate) clients_seen: usize,
+}
+
+/// Adds an act to the last of these scripts.
+fn add_to_last(scripts: &mut Vec<Vec<Act>>, act: Act) -> Result<(), Flaw> {
+    match scripts.last_mut() {
+        Some(acts) => {
+            acts.push(act)?;
+            Ok(())
+        }
+        None => Err(Flaw::NoStep("no server or client before")),
+    }
 }
 
 impl Stage {
@@ -55,6 +73,8 @@ impl Stage {
             piece: PIECE,
             fails: Vec::new(alloc),
             servers: Vec::new(alloc),
+            clients: Vec::new(alloc),
+            is_of_client: false,
             fault: None,
             ended: None,
             told_before: 0,
@@ -62,6 +82,8 @@ impl Stage {
             calls_before: 0,
             hops: ScriptHops::new(alloc),
             links_seen: 0,
+            door: ScriptDoor::new(alloc),
+            clients_seen: 0,
         }
     }
 
@@ -83,9 +105,11 @@ impl Stage {
         let input = bytes_of(alloc, step.below.as_slice(), b"\n")?;
         let list = format!(in alloc; "at {moment}\nend\n")?;
         let spool = Snapshot::with_arrivals(alloc, &mut self.host)?;
+        let clients = mem::replace(&mut self.clients, Vec::new(alloc));
         let sweep = Sweep {
             alloc,
             spool: &spool,
+            clients: clients.as_slice(),
             first: Life {
                 words,
                 input: input.as_slice(),
@@ -114,25 +138,32 @@ impl Stage {
         Ok(())
     }
 
-    /// Adds to what the last server does.
-    fn add_act(&mut self, act: Act) -> Result<(), Flaw> {
-        match self.servers.last_mut() {
-            Some(acts) => {
-                acts.push(act)?;
-                Ok(())
-            }
-            None => Err(Flaw::NoStep("no server before")),
+    /// Begins the script of a server or a client, to which the next acts belong.
+    fn begin_script(&mut self, is_of_client: bool) -> Result<bool, Flaw> {
+        self.is_of_client = is_of_client;
+        let script = Vec::new(self.alloc);
+        if is_of_client {
+            self.clients.push(script)?;
+        } else {
+            self.servers.push(script)?;
         }
+        Ok(true)
     }
 
-    /// Carries out a step on servers. Whether it was one.
+    /// Adds to what the last server or client does.
+    fn add_act(&mut self, act: Act) -> Result<(), Flaw> {
+        if self.is_of_client {
+            return add_to_last(&mut self.clients, act);
+        }
+        add_to_last(&mut self.servers, act)
+    }
+
+    /// Carries out a step on servers and clients. Whether it was one.
     fn script(&mut self, step: &Step<'_>) -> Result<bool, Flaw> {
         let rest = step.rest();
         let act = match step.word() {
-            "server" => {
-                self.servers.push(Vec::new(self.alloc))?;
-                return Ok(true);
-            }
+            "server" => return self.begin_script(false),
+            "client" => return self.begin_script(true),
             "says" => Act::Says(bytes_of(self.alloc, step.below.as_slice(), b"\r\n")?),
             "slowly" => Act::Slowly(bytes_of(self.alloc, step.below.as_slice(), b"\r\n")?),
             "waits" => Act::Waits,

@@ -7,8 +7,10 @@
 //! what was told is the first part of what the life would have told without a stop. Messages that the
 //! spool has from the beginning have to stand too. Where two stops one behind the other leave the same,
 //! what follows is the same, and is tried once.
+use crate::client::door_for;
 use crate::command::run_on;
 use crate::flaw::{Flaw, same};
+use crate::server::Act;
 use crate::snapshot::Snapshot;
 use crate::standing::{Due, judge_standing, line_due};
 use q_link::ScriptHops;
@@ -32,11 +34,13 @@ pub(crate) struct Life<'a> {
     pub(crate) moment: Moment,
 }
 
-/// What is swept: a command on a spool, and the life that follows each stop.
+/// What is swept: a command on a spool, with the clients that come to it, and the life that follows each
+/// stop.
 #[derive(Clone, Copy)]
 pub(crate) struct Sweep<'a> {
     pub(crate) alloc: Global,
     pub(crate) spool: &'a Snapshot,
+    pub(crate) clients: &'a [Vec<Act>],
     pub(crate) first: Life<'a>,
     pub(crate) next: Life<'a>,
 }
@@ -64,6 +68,7 @@ impl<'a> Sweep<'a> {
         let alloc = self.alloc;
         let mut source = MemSource::new(alloc, life.input, 4_096, &[])?;
         let mut hops = ScriptHops::new(alloc);
+        let mut door = door_for(alloc, self.clients, false)?;
         run_on(
             alloc,
             host,
@@ -71,6 +76,7 @@ impl<'a> Sweep<'a> {
             &mut source,
             &[life.moment],
             &mut hops,
+            &mut door,
         )
     }
 

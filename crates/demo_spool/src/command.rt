@@ -2,7 +2,7 @@
 use q_folder_host::FolderHost;
 use q_model::Moment;
 use q_stream::{MemClock, MemSource};
-use q_tcp_hops::TcpHops;
+use q_tcp_hops::{TcpDoor, TcpHops};
 use q_top::{Status, qmgr};
 use std::io;
 
@@ -20,6 +20,7 @@ pub(crate) fn run(
     rt: HostRuntime,
     host: &mut Spool,
     hops: &mut TcpHops<HostRuntime>,
+    door: &mut TcpDoor<HostRuntime>,
     command: &Command,
 ) -> io::Result<Status> {
     let alloc = rt.alloc();
@@ -34,5 +35,5 @@ pub(crate) fn run(
         return Ok(Status::NoMemory);
     };
     println!(rt; "$ {}", command.shown)?;
-    Ok(qmgr(alloc, &words, &mut source, host, &mut clock, hops))
+    Ok(qmgr(alloc, &words, &mut source, host, &mut clock, hops, door))
 }

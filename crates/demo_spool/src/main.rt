@@ -14,7 +14,7 @@ use command::{Command, run};
 use delivery::{DELIVERY, route_to, start_hop};
 use q_folder_host::FolderHost;
 use q_serving::Server;
-use q_tcp_hops::TcpHops;
+use q_tcp_hops::{TcpDoor, TcpHops};
 use q_top::Status;
 use std::process::ExitCode;
 use std::{env, fs, io};
@@ -25,6 +25,7 @@ const FOLDER: &str = "spool";
 /// Runs commands one after another, and answers the exit status of the last one.
 fn run_all(rt: HostRuntime, commands: &[Command]) -> io::Result<u8> {
     let mut hops = TcpHops::new(rt.alloc(), rt)?;
+    let mut door = TcpDoor::new(rt.alloc(), rt)?;
     let mut host = match FolderHost::open(rt.alloc(), rt, rt, FOLDER) {
         Ok(host) => host,
         Err(fault) => {
@@ -33,7 +34,7 @@ fn run_all(rt: HostRuntime, commands: &[Command]) -> io::Result<u8> {
         }
     };
     for command in commands {
-        let status = run(rt, &mut host, &mut hops, command)?;
+        let status = run(rt, &mut host, &mut hops, &mut door, command)?;
         if status != Status::Done {
             eprintln!(rt; "qmgr: {status}")?;
             return Ok(status.number());

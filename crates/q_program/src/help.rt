@@ -15,7 +15,7 @@ qmgr, the queue manager of a mail server
 Usage: qmgr [-s] [-w SECONDS] SPOOL COMMAND [WORD]...
        qmgr --help | --version
 
-SPOOL is the folder of the spool. The first three commands make it where it is missing, and lock
+SPOOL is the folder of the spool. The first four commands make it where it is missing, and lock
 it; where another process has it, they wait for it, at most SECONDS (default 0). With -s each change
 of a folder is synced by itself, else many together. queue and qshape change nothing, and look beside
 a process that has it. load touches no folder.
@@ -27,6 +27,11 @@ Commands:
   drain [-n RESTS]              deliver by SMTP, and tell each decision, until no delivery is in
                                 flight; servers are waited for at most RESTS times (0 to
                                 1000000000, default 1000000), ten milliseconds at most each time
+  listen [-p PORT] [-n COUNT] [-r RESTS]
+                                take mail by SMTP at PORT (1 to 65535, default 2525) of 127.0.0.1,
+                                over COUNT connections (1 to 1000000, default 1), one behind the
+                                other; clients are waited for at most RESTS times (0 to 1000000000,
+                                default 1000000), ten milliseconds at most each time
   queue                         list the messages in incoming, active, deferred and hold
   qshape [-s] [-l] [-b N] [-t MINUTES] [QUEUE]...
                                 tell the ages of mail by domain: of recipients, or with -s of
@@ -41,7 +46,7 @@ Commands:
 The files conf/params and conf/transport of the spool say the parameters and the transport table.
 
 Exit status: 0 done, 1 wrong words, 2 bad input (the file and its line are named), 3 disk fault,
-4 output fault, 5 input fault, 6 damaged spool (the file is named), 7 RESTS were used up with
-deliveries in flight, 8 limit reached, 9 no memory, 12 unreadable file (which is named).
+4 output fault, 5 input fault, 6 damaged spool (the file is named), 7 RESTS were used up, 8 limit
+reached, 9 no memory, 10 connection fault, 12 unreadable file (which is named).
 Standard error says why, with the place and the system's words. With 0 it may have warnings, and
 behind a drain a line of what it came to.";

@@ -14,6 +14,7 @@ use q_top::{InputFile, Status};
 use q_words::{Request, WordsError};
 use std::alloc::Global;
 use std::fmt::Display;
+use std::io;
 
 /// Says how a command ended, and why where that is known.
 fn say_cause<D: Display + Drop>(rt: HostRuntime, status: Status, cause: Option<D>) {
@@ -37,10 +38,17 @@ fn cause_in_list(alloc: Global, heard: &Heard, line: u64) -> Option<String> {
 }
 
 /// Says how a command ended that isn't done.
-fn say_end(rt: HostRuntime, host: &mut Host<'_>, status: Status, heard: &Heard) {
+fn say_end(
+    rt: HostRuntime,
+    host: &mut Host<'_>,
+    status: Status,
+    heard: &Heard,
+    door_fault: Option<&io::Error>,
+) {
     match status {
         Status::Disk | Status::Tell => say_cause(rt, status, host.fault()),
         Status::Source => say_cause(rt, status, heard.error.take()),
+        Status::Door => say_cause(rt, status, door_fault),
         Status::BadInput { file, line } => {
             let cause = match file {
                 InputFile::Events => cause_in_list(rt.alloc(), heard, line),
@@ -95,6 +103,7 @@ pub(crate) fn report(
     host: &mut Host<'_>,
     status: Status,
     heard: &Heard,
+    door_fault: Option<&io::Error>,
     crowded_out: u64,
 ) {
     warn_of_descriptors(rt, crowded_out);
@@ -109,7 +118,7 @@ pub(crate) fn report(
         _ => {}
     }
     if status != Status::Done {
-        say_end(rt, host, status, heard);
+        say_end(rt, host, status, heard, door_fault);
     }
     match request {
         Ok(Request::Drain { .. }) => say_drained(rt, host, status, heard.sums.get()),

@@ -8,7 +8,7 @@ use crate::saying::say;
 use crate::tally::Counted;
 use q_folder_host::{Access, FolderHost, Syncs};
 use q_stream::{RealClock, StdSource};
-use q_tcp_hops::TcpHops;
+use q_tcp_hops::{TcpDoor, TcpHops};
 use q_top::{Status, qmgr};
 use q_words::{Request, WordsError, read_words};
 use std::fmt::Display;
@@ -26,15 +26,18 @@ fn reads_a_file(rt: HostRuntime) -> bool {
     }
 }
 
-/// When folders are synced. Who writes the list of a replay may wait for what it tells.
+/// When folders are synced. Who writes the list of a replay may wait for what it tells, and a client's
+/// message is acknowledged only when it stands on disk and its line has left.
 fn syncs_of(rt: HostRuntime, request: &Result<Request, WordsError>, options: Options) -> Syncs {
     if options.syncs_each {
         return Syncs::Each;
     }
-    let is_replay = matches!(request, Ok(Request::Replay));
-    Syncs::Grouped {
-        keeps_lines: !is_replay || reads_a_file(rt),
-    }
+    let keeps_lines = match request {
+        Ok(Request::Replay) => reads_a_file(rt),
+        Ok(Request::Listen { .. }) => false,
+        _ => true,
+    };
+    Syncs::Grouped { keeps_lines }
 }
 
 /// What a command may do with the spool: two of them look at it alone.
@@ -79,6 +82,10 @@ fn run(rt: HostRuntime, options: Options, folder: &str, words: &[String]) -> u8 
         Ok(hops) => hops,
         Err(error) => return refuse(rt, Status::Disk, error),
     };
+    let mut door = match TcpDoor::new(rt.alloc(), rt) {
+        Ok(door) => door,
+        Err(error) => return refuse(rt, Status::Disk, error),
+    };
     let mut source = StdSource::new(reader);
     let mut clock = RealClock::new(rt);
     let status = qmgr(
@@ -88,6 +95,7 @@ fn run(rt: HostRuntime, options: Options, folder: &str, words: &[String]) -> u8 
         &mut host,
         &mut clock,
         &mut hops,
+        &mut door,
     );
     let status = flushed(&mut host, status);
     report(
@@ -97,6 +105,7 @@ fn run(rt: HostRuntime, options: Options, folder: &str, words: &[String]) -> u8 
         &mut host,
         status,
         &heard,
+        door.fault(),
         hops.crowded_out(),
     );
     status.number()

@@ -1,8 +1,7 @@
 //! The hops of a case, as processes of their own.
-use crate::room::Room;
+use crate::room::{Room, free_port};
 use anyhow::{Context, Result, bail};
 use q_serving::{ACCEPTANCE, Server, start};
-use std::net::{Ipv4Addr, TcpListener};
 use std::process::Command;
 use std::{env, fs};
 
@@ -30,8 +29,7 @@ fn start_hop(
 
 /// The name of a hop whose port was free a moment ago.
 fn nobody(rt: HostRuntime) -> Result<String> {
-    let listener = TcpListener::bind(&rt, (Ipv4Addr::LOCALHOST, 0u16))?;
-    let port = listener.local_addr()?.port();
+    let port = free_port(rt)?;
     Ok(format!(in rt.alloc(); "[127.0.0.1]:{port}")?)
 }
 

@@ -9,6 +9,7 @@
 //! is no step.
 #![tactic(auto)]
 
+mod client;
 mod hop;
 mod hops;
 mod many;

@@ -1,12 +1,20 @@
-//! A folder of its own for each case.
+//! A folder of its own for each case, and a port.
 use anyhow::Result;
+use std::net::{Ipv4Addr, TcpListener};
 use std::{env, fs, process};
 
-/// A folder that no other process uses.
+/// A port that was free a moment ago.
+pub(crate) fn free_port(rt: HostRuntime) -> Result<u16> {
+    let listener = TcpListener::bind(&rt, (Ipv4Addr::LOCALHOST, 0u16))?;
+    Ok(listener.local_addr()?.port())
+}
+
+/// A folder that no other process uses, and a port.
 #[derive(Drop)]
 pub(crate) struct Room {
     rt: HostRuntime,
     pub(crate) path: String,
+    pub(crate) port: u16,
 }
 
 impl Room {
@@ -16,7 +24,8 @@ impl Room {
         let number = process::id(rt.process());
         let path = format!(in rt.alloc(); "{}/q_program_cases-{number}", above.as_str())?;
         fs::create_dir(&rt, &path)?;
-        Ok(Room { rt, path })
+        let port = free_port(rt)?;
+        Ok(Room { rt, path, port })
     }
 
     /// The path of what stands in it under a name; one that begins with a slash stands elsewhere.

@@ -18,13 +18,17 @@ pub(crate) struct Streams {
     pub(crate) output_to: Option<String>,
 }
 
+/// The word of a command that stands for the port of its room.
+const PORT: &str = "PORT";
+
 /// A command in a room, of these words.
 fn command_of(rt: HostRuntime, room: &Room, words: &str) -> Result<Command> {
     let program = env::args(&rt)?.next().context("the name of this program")?;
     let mut command = Command::new(rt.alloc(), fs::canonicalize(&rt, &program)?)?;
     command.arg("qmgr")?;
+    let port = format!(in rt.alloc(); "{}", room.port)?;
     for word in words.split_whitespace() {
-        command.arg(word)?;
+        command.arg(if word == PORT { port.as_str() } else { word })?;
     }
     command.current_dir(room.path.as_str())?;
     command

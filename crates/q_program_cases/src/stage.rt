@@ -1,4 +1,5 @@
 //! The steps of a case.
+use crate::client::Client;
 use crate::hops::next_hop;
 use crate::many::{add_bytes, make_files};
 use crate::room::Room;
@@ -9,7 +10,8 @@ use std::fs;
 use std::fs::{OpenOptions, read_dir};
 use std::io::Write;
 
-/// A case: its room, what the next command reads and writes, the commands that run, and the hops.
+/// A case: its room, what the next command reads and writes, the commands that run, the hops, and the
+/// client.
 #[derive(Drop)]
 pub(crate) struct Stage {
     rt: HostRuntime,
@@ -18,6 +20,7 @@ pub(crate) struct Stage {
     first: Option<Running>,
     second: Option<Running>,
     servers: Vec<Server>,
+    client: Option<Client>,
 }
 
 fn no_streams(rt: HostRuntime) -> Streams {
@@ -43,6 +46,7 @@ impl Stage {
             first: None,
             second: None,
             servers: Vec::new(rt.alloc()),
+            client: None,
         }
     }
 
@@ -157,6 +161,20 @@ impl Stage {
         Ok(())
     }
 
+    // A step of the client.
+    fn hand_in(&mut self, word: &str, text: &str) -> Result<()> {
+        let rt = self.rt;
+        if word == "connect" {
+            self.client = Some(Client::new(rt, self.room.port)?);
+            return Ok(());
+        }
+        let client = self.client.as_mut().context("no client is connected")?;
+        match word {
+            "says" => client.send(rt, text),
+            _ => client.hear(rt),
+        }
+    }
+
     /// Carries out a step, and shows it. Empty lines and those that begin with `#` say nothing.
     pub(crate) fn carry_out(&mut self, line: &str) -> Result<()> {
         let (word, text) = cut(line);
@@ -175,6 +193,8 @@ impl Stage {
             "names" => self.show_names(text)?,
             "bytes" | "files" => self.make_many(word, text)?,
             "begin" | "send" | "hear" | "end" => self.go_on(word, text)?,
+            "leave" => self.client = None,
+            "connect" | "says" | "hears" => self.hand_in(word, text)?,
             _ => self.change(word, text)?,
         }
         Ok(())

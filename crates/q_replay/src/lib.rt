@@ -23,3 +23,4 @@ pub use intake::intake_params;
 pub use letters::{Letter, submit};
 pub use lists::replay;
 pub use promises::promises_hold;
+pub use taking::{begin_life, end, hear};

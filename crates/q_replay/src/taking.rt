@@ -21,8 +21,10 @@ use q_settings::Params;
 use q_transport::Table;
 use std::alloc::Global;
 
-/// A life begins on the spool in this mode, at an item in this line.
-pub(crate) fn begin_life<H: Host>(
+/// A life begins on the spool in this mode, at an item in this line. A refusal is `Disk` or
+/// `Tell` where the host failed, `NoMemory`, `Limit` where no generation is left, or `Damaged` with
+/// the first name of the spool at fault.
+pub fn begin_life<H: Host>(
     alloc: Global,
     host: &mut H,
     params: Params,
@@ -50,8 +52,9 @@ pub(crate) fn begin_life<H: Host>(
     }
 }
 
-/// The life goes on with an event, which stands in this line.
-pub(crate) fn hear<H: Host>(
+/// The life goes on with an event, which stands in this line. Where it is refused, what was told
+/// stands on disk, and the life can't go on.
+pub fn hear<H: Host>(
     alloc: Global,
     host: &mut H,
     engine: Engine,
@@ -78,8 +81,9 @@ pub(crate) fn hear<H: Host>(
     }
 }
 
-/// The life ends, at an item in this line.
-pub(crate) fn end<H: Host>(
+/// The life ends, at an item in this line. A refusal is of the host alone, and nothing that was told
+/// before is lost by it.
+pub fn end<H: Host>(
     alloc: Global,
     host: &mut H,
     engine: Engine,

@@ -27,6 +27,12 @@ pub(crate) fn listen(rt: HostRuntime) -> Result<Listening, Fail> {
     Ok(Listening { listener, hop })
 }
 
+/// A port that nobody has.
+pub(crate) fn free_port(rt: HostRuntime) -> Result<u16, Fail> {
+    let listener = TcpListener::bind(&rt, (Ipv4Addr::LOCALHOST, 0u16))?;
+    Ok(listener.local_addr()?.port())
+}
+
 /// A link to a server, and the server's side of it.
 #[derive(Drop)]
 pub(crate) struct Joined {

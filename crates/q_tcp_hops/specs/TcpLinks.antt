@@ -9,6 +9,10 @@ use Rattle.q_link.specs.Views.{NoWait, View, Wait}
 abbrev pub fresh : View
 fresh = record { faults = 0; wait = NoWait; ended = false; usage = Open; waits_left = None; told = None }
 
+-- a link of whose telling nothing is said
+abbrev pub untold : View → View
+untold link = record link { waits_left = None; told = None }
+
 -- a link after a rest
 abbrev pub rested : View → View
 rested link = record link { wait = NoWait }

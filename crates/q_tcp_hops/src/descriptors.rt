@@ -3,7 +3,7 @@ use libc::types::rlimit;
 use libc::{RLIMIT_NOFILE, getrlimit};
 
 /// How many descriptors are kept for all else: standard streams, folders and files of the spool, its
-/// lock, and the one that tells which links are ready.
+/// lock, a listener, and those that tell which links are ready.
 const KEPT: u64 = 32;
 
 /// The most links at once, by the files that the process may have open; no bound where the system

@@ -81,8 +81,8 @@ impl TcpLink {
         self.waiting = LinkWait::No;
     }
 
-    // A call answered neither `End` nor `Failed`.
-    fn go_on(&mut self, waiting: LinkWait)
+    /// A call answered neither `End` nor `Failed`.
+    pub(crate) fn go_on(&mut self, waiting: LinkWait)
         ensures { self.new ≡ called (wait_of waiting) self.old }
     {
         self.waiting = waiting;

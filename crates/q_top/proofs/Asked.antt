@@ -88,6 +88,7 @@ pub asked_form : (words : List (List ℕ)) (request : Request) → IsRequest wor
 asked_form words requests.Replay is = tt
 asked_form words (requests.Submit sender to) is = submission_form (matches_of submit_app words) sender to is.1
 asked_form words (requests.Drain rests) is = tt
+asked_form words (requests.Listen port count rests) is = is.1.some
 asked_form words (requests.Qshape request) is = is.1.shape
 asked_form words requests.Queue is = tt
 asked_form words (requests.Load mails) is = tt

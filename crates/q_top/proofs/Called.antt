@@ -30,7 +30,7 @@ stays_serves true u m lawful stays = still_serves u m lawful stays
 stays_serves false u m lawful stays = still_looks u m lawful stays
 
 module _ {H : Type 0} (view : H → View) (lawful : (h : H) → TellsCrashes (view h)) where
-  carried : (h : H) (c : QmgrCall H) → IsOfQmgr view h c → MayCarryOut c.words c.texts c.moments c.connections c.status (view h) (view (c.course).behind)
+  carried : (h : H) (c : QmgrCall H) → IsOfQmgr view h c → MayCarryOut c.words c.texts c.moments c.connections c.entrances c.status (view h) (view (c.course).behind)
       → Serves (c.course).runs (view h) (view (c.course).behind)
   carried h c of (inl none) = stays_serves (c.course).runs (view h) (view (c.course).behind) (lawful h) none.1
   carried h c of (inr done) = subst (λ (runs : Bool). Serves runs (view h) (view (c.course).behind)) (sym (of.runs done.request done.asked)) done.serves

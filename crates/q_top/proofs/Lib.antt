@@ -2,9 +2,12 @@ pub mod Asked
 pub mod FirstRefusals
 pub mod Named
 pub mod Readable
+pub mod Rests
 pub mod RunsBehind
 pub mod Submissions
 pub mod Told
 pub mod Drains
+pub mod Listens
+pub mod ListensLeft
 pub mod Serving
 pub mod Called

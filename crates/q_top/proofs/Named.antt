@@ -10,14 +10,19 @@ use Rattle.q_model.specs.declared.limits.Bound.TheVariants as bounds
 use Rattle.q_model.specs.Values.{Receiver}
 use Rattle.q_replay.specs.Listings.{listing_of}
 use Rattle.q_replay.specs.Named.{BlamesList, IsDeliveryRefusal, IsLetterRefusal, IsNamed as IsReplayNamed}
+use Rattle.q_listen.specs.Refusals.{IsListenRefusal}
+use Rattle.q_listen.specs.declared.listened.ListenError.{ListenError}
+use Rattle.q_listen.specs.declared.listened.ListenError.TheVariants as listen_errors
+use Rattle.q_listen.specs.declared.listened.Listened.{Listened}
+use Rattle.q_listen.specs.declared.listened.Listened.TheVariants as listenings
 use Rattle.q_replay.specs.declared.deliveries.Delivered.{Delivered}
 use Rattle.q_replay.specs.declared.deliveries.Delivered.TheVariants as deliveries
 use Rattle.q_replay.specs.declared.error.ReplayError.{ReplayError}
 use Rattle.q_replay.specs.declared.error.ReplayError.TheVariants as errors
 use Rattle.q_top.specs.Contents.{HasRead, IsNoContent}
-use Rattle.q_top.specs.Named.{HasTooMuch, IsNamed, IsTooMuch}
+use Rattle.q_top.specs.Named.{AsksToListen, HasTooMuch, IsNamed, IsTooMuch}
 use Rattle.q_top.specs.Qmgr.{words_status}
-use Rattle.q_top.specs.Statuses.{conf_status, content_status, delivery_status, is_of_lives, replay_status, status_of}
+use Rattle.q_top.specs.Statuses.{conf_status, content_status, delivery_status, is_of_lives, listen_status, replay_status, status_of}
 use Rattle.q_top.specs.declared.content.ContentError.{ContentError}
 use Rattle.q_top.specs.declared.content.ContentError.TheVariants as content_errors
 use Rattle.q_top.specs.declared.status.InputFile.TheVariants.{Events, Parameters, Table}
@@ -26,7 +31,7 @@ use Rattle.q_top.specs.declared.status.Status.TheVariants as status
 use Rattle.q_words.specs.declared.error.WordsError.{WordsError}
 use Rattle.q_words.specs.declared.error.WordsError.TheVariants as words_errors
 use Rattle.q_words.specs.declared.request.Request.{Request}
-use Rattle.q_words.specs.declared.request.Request.TheVariants.{Drain, Replay, Submit}
+use Rattle.q_words.specs.declared.request.Request.TheVariants.{Drain, Listen, Replay, Submit}
 
 -- ---- a line of conf
 
@@ -56,7 +61,7 @@ list_named text (errors.BadEvent n) h line = (refl, line)
 list_named text (errors.Limit bounds.Content) h line = list_passes bounds.Content text (λ is. cc) line
 list_named text (errors.Limit bounds.Recipients) h line = list_passes bounds.Recipients text (λ is. cc) line
 list_named text (errors.Limit bounds.Generation) h line = h
-list_named text (errors.Limit bounds.Serial) h line = list_passes bounds.Serial text (λ is. cc) line
+list_named text (errors.Limit bounds.Serial) h line = inl (list_passes bounds.Serial text (λ is. cc) line)
 list_named text (errors.Limit bounds.Input) h line = list_passes bounds.Input text (λ is. cc) line
 list_named text (errors.Limit bounds.Deliveries) h line = absurd h
 list_named text (errors.Damaged area name) h line = h
@@ -78,7 +83,7 @@ module _ (sender : Option (List ℕ)) (to : List Receiver) where
   letter_named content (errors.Limit bounds.Content) h = inr (sender, to, refl, h)
   letter_named content (errors.Limit bounds.Recipients) h = inr (sender, to, refl, h)
   letter_named content (errors.Limit bounds.Generation) h = h
-  letter_named content (errors.Limit bounds.Serial) h = inr (sender, to, refl, tt)
+  letter_named content (errors.Limit bounds.Serial) h = inl (inr (sender, to, refl, tt))
   letter_named content (errors.Limit bounds.Input) h = absurd h
   letter_named content (errors.Limit bounds.Deliveries) h = absurd h
   letter_named content (errors.Damaged area name) h = h
@@ -112,7 +117,8 @@ module _ (Asks : Request → Type 0) where
   untold_named content (status.Limit bounds.Content) h = untold content bounds.Content h
   untold_named content (status.Limit bounds.Recipients) h = untold content bounds.Recipients h
   untold_named content (status.Limit bounds.Generation) h = h
-  untold_named content (status.Limit bounds.Serial) h = untold content bounds.Serial h
+  untold_named content (status.Limit bounds.Serial) (inl h) = inl (untold content bounds.Serial h)
+  untold_named content (status.Limit bounds.Serial) (inr listens) = inr listens
   untold_named content (status.Limit bounds.Input) h = untold content bounds.Input h
   untold_named content (status.Limit bounds.Deliveries) h = h
   untold_named content (status.Unreadable area name) h = tt
@@ -122,6 +128,7 @@ module _ (Asks : Request → Type 0) where
   untold_named content status.Tell h = tt
   untold_named content status.Source h = tt
   untold_named content status.NoMemory h = tt
+  untold_named content status.Door h = tt
   untold_named content (status.Unfinished n) h = tt
 
   -- what a content that was read has too much of, the source has
@@ -152,6 +159,31 @@ module _ (rests : ℕ) (text : Option (List ℕ)) where
   delivered_named (Ok (deliveries.Unfinished n)) h = tt
   delivered_named (Err error) h = delivery_named error h
 
+-- ---- mail by SMTP
+
+module _ (port count rests : ℕ) (text : Option (List ℕ)) where
+  abbrev here : Request → Type 0
+  here r = r ≡ Listen port count rests
+
+  listening_named : (error : ListenError) → IsListenRefusal error → IsNamed here text (listen_status (Err error))
+  listening_named listen_errors.Disk h = tt
+  listening_named listen_errors.Tell h = tt
+  listening_named listen_errors.Door h = tt
+  listening_named listen_errors.NoMemory h = tt
+  listening_named (listen_errors.Limit bounds.Content) h = absurd h
+  listening_named (listen_errors.Limit bounds.Recipients) h = absurd h
+  listening_named (listen_errors.Limit bounds.Generation) h = h
+  listening_named (listen_errors.Limit bounds.Serial) h = inr (port, count, rests, refl)
+  listening_named (listen_errors.Limit bounds.Input) h = absurd h
+  listening_named (listen_errors.Limit bounds.Deliveries) h = absurd h
+  listening_named (listen_errors.Damaged area name) h = h
+  listening_named (listen_errors.Unreadable area name) h = tt
+
+  pub listened_named : (r : Result Listened ListenError) → IfErr r IsListenRefusal → IsNamed here text (listen_status r)
+  listened_named (Ok listenings.All) h = tt
+  listened_named (Ok (listenings.Unfinished n)) h = tt
+  listened_named (Err error) h = listening_named error h
+
 -- ---- other commands
 
 pub unnamed : (Asks : Request → Type 0) (text : Option (List ℕ)) (s : Status) → is_of_lives s ≡ false → IsNamed Asks text s
@@ -165,6 +197,7 @@ unnamed Asks text status.Disk h = tt
 unnamed Asks text status.Tell h = tt
 unnamed Asks text status.Source h = tt
 unnamed Asks text status.NoMemory h = tt
+unnamed Asks text status.Door h = tt
 unnamed Asks text (status.Unfinished n) h = tt
 
 pub words_named : (Asks : Request → Type 0) (text : Option (List ℕ)) (error : WordsError) → IsNamed Asks text (words_status error)
@@ -188,7 +221,8 @@ module _ (P Q : Request → Type 0) (f : (r : Request) → P r → Q r) (text : 
   asked_too (status.Limit bounds.Content) h = too_much bounds.Content h
   asked_too (status.Limit bounds.Recipients) h = too_much bounds.Recipients h
   asked_too (status.Limit bounds.Generation) h = h
-  asked_too (status.Limit bounds.Serial) h = too_much bounds.Serial h
+  asked_too (status.Limit bounds.Serial) (inl h) = inl (too_much bounds.Serial h)
+  asked_too (status.Limit bounds.Serial) (inr (port, count, rests, asks)) = inr (port, count, rests, f (Listen port count rests) asks)
   asked_too (status.Limit bounds.Input) h = too_much bounds.Input h
   asked_too (status.Limit bounds.Deliveries) h = (h.0, f (Drain h.0) h.1)
   asked_too (status.Unreadable area name) h = tt
@@ -198,6 +232,7 @@ module _ (P Q : Request → Type 0) (f : (r : Request) → P r → Q r) (text : 
   asked_too status.Tell h = tt
   asked_too status.Source h = tt
   asked_too status.NoMemory h = tt
+  asked_too status.Door h = tt
   asked_too (status.Unfinished n) h = tt
 
 -- ---- rests
@@ -214,3 +249,15 @@ left_unfinished (Err (errors.BadEvent line)) n is = absurd cc
 left_unfinished (Err (errors.Limit bound)) n is = absurd cc
 left_unfinished (Err (errors.Damaged area name)) n is = absurd cc
 left_unfinished (Err (errors.Unreadable area name)) n is = absurd cc
+
+-- so is what listens
+pub left_listening : (r : Result Listened ListenError) (n : ℕ) → listen_status r ≡ status.Unfinished n → r ≡ Ok (listenings.Unfinished n)
+left_listening (Ok listenings.All) n is = absurd cc
+left_listening (Ok (listenings.Unfinished rests)) n is = let same : rests ≡ n = cc in ap (λ (k : ℕ). Ok (listenings.Unfinished k)) same
+left_listening (Err listen_errors.Disk) n is = absurd cc
+left_listening (Err listen_errors.Tell) n is = absurd cc
+left_listening (Err listen_errors.Door) n is = absurd cc
+left_listening (Err listen_errors.NoMemory) n is = absurd cc
+left_listening (Err (listen_errors.Limit bound)) n is = absurd cc
+left_listening (Err (listen_errors.Damaged area name)) n is = absurd cc
+left_listening (Err (listen_errors.Unreadable area name)) n is = absurd cc

@@ -5,13 +5,18 @@ use Rattle.q_conf.specs.declared.error.ConfError.{ConfError}
 use Rattle.q_conf.specs.declared.error.ConfError.TheVariants as conf_errors
 use Rattle.q_host.specs.declared.error.HostError.{HostError}
 use Rattle.q_host.specs.declared.error.HostError.TheVariants as faults
+use Rattle.q_listen.specs.Refusals.{is_unreadable as is_listen_unreadable}
+use Rattle.q_listen.specs.declared.listened.ListenError.{ListenError}
+use Rattle.q_listen.specs.declared.listened.ListenError.TheVariants as listen_errors
+use Rattle.q_listen.specs.declared.listened.Listened.{Listened}
+use Rattle.q_listen.specs.declared.listened.Listened.TheVariants as listenings
 use Rattle.q_replay.specs.Takings.{is_unreadable as is_error_unreadable}
 use Rattle.q_replay.specs.declared.deliveries.Delivered.{Delivered}
 use Rattle.q_replay.specs.declared.deliveries.Delivered.TheVariants as deliveries
 use Rattle.q_replay.specs.declared.error.ReplayError.{ReplayError}
 use Rattle.q_replay.specs.declared.error.ReplayError.TheVariants as errors
 use Rattle.q_top.specs.Qmgr.{words_status}
-use Rattle.q_top.specs.Statuses.{conf_status, content_status, delivery_status, is_of_lives, is_unreadable, replay_status, status_of, telling_status}
+use Rattle.q_top.specs.Statuses.{conf_status, content_status, delivery_status, is_of_lives, is_unreadable, listen_status, replay_status, status_of, telling_status}
 use Rattle.q_top.specs.declared.content.ContentError.{ContentError}
 use Rattle.q_top.specs.declared.content.ContentError.TheVariants as content_errors
 use Rattle.q_top.specs.declared.status.Status.{Status}
@@ -36,6 +41,17 @@ pub delivered_readable : (end : Result Delivered ReplayError) → IfErr end (λ 
 delivered_readable (Ok deliveries.All) h = refl
 delivered_readable (Ok (deliveries.Unfinished rests)) h = refl
 delivered_readable (Err error) h = error_readable error h
+
+pub listened_readable : (end : Result Listened ListenError) → IfErr end (λ error. is_listen_unreadable error ≡ false) → is_unreadable (listen_status end) ≡ false
+listened_readable (Ok listenings.All) h = refl
+listened_readable (Ok (listenings.Unfinished rests)) h = refl
+listened_readable (Err listen_errors.Disk) h = refl
+listened_readable (Err listen_errors.Tell) h = refl
+listened_readable (Err listen_errors.Door) h = refl
+listened_readable (Err listen_errors.NoMemory) h = refl
+listened_readable (Err (listen_errors.Limit bound)) h = refl
+listened_readable (Err (listen_errors.Damaged area name)) h = refl
+listened_readable (Err (listen_errors.Unreadable area name)) h = absurd cc
 
 pub conf_readable : (error : ConfError) → is_unreadable (conf_status error) ≡ false
 conf_readable conf_errors.Disk = refl

@@ -11,6 +11,9 @@ use Rattle.q_host.specs.Calls.{Stays}
 use Rattle.q_host.specs.View.{LeavesOnly, Remains, View}
 use Rattle.q_laws.specs.Consistency.{IsUsable}
 use Rattle.q_lives.specs.Lives.{IsOrderly}
+use Rattle.q_listen.specs.ListenEnds.{ListenEnds, Outsides as AtDoor}
+use Rattle.q_listen.specs.declared.listened.Listened.{Listened}
+use Rattle.q_listen.specs.declared.listened.ListenError.{ListenError}
 use Rattle.q_model.specs.Book.{Book}
 use Rattle.q_model.specs.FilesStand.{Stands}
 use Rattle.q_model.specs.Orderly.{is_orderly}
@@ -32,6 +35,7 @@ use Rattle.q_replay.specs.declared.letters.Letter.{Letter}
 use Rattle.q_settings.specs.Ranges.{IsInRange}
 use Rattle.q_telling.specs.Telling.{LeavesFiles, TellsFront, TellsMore}
 use Rattle.q_top.proofs.FirstRefusals.{settings_of, table_by}
+use Rattle.q_top.proofs.ListensLeft.{listening_lives}
 use Rattle.q_top.proofs.RunsBehind.{still_stands}
 use Rattle.q_top.specs.Tellings.{EndsTelling}
 use Rattle.q_top.specs.declared.status.Status.{Status}
@@ -71,6 +75,15 @@ module _ (conf : Conf) (u m v : View) (lawful : TellsCrashes u) (stays : Stays u
       let so = good u b h orderly in
       let ended = ends b (still_stands u m lawful stays b h) orderly w (settings_of w conf refl) (table_by w conf refl) in
       lives_behind b so u m v (reads_keep b b u m lawful stays h) (delivery_lives w b o (usable w range) so m v r ended)
+
+-- a life that listens
+module _ (conf : Conf) (u m v : View) (lawful : TellsCrashes u) (stays : Stays u m) (range : IsInRange (world_of conf).settings) (port count : ℕ) (o : AtDoor) (r : Result Listened ListenError) where
+  pub listen_serves : ForOrderly conf.params conf.table m (λ w b. ListenEnds w b port count o m v r) → Serves true u v
+  listen_serves ends b h orderly =
+      let w = world_of conf in
+      let so = good u b h orderly in
+      let ended = ends b (still_stands u m lawful stays b h) orderly w (settings_of w conf refl) (table_by w conf refl) in
+      lives_behind b so u m v (reads_keep b b u m lawful stays h) (listening_lives w b port count o (usable w range) so m v r ended)
 
 -- ---- looks
 

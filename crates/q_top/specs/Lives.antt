@@ -11,6 +11,9 @@ use Rattle.q_model.specs.declared.event.Mode.TheVariants.{Intake}
 use Rattle.q_model.specs.declared.spot.Area.{Area}
 use Rattle.q_model.specs.Values.{Receiver}
 use Rattle.q_drain.specs.Swept.{Outsides}
+use Rattle.q_listen.specs.ListenEnds.{ListenEnds, Outsides as AtDoor}
+use Rattle.q_listen.specs.declared.listened.Listened.{Listened}
+use Rattle.q_listen.specs.declared.listened.ListenError.{ListenError}
 use Rattle.q_replay.specs.AnyLists.{TakesList}
 use Rattle.q_replay.specs.Deliveries.{DeliveryEnds}
 use Rattle.q_replay.specs.ReplayEnds.{ReplayEnds}
@@ -23,7 +26,7 @@ use Rattle.q_restart.specs.Damages.{IsDamage}
 use Rattle.q_stream.specs.Clocks.{AddsMoment}
 use Rattle.q_top.specs.Contents.{most_content}
 use Rattle.q_top.specs.Courses.{ForBooks, InWorld, Moments, Texts}
-use Rattle.q_top.specs.Statuses.{delivery_status, input_of, status_of}
+use Rattle.q_top.specs.Statuses.{delivery_status, input_of, listen_status, status_of}
 use Rattle.q_top.specs.declared.status.Status.{Status}
 use Rattle.q_top.specs.declared.status.Status.TheVariants as status
 
@@ -91,6 +94,20 @@ pub record EndsDelivery (w : World) (b : Book) (o : Outsides) (u v : View) (s : 
 pub record DrainsSpool (o : Outsides) (u v : View) (s : Status) : Type 0 where
   pub refused : RefusesFirst u v s
   pub run : ForBooks u (λ w b. EndsDelivery w b o u v s)
+
+-- ---- listen
+
+-- the status says how a life on a book listened at a port
+pub record EndsListening (w : World) (b : Book) (port count : ℕ) (o : AtDoor) (u v : View) (s : Status)
+    : Type 0 where
+  pub result : Result Listened ListenError
+  pub says : s ≡ listen_status result
+  pub ends : ListenEnds w b port count o u v result
+
+-- `listen`: by conf and the spool it is refused, or a life is run that takes mail by SMTP.
+pub record ListensOnSpool (port count : ℕ) (o : AtDoor) (u v : View) (s : Status) : Type 0 where
+  pub refused : RefusesFirst u v s
+  pub run : ForBooks u (λ w b. EndsListening w b port count o u v s)
 
 -- ---- submit
 

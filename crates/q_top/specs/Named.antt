@@ -14,7 +14,7 @@ use Rattle.q_top.specs.declared.status.InputFile.TheVariants.{Events, Parameters
 use Rattle.q_top.specs.declared.status.Status.{Status}
 use Rattle.q_top.specs.declared.status.Status.TheVariants.{BadInput, Damaged, Limit}
 use Rattle.q_words.specs.declared.request.Request.{Request}
-use Rattle.q_words.specs.declared.request.Request.TheVariants.{Drain, Replay, Submit}
+use Rattle.q_words.specs.declared.request.Request.TheVariants.{Drain, Listen, Replay, Submit}
 
 -- the text is an event list with a line that is at fault, where it is told
 abbrev pub HasFault : Option (List ℕ) → ℕ → Type 0
@@ -36,10 +36,15 @@ abbrev pub IsTooMuch : (Request → Type 0) → Option (List ℕ) → Bound → 
 IsTooMuch Asks text bound = (Asks Replay × HasTooMuch text bound)
     ⊎ ((sender : Option (List ℕ)) × (to : List Receiver) × Asks (Submit sender to) × LetterPasses to text bound)
 
+-- the command takes mail by SMTP
+abbrev pub AsksToListen : (Request → Type 0) → Type 0
+AsksToListen Asks = (port : ℕ) × (count : ℕ) × (rests : ℕ) × Asks (Listen port count rests)
+
 -- A line of conf is one at which some texts are at fault. A damage, and that no generation is left, are
 -- what some names of boot and some files of the queues show. A line of an event list, and the limits of
 -- what is handed in, are named for commands alone that take the source's text, and by that, where the
--- source tells it; the limit of deliveries for a drain alone.
+-- source tells it; the limit of serials also where mail is taken by SMTP, and that of deliveries for a
+-- drain alone.
 abbrev pub IsNamed : (Asks : Request → Type 0) → (text : Option (List ℕ)) → Status → Type 0
 IsNamed Asks text (BadInput Events line) = Asks Replay × HasFault text line
 IsNamed Asks text (BadInput Parameters line) = SaySo (at_fault conf.Parameters line)
@@ -47,5 +52,6 @@ IsNamed Asks text (BadInput Table line) = SaySo (at_fault conf.Table line)
 IsNamed Asks text (Damaged area name) = IsRefusalOfSome (open_errors.Damaged area name)
 IsNamed Asks text (Limit bounds.Generation) = IsRefusalOfSome open_errors.Spent
 IsNamed Asks text (Limit bounds.Deliveries) = (rests : ℕ) × Asks (Drain rests)
+IsNamed Asks text (Limit bounds.Serial) = IsTooMuch Asks text bounds.Serial ⊎ AsksToListen Asks
 IsNamed Asks text (Limit bound) = IsTooMuch Asks text bound
 IsNamed Asks text status = Unit {0}

@@ -6,20 +6,21 @@ use Rattle.q_host.specs.View.{View}
 use Rattle.q_model.specs.Book.{Book}
 use Rattle.q_model.specs.Orderly.{is_orderly}
 use Rattle.q_replay.specs.Spools.{CameToEnd, Calls, Course, HaveLives, none, seen, then, WasCutOff}
-use Rattle.q_top.specs.Courses.{Connections, Moments, Texts}
+use Rattle.q_top.specs.Courses.{Connections, Entrances, Moments, Texts}
 use Rattle.q_top.specs.Qmgr.{MayCarryOut, runs_lives}
 use Rattle.q_top.specs.declared.status.Status.{Status}
 use Rattle.q_words.specs.Usages.{is_usage}
 use Rattle.q_words.specs.Requests.{IsRequest}
 use Rattle.q_words.specs.declared.request.Request.{Request}
 
--- A call: its words, what its source, its clock and its connections did, its status, and its course
--- on the spool, as far as it came.
+-- A call: its words, what its source, its clock, its connections and its door did, its status, and its
+-- course on the spool, as far as it came.
 pub record QmgrCall (H : Type 0) : Type 0 where
   pub words : List (List ℕ)
   pub texts : Texts
   pub moments : Moments
   pub connections : Connections
+  pub entrances : Entrances
   pub status : Status
   pub course : Course H
 
@@ -28,7 +29,8 @@ pub record QmgrCall (H : Type 0) : Type 0 where
 pub record IsOfQmgr {H : Type 0} (view : H → View) (h : H) (c : QmgrCall H) : Type 0 where
   pub refuses : is_usage c.words ≡ true → (c.course).behind ≡ h
   pub carries_out : is_usage c.words ≡ false
-      → MayCarryOut c.words c.texts c.moments c.connections c.status (view h) (view (c.course).behind)
+      → MayCarryOut c.words c.texts c.moments c.connections c.entrances c.status
+      (view h) (view (c.course).behind)
   pub runs : (request : Request) → IsRequest c.words request → (c.course).runs ≡ runs_lives request
 
 -- it came to its end, or a crash came at some moment in it

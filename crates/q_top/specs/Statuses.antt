@@ -7,6 +7,10 @@ use Rattle.q_conf.specs.declared.error.ConfFile.TheVariants as conf_files
 use Rattle.q_model.specs.declared.limits.Bound.TheVariants as bounds
 use Rattle.q_host.specs.declared.error.HostError.{HostError}
 use Rattle.q_host.specs.declared.error.HostError.TheVariants as faults
+use Rattle.q_listen.specs.declared.listened.Listened.{Listened}
+use Rattle.q_listen.specs.declared.listened.Listened.TheVariants as listenings
+use Rattle.q_listen.specs.declared.listened.ListenError.{ListenError}
+use Rattle.q_listen.specs.declared.listened.ListenError.TheVariants as listen_errors
 use Rattle.q_replay.specs.declared.deliveries.Delivered.{Delivered}
 use Rattle.q_replay.specs.declared.deliveries.Delivered.TheVariants as deliveries
 use Rattle.q_replay.specs.declared.error.ReplayError.{ReplayError}
@@ -16,7 +20,7 @@ use Rattle.q_top.specs.declared.content.ContentError.TheVariants as content_erro
 use Rattle.q_top.specs.declared.status.InputFile.{InputFile}
 use Rattle.q_top.specs.declared.status.InputFile.TheVariants.{Events, Parameters, Table}
 use Rattle.q_top.specs.declared.status.Status.{Status}
-use Rattle.q_top.specs.declared.status.Status.TheVariants.{BadInput, Damaged, Disk, Done, Limit, NoMemory, Source, Tell, Unfinished, Unreadable, Usage}
+use Rattle.q_top.specs.declared.status.Status.TheVariants.{BadInput, Damaged, Disk, Done, Door, Limit, NoMemory, Source, Tell, Unfinished, Unreadable, Usage}
 
 -- the exit status of a program
 abbrev pub status_number : Status → ℕ
@@ -30,6 +34,7 @@ status_number (Damaged area name) = 6
 status_number (Unfinished rests) = 7
 status_number (Limit bound) = 8
 status_number NoMemory = 9
+status_number Door = 10
 status_number (Unreadable area name) = 12
 
 -- a queue file can't be read any longer
@@ -66,6 +71,22 @@ abbrev pub delivery_status : Result Delivered ReplayError → Status
 delivery_status (Ok deliveries.All) = Done
 delivery_status (Ok (deliveries.Unfinished rests)) = Unfinished rests
 delivery_status (Err error) = replay_status error
+
+-- how a command ends whose life listened, and was refused so
+abbrev pub listen_error_status : ListenError → Status
+listen_error_status listen_errors.Disk = Disk
+listen_error_status listen_errors.Tell = Tell
+listen_error_status listen_errors.Door = Door
+listen_error_status listen_errors.NoMemory = NoMemory
+listen_error_status (listen_errors.Limit bound) = Limit bound
+listen_error_status (listen_errors.Damaged area name) = Damaged area name
+listen_error_status (listen_errors.Unreadable area name) = Unreadable area name
+
+-- how a command ends by how a life ended that listens
+abbrev pub listen_status : Result Listened ListenError → Status
+listen_status (Ok listenings.All) = Done
+listen_status (Ok (listenings.Unfinished rests)) = Unfinished rests
+listen_status (Err error) = listen_error_status error
 
 -- a file of conf among the files of input
 abbrev pub input_of : ConfFile → InputFile

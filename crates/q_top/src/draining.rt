@@ -37,6 +37,7 @@ pub(crate) fn drain_spool<L: Link, H: Host, C: Clock, N: Hops<Link = L>>(
     ensures host { HasHostCause (H.faults host.old) (H.faults host.new) result }
     ensures no_source { result ≢ Status.Source }
     ensures no_usage { result ≢ Status.Usage }
+    ensures no_door { result ≢ Status.Door }
     ensures unfinished { (n : ℕ) → result ≡ Status.Unfinished n
         → (n ≡ rests) × CountsRests (N.view hops.old) (N.view hops.new) rests }
     ensures few { (n : ℕ) → result ≡ Status.Unfinished n → AreTooFew n (N.view hops.old) }

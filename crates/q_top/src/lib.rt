@@ -1,5 +1,5 @@
-//! The commands of the queue manager on a spool: `submit`, `replay` and `drain` run lives, `qshape` and
-//! `queue` look at what the queues hold, and `load` runs a generated load in memory.
+//! The commands of the queue manager on a spool: `submit`, `replay`, `drain` and `listen` run lives,
+//! `qshape` and `queue` look at what the queues hold, and `load` runs a generated load in memory.
 //!
 //! `qmgr` reads the words of a command and carries it out. It is no error to give any words, text or
 //! files of conf: what is wrong with them is a status of its own. On a host that tells its files, the
@@ -9,6 +9,7 @@
 mod command;
 mod content;
 mod draining;
+mod listening;
 mod loading;
 mod promises;
 mod replaying;

@@ -41,6 +41,7 @@ pub(crate) fn tell_load<H: Host>(alloc: Global, host: &mut H, mails: u32) -> Sta
     ensures host { HasHostCause (H.faults host.old) (H.faults host.new) result }
     ensures no_source { result ≢ Status.Source }
     ensures no_usage { result ≢ Status.Usage }
+    ensures no_door { result ≢ Status.Door }
     ensures no_rests { (n : ℕ) → result ≢ Status.Unfinished n }
 {
     telling_status(tell_summary(alloc, host, mails))

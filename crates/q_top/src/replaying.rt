@@ -28,6 +28,7 @@ pub(crate) fn replay_list<H: Host, S: Source>(alloc: Global, source: &mut S, hos
     ensures host { HasHostCause (H.faults host.old) (H.faults host.new) result }
     ensures source { HasSourceCause (S.faults source.old) (S.faults source.new) result }
     ensures no_usage { result ≢ Status.Usage }
+    ensures no_door { result ≢ Status.Door }
     ensures no_rests { (n : ℕ) → result ≢ Status.Unfinished n }
 {
     match read_conf(alloc, host) {

@@ -1,9 +1,10 @@
 //! How a command ended.
 ghost use Rattle.std.specs.Prelude.{◌≡◌, ◌≢◌, ℕ};
-ghost use Rattle.q_top.specs.Statuses.{conf_status, delivery_status, input_of, replay_status, status_number, status_of, telling_status};
+ghost use Rattle.q_top.specs.Statuses.{conf_status, delivery_status, input_of, listen_error_status, listen_status, replay_status, status_number, status_of, telling_status};
 
 use q_conf::{ConfError, ConfFile};
 use q_host::HostError;
+use q_listen::{ListenError, Listened};
 use q_model::{Area, Bound, Name};
 use q_replay::{Delivered, ReplayError};
 use std::fmt;
@@ -38,12 +39,15 @@ pub enum Status {
     Source,
     /// The spool can't be opened: this name in this area is at fault.
     Damaged { area: Area, name: Name },
-    /// So many rests were given, and deliveries are still in flight.
+    /// So many rests were given, and another is needed: deliveries are still in flight, or a client is
+    /// still waited for.
     Unfinished { rests: u64 },
     /// This limit was reached.
     Limit { bound: Bound },
     /// Memory ran out.
     NoMemory,
+    /// The port can't be taken, or no connection could be accepted.
+    Door,
     /// A queue file of a life can't be read any longer: this name in this area. It comes over a host
     /// alone that doesn't tell its files.
     Unreadable { area: Area, name: Name },
@@ -65,6 +69,7 @@ impl Status {
             Status::Unfinished { .. } => 7,
             Status::Limit { .. } => 8,
             Status::NoMemory => 9,
+            Status::Door => 10,
             Status::Unreadable { .. } => 12,
         }
     }
@@ -74,6 +79,7 @@ impl Status {
 fn replay_status(error: ReplayError) -> Status
     ensures exact { result ≡ replay_status error }
     ensures no_usage { result ≢ Status.Usage }
+    ensures no_door { result ≢ Status.Door }
     ensures no_rests { (n : ℕ) → result ≢ Status.Unfinished n }
 {
     match error {
@@ -95,6 +101,7 @@ fn replay_status(error: ReplayError) -> Status
 pub(crate) fn status_of(end: Result<(), ReplayError>) -> Status
     ensures exact { result ≡ status_of end }
     ensures no_usage { result ≢ Status.Usage }
+    ensures no_door { result ≢ Status.Door }
     ensures no_rests { (n : ℕ) → result ≢ Status.Unfinished n }
 {
     match end {
@@ -107,11 +114,43 @@ pub(crate) fn status_of(end: Result<(), ReplayError>) -> Status
 pub(crate) fn delivery_status(end: Result<Delivered, ReplayError>) -> Status
     ensures exact { result ≡ delivery_status end }
     ensures no_usage { result ≢ Status.Usage }
+    ensures no_door { result ≢ Status.Door }
 {
     match end {
         Ok(Delivered::All) => Status::Done,
         Ok(Delivered::Unfinished { rests }) => Status::Unfinished { rests },
         Err(error) => replay_status(error),
+    }
+}
+
+/// How a command ends whose life listened, and was refused.
+fn listen_error_status(error: ListenError) -> Status
+    ensures exact { result ≡ listen_error_status error }
+    ensures no_source { result ≢ Status.Source }
+    ensures no_usage { result ≢ Status.Usage }
+    ensures no_rests { (n : ℕ) → result ≢ Status.Unfinished n }
+{
+    match error {
+        ListenError::Disk => Status::Disk,
+        ListenError::Tell => Status::Tell,
+        ListenError::Door => Status::Door,
+        ListenError::NoMemory => Status::NoMemory,
+        ListenError::Limit { bound } => Status::Limit { bound },
+        ListenError::Damaged { area, name } => Status::Damaged { area, name },
+        ListenError::Unreadable { area, name } => Status::Unreadable { area, name },
+    }
+}
+
+/// How a command ends by how a life ended that listens.
+pub(crate) fn listen_status(end: Result<Listened, ListenError>) -> Status
+    ensures exact { result ≡ listen_status end }
+    ensures no_source { result ≢ Status.Source }
+    ensures no_usage { result ≢ Status.Usage }
+{
+    match end {
+        Ok(Listened::All) => Status::Done,
+        Ok(Listened::Unfinished { rests }) => Status::Unfinished { rests },
+        Err(error) => listen_error_status(error),
     }
 }
 
@@ -128,6 +167,7 @@ fn input_of(file: ConfFile) -> InputFile
 pub(crate) fn conf_status(error: ConfError) -> Status
     ensures exact { result ≡ conf_status error }
     ensures no_usage { result ≢ Status.Usage }
+    ensures no_door { result ≢ Status.Door }
     ensures no_rests { (n : ℕ) → result ≢ Status.Unfinished n }
 {
     match error {
@@ -144,6 +184,7 @@ pub(crate) fn conf_status(error: ConfError) -> Status
 pub(crate) fn telling_status(told: Result<(), HostError>) -> Status
     ensures exact { result ≡ telling_status told }
     ensures no_usage { result ≢ Status.Usage }
+    ensures no_door { result ≢ Status.Door }
     ensures no_rests { (n : ℕ) → result ≢ Status.Unfinished n }
 {
     match told {
@@ -175,6 +216,7 @@ impl fmt::Display for Status {
             Status::Unfinished { rests } => write!(f, "unfinished after {rests} rests"),
             Status::Limit { bound } => write!(f, "limit reached: {bound}"),
             Status::NoMemory => write!(f, "no memory"),
+            Status::Door => write!(f, "connection fault"),
             Status::Unreadable { area, name } => {
                 let folder = area.folder();
                 write!(f, "unreadable file: {folder}/{name}")

@@ -25,6 +25,7 @@ use std::alloc::Global;
 fn content_status(error: ContentError) -> Status
     ensures exact { result ≡ content_status error }
     ensures no_usage { result ≢ Status.Usage }
+    ensures no_door { result ≢ Status.Door }
     ensures no_rests { (n : ℕ) → result ≢ Status.Unfinished n }
 {
     match error {
@@ -49,6 +50,7 @@ fn submit_letter<H: Host>(alloc: Global, host: &mut H, moment: Moment, letter: L
     ensures host { HasHostCause (H.faults host.old) (H.faults host.new) result }
     ensures no_source { result ≢ Status.Source }
     ensures no_usage { result ≢ Status.Usage }
+    ensures no_door { result ≢ Status.Door }
     ensures no_rests { (n : ℕ) → result ≢ Status.Unfinished n }
 {
     match read_conf(alloc, host) {
@@ -77,6 +79,7 @@ pub(crate) fn submit_content<H: Host, S: Source, C: Clock>(
     ensures host { HasHostCause (H.faults host.old) (H.faults host.new) result }
     ensures source { HasSourceCause (S.faults source.old) (S.faults source.new) result }
     ensures no_usage { result ≢ Status.Usage }
+    ensures no_door { result ≢ Status.Door }
     ensures no_rests { (n : ℕ) → result ≢ Status.Unfinished n }
 {
     match read_content(alloc, source) {

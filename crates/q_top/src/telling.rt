@@ -25,6 +25,7 @@ pub(crate) fn list_queues<H: Host>(alloc: Global, host: &mut H) -> Status
     ensures host { HasHostCause (H.faults host.old) (H.faults host.new) result }
     ensures no_source { result ≢ Status.Source }
     ensures no_usage { result ≢ Status.Usage }
+    ensures no_door { result ≢ Status.Door }
     ensures no_rests { (n : ℕ) → result ≢ Status.Unfinished n }
 {
     telling_status(tell_listing(alloc, host))
@@ -46,6 +47,7 @@ pub(crate) fn table_ages<H: Host, C: Clock>(
     ensures host { HasHostCause (H.faults host.old) (H.faults host.new) result }
     ensures no_source { result ≢ Status.Source }
     ensures no_usage { result ≢ Status.Usage }
+    ensures no_door { result ≢ Status.Door }
     ensures no_rests { (n : ℕ) → result ≢ Status.Unfinished n }
 {
     let now = clock.now();

@@ -270,6 +270,11 @@ in_range m id q low high ignores is (t, given, passed) = record {
 
 -- ---- an argument of a command, by the command's rules
 
+-- a name that is none of clap's own
+pub own_name : (id : Text) → bytes_eq id (codes "help") ≡ false → bytes_eq id (codes "version") ≡ false → (id ≡ codes "help") ⊎ (id ≡ codes "version") → ⊥
+own_name id help version (inl is) = let never : false ≡ true = sym help ∙ ap (λ (t : Text). bytes_eq t (codes "help")) is in absurd cc
+own_name id help version (inr is) = let never : false ≡ true = sym version ∙ ap (λ (t : Text). bytes_eq t (codes "version")) is in absurd cc
+
 -- the argument takes a number from low to high
 pub record TakesNumber (rules : List Rule) (k : ℕ) (r : Rule) (low high : ℕ) : Type 0 where
   pub below : k < length rules

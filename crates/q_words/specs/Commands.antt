@@ -18,16 +18,37 @@ abbrev pub submit_app : App
 submit_app = with_rule (with_rule (new_app (codes "submit")) sender_rule) to_rule
 
 -- `drain -n RESTS`
-abbrev pub rests_rule : Rule
-rests_rule = record (new_rule (codes "rests")) {
-  short = Some 110;
+abbrev pub rests_rule : ℕ → Rule
+rests_rule letter = record (new_rule (codes "rests")) {
+  short = Some letter;
   action = Some Set;
   parser = Some (Signed (pos 0) (pos 1000000000));
   defaults = codes "1000000" ∷ [];
 }
 
 abbrev pub drain_app : App
-drain_app = with_rule (new_app (codes "drain")) rests_rule
+drain_app = with_rule (new_app (codes "drain")) (rests_rule 110)
+
+-- `listen -p PORT -n COUNT -r RESTS`
+abbrev pub port_rule : Rule
+port_rule = record (new_rule (codes "port")) {
+  short = Some 112;
+  action = Some Set;
+  parser = Some (Signed (pos 1) (pos 65535));
+  defaults = codes "2525" ∷ [];
+}
+
+abbrev pub count_rule : Rule
+count_rule = record (new_rule (codes "count")) {
+  short = Some 110;
+  action = Some Set;
+  parser = Some (Signed (pos 1) (pos 1000000));
+  defaults = codes "1" ∷ [];
+}
+
+abbrev pub listen_app : App
+listen_app = with_rule (with_rule (with_rule (new_app (codes "listen")) port_rule) count_rule)
+    (rests_rule 114)
 
 -- `load N`
 abbrev pub mails_rule : Rule

@@ -13,7 +13,7 @@ use Rattle.q_model.specs.Values.{Receiver}
 use Rattle.q_words.specs.declared.request.Request.{Request}
 use Rattle.q_words.specs.declared.request.Request.TheVariants as requests
 use Rattle.q_shape.specs.declared.request.TableRequest.{TableRequest}
-use Rattle.q_words.specs.Commands.{drain_app, load_app, qshape_app, submit_app}
+use Rattle.q_words.specs.Commands.{drain_app, listen_app, load_app, qshape_app, submit_app}
 
 -- all words of an argument
 abbrev pub words_of : Text → List Row → List Text
@@ -89,6 +89,20 @@ abbrev pub IsLoad : List Row → Request → Type 0
 IsLoad rows (requests.Load mails) = IsLoadOf rows mails
 IsLoad rows request = ⊥
 
+-- the port, so many connections and so many rests; there is a port, and at least one connection
+pub record IsListenOf (rows : List Row) (port count rests : ℕ) : Type 0 where
+  pub is_port : IsNumber rows (codes "port") port
+  pub is_count : IsNumber rows (codes "count") count
+  pub is_rests : IsNumber rows (codes "rests") rests
+  pub some_port : 1 ≤ port
+  pub some : 1 ≤ count
+  pub few : count ≤ 1000000
+
+-- the request is that of `listen`
+abbrev pub IsListen : List Row → Request → Type 0
+IsListen rows (requests.Listen port count rests) = IsListenOf rows port count rests
+IsListen rows request = ⊥
+
 -- the request is that of `qshape`
 abbrev pub IsQshape : List Row → Request → Type 0
 IsQshape rows (requests.Qshape table) = IsTableRequest rows table
@@ -108,5 +122,7 @@ IsRequest words (requests.Drain rests) =
     (command_of words ≡ Some (codes "drain")) × IsNumber (matches_of drain_app words) (codes "rests") rests
 IsRequest words (requests.Load mails) =
     (command_of words ≡ Some (codes "load")) × IsLoadOf (matches_of load_app words) mails
+IsRequest words (requests.Listen port count rests) =
+    (command_of words ≡ Some (codes "listen")) × IsListenOf (matches_of listen_app words) port count rests
 IsRequest words (requests.Qshape table) =
     (command_of words ≡ Some (codes "qshape")) × IsTableRequest (matches_of qshape_app words) table

@@ -5,7 +5,7 @@ use Rattle.std.specs.Prelude.{◌||◌, ◌≡◌, Bool, bytes_eq, codes, Err, f
 use Rattle.clap.specs.Words.{matches_of, new_app, Row, Text}
 use Rattle.q_words.specs.declared.error.WordsError.{WordsError}
 use Rattle.q_words.specs.declared.error.WordsError.TheVariants as errors
-use Rattle.q_words.specs.Commands.{drain_app, is_fault, load_app, qshape_app, submit_app}
+use Rattle.q_words.specs.Commands.{drain_app, is_fault, listen_app, load_app, qshape_app, submit_app}
 use Rattle.q_words.specs.Requests.{command_of, is_queue, sender_in, to_in, words_of}
 
 -- a word of `submit` is no address
@@ -28,6 +28,9 @@ is_drain_usage words = is_fault drain_app words
 abbrev pub is_load_usage : List Text → Bool
 is_load_usage words = is_fault load_app words
 
+abbrev pub is_listen_usage : List Text → Bool
+is_listen_usage words = is_fault listen_app words
+
 -- a command that takes no words
 abbrev pub is_plain_usage : Text → List Text → Bool
 is_plain_usage command words = is_fault (new_app command) words
@@ -40,6 +43,7 @@ is_usage_of words command =
     else if bytes_eq command (codes "qshape") then is_qshape_usage words
     else if bytes_eq command (codes "load") then is_load_usage words
     else if bytes_eq command (codes "queue") then is_plain_usage (codes "queue") words
+    else if bytes_eq command (codes "listen") then is_listen_usage words
     else true
 
 -- The words are refused: the first is no command, or the command refuses them.

@@ -1,8 +1,10 @@
 //! The commands as clap reads their words.
 ghost use Rattle.std.specs.Prelude.{◌≡◌, codes, false, map, IfOk, string_bytes};
 ghost use Rattle.clap.specs.Words.{app_of, fault_of, FailsBy, found_of, matches_of, rows_of, rule_of, new_app};
-ghost use Rattle.q_words.specs.Commands.{drain_app, flags_app, load_app, qshape_app, submit_app};
-ghost use Rattle.q_words.specs.Commands.{flag_rule, mails_rule, rests_rule, sender_rule, to_rule};
+ghost use Rattle.q_words.specs.Commands.{drain_app, flags_app, listen_app, load_app};
+ghost use Rattle.q_words.specs.Commands.{qshape_app, submit_app};
+ghost use Rattle.q_words.specs.Commands.{count_rule, flag_rule, mails_rule, port_rule, rests_rule};
+ghost use Rattle.q_words.specs.Commands.{sender_rule, to_rule};
 ghost use Rattle.q_words.specs.Commands.{buckets_rule, minutes_rule, queues_rule};
 ghost use Rattle.q_words.specs.Given.{HasNumber};
 
@@ -31,15 +33,38 @@ fn to<'a>(alloc: Global) -> Arg<'a>
     Arg::new(alloc, "to").required(true).num_args(1..)
 }
 
-fn rests<'a>(alloc: Global) -> Arg<'a>
-    ensures rule { rule_of result ≡ rests_rule }
+/// How many rests may be given, behind this letter.
+fn rests<'a>(alloc: Global, letter: char) -> Arg<'a>
+    ensures rule { rule_of result ≡ rests_rule letter }
     ensures local { result.global ≡ false }
 {
     Arg::new(alloc, "rests")
-        .short('n')
+        .short(letter)
         .action(ArgAction::Set)
         .value_parser(value_parser!(u32).range(0..=1_000_000_000))
         .default_value("1000000")
+}
+
+fn port<'a>(alloc: Global) -> Arg<'a>
+    ensures rule { rule_of result ≡ port_rule }
+    ensures local { result.global ≡ false }
+{
+    Arg::new(alloc, "port")
+        .short('p')
+        .action(ArgAction::Set)
+        .value_parser(value_parser!(u16).range(1..=65_535))
+        .default_value("2525")
+}
+
+fn count<'a>(alloc: Global) -> Arg<'a>
+    ensures rule { rule_of result ≡ count_rule }
+    ensures local { result.global ≡ false }
+{
+    Arg::new(alloc, "count")
+        .short('n')
+        .action(ArgAction::Set)
+        .value_parser(value_parser!(u32).range(1..=1_000_000))
+        .default_value("1")
 }
 
 fn mails<'a>(alloc: Global) -> Arg<'a>
@@ -92,7 +117,16 @@ fn submit<'a>(alloc: Global) -> Result<Command<'a>, AllocError>
 fn drain<'a>(alloc: Global) -> Result<Command<'a>, AllocError>
     ensures { IfOk result (λ c. app_of c ≡ drain_app) }
 {
-    Command::new(alloc, "drain").arg(rests(alloc))
+    Command::new(alloc, "drain").arg(rests(alloc, 'n'))
+}
+
+fn listen<'a>(alloc: Global) -> Result<Command<'a>, AllocError>
+    ensures { IfOk result (λ c. app_of c ≡ listen_app) }
+{
+    Command::new(alloc, "listen")
+        .arg(port(alloc))?
+        .arg(count(alloc))?
+        .arg(rests(alloc, 'r'))
 }
 
 fn load<'a>(alloc: Global) -> Result<Command<'a>, AllocError>
@@ -141,6 +175,22 @@ pub(crate) fn drain_matches<'a>(alloc: Global, words: &'a [String]) -> Result<Ar
     ensures rests { IfOk result (λ m. HasNumber m (codes "rests") 0 1000000000) }
 {
     let command = drain(alloc)?;
+    command.try_get_matches_from(words)
+}
+
+/// The same of `listen`.
+pub(crate) fn listen_matches<'a>(
+    alloc: Global,
+    words: &'a [String],
+) -> Result<ArgMatches<'a>, Error>
+    ensures refused { FailsBy (fault_of listen_app (map string_bytes words.entry.now)) result }
+    ensures found { IfOk result (λ m. rows_of (found_of m)
+        ≡ matches_of listen_app (map string_bytes words.entry.now)) }
+    ensures port { IfOk result (λ m. HasNumber m (codes "port") 1 65535) }
+    ensures count { IfOk result (λ m. HasNumber m (codes "count") 1 1000000) }
+    ensures rests { IfOk result (λ m. HasNumber m (codes "rests") 0 1000000000) }
+{
+    let command = listen(alloc)?;
     command.try_get_matches_from(words)
 }
 

@@ -3,21 +3,15 @@ ghost use Rattle.std.specs.Prelude.{codes, map, string_bytes};
 ghost use Rattle.clap.specs.Words.{found_of, matches_of, rows_of};
 ghost use Rattle.q_words.specs.Commands.{drain_app};
 ghost use Rattle.q_words.specs.Given.{HasNumber};
-ghost use Rattle.q_words.specs.Requests.{IsDrain, IsNumber};
+ghost use Rattle.q_words.specs.Requests.{IsDrain};
 ghost use Rattle.q_words.specs.Usages.{is_drain_usage, IsAnswer};
 
+use crate::arguments::rests_of;
 use crate::commands::drain_matches;
 use crate::error::{WordsError, refused};
 use crate::request::Request;
 use clap::ArgMatches;
 use std::alloc::Global;
-
-fn rests_of<'a>(matches: &ArgMatches<'a>) -> u32
-    requires { HasNumber matches.now (codes "rests") 0 1000000000 }
-    ensures { IsNumber (rows_of (found_of matches.now)) (codes "rests") result }
-{
-    matches.get_one::<u32>("rests").unwrap()
-}
 
 /// The drain that the words ask for.
 fn drain_in<'a>(matches: &ArgMatches<'a>) -> Request

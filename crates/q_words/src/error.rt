@@ -13,7 +13,7 @@ use thiserror::Error;
 pub enum WordsError {
     #[error("no memory")]
     NoMemory,
-    #[error("error: the first word is none of replay, submit, drain, qshape, queue, load")]
+    #[error("error: the first word is none of replay, submit, drain, qshape, queue, load, listen")]
     NoCommand,
     /// clap's reason, and the usage of the command.
     #[error("{0}")]

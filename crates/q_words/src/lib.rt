@@ -2,7 +2,8 @@
 //!
 //! The first word is the command: `replay` and `queue` take no more; `submit` takes a sender, `<>`
 //! for the null sender, and one or more recipients; `drain` takes a number of rests; `qshape` takes
-//! options and queues; `load` takes a number of mails. It is no error to give any words. What stands alone in place of a command, as
+//! options and queues; `load` takes a number of mails; `listen` takes a port, a number of connections
+//! and one of rests. It is no error to give any words. What stands alone in place of a command, as
 //! `--help`, isn't read here.
 #![tactic(auto)]
 
@@ -10,6 +11,7 @@ mod arguments;
 mod commands;
 mod draining;
 mod error;
+mod listening;
 mod loading;
 mod queues;
 mod reading;

@@ -9,6 +9,7 @@ ghost use Rattle.q_words.specs.Usages.{IsAnswer};
 use crate::commands::plain_matches;
 use crate::draining::read_drain;
 use crate::error::{WordsError, refused};
+use crate::listening::read_listen;
 use crate::loading::read_load;
 use crate::request::Request;
 use crate::submission::read_submission;
@@ -65,6 +66,9 @@ fn read_command(alloc: Global, command: &[u8], words: &[String]) -> Result<Reque
     }
     if command == b"queue".as_slice() {
         return read_none(alloc, "queue", words, Request::Queue);
+    }
+    if command == b"listen".as_slice() {
+        return read_listen(alloc, words);
     }
     Err(WordsError::NoCommand)
 }

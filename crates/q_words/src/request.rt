@@ -24,4 +24,11 @@ pub enum Request {
     Load {
         mails: u32,
     },
+    /// Take mail by SMTP (RFC 5321) at this port of 127.0.0.1, over so many connections; so many rests
+    /// may be given.
+    Listen {
+        port: u16,
+        count: u32,
+        rests: u64,
+    },
 }

@@ -1,7 +1,8 @@
 use Rattle.std.proofs.Common.{◌≡◌, ◌∙◌, sym}
 use Rattle.q_top.proofs.Named.{asked_too, unnamed}
 use Rattle.q_top.proofs.Readable.{no_lives_of}
-use Rattle.q_words.specs.declared.request.Request.TheVariants.{Drain, Replay, Submit}
+use Rattle.q_top.proofs.Rests.{drain_needs, gave_drain, gave_listen, listen_needs}
+use Rattle.q_words.specs.declared.request.Request.TheVariants.{Drain, Listen, Replay, Submit}
 use Rattle.q_top.proofs.command.carry_out.Goals as goal
 
 pub returns-in-Replay-clause-unfinished : goal.returns-in-Replay-clause-unfinished
@@ -9,6 +10,22 @@ returns-in-Replay-clause-unfinished g c n is = absurd (c.replay_list.ensures.no_
 
 pub returns-in-Submit-clause-unfinished : goal.returns-in-Submit-clause-unfinished
 returns-in-Submit-clause-unfinished g c n is = absurd (c.submit_content.ensures.no_rests n is)
+
+pub returns-in-Drain-clause-unfinished : goal.returns-in-Drain-clause-unfinished
+returns-in-Drain-clause-unfinished g c n is = gave_drain c.args.request c.in-Drain.rests n c.in-Drain.is
+    (record { before = g.N.Hops.view c.args.hops.now; after = g.N.Hops.view c.drain_spool.new.hops })
+    (record { before = g.D.Door.view c.args.door.now; after = g.D.Door.view c.args.door.now }) (c.drain_spool.ensures.unfinished n is)
+
+pub returns-in-Listen-clause-unfinished : goal.returns-in-Listen-clause-unfinished
+returns-in-Listen-clause-unfinished g c n is = gave_listen c.args.request c.in-Listen.rests n c.in-Listen.port c.in-Listen.count c.in-Listen.is
+    (record { before = g.N.Hops.view c.args.hops.now; after = g.N.Hops.view c.args.hops.now })
+    (record { before = g.D.Door.view c.args.door.now; after = g.D.Door.view c.listen_spool.new.door }) (c.listen_spool.ensures.unfinished n is)
+
+pub returns-in-Drain-clause-few : goal.returns-in-Drain-clause-few
+returns-in-Drain-clause-few g c n is = drain_needs c.args.request c.in-Drain.rests n c.in-Drain.is (g.N.Hops.view c.args.hops.now) (g.D.Door.view c.args.door.now) (c.drain_spool.ensures.few n is)
+
+pub returns-in-Listen-clause-few : goal.returns-in-Listen-clause-few
+returns-in-Listen-clause-few g c n is = listen_needs c.args.request c.in-Listen.rests n c.in-Listen.port c.in-Listen.count c.in-Listen.is (g.N.Hops.view c.args.hops.now) (g.D.Door.view c.args.door.now) (c.listen_spool.ensures.few n is)
 
 pub returns-in-Qshape-clause-unfinished : goal.returns-in-Qshape-clause-unfinished
 returns-in-Qshape-clause-unfinished g c n is = absurd (c.table_ages.ensures.no_rests n is)
@@ -53,6 +70,11 @@ pub returns-in-Drain-clause-named : goal.returns-in-Drain-clause-named
 returns-in-Drain-clause-named g c =
     let text = g.S.Source.left c.args.source.now in
     asked_too (λ r. r ≡ Drain c.in-Drain.rests) (λ r. r ≡ c.args.request) (λ r is. is ∙ sym c.in-Drain.is) text c.drain_spool.result (c.drain_spool.ensures.named text)
+
+pub returns-in-Listen-clause-named : goal.returns-in-Listen-clause-named
+returns-in-Listen-clause-named g c =
+    let text = g.S.Source.left c.args.source.now in
+    asked_too (λ r. r ≡ Listen c.in-Listen.port c.in-Listen.count c.in-Listen.rests) (λ r. r ≡ c.args.request) (λ r is. is ∙ sym c.in-Listen.is) text c.listen_spool.result (c.listen_spool.ensures.named text)
 
 pub returns-in-Qshape-clause-named : goal.returns-in-Qshape-clause-named
 returns-in-Qshape-clause-named g c = unnamed (λ r. r ≡ c.args.request) (g.S.Source.left c.args.source.now) c.table_ages.result c.table_ages.ensures.no_lives

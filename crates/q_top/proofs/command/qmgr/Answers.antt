@@ -1,7 +1,6 @@
 use Rattle.std.proofs.Common.{◌≡◌, inl, inr, refl, subst, sym}
 use Rattle.q_top.proofs.Asked.{asked_form}
 use Rattle.q_top.specs.Qmgr.{texts_of, words_status}
-use Rattle.q_words.specs.declared.request.Request.{Request}
 use Rattle.q_words.specs.Requests.{IsRequest}
 use Rattle.q_top.proofs.Named.{asked_too, words_named}
 use Rattle.q_top.proofs.Readable.{words_readable, no_lives_of, words_no_lives}
@@ -11,13 +10,13 @@ pub carry_out-requires-clause-form : goal.carry_out-requires-clause-form
 carry_out-requires-clause-form g c = asked_form (texts_of c.args.words.now) c.in-Ok.request c.in-Ok.ensures.1
 
 pub returns-in-Ok-clause-unfinished : goal.returns-in-Ok-clause-unfinished
-returns-in-Ok-clause-unfinished g c n is =
-    let words = texts_of c.args.words.now in
-    let both = c.carry_out.ensures.unfinished n is in
-    (subst (λ (r : Request). IsRequest words r) both.0 c.in-Ok.ensures.1, both.1)
+returns-in-Ok-clause-unfinished g c n is = (c.in-Ok.request, c.in-Ok.ensures.1, c.carry_out.ensures.unfinished n is)
+
+pub returns-in-Ok-clause-few : goal.returns-in-Ok-clause-few
+returns-in-Ok-clause-few g c n is = (c.in-Ok.request, c.in-Ok.ensures.1, c.carry_out.ensures.few n is)
 
 pub returns-in-Err-clause-readable : goal.returns-in-Err-clause-readable
-returns-in-Err-clause-readable g c t = rw c.words_status.ensures (words_readable c.in-Err.error)
+returns-in-Err-clause-readable g c t = rw c.words_status.ensures.exact (words_readable c.in-Err.error)
 
 pub returns-in-Ok-clause-alone : goal.returns-in-Ok-clause-alone
 returns-in-Ok-clause-alone g c usage = inr (record {
@@ -26,19 +25,20 @@ returns-in-Ok-clause-alone g c usage = inr (record {
   source = c.carry_out.ensures.source_stays;
   clock = c.carry_out.ensures.clock_stays;
   connections = c.carry_out.ensures.connections_stay;
+  door = c.carry_out.ensures.door_stays;
 })
 
 pub returns-in-Err-clause-alone : goal.returns-in-Err-clause-alone
-returns-in-Err-clause-alone g c usage = inl (refl, refl, refl)
+returns-in-Err-clause-alone g c usage = inl (refl, refl, refl, refl)
 
 pub returns-in-Ok-clause-lives : goal.returns-in-Ok-clause-lives
 returns-in-Ok-clause-lives g c of = (c.in-Ok.request, c.in-Ok.ensures.1, c.carry_out.ensures.lives of)
 
 pub returns-in-Err-clause-lives : goal.returns-in-Err-clause-lives
-returns-in-Err-clause-lives g c = rw c.words_status.ensures (no_lives_of (words_status c.in-Err.error) (words_no_lives c.in-Err.error))
+returns-in-Err-clause-lives g c = rw c.words_status.ensures.exact (no_lives_of (words_status c.in-Err.error) (words_no_lives c.in-Err.error))
 
 pub returns-in-Err-clause-named : goal.returns-in-Err-clause-named
-returns-in-Err-clause-named g c = rw c.words_status.ensures (words_named (IsRequest (texts_of c.args.words.now)) (g.S.Source.left c.args.source.now) c.in-Err.error)
+returns-in-Err-clause-named g c = rw c.words_status.ensures.exact (words_named (IsRequest (texts_of c.args.words.now)) (g.S.Source.left c.args.source.now) c.in-Err.error)
 
 pub returns-in-Ok-clause-named : goal.returns-in-Ok-clause-named
 returns-in-Ok-clause-named g c =

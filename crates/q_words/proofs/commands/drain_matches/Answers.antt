@@ -1,12 +1,11 @@
-use Rattle.std.proofs.Common.{◌≡◌, false, true, inl, inr, ◌⊎◌, arith, refl, ap}
-use Rattle.std.specs.Prelude.{bytes_eq, codes}
+use Rattle.std.proofs.Common.{arith, refl}
+use Rattle.std.specs.Prelude.{codes}
 use Rattle.std.proofs.lemmas.Result.{IfOk-weaker}
-use Rattle.clap.specs.Words.{Text}
-use Rattle.q_words.proofs.GivenLaws.{default_number, TakesNumber}
+use Rattle.q_words.proofs.GivenLaws.{default_number, own_name, TakesNumber}
 use Rattle.q_words.specs.Commands.{drain_app, rests_rule}
 use Rattle.q_words.proofs.commands.drain_matches.Goals as goal
 
-takes_rests : TakesNumber drain_app.top.rules 0 rests_rule 0 1000000000
+takes_rests : TakesNumber drain_app.top.rules 0 (rests_rule 110) 0 1000000000
 takes_rests = record {
   below = omega arith;
   is = λ e. refl;
@@ -14,15 +13,11 @@ takes_rests = record {
   one_value = refl;
   parser = refl;
   named = λ is. absurd cc;
-  own = λ is. by is;
+  own = own_name (codes "rests") refl refl;
   unique = λ j e low same. omega (arith, low);
 }
-  where
-    by : (codes "rests" ≡ codes "help") ⊎ (codes "rests" ≡ codes "version") → ⊥
-    by (inl is) = let never : false ≡ true = ap (λ (t : Text). bytes_eq t (codes "help")) is in absurd cc
-    by (inr is) = let never : false ≡ true = ap (λ (t : Text). bytes_eq t (codes "version")) is in absurd cc
 
 pub returns-clause-rests : goal.returns-clause-rests
 returns-clause-rests c = IfOk-weaker c.try_get_matches_from.result _ _
-    (λ m parsed. default_number c.in_ok-command.command m parsed drain_app c.in_ok-command.ensures refl refl refl 0 rests_rule 0 1000000000 takes_rests (omega arith))
+    (λ m parsed. default_number c.in_ok-command.command m parsed drain_app c.in_ok-command.ensures refl refl refl 0 (rests_rule 110) 0 1000000000 takes_rests (omega arith))
     c.try_get_matches_from.ensures.parsed

@@ -1,8 +1,7 @@
-use Rattle.std.proofs.Common.{◌≡◌, false, true, inl, inr, ◌⊎◌, arith, refl, ap}
-use Rattle.std.specs.Prelude.{bytes_eq, codes}
+use Rattle.std.proofs.Common.{arith, refl}
+use Rattle.std.specs.Prelude.{codes}
 use Rattle.std.proofs.lemmas.Result.{IfOk-weaker}
-use Rattle.clap.specs.Words.{Text}
-use Rattle.q_words.proofs.GivenLaws.{required_number, TakesNumber}
+use Rattle.q_words.proofs.GivenLaws.{own_name, required_number, TakesNumber}
 use Rattle.q_words.specs.Commands.{load_app, mails_rule}
 use Rattle.q_words.proofs.commands.load_matches.Goals as goal
 
@@ -14,13 +13,9 @@ takes_mails = record {
   one_value = refl;
   parser = refl;
   named = λ is. absurd cc;
-  own = λ is. by is;
+  own = own_name (codes "mails") refl refl;
   unique = λ j e low same. omega (arith, low);
 }
-  where
-    by : (codes "mails" ≡ codes "help") ⊎ (codes "mails" ≡ codes "version") → ⊥
-    by (inl is) = let never : false ≡ true = ap (λ (t : Text). bytes_eq t (codes "help")) is in absurd cc
-    by (inr is) = let never : false ≡ true = ap (λ (t : Text). bytes_eq t (codes "version")) is in absurd cc
 
 pub returns-clause-mails : goal.returns-clause-mails
 returns-clause-mails c = IfOk-weaker c.try_get_matches_from.result _ _

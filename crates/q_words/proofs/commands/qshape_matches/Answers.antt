@@ -1,9 +1,9 @@
-use Rattle.std.proofs.Common.{◌≡◌, ◌<◌, ℕ, false, true, inl, inr, ◌⊎◌, zero, suc, arith, refl, ap}
+use Rattle.std.proofs.Common.{◌≡◌, ◌<◌, ℕ, true, zero, suc, arith, refl}
 use Rattle.std.specs.List.{slice_index_or}
 use Rattle.std.specs.Prelude.{bytes_eq, codes, length}
 use Rattle.std.proofs.lemmas.Result.{IfOk-weaker}
-use Rattle.clap.specs.Words.{Rule, Text}
-use Rattle.q_words.proofs.GivenLaws.{default_number, TakesNumber}
+use Rattle.clap.specs.Words.{Rule}
+use Rattle.q_words.proofs.GivenLaws.{default_number, own_name, TakesNumber}
 use Rattle.q_words.specs.Commands.{buckets_rule, minutes_rule, qshape_app}
 use Rattle.q_words.proofs.commands.qshape_matches.Goals as goal
 
@@ -15,14 +15,10 @@ takes_buckets = record {
   one_value = refl;
   parser = refl;
   named = λ is. absurd cc;
-  own = λ is. by is;
+  own = own_name (codes "buckets") refl refl;
   unique = λ j e low same. only j e low same;
 }
   where
-    by : (codes "buckets" ≡ codes "help") ⊎ (codes "buckets" ≡ codes "version") → ⊥
-    by (inl is) = let never : false ≡ true = ap (λ (t : Text). bytes_eq t (codes "help")) is in absurd cc
-    by (inr is) = let never : false ≡ true = ap (λ (t : Text). bytes_eq t (codes "version")) is in absurd cc
-
     only : (j : ℕ) (e : Rule) → j < length qshape_app.top.rules → bytes_eq (slice_index_or qshape_app.top.rules j e).id (codes "buckets") ≡ true → j ≡ 2
     only zero e low same = absurd cc
     only (suc zero) e low same = absurd cc
@@ -39,14 +35,10 @@ takes_minutes = record {
   one_value = refl;
   parser = refl;
   named = λ is. absurd cc;
-  own = λ is. by is;
+  own = own_name (codes "minutes") refl refl;
   unique = λ j e low same. only j e low same;
 }
   where
-    by : (codes "minutes" ≡ codes "help") ⊎ (codes "minutes" ≡ codes "version") → ⊥
-    by (inl is) = let never : false ≡ true = ap (λ (t : Text). bytes_eq t (codes "help")) is in absurd cc
-    by (inr is) = let never : false ≡ true = ap (λ (t : Text). bytes_eq t (codes "version")) is in absurd cc
-
     only : (j : ℕ) (e : Rule) → j < length qshape_app.top.rules → bytes_eq (slice_index_or qshape_app.top.rules j e).id (codes "minutes") ≡ true → j ≡ 3
     only zero e low same = absurd cc
     only (suc zero) e low same = absurd cc

@@ -1,0 +1,12 @@
+pub mod Stories
+pub mod Told
+pub mod Links
+pub mod Listens
+pub mod ListenEnds
+pub mod Serving
+pub mod Refusals
+pub mod Runs
+pub mod Courses
+pub mod Turns
+pub mod Sessions
+pub mod Phases
