@@ -67,7 +67,7 @@ impl Stage {
         self.hops = hops_to(alloc, self.servers.as_slice())?;
         self.servers = Vec::new(alloc);
         let piece = self.piece.max(1);
-        self.door = door_for(alloc, self.clients.as_slice(), piece == 1)?;
+        self.door = door_for(alloc, self.clients.as_slice(), piece)?;
         self.clients = Vec::new(alloc);
         self.clients_seen = 0;
         let fails = mem::replace(&mut self.fails, Vec::new(alloc));

@@ -1,5 +1,5 @@
 //! A fault of disk or output in the midst of a command, at a call that is named by a line.
-use crate::client::door_for;
+use crate::client::{PIECE, door_for};
 use crate::command::run_on;
 use crate::flaw::Flaw;
 use crate::places::{number_of, spot_of};
@@ -82,9 +82,9 @@ pub(crate) fn rot_of(alloc: Global, text: &str) -> Result<Fault, Flaw> {
 fn is_told(alloc: Global, given: Given<'_>, calls: u64, line: &str) -> Result<bool, Flaw> {
     let mut host = given.spool.host(alloc)?;
     host.stop_after(calls);
-    let mut source = MemSource::new(alloc, given.input, 4_096, &[])?;
+    let mut source = MemSource::new(alloc, given.input, PIECE, &[])?;
     let mut hops = ScriptHops::new(alloc);
-    let mut door = door_for(alloc, given.clients, false)?;
+    let mut door = door_for(alloc, given.clients, PIECE)?;
     let words = given.words;
     run_on(
         alloc,

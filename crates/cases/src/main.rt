@@ -7,6 +7,7 @@
 //! It is an error to name a file that isn't there; a line that is no step is shown as a difference.
 #![tactic(auto)]
 
+mod breaking;
 mod bytes;
 mod client;
 mod command;
@@ -27,7 +28,7 @@ use flaw::Flaw;
 use stage::Stage;
 use std::process::ExitCode;
 use std::{env, fs};
-use step::{Step, steps_of};
+use step::{PIECES, Step, steps_of};
 
 /// The word of a step that names a case.
 const CASE: &str = "case";
@@ -61,13 +62,21 @@ fn shown(rt: HostRuntime, bytes: &[u8]) -> Result<String> {
     Ok(text)
 }
 
-fn show(rt: HostRuntime, page: &str, name: &str, step: &Step<'_>, flaw: &Flaw) -> Result<()> {
+/// Says at which step of its page a case isn't kept, the size of pieces there, and why.
+fn show(
+    rt: HostRuntime,
+    page: &str,
+    name: &str,
+    step: &Step<'_>,
+    piece: usize,
+    flaw: &Flaw,
+) -> Result<()> {
     let line = step.number;
+    println!(rt; "BROKEN: {name} ({page}, line {line}, pieces of {piece})")?;
     match flaw {
-        Flaw::NoStep(why) => println!(rt; "BROKEN: {name} ({page}, line {line}): {why}")?,
-        Flaw::NoMemory => println!(rt; "BROKEN: {name} ({page}, line {line}): no memory")?,
+        Flaw::NoStep(why) => println!(rt; "{why}")?,
+        Flaw::NoMemory => println!(rt; "no memory")?,
         Flaw::Differs { wanted, came } => {
-            println!(rt; "BROKEN: {name} ({page}, line {line})")?;
             println!(rt; "wanted:\n{}", shown(rt, wanted.as_slice())?)?;
             println!(rt; "came:\n{}", shown(rt, came.as_slice())?)?;
         }
@@ -75,10 +84,45 @@ fn show(rt: HostRuntime, page: &str, name: &str, step: &Step<'_>, flaw: &Flaw) -
     Ok(())
 }
 
-/// How many steps from a place on come before the next one that names a case.
-fn own_steps(steps: &[Step<'_>], from: usize) -> usize {
-    let behind = steps.iter().skip(from);
-    behind.take_while(|step| step.word() != CASE).count()
+/// How many of these steps come before the first one that names a case.
+fn own_steps(steps: &[Step<'_>]) -> usize {
+    steps.iter().take_while(|step| step.word() != CASE).count()
+}
+
+/// How often the steps of a case are carried out: once for each size of pieces that the last of them
+/// names which names any.
+fn rounds_of(begin: &[Step<'_>], own: &[Step<'_>]) -> usize {
+    let mut rounds = 1;
+    for step in begin.iter().chain(own) {
+        if step.word() == PIECES {
+            rounds = step.rest().split_whitespace().count().max(1);
+        }
+    }
+    rounds
+}
+
+/// Carries out the steps of a case with one size of pieces. Whether they are kept.
+fn check_round(
+    rt: HostRuntime,
+    page: &str,
+    case: &Step<'_>,
+    begin: &[Step<'_>],
+    own: &[Step<'_>],
+    round: usize,
+) -> Result<bool> {
+    let name = case.rest();
+    let mut stage = Stage::new(rt.alloc(), round);
+    for step in begin.iter().chain(own) {
+        if let Err(flaw) = stage.carry_out(step) {
+            show(rt, page, name, step, stage.piece, &flaw)?;
+            return Ok(false);
+        }
+    }
+    if let Err(flaw) = stage.judge_end() {
+        show(rt, page, name, case, stage.piece, &flaw)?;
+        return Ok(false);
+    }
+    Ok(true)
 }
 
 /// Carries out the case that is named at a place: the steps that the page begins each case with, and
@@ -90,22 +134,15 @@ fn check(
     place: usize,
     case: &Step<'_>,
 ) -> Result<bool> {
-    let name = case.rest();
-    let begin = steps.iter().take(own_steps(steps, 0));
-    let from = place.saturating_add(1);
-    let own = steps.iter().skip(from).take(own_steps(steps, from));
-    let mut stage = Stage::new(rt.alloc());
-    for step in begin.chain(own) {
-        if let Err(flaw) = stage.carry_out(step) {
-            show(rt, page, name, step, &flaw)?;
+    let begin = steps.get(..own_steps(steps)).unwrap_or(&[]);
+    let behind = steps.get(place.saturating_add(1)..).unwrap_or(&[]);
+    let own = behind.get(..own_steps(behind)).unwrap_or(&[]);
+    for round in 0..rounds_of(begin, own) {
+        if !check_round(rt, page, case, begin, own, round)? {
             return Ok(false);
         }
     }
-    if let Err(flaw) = stage.judge_end() {
-        show(rt, page, name, case, &flaw)?;
-        return Ok(false);
-    }
-    println!(rt; "{name}")?;
+    println!(rt; "{}", case.rest())?;
     Ok(true)
 }
 

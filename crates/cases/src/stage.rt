@@ -1,11 +1,13 @@
 //! What a case is carried out on: a spool and an output in memory, and what its next command is given.
+use crate::breaking::{Dialogue, text_of};
 use crate::bytes::bytes_of;
+use crate::client::PIECE;
 use crate::fault::{Fault, Kind, fault_of, rot_of};
-use crate::flaw::Flaw;
+use crate::flaw::{Flaw, same};
 use crate::places::{number_of, numbers_of, spot_of};
 use crate::server::Act;
 use crate::snapshot::Snapshot;
-use crate::step::Step;
+use crate::step::{PIECES, Step};
 use crate::sweep::{Life, Sweep};
 use q_door::ScriptDoor;
 use q_link::ScriptHops;
@@ -16,11 +18,8 @@ use q_top::Status;
 use std::alloc::Global;
 use std::mem;
 
-/// The moment of a command that is stopped after each call.
-const FIRST_MOMENT: Moment = 1_000;
-
-/// How many bytes of the input come at once, where a page says nothing of it.
-const PIECE: usize = 4_096;
+/// The moment of a command that is stopped after each call, or whose client breaks off.
+pub(crate) const FIRST_MOMENT: Moment = 1_000;
 
 /// The spool of a case, what its next command is given, and what the last one left.
 #[derive(Drop)]
@@ -29,7 +28,9 @@ pub(crate) struct Stage {
     pub(crate) host: SilentHost,
     /// The moments that the clock gives.
     pub(crate) moments: Vec<Moment>,
-    /// How many bytes of the input come at once, and the calls on it that fail.
+    /// Which of the sizes is taken that a page names for pieces.
+    round: usize,
+    /// How many bytes of the input and of clients come at once, and the calls on the input that fail.
     pub(crate) piece: usize,
     pub(crate) fails: Vec<u64>,
     pub(crate) servers: Vec<Vec<Act>>,
@@ -65,11 +66,13 @@ fn add_to_last(scripts: &mut Vec<Vec<Act>>, act: Act) -> Result<(), Flaw> {
 }
 
 impl Stage {
-    pub(crate) fn new(alloc: Global) -> Stage {
+    /// A stage for a case whose pieces have the size with this index, or the last one that is named.
+    pub(crate) fn new(alloc: Global, round: usize) -> Stage {
         Stage {
             alloc,
             host: SilentHost::new(alloc),
             moments: Vec::new(alloc),
+            round,
             piece: PIECE,
             fails: Vec::new(alloc),
             servers: Vec::new(alloc),
@@ -122,6 +125,33 @@ impl Stage {
             },
         };
         sweep.run()
+    }
+
+    /// What a client says breaks off at each call on its link. The page says what came of that.
+    fn break_off(&mut self, step: &Step<'_>) -> Result<(), Flaw> {
+        let alloc = self.alloc;
+        let clients = mem::replace(&mut self.clients, Vec::new(alloc));
+        let spool = Snapshot::of(alloc, &mut self.host, "")?;
+        let dialogue = Dialogue {
+            alloc,
+            spool: &spool,
+            words: step.rest(),
+            text: text_of(clients.as_slice())?,
+        };
+        let wanted = bytes_of(alloc, step.below.as_slice(), b"\n")?;
+        same(alloc, wanted.as_slice(), dialogue.table()?.as_bytes())
+    }
+
+    /// The size of pieces from now on.
+    fn size_pieces(&mut self, sizes: &str) -> Result<(), Flaw> {
+        let sizes = numbers_of(self.alloc, sizes)?;
+        match sizes.get(self.round).or(sizes.last()) {
+            Some(size) => {
+                self.piece = *size as usize;
+                Ok(())
+            }
+            None => Err(Flaw::NoStep("no size of pieces")),
+        }
     }
 
     fn crash(&mut self, choice: &str) -> Result<(), Flaw> {
@@ -184,8 +214,9 @@ impl Stage {
             "put" => self.put(step)?,
             "crash" => self.crash(rest)?,
             "sweep" => self.sweep(step)?,
+            "breaks" => self.break_off(step)?,
             "clock" => self.moments = numbers_of(self.alloc, rest)?,
-            "pieces" => self.piece = number_of(rest)? as usize,
+            PIECES => self.size_pieces(rest)?,
             "input-fails" => self.fails = numbers_of(self.alloc, rest)?,
             "fails" => self.fault = Some(fault_of(self.alloc, Kind::Fails, rest)?),
             "stops" => self.fault = Some(fault_of(self.alloc, Kind::Stops, rest)?),

@@ -1,6 +1,9 @@
 //! The steps of a page, each a line with the lines below it that begin with a bar.
 use std::alloc::{AllocError, Global};
 
+/// The word of a step that names the sizes of pieces.
+pub(crate) const PIECES: &str = "pieces";
+
 /// A step: what its line says, and what stands below it.
 #[derive(Drop)]
 pub(crate) struct Step<'a> {

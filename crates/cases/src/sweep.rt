@@ -7,7 +7,7 @@
 //! what was told is the first part of what the life would have told without a stop. Messages that the
 //! spool has from the beginning have to stand too. Where two stops one behind the other leave the same,
 //! what follows is the same, and is tried once.
-use crate::client::door_for;
+use crate::client::{PIECE, door_for};
 use crate::command::run_on;
 use crate::flaw::{Flaw, same};
 use crate::server::Act;
@@ -24,7 +24,8 @@ use std::alloc::Global;
 /// After how many calls of the second life the last stop comes.
 const LAST_STOP: u64 = 12;
 
-const CRASHES: [Rot; 3] = [Rot::Keep, Rot::Old, Rot::Byte(0x44)];
+/// What a crash makes of what wasn't synced: it is kept, lost, or another byte.
+pub(crate) const CRASHES: [Rot; 3] = [Rot::Keep, Rot::Old, Rot::Byte(0x44)];
 
 /// A command, its input and the moment of its clock.
 #[derive(Clone, Copy)]
@@ -66,9 +67,9 @@ fn end_text(alloc: Global, status: Status, told: &str) -> Result<String, Flaw> {
 impl<'a> Sweep<'a> {
     fn live(&self, host: &mut SilentHost, life: Life<'_>) -> Result<Status, Flaw> {
         let alloc = self.alloc;
-        let mut source = MemSource::new(alloc, life.input, 4_096, &[])?;
+        let mut source = MemSource::new(alloc, life.input, PIECE, &[])?;
         let mut hops = ScriptHops::new(alloc);
-        let mut door = door_for(alloc, self.clients, false)?;
+        let mut door = door_for(alloc, self.clients, PIECE)?;
         run_on(
             alloc,
             host,
