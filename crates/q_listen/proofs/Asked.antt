@@ -9,7 +9,7 @@ use Rattle.q_host.specs.View.{LeavesOnly, Remains, View}
 use Rattle.q_host.specs.declared.error.HostError.{HostError}
 use Rattle.q_host.specs.declared.error.HostError.TheVariants as faults
 use Rattle.q_laws.specs.Traces.{AreAllowed}
-use Rattle.q_listen.specs.ListenEnds.{ListenEnds, Outsides, StopsBehind, StopsWithin}
+use Rattle.q_listen.specs.ListenEnds.{HasNoSerial, ListenEnds, Outsides, StopsBehind, StopsWithin}
 use Rattle.q_listen.specs.Told.{life_told}
 use Rattle.q_listen.specs.declared.listened.ListenError.{ListenError}
 use Rattle.q_listen.specs.declared.listened.ListenError.TheVariants as errors
@@ -167,6 +167,9 @@ module _ (w : World) (b : Book) (o : Outsides) (u v : View) where
     stops_behind_same : StopsBehind (intake_world w) b count o u v → StopsBehind w b count o u v
     stops_behind_same h = record { story = h.story; fits = fits_same (life_told (h.story).told) h.fits; told = told_same (life_told (h.story).told) h.told; clocked = h.clocked; is = h.is }
 
+    no_serial_same : HasNoSerial (intake_world w) b count o u v → HasNoSerial w b count o u v
+    no_serial_same h = record { story = h.story; fits = fits_same (life_told (h.story).told) h.fits; told = told_same (life_told (h.story).told) h.told; full = h.full; clocked = h.clocked; is = h.is }
+
     -- what it did in that world is what this one asks for
     pub listen_same : (r : Result Listened ListenError) → ListenEnds (intake_world w) b port count o u v r → ListenEnds w b port count o u v r
     listen_same (Ok All) h = record { story = h.story; fits = fits_same (life_told (h.story).told ++ Finish ∷ []) h.fits; told = told_same (life_told (h.story).told ++ Finish ∷ []) h.told; clocked = h.clocked; is = h.is }
@@ -176,10 +179,10 @@ module _ (w : World) (b : Book) (o : Outsides) (u v : View) where
     listen_same (Err errors.NoMemory) h = stops_within_same faults.NoMemory h
     listen_same (Err errors.Door) h = stops_behind_same h
     listen_same (Err (errors.Limit bounds.Generation)) h = (h.0, told_same [] h.1)
-    listen_same (Err (errors.Limit bounds.Content)) h = (h.0, stops_behind_same h.1)
-    listen_same (Err (errors.Limit bounds.Recipients)) h = (h.0, stops_behind_same h.1)
-    listen_same (Err (errors.Limit bounds.Serial)) h = (h.0, stops_behind_same h.1)
-    listen_same (Err (errors.Limit bounds.Input)) h = (h.0, stops_behind_same h.1)
-    listen_same (Err (errors.Limit bounds.Deliveries)) h = (h.0, stops_behind_same h.1)
+    listen_same (Err (errors.Limit bounds.Content)) h = (h.0, no_serial_same h.1)
+    listen_same (Err (errors.Limit bounds.Recipients)) h = (h.0, no_serial_same h.1)
+    listen_same (Err (errors.Limit bounds.Serial)) h = (h.0, no_serial_same h.1)
+    listen_same (Err (errors.Limit bounds.Input)) h = (h.0, no_serial_same h.1)
+    listen_same (Err (errors.Limit bounds.Deliveries)) h = (h.0, no_serial_same h.1)
     listen_same (Err (errors.Damaged area name)) h = (told_same [] h.0, h.1)
     listen_same (Err (errors.Unreadable area name)) h = absurd h

@@ -1,5 +1,5 @@
 -- An intake life begins, or doesn't.
-use Rattle.std.proofs.Common.{◌≡◌, ◌+◌, ℕ, Bool, true, false, if◌then◌else◌, List, [], ◌∷◌, ◌++◌, Option, Some, None, refl, sym, ap, ◌∙◌, arith, subst, append-nil}
+use Rattle.std.proofs.Common.{◌≡◌, ◌+◌, ℕ, Bool, true, false, if◌then◌else◌, List, [], ◌∷◌, ◌++◌, length, Option, Some, None, refl, sym, ap, ◌∙◌, arith, subst, append-nil}
 use Rattle.std.proofs.lemmas.Option.{same_Some}
 use Rattle.std.specs.Option.{option_map_or}
 use Rattle.std.specs.Prelude.{Err}
@@ -16,6 +16,7 @@ use Rattle.q_host.specs.declared.error.HostError.{HostError}
 use Rattle.q_host.specs.declared.error.HostError.TheVariants as faults
 use Rattle.q_laws.proofs.Tidied.{tidy_scan_is}
 use Rattle.q_laws.specs.Traces.{AreAllowed}
+use Rattle.q_listen.proofs.Arriving.{life_arrivals}
 use Rattle.q_listen.proofs.Asked.{halts_as}
 use Rattle.q_listen.proofs.DoorSteps.{done_none}
 use Rattle.q_listen.proofs.Moments.{front_none}
@@ -32,6 +33,7 @@ use Rattle.q_listen.specs.Told.{events_of, life_told, mails_told}
 use Rattle.q_listen.specs.declared.listened.ListenError.TheVariants as errors
 use Rattle.q_model.specs.Book.{Book}
 use Rattle.q_model.specs.Ledger.{Ledger, opening}
+use Rattle.q_model.specs.Past.{arrivals}
 use Rattle.q_model.specs.Run.{turn}
 use Rattle.q_model.specs.Settings.{World}
 use Rattle.q_model.specs.Step.{after, after_all, change, noted}
@@ -53,6 +55,7 @@ use Rattle.q_replay.specs.RunEnds.{entries_on, IsTold}
 use Rattle.q_replay.specs.Takings.{HaltsItem, NotTaken, replay_error, TookItem}
 use Rattle.q_replay.specs.declared.error.ReplayError.{ReplayError}
 use Rattle.q_replay.specs.declared.error.ReplayError.TheVariants as replay_errors
+use Rattle.q_smtpd.specs.Places.{Mail}
 
 -- with these entries told, and nothing else done
 abbrev pub nothing_behind : List Entry → Story
@@ -104,6 +107,13 @@ module _ (w : World) (b : Book) where
   now_first : (after_all w l (turn w l Begin)).now ≡ 0
   now_first = ap (λ (es : List Entry). (after_all w l es).now) begin_turn ∙ ap (λ (k : Ledger). k.now) one_after ∙ life_now
 
+  arrived_first : arrivals (after_all w l (turn w l Begin)) ≡ length (mails_told (turn w l Begin))
+  arrived_first =
+      ap (λ (es : List Entry). arrivals (after_all w l es)) begin_turn
+      ∙ ap (λ (k : Ledger). arrivals k) one_after
+      ∙ life_arrivals w b
+      ∙ sym (ap (λ (ms : List Mail). length ms) first_silent.mails_are)
+
   -- ---- it begins
 
   module _ {H : Type 0} (view : H → View) (host : H) (z : Outside) (v : View) (engine : Engine) (lawful : TellsCrashes (view host)) (stands : HostStands (view host) b) (took : TookItem w l Restart (Some engine) (view host) v) where
@@ -124,6 +134,7 @@ module _ (w : World) (b : Book) where
           (subst (λ (k : Ledger). AddsAllNotes w k (turn w k Begin) u.files v.files) (sym (ledger_none w Intake b)) took.notes));
       own = sym entries_first ∙ ap (λ (items : List LifeEvent). entries_on w Intake b items) (sym (first_named es first_silent));
       fits = subst (AreAllowed w l) (sym (first_named es first_silent)) (first_allowed w Intake b took.accepted);
+      arrived = arrived_first;
     }
 
     moment_first : (es : List Entry) → es ≡ own ∷ [] → moment_after 0 es ≡ 0

@@ -1,5 +1,5 @@
 -- A life that listens, from its beginning to its end.
-use Rattle.std.proofs.Common.{◌≡◌, ℕ, true, List, [], ◌∷◌, ◌++◌, Option, Some, None, refl, sym, ap, ◌∙◌, arith, subst, append-nil}
+use Rattle.std.proofs.Common.{◌≡◌, ◌≤◌, ◌-◌, ◌^◌, ℕ, true, List, [], ◌∷◌, ◌++◌, length, Option, Some, None, refl, sym, ap, ◌∙◌, arith, subst, append-nil}
 use Rattle.std.specs.Prelude.{Err, Ok}
 use Rattle.q_door.specs.Doors.{Binds, DoorView}
 use Rattle.q_door.specs.declared.door.DoorError.{DoorError}
@@ -16,11 +16,11 @@ use Rattle.q_listen.proofs.DoorSteps.{done_as, done_bind, done_port, done_still}
 use Rattle.q_listen.proofs.Going.{clocked_so_far}
 use Rattle.q_listen.proofs.Moments.{first_same, front_none}
 use Rattle.q_listen.proofs.Running.{halted_behind}
-use Rattle.q_listen.proofs.Linking.{binds, cut_unbound, cut_unrecorded, ends, gives_none}
+use Rattle.q_listen.proofs.Linking.{binds, cut_between, cut_unbound, ends, gives_none}
 use Rattle.q_listen.specs.Courses.{IsCourse, Start}
-use Rattle.q_listen.specs.ListenEnds.{LeavesOff, ListenEnds, ListensToAll, Outside, Outsides, StopsBehind, StopsWithin}
-use Rattle.q_listen.specs.Listens.{IsClockedSoFar, ServesAll, ServesSome}
-use Rattle.q_listen.specs.Phases.{GoesOn, IsLeft, IsRefused}
+use Rattle.q_listen.specs.ListenEnds.{HasNoSerial, LeavesOff, ListenEnds, ListensToAll, Outside, Outsides, StopsBehind, StopsWithin}
+use Rattle.q_listen.specs.Listens.{IsClockedSoFar, ServesAll, ServesClosed, ServesSome, ServesWhole}
+use Rattle.q_listen.specs.Phases.{GivesUp, GoesOn, IsLeft, IsRefused}
 use Rattle.q_listen.specs.Refusals.{listen_error}
 use Rattle.q_listen.specs.Runs.{IsHalted, IsRun, IsStopped, ledger_of}
 use Rattle.q_listen.specs.Sessions.{IsBetween, IsUnbound}
@@ -76,19 +76,19 @@ module _ {H : Type 0} (view : H → View) (o : Start H) (clock : Option (List �
         (λ un. record { cases = []; heard = 0; serving = binds port count g.story un }) g.done;
   }
 
-  bind_refused : (why : DoorError) (error : ListenError) → Binds port (Err why) d e → ((s : Story) → IsCourse view o clock u life s → IsStopped o.world o.book error (view o.host) u s.told)
-      → GoesOn view o (record { clock = clock; door = d }) u IsUnbound life → IsRefused view o (record { clock = clock; door = e }) u (ServesSome count) error
-  bind_refused why error b stopped g = record {
+  bind_refused : (why : DoorError) (error : ListenError) → Binds port (Err why) d e → ((s : Story) → ServesWhole count s → GivesUp count error s) → ((s : Story) → IsCourse view o clock u life s → IsStopped o.world o.book error (view o.host) u s.told)
+      → GoesOn view o (record { clock = clock; door = d }) u IsUnbound life → IsRefused view o (record { clock = clock; door = e }) u (GivesUp count error) error
+  bind_refused why error b whole stopped g = record {
     story = with_bind g.story;
     gave_up = record { stopped = stopped g.story g.course; clocked = clocked_so_far g.story (g.course).clocked; given = (g.course).given };
-    done = done_bind why port o.outside.door d e g.story (IsUnbound g.story) (ServesSome count (with_bind g.story)) b.told (cut_unbound count g.story) g.done;
+    done = done_bind why port o.outside.door d e g.story (IsUnbound g.story) (GivesUp count error (with_bind g.story)) b.told (λ un. whole (with_bind g.story) (cut_unbound count g.story un)) g.done;
   }
 
-  pub bind_failed : (why : DoorError) → Binds port (Err why) d e → GoesOn view o (record { clock = clock; door = d }) u IsUnbound life → IsRefused view o (record { clock = clock; door = e }) u (ServesSome count) errors.Door
-  bind_failed why b g = bind_refused why errors.Door b (λ s c. c.run) g
+  pub bind_failed : (why : DoorError) → Binds port (Err why) d e → GoesOn view o (record { clock = clock; door = d }) u IsUnbound life → IsRefused view o (record { clock = clock; door = e }) u (GivesUp count errors.Door) errors.Door
+  bind_failed why b g = bind_refused why errors.Door b (λ s h. h) (λ s c. c.run) g
 
-  pub bind_spent : (why : DoorError) → Binds port (Err why) d e → GoesOn view o (record { clock = clock; door = d }) u IsUnbound life → IsRefused view o (record { clock = clock; door = e }) u (ServesSome count) errors.NoMemory
-  bind_spent why b g = bind_refused why errors.NoMemory b (λ s c. halted_behind o.world o.book (view o.host) u s.told faults.NoMemory c.run) g
+  pub bind_spent : (why : DoorError) → Binds port (Err why) d e → GoesOn view o (record { clock = clock; door = d }) u IsUnbound life → IsRefused view o (record { clock = clock; door = e }) u (GivesUp count errors.NoMemory) errors.NoMemory
+  bind_spent why b g = bind_refused why errors.NoMemory b (λ s h. h.0) (λ s c. halted_behind o.world o.book (view o.host) u s.told faults.NoMemory c.run) g
 
 -- ---- how it ends
 
@@ -103,7 +103,7 @@ module _ {H : Type 0} (view : H → View) (o : Start H) (z : Outside) (v : View)
   os = record { before = o.outside; behind = z }
 
   -- so many rests were given
-  pub left_off : (rests : ℕ) → IsLeft view o z v (ServesSome count) rests → LeavesOff w b count rests os (view o.host) v
+  pub left_off : (rests : ℕ) → IsLeft view o z v (ServesClosed count) rests → LeavesOff w b count rests os (view o.host) v
   left_off rests h = record {
     story = h.story;
     fits = (h.run).fits;
@@ -127,16 +127,19 @@ module _ {H : Type 0} (view : H → View) (o : Start H) (z : Outside) (v : View)
     is = record { given = given; done = done };
   }
 
-  stops_behind : (s : Story) → IsRun w b (view o.host) v s.told → HasGiven o.outside.clock z.clock s → HasDone o.outside.door z.door s (ServesSome count s) → IsClockedSoFar s → StopsBehind w b count os (view o.host) v
+  stops_behind : (s : Story) → IsRun w b (view o.host) v s.told → HasGiven o.outside.clock z.clock s → HasDone o.outside.door z.door s (ServesWhole count s) → IsClockedSoFar s → StopsBehind w b count os (view o.host) v
   stops_behind s h given done clocked = record { story = s; fits = h.fits; told = h.is; clocked = clocked; is = record { given = given; done = done } }
 
+  no_serial : (s : Story) → IsRun w b (view o.host) v s.told → 2 ^ 32 - 1 ≤ length (mails_told s.told) → HasGiven o.outside.clock z.clock s → HasDone o.outside.door z.door s (ServesSome count s) → IsClockedSoFar s → HasNoSerial w b count os (view o.host) v
+  no_serial s h full given done clocked = record { story = s; fits = h.fits; told = h.is; full = full; clocked = clocked; is = record { given = given; done = done } }
+
   -- it was given up
-  pub refused_ends : (error : ListenError) → IsRefused view o z v (ServesSome count) error → ListenEnds w b port count os (view o.host) v (Err error)
+  pub refused_ends : (error : ListenError) → IsRefused view o z v (GivesUp count error) error → ListenEnds w b port count os (view o.host) v (Err error)
   refused_ends errors.Disk h = stops_within faults.Disk h.story (h.gave_up).stopped (h.gave_up).given h.done (h.gave_up).clocked
   refused_ends errors.Tell h = stops_within faults.Tell h.story (h.gave_up).stopped (h.gave_up).given h.done (h.gave_up).clocked
   refused_ends errors.NoMemory h = stops_within faults.NoMemory h.story (h.gave_up).stopped (h.gave_up).given h.done (h.gave_up).clocked
   refused_ends errors.Door h = stops_behind h.story (h.gave_up).stopped (h.gave_up).given h.done (h.gave_up).clocked
-  refused_ends (errors.Limit bounds.Serial) h = let stopped = (h.gave_up).stopped in (refl, stops_behind h.story stopped.1 (h.gave_up).given h.done (h.gave_up).clocked)
+  refused_ends (errors.Limit bounds.Serial) h = let stopped = (h.gave_up).stopped in (refl, no_serial h.story stopped.1 stopped.2 (h.gave_up).given h.done (h.gave_up).clocked)
   refused_ends (errors.Limit bounds.Content) h = let stopped = (h.gave_up).stopped in let bad = stopped.0 in absurd cc
   refused_ends (errors.Limit bounds.Recipients) h = let stopped = (h.gave_up).stopped in let bad = stopped.0 in absurd cc
   refused_ends (errors.Limit bounds.Generation) h = let stopped = (h.gave_up).stopped in let bad = stopped.0 in absurd cc
@@ -218,7 +221,7 @@ module _ {H : Type 0} (view : H → View) (o : Start H) (z : Outside) (v : View)
           is = record {
             given = (g.course).given;
             done = done_still o.outside.door z.door s r (IsBetween (record { port = port; count = count; served = count }) s) (ServesSome count r) refl refl refl refl refl
-                (λ h. cut_unrecorded (gives_none q.done h.serving no_mails) (omega arith) (omega arith)) g.done;
+                (λ h. (cut_between (gives_none q.done h.serving no_mails) (omega arith)).0) g.done;
           };
         }
 

@@ -1,7 +1,7 @@
 -- A life that listens goes on, is left off or given up, by what its calls answer.
-use Rattle.std.proofs.Common.{◌≡◌, ◌≤◌, ◌<◌, ◌+◌, ℕ, Bool, true, false, List, [], ◌∷◌, ◌++◌, Option, Some, None, refl, sym, ap, ◌∙◌, ⊎_elim, arith, subst, append-nil}
+use Rattle.std.proofs.Common.{◌≡◌, ◌≢◌, ◌≤◌, ◌<◌, ◌+◌, ℕ, Bool, true, false, List, [], ◌∷◌, ◌++◌, Option, Some, None, refl, sym, ap, ◌∙◌, ⊎_elim, arith, subst, append-nil}
 use Rattle.std.proofs.lemmas.Bool.{cases_lt}
-use Rattle.std.specs.Prelude.{Err, Ok, Result}
+use Rattle.std.specs.Prelude.{Err, IfErr, Ok, Result}
 use Rattle.q_door.specs.Doors.{Accepts, Closed, Closes, DoorView, IsFresh, StaysOpen, ToldDoor, closed}
 use Rattle.q_engine.specs.Refusals.{ForAgreed}
 use Rattle.q_host.specs.View.{View}
@@ -11,12 +11,12 @@ use Rattle.q_listen.proofs.DoorSteps.{done_accept, done_as, done_open, done_reco
 use Rattle.q_listen.proofs.Moments.{first_same}
 use Rattle.q_listen.proofs.Polls.{IsBegun, given_up_begun, given_up_session, moment_begins, moment_on, over_ended, over_late, over_stopped, polled_on, rested_on, session_begins, stopped_taking, taken_on}
 use Rattle.q_listen.proofs.Running.{halted_behind}
-use Rattle.q_listen.proofs.Linking.{accepts, closes, cut, cut_unrecorded}
+use Rattle.q_listen.proofs.Linking.{accepts, closes, cut, cut_accepted, cut_closed, cut_unrecorded}
 use Rattle.q_listen.specs.Courses.{GaveUp, IsCourse, IsFirst, Start}
 use Rattle.q_listen.specs.Links.{IsCutOff, IsServed}
 use Rattle.q_listen.specs.ListenEnds.{Outside}
-use Rattle.q_listen.specs.Listens.{IsClocked, IsClockedSoFar, ServesSome, greatest}
-use Rattle.q_listen.specs.Phases.{GoesOn, IsRefused, PolledTo, RestsOnce, ServedTo, unrecorded}
+use Rattle.q_listen.specs.Listens.{IsClocked, IsClockedSoFar, ServesClosed, ServesSome, ServesWhole, greatest}
+use Rattle.q_listen.specs.Phases.{GivesUp, GoesOn, IsRefused, PolledTo, RestsOnce, ServedTo, unrecorded}
 use Rattle.q_listen.specs.Runs.{IsStopped, ledger_of}
 use Rattle.q_listen.specs.Serving.{Task, next_task}
 use Rattle.q_listen.specs.Sessions.{InSession, IsAccepted, IsBetween, IsGivenUp, IsOver}
@@ -226,22 +226,32 @@ module _ {H : Type 0} (view : H → View) (o : Start H) where
           rested = c.rested;
         }
 
-    accept_refused : (error : ListenError) → ((s : Story) → IsCourse view o clock u life s → IsStopped o.world o.book error (view o.host) u s.told) → GoesOn view o (record { clock = clock; door = d }) u (IsBetween k) life
-        → IsRefused view o (record { clock = clock; door = e }) u (ServesSome k.count) error
-    accept_refused error stopped g = record {
+    accept_refused : (error : ListenError) → ((s : Story) → ServesWhole k.count s → GivesUp k.count error s) → ((s : Story) → IsCourse view o clock u life s → IsStopped o.world o.book error (view o.host) u s.told) → GoesOn view o (record { clock = clock; door = d }) u (IsBetween k) life
+        → IsRefused view o (record { clock = clock; door = e }) u (GivesUp k.count error) error
+    accept_refused error whole stopped g = record {
       story = with_accept g.story;
       gave_up = record { stopped = stopped g.story g.course; clocked = clocked_so_far g.story (g.course).clocked; given = (g.course).given };
-      done = done_accept o.outside.door d e g.story (IsBetween k g.story) (ServesSome k.count (with_accept g.story)) accepted.told
-          (λ b. cut_unrecorded (accepts b.serving more) (omega arith) (omega arith)) g.done;
+      done = done_accept o.outside.door d e g.story (IsBetween k g.story) (GivesUp k.count error (with_accept g.story)) accepted.told
+          (λ b. whole (with_accept g.story) (cut_accepted (accepts b.serving more) (omega arith))) g.done;
     }
 
-    pub accept_failed : GoesOn view o (record { clock = clock; door = d }) u (IsBetween k) life → IsRefused view o (record { clock = clock; door = e }) u (ServesSome k.count) errors.Door
-    accept_failed g = accept_refused errors.Door (λ s c. c.run) g
+    pub accept_failed : GoesOn view o (record { clock = clock; door = d }) u (IsBetween k) life → IsRefused view o (record { clock = clock; door = e }) u (GivesUp k.count errors.Door) errors.Door
+    accept_failed g = accept_refused errors.Door (λ s h. h) (λ s c. c.run) g
 
-    pub accept_spent : GoesOn view o (record { clock = clock; door = d }) u (IsBetween k) life → IsRefused view o (record { clock = clock; door = e }) u (ServesSome k.count) errors.NoMemory
-    accept_spent g = accept_refused errors.NoMemory (λ s c. halted_behind o.world o.book (view o.host) u s.told faults.NoMemory c.run) g
+    pub accept_spent : GoesOn view o (record { clock = clock; door = d }) u (IsBetween k) life → IsRefused view o (record { clock = clock; door = e }) u (GivesUp k.count errors.NoMemory) errors.NoMemory
+    accept_spent g = accept_refused errors.NoMemory (λ s h. h.0) (λ s c. halted_behind o.world o.book (view o.host) u s.told faults.NoMemory c.run) g
 
   -- ---- its close
+
+  -- by a refusal that isn't the door's
+  gives_up : (count : ℕ) (error : ListenError) (s : Story) → error ≢ errors.Door → ServesSome count s → GivesUp count error s
+  gives_up count errors.Door s other h = absurd (other refl)
+  gives_up count errors.Disk s other h = h
+  gives_up count errors.Tell s other h = h
+  gives_up count errors.NoMemory s other h = h
+  gives_up count (errors.Limit bound) s other h = h
+  gives_up count (errors.Damaged area name) s other h = h
+  gives_up count (errors.Unreadable area name) s other h = h
 
   module _ (clock : Option (List ℕ)) (d e : DoorView) (v : View) (k : Task) (l : LinkView) (rests : ℕ) where
     abbrev z : Outside
@@ -275,44 +285,47 @@ module _ {H : Type 0} (view : H → View) (o : Start H) where
       rested = c.rested;
     }
 
+    all_cut : (s : Story) (t : Told) (door : ToldDoor) → l.told ≡ Some t → record_of l d ≡ closed l t door → IsGivenUp k l s → ServesClosed k.count (with_record (record_of l d) s)
+    all_cut s t door told is up = cut_closed (record_of l d) up.serving up.few (subst (λ (r : Closed). IsCutOff r up.mails) (sym is) (up.cut t door told))
+
     -- with a record
-    pub closed_to : Closes l d e → (served : Result (Option Life) ListenError) → ServedTo view o z v (IsOver k l) (IsGivenUp k l) rests served → ServedTo view o y v (IsBetween (next_task k)) (ServesSome k.count) rests served
-    closed_to c (Ok (Some life)) g = record {
+    pub closed_to : Closes l d e → (served : Result (Option Life) ListenError) → IfErr served (λ error. error ≢ errors.Door) → ServedTo view o z v (IsOver k l) (IsGivenUp k l) (λ error. IsGivenUp k l) rests served
+        → ServedTo view o y v (IsBetween (next_task k)) (ServesClosed k.count) (GivesUp k.count) rests served
+    closed_to c (Ok (Some life)) other g = record {
       story = with_record (record_of l d) g.story;
       course = course_closed (record_of l d) life g.story g.course;
       done = recorded c g.story (IsOver k l g.story) (IsBetween (next_task k) (with_record (record_of l d) g.story)) (between_next g.story) g.done;
     }
-    closed_to c (Ok None) g = record {
+    closed_to c (Ok None) other g = record {
       story = with_record (record_of l d) g.story;
       run = g.run;
       clocked = g.clocked;
       given = g.given;
       rested = g.rested;
-      done = recorded c g.story (IsGivenUp k l g.story) (ServesSome k.count (with_record (record_of l d) g.story)) (some_cut g.story) g.done;
+      done = recorded c g.story (IsGivenUp k l g.story) (ServesClosed k.count (with_record (record_of l d) g.story)) (all_cut g.story) g.done;
     }
-    closed_to c (Err error) g = record {
+    closed_to c (Err error) other g = record {
       story = with_record (record_of l d) g.story;
       gave_up = record { stopped = (g.gave_up).stopped; clocked = (g.gave_up).clocked; given = (g.gave_up).given };
-      done = recorded c g.story (IsGivenUp k l g.story) (ServesSome k.count (with_record (record_of l d) g.story)) (some_cut g.story) g.done;
+      done = recorded c g.story (IsGivenUp k l g.story) (GivesUp k.count error (with_record (record_of l d) g.story))
+          (λ t door told is up. gives_up k.count error (with_record (record_of l d) g.story) other (some_cut g.story t door told is up)) g.done;
     }
 
     -- without one
-    pub unrecorded_to : StaysOpen d e → (served : Result (Option Life) ListenError) → ServedTo view o z v (IsOver k l) (IsGivenUp k l) rests served → ServedTo view o y v (IsBetween (next_task k)) (ServesSome k.count) rests (unrecorded served)
-    unrecorded_to c (Ok (Some life)) g = record {
+    pub unrecorded_to : StaysOpen d e → (served : Result (Option Life) ListenError) → IfErr served (λ error. error ≢ errors.Door) → ServedTo view o z v (IsOver k l) (IsGivenUp k l) (λ error. IsGivenUp k l) rests served
+        → ServedTo view o y v (IsBetween (next_task k)) (ServesClosed k.count) (GivesUp k.count) rests (unrecorded served)
+    unrecorded_to c (Ok (Some life)) other g = record {
       story = g.story;
       gave_up = gave_up_behind clock v life g.story errors.NoMemory (halted_behind o.world o.book (view o.host) v (g.story).told faults.NoMemory (g.course).run) g.course;
-      done = done_open o.outside.door d e g.story (IsOver k l g.story) (ServesSome k.count g.story) c.0 (λ over. cut_unrecorded over.serving (omega arith) (omega arith)) g.done;
+      done = done_open o.outside.door d e g.story (IsOver k l g.story) (ServesSome k.count g.story) c.0 (λ over. cut_unrecorded over.serving (omega arith)) g.done;
     }
-    unrecorded_to c (Ok None) g = record {
+    unrecorded_to c (Ok None) other g = record {
       story = g.story;
-      run = g.run;
-      clocked = g.clocked;
-      given = g.given;
-      rested = g.rested;
-      done = done_open o.outside.door d e g.story (IsGivenUp k l g.story) (ServesSome k.count g.story) c.0 (λ up. cut_unrecorded up.serving up.few (omega arith)) g.done;
+      gave_up = record { stopped = halted_behind o.world o.book (view o.host) v (g.story).told faults.NoMemory g.run; clocked = g.clocked; given = g.given };
+      done = done_open o.outside.door d e g.story (IsGivenUp k l g.story) (ServesSome k.count g.story) c.0 (λ up. cut_unrecorded up.serving up.few) g.done;
     }
-    unrecorded_to c (Err error) g = record {
+    unrecorded_to c (Err error) other g = record {
       story = g.story;
       gave_up = g.gave_up;
-      done = done_open o.outside.door d e g.story (IsGivenUp k l g.story) (ServesSome k.count g.story) c.0 (λ up. cut_unrecorded up.serving up.few (omega arith)) g.done;
+      done = done_open o.outside.door d e g.story (IsGivenUp k l g.story) (GivesUp k.count error g.story) c.0 (λ up. gives_up k.count error g.story other (cut_unrecorded up.serving up.few)) g.done;
     }

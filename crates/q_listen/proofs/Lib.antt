@@ -1,9 +1,9 @@
 mod Dots
 mod Records
-mod Late
 mod Answered
 mod Naming
 mod Growing
+mod Arriving
 mod Patience
 mod Linking
 mod DoorSteps

@@ -1,5 +1,5 @@
 -- A call that listens goes on with its door: from poll to poll, and from link to link.
-use Rattle.std.proofs.Common.{◌≡◌, ◌≤◌, ◌<◌, ◌+◌, ◌*◌, ℕ, Bool, true, false, if◌then◌else◌, List, [], ◌∷◌, ◌++◌, length, refl, sym, ap, ◌∙◌, arith, length-append, append_assoc}
+use Rattle.std.proofs.Common.{◌≡◌, ◌≤◌, ◌<◌, ◌+◌, ◌*◌, inl, inr, ℕ, Bool, true, false, if◌then◌else◌, List, [], ◌∷◌, ◌++◌, length, refl, sym, ap, ◌∙◌, arith, length-append, append_assoc}
 use Rattle.std.specs.List.{AllByRecursion}
 use Rattle.std.proofs.lemmas.Grind.{flat_map-append, fold-append}
 use Rattle.std.proofs.lemmas.List.{append-nil, map-append}
@@ -7,7 +7,7 @@ use Rattle.q_door.specs.Doors.{Closed}
 use Rattle.q_listen.proofs.Growing.{mails_added}
 use Rattle.q_listen.proofs.Patience.{greatest_more, patient, waited_late, waited_more, waited_on}
 use Rattle.q_listen.specs.Links.{IsCutOff, IsServed}
-use Rattle.q_listen.specs.Listens.{Case, ServesAll, ServesSome, greatest, mails_of_cases, records_of}
+use Rattle.q_listen.specs.Listens.{Case, IsLast, ServesAll, ServesClosed, ServesSome, ServesWhole, greatest, mails_of_cases, records_of}
 use Rattle.q_listen.specs.Serving.{IsWaited, Serving, Task, late_links, next_task}
 use Rattle.q_listen.specs.Sessions.{IsUnbound}
 use Rattle.q_listen.specs.Stories.{Story, with_accept, with_bind, with_moment, with_port, with_record, with_rest, with_told}
@@ -270,7 +270,7 @@ cut {k = k} {cases = cases} {mails = mails} {s = s} r v little off =
       records = ap (λ (rs : List Closed). rs ++ r ∷ []) v.records;
       mails = append-nil (mails_of_cases cases ++ (mails ++ [])) ∙ ap (λ (ms : List Mail). mails_of_cases cases ++ ms) (append-nil mails) ∙ v.told;
       each = v.each;
-      is_last = (refl, refl, off);
+      is_last = (refl, refl, off, omega (arith, accepted, size, are));
       within = record {
         binds = omega (arith, binds);
         accepts = omega (arith, accepted, few);
@@ -279,9 +279,16 @@ cut {k = k} {cases = cases} {mails = mails} {s = s} r v little off =
       };
     }
 
--- without one, or between two links
-pub cut_unrecorded : {k : Task} {heard ahead links : ℕ} {cases : List Case} {mails : List Mail} {s : Story} → Serving k cases mails heard ahead links s → ahead ≤ 1 → links ≤ 1 → ServesSome k.count s
-cut_unrecorded {k = k} {cases = cases} {mails = mails} {s = s} v little one =
+-- so each link was closed
+pub cut_closed : {k : Task} {heard ahead : ℕ} {cases : List Case} {mails : List Mail} {s : Story} (r : Closed) → Serving k cases mails heard ahead 1 s → ahead ≤ 1 → IsCutOff r mails → ServesClosed k.count (with_record r s)
+cut_closed {s = s} r v little off =
+    let accepted = v.accepted in
+    let are = v.served_are in
+    (cut r v little off, omega (arith, accepted, length-append s.records (r ∷ []), are))
+
+-- without one
+pub cut_unrecorded : {k : Task} {heard ahead : ℕ} {cases : List Case} {mails : List Mail} {s : Story} → Serving k cases mails heard ahead 1 s → ahead ≤ 1 → ServesSome k.count s
+cut_unrecorded {k = k} {cases = cases} {mails = mails} {s = s} v little =
     let binds = v.bound.0 in
     let accepted = v.accepted in
     let few = v.few in
@@ -294,14 +301,52 @@ cut_unrecorded {k = k} {cases = cases} {mails = mails} {s = s} v little one =
       records = append-nil (records_of cases) ∙ v.records;
       mails = ap (λ (ms : List Mail). ms ++ mails) (append-nil (mails_of_cases cases)) ∙ v.told;
       each = v.each;
-      is_last = tt;
+      is_last = inl (omega (arith, accepted, are));
+      within = record {
+        binds = omega (arith, binds);
+        accepts = omega (arith, accepted, few);
+        accepted = omega (arith, accepted, are);
+        rested = omega (arith, polled, are, little);
+      };
+    }
+
+whole_by : {k : Task} {heard ahead links : ℕ} {cases : List Case} {s : Story} → Serving k cases [] heard ahead links s → ahead ≤ 1 → links ≤ 1 → IsLast s [] [] → ServesWhole k.count s
+whole_by {k = k} {cases = cases} {s = s} v little one known =
+    let binds = v.bound.0 in
+    let accepted = v.accepted in
+    let few = v.few in
+    let are = v.served_are in
+    let polled = v.polled in
+    let some : ServesSome k.count s = record {
+      cases = cases;
+      last = [];
+      unrecorded = [];
+      records = append-nil (records_of cases) ∙ v.records;
+      mails = ap (λ (ms : List Mail). ms ++ []) (append-nil (mails_of_cases cases)) ∙ v.told;
+      each = v.each;
+      is_last = known;
       within = record {
         binds = omega (arith, binds);
         accepts = omega (arith, accepted, few);
         accepted = omega (arith, accepted, are, one);
         rested = omega (arith, polled, are, little);
       };
-    }
+    } in
+    (some, refl, refl)
+
+-- between two links
+pub cut_between : {k : Task} {heard ahead : ℕ} {cases : List Case} {s : Story} → Serving k cases [] heard ahead 0 s → ahead ≤ 1 → ServesWhole k.count s
+cut_between v little =
+    let accepted = v.accepted in
+    let are = v.served_are in
+    whole_by v little (omega arith) (inr (refl, omega (arith, accepted, are)))
+
+-- behind an accept that gave none
+pub cut_accepted : {k : Task} {heard ahead : ℕ} {cases : List Case} {s : Story} → Serving k cases [] heard ahead 1 s → ahead ≤ 1 → ServesWhole k.count s
+cut_accepted v little =
+    let accepted = v.accepted in
+    let are = v.served_are in
+    whole_by v little (omega arith) (inl (omega (arith, accepted, are)))
 
 -- before any link
 pub cut_none : (count : ℕ) (s : Story) → IsUnbound s → ServesSome count s
@@ -309,6 +354,7 @@ cut_none count s u =
     let binds = u.binds in
     let accepts = u.accepts in
     let moments = ap (λ (x : List ℕ). length x) u.moments in
+    let none = ap (λ (x : List Closed). length x) u.records in
     record {
       cases = [];
       last = [];
@@ -316,7 +362,7 @@ cut_none count s u =
       records = sym u.records;
       mails = sym u.mails;
       each = tt;
-      is_last = tt;
+      is_last = inr (refl, omega (arith, accepts, none));
       within = record {
         binds = omega (arith, binds);
         accepts = omega (arith, accepts);
@@ -326,23 +372,25 @@ cut_none count s u =
     }
 
 -- and behind a bind that failed
-pub cut_unbound : (count : ℕ) (s : Story) → IsUnbound s → ServesSome count (with_bind s)
+pub cut_unbound : (count : ℕ) (s : Story) → IsUnbound s → ServesWhole count (with_bind s)
 cut_unbound count s u =
     let binds = u.binds in
     let accepts = u.accepts in
     let moments = ap (λ (x : List ℕ). length x) u.moments in
-    record {
+    let none = ap (λ (x : List Closed). length x) u.records in
+    let some : ServesSome count (with_bind s) = record {
       cases = [];
       last = [];
       unrecorded = [];
       records = sym u.records;
       mails = sym u.mails;
       each = tt;
-      is_last = tt;
+      is_last = inr (refl, omega (arith, accepts, none));
       within = record {
         binds = omega (arith, binds);
         accepts = omega (arith, accepts);
         accepted = omega (arith, accepts);
         rested = omega (arith, moments);
       };
-    }
+    } in
+    (some, refl, refl)

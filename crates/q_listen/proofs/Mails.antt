@@ -1,11 +1,16 @@
 -- A life that listens takes a message.
-use Rattle.std.proofs.Common.{◌≡◌, ◌⊎◌, inl, inr, ℕ, Bool, true, List, [], ◌∷◌, ◌++◌, Option, Some, None, refl, sym, ap, ◌∙◌, subst, append-nil}
+use Rattle.std.proofs.Common.{◌≡◌, ◌≤◌, ◌-◌, ◌^◌, ◌⊎◌, inl, inr, ℕ, Bool, true, false, if◌then◌else◌, List, [], ◌∷◌, ◌++◌, length, Option, Some, None, refl, sym, ap, ◌∙◌, arith, subst, append-nil}
+use Rattle.std.proofs.lemmas.Bool.{ltb-false}
+use Rattle.std.proofs.lemmas.Option.{same_Some}
 use Rattle.std.specs.Option.{option_map_or}
+use Rattle.std.specs.Prelude.{nat_lt}
 use Rattle.q_drain.proofs.Adding.{moment_added, moments_added}
 use Rattle.q_drain.proofs.Silent.{AreInside, decisions_inside, same_moment}
 use Rattle.q_drain.specs.Sweeps.{rising}
 use Rattle.q_drain.specs.Told.{moment_after, moments_of}
+use Rattle.q_engine.specs.Refusals.{is_early}
 use Rattle.q_engine.specs.declared.error.EngineError.{EngineError}
+use Rattle.q_engine.specs.declared.error.EngineError.TheVariants as engine_errors
 use Rattle.q_entries.specs.Runs.{HaltsRun}
 use Rattle.q_events.specs.Forms.{IsMailInForm}
 use Rattle.q_events.specs.declared.list_item.ListItem.TheVariants.{Step}
@@ -30,6 +35,7 @@ use Rattle.q_listen.specs.declared.listened.ListenError.TheVariants as errors
 use Rattle.q_model.proofs.RunLaws.{after_all-append}
 use Rattle.q_model.specs.Arrivals.{next_id}
 use Rattle.q_model.specs.Ledger.{Ledger, opening}
+use Rattle.q_model.specs.Past.{arrivals}
 use Rattle.q_model.specs.Run.{decisions, entry_of, turn}
 use Rattle.q_model.specs.Settings.{World}
 use Rattle.q_model.specs.Step.{after, after_all, allowed}
@@ -39,10 +45,11 @@ use Rattle.q_model.specs.declared.event.Event.{Event}
 use Rattle.q_model.specs.declared.event.Event.TheVariants as events
 use Rattle.q_model.specs.declared.event.LifeEvent.TheVariants.{Heard}
 use Rattle.q_model.specs.declared.event.Mode.TheVariants.{Intake}
+use Rattle.q_model.specs.declared.limits.Bound.{Bound}
 use Rattle.q_model.specs.declared.limits.Bound.TheVariants as bounds
 use Rattle.q_replay.proofs.AllowedItems.{item_allowed}
 use Rattle.q_replay.specs.Reading.{refusal_at}
-use Rattle.q_replay.specs.Takings.{HaltsItem, NotTaken, TookItem}
+use Rattle.q_replay.specs.Takings.{HaltsItem, NotTaken, replay_error, TookItem}
 use Rattle.q_replay.specs.declared.error.ReplayError.{ReplayError}
 use Rattle.q_replay.specs.declared.error.ReplayError.TheVariants as replay_errors
 use Rattle.q_smtpd.specs.Places.{Mail}
@@ -79,6 +86,22 @@ front_mail mail (m ∷ done) rest is =
     let same : mail ≡ m = cc in
     let more : [] ≡ done ++ rest = cc in
     inr (ap (λ (xs : List Mail). m ∷ xs) (front_none done rest (sym more)) ∙ ap (λ (x : Mail). x ∷ []) (sym same))
+
+-- the refusal of a message for want of a serial comes where none is left
+full_by : (early big many fresh : Bool) (why : EngineError)
+    → (if early then Some engine_errors.Untimed else (if big then Some (engine_errors.Limit bounds.Content) else (if many then Some (engine_errors.Limit bounds.Recipients) else (if fresh then None else Some (engine_errors.Limit bounds.Serial))))) ≡ Some why
+    → replay_errors.Limit bounds.Serial ≡ replay_error 0 why → fresh ≡ false
+full_by true big many fresh why is named =
+    let bad : replay_errors.Limit bounds.Serial ≡ replay_errors.BadEvent 0 = named ∙ ap (replay_error 0) (sym (same_Some engine_errors.Untimed why is)) in
+    absurd cc
+full_by false true many fresh why is named =
+    let bad : replay_errors.Limit bounds.Serial ≡ replay_errors.Limit bounds.Content = named ∙ ap (replay_error 0) (sym (same_Some (engine_errors.Limit bounds.Content) why is)) in
+    absurd cc
+full_by false false true fresh why is named =
+    let bad : replay_errors.Limit bounds.Serial ≡ replay_errors.Limit bounds.Recipients = named ∙ ap (replay_error 0) (sym (same_Some (engine_errors.Limit bounds.Recipients) why is)) in
+    absurd cc
+full_by false false false true why is named = absurd cc
+full_by false false false false why is named = refl
 
 -- ---- its turn
 
@@ -157,6 +180,14 @@ module _ {H : Type 0} (view : H → View) (o : Start H) (clock : Option (List �
   halted : (fault : HostError) (x : View) → HaltsItem o.world k (Step (event_of_mail mail) 0) fault u x → Halted fault x
   halted fault x q = halted_mail fault x (refusal_at k (Step (event_of_mail mail) 0)) refl q
 
+  -- no serial was left for it
+  none_left : (why : EngineError) → refusal_at k (Step (event_of_mail mail) 0) ≡ Some why → replay_errors.Limit bounds.Serial ≡ replay_error 0 why → 2 ^ 32 - 1 ≤ length (mails_told s.told)
+  none_left why refused named =
+      let fresh = full_by (is_early k.timed (event_of_mail mail)) (nat_lt 10240000 (length mail.content)) (nat_lt 50000 (length mail.to)) (nat_lt (arrivals k) (2 ^ 32 - 1)) why refused named in
+      let full = ltb-false (arrivals k) (2 ^ 32 - 1) fresh in
+      let arrived = (c.run).arrived in
+      omega (arith, full, arrived)
+
   by_kind : (e : ReplayError) (x : View) → NotTaken o.world k (Step (event_of_mail mail) 0) 0 e u x → IsMailRefusal e → StoppedMail view o clock x mail (listen_error e) s
   by_kind replay_errors.Disk x q kind = let h = halted faults.Disk x q in stopped_told errors.Disk x h.done h.fronts.0 h.fronts.1 h.is
   by_kind replay_errors.Tell x q kind = let h = halted faults.Tell x q in stopped_told errors.Tell x h.done h.fronts.0 h.fronts.1 h.is
@@ -168,7 +199,9 @@ module _ {H : Type 0} (view : H → View) (o : Start H) (clock : Option (List �
   by_kind (replay_errors.Limit bound) x q (inr is) =
       let serial : bound ≡ bounds.Serial = cc in
       let run : IsRun o.world o.book (view o.host) x s.told = run_still o.world o.book (view o.host) u x s.told c.run q.stays q.files in
-      stopped_told (errors.Limit bound) x [] refl (inl refl) (serial, subst (λ (told : List Entry). IsRun o.world o.book (view o.host) x told) (sym (append-nil s.told)) run)
+      let full = none_left q.why q.refused (ap (λ (n : Bound). replay_errors.Limit n) (sym serial) ∙ q.names) in
+      let both = subst (λ (told : List Entry). IsRun o.world o.book (view o.host) x told × (2 ^ 32 - 1 ≤ length (mails_told told))) (sym (append-nil s.told)) (run, full) in
+      stopped_told (errors.Limit bound) x [] refl (inl refl) (serial, both.0, both.1)
   by_kind (replay_errors.Damaged area name) x q (inl host) = absurd cc
   by_kind (replay_errors.Damaged area name) x q (inr is) = absurd cc
   by_kind (replay_errors.Unreadable area name) x q kind = absurd q

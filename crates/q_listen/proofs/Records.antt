@@ -6,33 +6,19 @@ use Rattle.std.proofs.lemmas.List.{append-nil}
 use Rattle.q_link.specs.Views.{Told}
 use Rattle.q_listen.proofs.Dots.{dots_few}
 use Rattle.q_listen.specs.Links.{begun_replies}
-use Rattle.q_smtpd.specs.Answers.{answer_line, timeout_line}
+use Rattle.q_smtpd.specs.Answers.{answer_line}
 use Rattle.q_smtpd.specs.Hearings.{Holds, taking}
 use Rattle.q_smtpd.specs.Intakes.{bytes_of, due, is_left, mails, mails_of, place_of, quits, replies_to}
 use Rattle.q_smtpd.specs.Places.{Mail, Place, Reply, commands, contents, left}
-use Rattle.q_smtpd.specs.Polls.{CompletesAt, TimesOut}
+use Rattle.q_smtpd.specs.Polls.{CompletesAt}
 use Rattle.q_smtpd.specs.Sessions.{Follows, owed}
 use Rattle.q_smtpd.specs.declared.answer.Answer.TheVariants.{Accepted}
 use Rattle.q_smtpd.specs.declared.hearing.Hearing.{Hearing}
 use Rattle.q_smtpd.specs.declared.hearing.Stage.TheVariants.{Left}
 use Rattle.q_smtpd.specs.declared.session.Session.{Session}
 
--- some first bytes of the replies were sent, and then of the line that ends it late
-abbrev pub IsSentOf : List ℕ → List ℕ → Type 0
-IsSentOf sent received = (k j : ℕ) × (sent ≡ take k (due received) ++ take j timeout_line)
-
 pub front_taken : (sent rest whole : List ℕ) → sent ++ rest ≡ whole → sent ≡ take (length sent) whole
 front_taken sent rest whole e = sym (ap (take (length sent)) (sym e) ∙ take-append_seam sent rest)
-
-pub sent_of : (s : Session) (t : Told) → Follows s t → IsSentOf t.sent t.received
-sent_of s t f = (length t.sent, 0, front_taken t.sent (s.outbox ++ owed s.untaken) (due t.received) f.sent ∙ sym (append-nil _))
-
-pub sent_late : (s : Session) (before t : Told) → Follows s before → TimesOut before t → IsSentOf t.sent t.received
-sent_late s before t f late = (
-  length before.sent,
-  late.sent.0,
-  late.sent.1 ∙ ap (λ (x : List ℕ). x ++ take late.sent.0 timeout_line) (front_taken before.sent (s.outbox ++ owed s.untaken) (due before.received) f.sent ∙ ap (λ (x : List ℕ). take (length before.sent) (due x)) (sym late.received)),
-)
 
 -- ---- how a session ended
 

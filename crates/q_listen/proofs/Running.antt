@@ -1,5 +1,5 @@
 -- What a life told grows by the turn of an event, or is given up within one.
-use Rattle.std.proofs.Common.{◌≡◌, List, [], ◌∷◌, ◌++◌, length, map, true, refl, sym, ap, ◌∙◌, arith, subst, append-nil, append_assoc, length-append}
+use Rattle.std.proofs.Common.{◌≡◌, ◌+◌, List, [], ◌∷◌, ◌++◌, length, map, true, refl, sym, ap, ◌∙◌, arith, subst, append-nil, append_assoc, length-append}
 use Rattle.std.proofs.lemmas.Grind.{flat_map-append}
 use Rattle.std.proofs.lemmas.List.{length-map, map-append}
 use Rattle.q_drain.proofs.GivingUp.{halts_after}
@@ -10,13 +10,15 @@ use Rattle.q_entries.specs.Runs.{HaltsRun, PlaysRun}
 use Rattle.q_host.specs.View.{View}
 use Rattle.q_host.specs.declared.error.HostError.{HostError}
 use Rattle.q_laws.specs.Traces.{AreAllowed}
-use Rattle.q_listen.proofs.Growing.{heard_added}
+use Rattle.q_listen.proofs.Arriving.{turn_arrivals}
+use Rattle.q_listen.proofs.Growing.{heard_added, mails_added}
 use Rattle.q_listen.specs.Runs.{IsHalted, IsRun, ledger_of}
-use Rattle.q_listen.specs.Told.{event_of, events_of, life_told}
+use Rattle.q_listen.specs.Told.{event_of, events_of, life_told, mails_told}
 use Rattle.q_model.proofs.RunLaws.{after_all-append}
 use Rattle.q_model.specs.Book.{Book}
 use Rattle.q_model.specs.Ledger.{Ledger, opening}
 use Rattle.q_model.specs.Run.{entry_of, turn}
+use Rattle.q_model.specs.Past.{arrivals}
 use Rattle.q_model.specs.Settings.{World}
 use Rattle.q_model.specs.Step.{after_all, allowed}
 use Rattle.q_model.specs.Text.{text}
@@ -29,6 +31,7 @@ use Rattle.q_replay.proofs.AllowedItems.{allowed_more}
 use Rattle.q_replay.proofs.Readings.{entries_more, ledger_on}
 use Rattle.q_replay.proofs.RunSteps.{told_more, told_still}
 use Rattle.q_replay.specs.RunEnds.{entries_on, IsTold}
+use Rattle.q_smtpd.specs.Places.{Mail}
 
 -- ---- a turn more
 
@@ -67,6 +70,12 @@ module _ (w : World) (b : Book) (u v x : View) (told : List Entry) (is_run : IsR
           (subst (λ (l : Ledger). AddsAllNotes w l (turn w l (Heard event)) v.files x.files) (sym same_ledger) adds));
       own = sym entries_longer ∙ ap (λ (items : List LifeEvent). entries_on w Intake b items) (sym (one_more one));
       fits = subst (AreAllowed w (opening Intake b)) (sym (one_more one)) (fits_longer fits);
+      arrived =
+          let behind : arrivals (ledger_of w b (told ++ es)) ≡ arrivals (after_all w k es) = ap (λ (l : Ledger). arrivals l) (after_all-append w (opening Intake b) told es) in
+          let more = turn_arrivals w k event in
+          let was = is_run.arrived in
+          let all : length (mails_told (told ++ es)) ≡ length (mails_told told) + length (mails_told es) = ap (λ (ms : List Mail). length ms) (mails_added told es) ∙ length-append (mails_told told) (mails_told es) in
+          omega (arith, behind, more, was, all);
     }
 
     pub stands_more : (engine : Engine) → EngineStands w engine x (after_all w k es) → EngineStands w engine x (ledger_of w b (told ++ es))
@@ -125,6 +134,7 @@ module _ (w : World) (b : Book) (u v x : View) (told : List Entry) (is_run : IsR
     is = told_still w Intake b (life_told told) u v x is_run.is (subst (λ (l : Ledger). PlaysRun w l [] v x) (sym same_ledger) plays) files;
     own = is_run.own;
     fits = is_run.fits;
+    arrived = is_run.arrived;
   }
 
 -- nothing more was tried

@@ -1,5 +1,5 @@
 -- What the record of a link says of its session.
-use Rattle.std.specs.Prelude.{◌&&◌, ◌++◌, ◌-◌, ◌<◌, ◌==◌, ◌≡◌, ◌≤◌, ◌⊎◌, ◌^◌, [], ◌∷◌, Bool, false, if◌then◌else◌, length, List, nat_lt, not, take, true, ℕ}
+use Rattle.std.specs.Prelude.{◌++◌, ◌-◌, ◌<◌, ◌==◌, ◌≡◌, ◌≤◌, ◌⊎◌, ◌^◌, [], ◌∷◌, Bool, false, if◌then◌else◌, length, List, take, true, ℕ}
 use Rattle.q_door.specs.Doors.{Closed}
 use Rattle.q_smtpd.specs.Answers.{timeout_line}
 use Rattle.q_smtpd.specs.Intakes.{due, mails, mails_of, quits, replies_to}
@@ -28,10 +28,6 @@ IsEnded r = ((quits r.received ≡ true) × (r.sent ≡ due r.received))
     ⊎ ((r.ended ≡ true) × (r.sent ≡ due r.received))
     ⊎ (0 < r.faults)
     ⊎ (2 ^ 40 ≤ length r.received)
-
--- nothing of this came: no QUIT, no end, no fault and not all bytes that are taken
-abbrev pub is_late : Closed → Bool
-is_late r = not (quits r.received) && not r.ended && (r.faults == 0) && nat_lt (length r.received) (2 ^ 40)
 
 -- A session that was served to its end: these messages were told, which are all that came. It ended so, or late: no byte came for 300 seconds.
 pub record IsServed (r : Closed) (told : List Mail) (late : Bool) : Type 0 where

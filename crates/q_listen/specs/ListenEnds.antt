@@ -1,5 +1,5 @@
 -- How a life ends that listens.
-use Rattle.std.specs.Prelude.{◌++◌, ◌<◌, ◌≡◌, ◌≤◌, [], ◌∷◌, Err, length, List, Ok, Option, Result, Some, true, ℕ}
+use Rattle.std.specs.Prelude.{◌++◌, ◌-◌, ◌<◌, ◌≡◌, ◌≤◌, ◌^◌, [], ◌∷◌, Err, length, List, Ok, Option, Result, Some, true, ℕ}
 use Rattle.q_door.specs.Doors.{DoorView}
 use Rattle.q_link.specs.Records.{counted}
 use Rattle.q_model.specs.declared.limits.Bound.TheVariants.{Generation, Serial}
@@ -7,9 +7,9 @@ use Rattle.q_host.specs.View.{View}
 use Rattle.q_laws.specs.Traces.{AreAllowed}
 use Rattle.q_host.specs.declared.error.HostError.{HostError}
 use Rattle.q_host.specs.declared.error.HostError.TheVariants as faults
-use Rattle.q_listen.specs.Listens.{IsClocked, IsClockedSoFar, ServesAll, ServesSome}
+use Rattle.q_listen.specs.Listens.{IsClocked, IsClockedSoFar, ServesAll, ServesClosed, ServesSome, ServesWhole}
 use Rattle.q_listen.specs.Stories.{HasDone, HasGiven, Story}
-use Rattle.q_listen.specs.Told.{life_told}
+use Rattle.q_listen.specs.Told.{life_told, mails_told}
 use Rattle.q_listen.specs.declared.listened.ListenError.{ListenError}
 use Rattle.q_listen.specs.declared.listened.ListenError.TheVariants as errors
 use Rattle.q_listen.specs.declared.listened.Listened.{Listened}
@@ -47,20 +47,30 @@ pub record ListensToAll (w : World) (b : Book) (port count : ℕ) (o : Outsides)
   pub clocked : IsClocked story
   pub is : IsStoryOf o story (ServesAll port count story)
 
--- So many rests were given, and another is needed: what was told is the whole run of the events so far.
+-- So many rests were given, and another is needed: what was told is the whole run of the events so far,
+-- and each link was closed.
 pub record LeavesOff (w : World) (b : Book) (count rests : ℕ) (o : Outsides) (u v : View) : Type 0 where
   pub story : Story
   pub fits : AreAllowed w (opening Intake b) (life_told story.told)
   pub told : IsTold w Intake b (life_told story.told) u v
   pub clocked : IsClockedSoFar story
-  pub is : IsStoryOf o story (ServesSome count story)
+  pub is : IsStoryOf o story (ServesClosed count story)
   pub rests_given : story.rests ≡ rests
 
--- It was given up behind a whole event: the door failed, memory ran out, or no serial was left.
+-- It was given up behind a whole event, as the door failed: no session was open.
 pub record StopsBehind (w : World) (b : Book) (count : ℕ) (o : Outsides) (u v : View) : Type 0 where
   pub story : Story
   pub fits : AreAllowed w (opening Intake b) (life_told story.told)
   pub told : IsTold w Intake b (life_told story.told) u v
+  pub clocked : IsClockedSoFar story
+  pub is : IsStoryOf o story (ServesWhole count story)
+
+-- It was given up behind a whole event, as no serial was left for a message: as many messages had come as there are.
+pub record HasNoSerial (w : World) (b : Book) (count : ℕ) (o : Outsides) (u v : View) : Type 0 where
+  pub story : Story
+  pub fits : AreAllowed w (opening Intake b) (life_told story.told)
+  pub told : IsTold w Intake b (life_told story.told) u v
+  pub full : 2 ^ 32 - 1 ≤ length (mails_told story.told)
   pub clocked : IsClockedSoFar story
   pub is : IsStoryOf o story (ServesSome count story)
 
@@ -95,7 +105,7 @@ ListenEnds w b port count o u v (Err errors.NoMemory) = StopsWithin w b count o 
 ListenEnds w b port count o u v (Err errors.Door) = StopsBehind w b count o u v
 ListenEnds w b port count o u v (Err (errors.Limit Generation)) =
     (is_spent (opening Intake b) ≡ true) × IsTold w Intake b [] u v
-ListenEnds w b port count o u v (Err (errors.Limit bound)) = (bound ≡ Serial) × StopsBehind w b count o u v
+ListenEnds w b port count o u v (Err (errors.Limit bound)) = (bound ≡ Serial) × HasNoSerial w b count o u v
 ListenEnds w b port count o u v (Err (errors.Damaged area name)) =
     IsTold w Intake b [] u v × IsDamage v.files area name
 ListenEnds w b port count o u v (Err (errors.Unreadable area name)) = ⊥

@@ -1,6 +1,6 @@
 -- What a life that listens promises, as a whole.
 use Rattle.std.specs.List.{AllByRecursion}
-use Rattle.std.specs.Prelude.{◌*◌, ◌+◌, ◌++◌, ◌≡◌, ◌≤◌, [], ◌∷◌, Bool, count_by, flat_map, fold, length, List, map, max, ℕ}
+use Rattle.std.specs.Prelude.{◌*◌, ◌+◌, ◌++◌, ◌≡◌, ◌≤◌, ◌⊎◌, [], ◌∷◌, Bool, count_by, flat_map, fold, length, List, map, max, ℕ}
 use Rattle.q_drain.specs.Sweeps.{rising}
 use Rattle.q_drain.specs.Told.{moments_of}
 use Rattle.q_door.specs.Doors.{Closed}
@@ -42,6 +42,14 @@ IsPatient (first ∷ moments) late = first + 300 * late ≤ greatest (first ∷ 
 abbrev pub IsRested : Story → Type 0
 IsRested s = length s.moments ≤ s.rests + length (mails_told s.told) + length s.records + 1
 
+-- each link that was accepted was closed, and has its record
+abbrev pub IsAllClosed : Story → Type 0
+IsAllClosed s = s.accepts ≡ length s.records
+
+-- an accept gave no link, or `close` had no memory for the record of its link
+abbrev pub IsOneOpen : Story → Type 0
+IsOneOpen s = s.accepts ≡ length s.records + 1
+
 -- so many links may be served at a port
 pub record IsWithin (count : ℕ) (s : Story) : Type 0 where
   pub binds : s.binds ≤ 1
@@ -61,12 +69,13 @@ pub record ServesAll (port count : ℕ) (s : Story) : Type 0 where
   pub bound : (s.binds ≡ 1) × (s.ports ≡ port ∷ [])
   pub all : length s.records ≡ count
 
--- the last link, whose session was given up: it has no record where `close` had no memory for one
-abbrev pub IsLast : List Case → List Mail → Type 0
-IsLast [] unrecorded = Unit {0}
-IsLast (c ∷ cs) unrecorded = (unrecorded ≡ []) × (cs ≡ []) × IsCutOff c.link c.mails
+-- The last link, whose session was given up, was closed: it has a record, or these messages are those of a
+-- link without one.
+abbrev pub IsLast : Story → List Case → List Mail → Type 0
+IsLast s [] unrecorded = IsOneOpen s ⊎ ((unrecorded ≡ []) × IsAllClosed s)
+IsLast s (c ∷ cs) unrecorded = (unrecorded ≡ []) × (cs ≡ []) × IsCutOff c.link c.mails × IsAllClosed s
 
--- The first links were served, and the session of the next was given up, if one was open.
+-- The first links were served, and the session of the next was given up and its link closed, if one was open.
 pub record ServesSome (count : ℕ) (s : Story) : Type 0 where
   pub cases : List Case
   pub last : List Case
@@ -74,5 +83,13 @@ pub record ServesSome (count : ℕ) (s : Story) : Type 0 where
   pub records : records_of cases ++ records_of last ≡ s.records
   pub mails : mails_of_cases cases ++ mails_of_cases last ++ unrecorded ≡ mails_told s.told
   pub each : AllByRecursion (λ c. IsServed c.link c.mails c.late) cases
-  pub is_last : IsLast last unrecorded
+  pub is_last : IsLast s last unrecorded
   pub within : IsWithin count s
+
+-- and each link that was accepted has its record
+abbrev pub ServesClosed : ℕ → Story → Type 0
+ServesClosed count s = ServesSome count s × IsAllClosed s
+
+-- no session was given up: each link that came was served to its end
+abbrev pub ServesWhole : ℕ → Story → Type 0
+ServesWhole count s = (some : ServesSome count s) × (some.last ≡ []) × (some.unrecorded ≡ [])

@@ -8,7 +8,7 @@ use Rattle.q_link.specs.Views.{View as LinkView}
 use Rattle.q_link.specs.WaitsLeft.{Spares, waits_sum}
 use Rattle.q_listen.specs.Courses.{GaveUp, IsCourse, IsGoing, Start}
 use Rattle.q_listen.specs.ListenEnds.{AreTooFew, CountsRests, ListenEnds, Outside, Outsides}
-use Rattle.q_listen.specs.Listens.{IsClockedSoFar, ServesSome}
+use Rattle.q_listen.specs.Listens.{IsClockedSoFar, ServesClosed, ServesSome, ServesWhole}
 use Rattle.q_listen.specs.Runs.{IsRun}
 use Rattle.q_listen.specs.Sessions.{InSession, IsAccepted, IsBetween, IsGivenUp, IsOver, IsUnbound}
 use Rattle.q_listen.specs.Serving.{next_task, Task}
@@ -47,12 +47,22 @@ pub record IsRefused {H : Type 0} (view : H → View) (o : Start H) (z : Outside
 
 -- ---- by an answer
 
--- what holds where it goes on, and of what is left where it doesn't
-abbrev pub ServedTo : {H : Type 0} → (H → View) → Start H → Outside → View → (Story → Type 0) → (Story → Type 0) → ℕ
-    → Result (Option Life) ListenError → Type 0
-ServedTo view o z v holds ends rests (Ok (Some life)) = GoesOn view o z v holds life
-ServedTo view o z v holds ends rests (Ok None) = IsLeft view o z v ends rests
-ServedTo view o z v holds ends rests (Err error) = IsRefused view o z v ends error
+-- what holds where it goes on, where another rest is needed, and by its refusal where it is given up
+abbrev pub ServedTo : {H : Type 0} → (H → View) → Start H → Outside → View → (Story → Type 0) → (Story → Type 0)
+    → (ListenError → Story → Type 0) → ℕ → Result (Option Life) ListenError → Type 0
+ServedTo view o z v holds left ends rests (Ok (Some life)) = GoesOn view o z v holds life
+ServedTo view o z v holds left ends rests (Ok None) = IsLeft view o z v left rests
+ServedTo view o z v holds left ends rests (Err error) = IsRefused view o z v (ends error) error
+
+-- what holds of the links where the call is given up: where the door failed, no session was open
+abbrev pub GivesUp : ℕ → ListenError → Story → Type 0
+GivesUp count errors.Door s = ServesWhole count s
+GivesUp count errors.Disk s = ServesSome count s
+GivesUp count errors.Tell s = ServesSome count s
+GivesUp count errors.NoMemory s = ServesSome count s
+GivesUp count (errors.Limit bound) s = ServesSome count s
+GivesUp count (errors.Damaged area name) s = ServesSome count s
+GivesUp count (errors.Unreadable area name) s = ServesSome count s
 
 -- the same of a poll
 abbrev pub PolledTo : {H : Type 0} → (H → View) → Start H → Outside → View → Task → LinkView → Session → ℕ
@@ -68,8 +78,7 @@ PolledTo view o z v k link i rests (Err error) =
 
 -- a session whose link has no record for want of memory
 abbrev pub unrecorded : Result (Option Life) ListenError → Result (Option Life) ListenError
-unrecorded (Ok (Some life)) = Err errors.NoMemory
-unrecorded (Ok None) = Ok None
+unrecorded (Ok served) = Err errors.NoMemory
 unrecorded (Err error) = Err error
 
 -- ---- by what holds before a call
@@ -86,19 +95,20 @@ abbrev pub ServesSession : {H : Type 0} → (H → View) → Outsides → View �
     → Result (Option Life) ListenError → Type 0
 ServesSession {H} view z u v life l m rests result = (o : Start H) → (k : Task)
     → GoesOn view o z.before u (IsAccepted k l) life
-    → ServedTo view o z.behind v (IsOver k m) (IsGivenUp k m) rests result
+    → ServedTo view o z.behind v (IsOver k m) (IsGivenUp k m) (λ error. IsGivenUp k m) rests result
 
 -- a link
 abbrev pub ServesLink : {H : Type 0} → (H → View) → Outsides → View → View → Life → ℕ → Result (Option Life) ListenError → Type 0
 ServesLink {H} view z u v life rests result = (o : Start H) → (k : Task) → k.served < k.count
     → GoesOn view o z.before u (IsBetween k) life
-    → ServedTo view o z.behind v (IsBetween (next_task k)) (ServesSome k.count) rests result
+    → ServedTo view o z.behind v (IsBetween (next_task k)) (ServesClosed k.count) (GivesUp k.count) rests result
 
 -- all links
 abbrev pub ServesLinks : {H : Type 0} → (H → View) → Outsides → View → View → Life → ℕ → ℕ → Result (Option Life) ListenError → Type 0
 ServesLinks {H} view z u v life count rests result = (o : Start H) → (port : ℕ)
     → GoesOn view o z.before u (IsBetween (record { port = port; count = count; served = 0 })) life
-    → ServedTo view o z.behind v (IsBetween (record { port = port; count = count; served = count })) (ServesSome count) rests result
+    → ServedTo view o z.behind v (IsBetween (record { port = port; count = count; served = count })) (ServesClosed count)
+    (GivesUp count) rests result
 
 -- a life that has begun
 abbrev pub ListensOn : {H : Type 0} → (H → View) → Outsides → View → View → Life → ℕ → ℕ → Result Listened ListenError → Type 0

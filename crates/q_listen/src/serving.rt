@@ -65,13 +65,13 @@ fn serve_session<L: Link, H: Host, C: Clock, D: Door<Link = L>>(
 }
 
 /// The answer of a session whose link has no record, since memory ran out for it: what it was refused for
-/// before stays.
+/// before stays, and nothing else does.
 fn unrecorded(served: Result<Option<Life>, ListenError>) -> Result<Option<Life>, ListenError>
     ensures { result ≡ unrecorded served }
 {
     match served {
         Ok(Some(_)) => Err(ListenError::NoMemory),
-        Ok(None) => Ok(None),
+        Ok(None) => Err(ListenError::NoMemory),
         Err(error) => Err(error),
     }
 }

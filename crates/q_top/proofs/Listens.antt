@@ -12,7 +12,7 @@ use Rattle.q_host.specs.Calls.{Stays}
 use Rattle.q_host.specs.View.{View}
 use Rattle.q_host.specs.declared.error.HostError.{HostError}
 use Rattle.q_host.specs.declared.error.HostError.TheVariants as faults
-use Rattle.q_listen.specs.ListenEnds.{IsStoryOf, LeavesOff, ListenEnds, ListensToAll, Outside, Outsides, StopsBehind, StopsWithin}
+use Rattle.q_listen.specs.ListenEnds.{HasNoSerial, IsStoryOf, LeavesOff, ListenEnds, ListensToAll, Outside, Outsides, StopsBehind, StopsWithin}
 use Rattle.q_listen.specs.Listens.{ServesSome}
 use Rattle.q_listen.specs.Refusals.{FindsDamage as FindsEach, NamesOnlyDamage, RefusesDamage}
 use Rattle.q_listen.specs.Stories.{Story}
@@ -70,6 +70,16 @@ module _ (w : World) (b : Book) (port count : ℕ) (o : Outsides) (u m v : View)
     is = d.is;
   }
 
+  no_serial_behind : HasNoSerial w b count o m v → HasNoSerial w b count o u v
+  no_serial_behind d = record {
+    story = d.story;
+    fits = d.fits;
+    told = told_behind w Intake b u m lawful stays h v (life_told (d.story).told) d.told;
+    full = d.full;
+    clocked = d.clocked;
+    is = d.is;
+  }
+
   pub listening_behind : (r : Result Listened ListenError) → ListenEnds w b port count o m v r → ListenEnds w b port count o u v r
   listening_behind (Ok All) d = record {
     story = d.story;
@@ -91,11 +101,11 @@ module _ (w : World) (b : Book) (port count : ℕ) (o : Outsides) (u m v : View)
   listening_behind (Err errors.NoMemory) d = within_behind faults.NoMemory d
   listening_behind (Err errors.Door) d = stops_behind d
   listening_behind (Err (errors.Limit bounds.Generation)) d = (d.0, told_behind w Intake b u m lawful stays h v [] d.1)
-  listening_behind (Err (errors.Limit bounds.Content)) d = (d.0, stops_behind d.1)
-  listening_behind (Err (errors.Limit bounds.Recipients)) d = (d.0, stops_behind d.1)
-  listening_behind (Err (errors.Limit bounds.Serial)) d = (d.0, stops_behind d.1)
-  listening_behind (Err (errors.Limit bounds.Input)) d = (d.0, stops_behind d.1)
-  listening_behind (Err (errors.Limit bounds.Deliveries)) d = (d.0, stops_behind d.1)
+  listening_behind (Err (errors.Limit bounds.Content)) d = (d.0, no_serial_behind d.1)
+  listening_behind (Err (errors.Limit bounds.Recipients)) d = (d.0, no_serial_behind d.1)
+  listening_behind (Err (errors.Limit bounds.Serial)) d = (d.0, no_serial_behind d.1)
+  listening_behind (Err (errors.Limit bounds.Input)) d = (d.0, no_serial_behind d.1)
+  listening_behind (Err (errors.Limit bounds.Deliveries)) d = (d.0, no_serial_behind d.1)
   listening_behind (Err (errors.Damaged area name)) d = (told_behind w Intake b u m lawful stays h v [] d.0, d.1)
   listening_behind (Err (errors.Unreadable area name)) d = absurd d
 
@@ -113,7 +123,7 @@ serves_none count = record {
   records = refl;
   mails = refl;
   each = tt;
-  is_last = tt;
+  is_last = inr (refl, refl);
   within = record { binds = omega arith; accepts = omega arith; accepted = omega arith; rested = omega arith };
 }
 

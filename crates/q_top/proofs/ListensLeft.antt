@@ -5,7 +5,7 @@ use Rattle.q_host.specs.View.{View}
 use Rattle.q_host.specs.declared.error.HostError.{HostError}
 use Rattle.q_host.specs.declared.error.HostError.TheVariants as faults
 use Rattle.q_laws.specs.Consistency.{IsUsable}
-use Rattle.q_listen.specs.ListenEnds.{ListenEnds, Outsides, StopsBehind, StopsWithin}
+use Rattle.q_listen.specs.ListenEnds.{HasNoSerial, ListenEnds, Outsides, StopsBehind, StopsWithin}
 use Rattle.q_listen.specs.Told.{life_told}
 use Rattle.q_listen.specs.declared.listened.ListenError.{ListenError}
 use Rattle.q_listen.specs.declared.listened.ListenError.TheVariants as errors
@@ -34,6 +34,9 @@ module _ (w : World) (b : Book) (port count : ℕ) (o : Outsides) (usable : IsUs
   behind_lives : StopsBehind w b count o u v → LeavesLives b u v
   behind_lives d = played_lives w Intake b orderly usable (life_told (d.story).told) u v refl d.fits (d.told).plays
 
+  no_serial_lives : HasNoSerial w b count o u v → LeavesLives b u v
+  no_serial_lives d = played_lives w Intake b orderly usable (life_told (d.story).told) u v refl d.fits (d.told).plays
+
   -- however it ends
   pub listening_lives : (r : Result Listened ListenError) → ListenEnds w b port count o u v r → LeavesLives b u v
   listening_lives (Ok All) d = played_lives w Intake b orderly usable (life_told (d.story).told ++ Finish ∷ []) u v refl d.fits (d.told).plays
@@ -43,10 +46,10 @@ module _ (w : World) (b : Book) (port count : ℕ) (o : Outsides) (usable : IsUs
   listening_lives (Err errors.NoMemory) d = within_lives faults.NoMemory d
   listening_lives (Err errors.Door) d = behind_lives d
   listening_lives (Err (errors.Limit bounds.Generation)) d = played_lives w Intake b orderly usable [] u v tt tt (d.1).plays
-  listening_lives (Err (errors.Limit bounds.Content)) d = behind_lives d.1
-  listening_lives (Err (errors.Limit bounds.Recipients)) d = behind_lives d.1
-  listening_lives (Err (errors.Limit bounds.Serial)) d = behind_lives d.1
-  listening_lives (Err (errors.Limit bounds.Input)) d = behind_lives d.1
-  listening_lives (Err (errors.Limit bounds.Deliveries)) d = behind_lives d.1
+  listening_lives (Err (errors.Limit bounds.Content)) d = no_serial_lives d.1
+  listening_lives (Err (errors.Limit bounds.Recipients)) d = no_serial_lives d.1
+  listening_lives (Err (errors.Limit bounds.Serial)) d = no_serial_lives d.1
+  listening_lives (Err (errors.Limit bounds.Input)) d = no_serial_lives d.1
+  listening_lives (Err (errors.Limit bounds.Deliveries)) d = no_serial_lives d.1
   listening_lives (Err (errors.Damaged area name)) d = played_lives w Intake b orderly usable [] u v tt tt (d.0).plays
   listening_lives (Err (errors.Unreadable area name)) d = absurd d

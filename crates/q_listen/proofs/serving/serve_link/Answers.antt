@@ -18,7 +18,7 @@ returns-in-Ok-close-clause-serves g c t o k more goes =
     let link = g.L.Link.view in
     let accepted = accept_goes view o old (door c.args.door.now) (door c.accept.new.self) u k more c.args.life c.accept.ensures.accepts (link c.in-Ok.link) c.in-Ok.ensures.fresh goes in
     closed_to view o (g.C.Clock.given c.serve_session-served.new.clock) (door c.serve_session-served.new.door) (door c.close.new.self) (view c.serve_session-served.new.host) k (link c.serve_session-served.new.link) c.args.rests
-    c.in-Ok-close.ensures.ok c.serve_session-served.result (c.serve_session-served.ensures.serves t o k accepted)
+    c.in-Ok-close.ensures.ok c.serve_session-served.result c.serve_session-served.ensures.no_door (c.serve_session-served.ensures.serves t o k accepted)
 
 pub returns-in-Err-clause-serves : goal.returns-in-Err-clause-serves
 returns-in-Err-clause-serves g c t o k more goes =
@@ -29,4 +29,4 @@ returns-in-Err-clause-serves g c t o k more goes =
     let link = g.L.Link.view in
     let accepted = accept_goes view o old (door c.args.door.now) (door c.accept.new.self) u k more c.args.life c.accept.ensures.accepts (link c.in-Ok.link) c.in-Ok.ensures.fresh goes in
     rw c.unrecorded.ensures (unrecorded_to view o (g.C.Clock.given c.serve_session-served.new.clock) (door c.serve_session-served.new.door) (door c.close.new.self) (view c.serve_session-served.new.host) k (link c.serve_session-served.new.link) c.args.rests
-    c.in-Err.ensures.err c.serve_session-served.result (c.serve_session-served.ensures.serves t o k accepted))
+    c.in-Err.ensures.err c.serve_session-served.result c.serve_session-served.ensures.no_door (c.serve_session-served.ensures.serves t o k accepted))
