@@ -15,10 +15,10 @@ qmgr, the queue manager of a mail server
 Usage: qmgr [-s] [-w SECONDS] SPOOL COMMAND [WORD]...
        qmgr --help | --version
 
-SPOOL is the folder of the spool. The first four commands make it where it is missing, and lock
-it; where another process has it, they wait for it, at most SECONDS (default 0). With -s each change
-of a folder is synced by itself, else many together. queue and qshape change nothing, and look beside
-a process that has it. load touches no folder.
+SPOOL is the folder of the spool. Commands make it where it is missing, and lock it; where another
+process has it, they wait for it, at most SECONDS (default 0). With -s each change of a folder is
+synced by itself, else many together. queue and qshape change nothing, and look beside a process that
+has it. load touches no folder.
 
 Commands:
   submit SENDER RECIPIENT...    take in one message, whose content is standard input; <> is the
@@ -32,6 +32,12 @@ Commands:
                                 over COUNT connections (1 to 1000000, default 1), one behind the
                                 other; clients are waited for at most RESTS times (0 to 1000000000,
                                 default 1000000), ten milliseconds at most each time
+  hold ID|ALL                   hold a message back that waits in incoming or deferred, or all
+  release ID|ALL                let a message go that was held back, or all
+  requeue ID|ALL                take a deferred message in anew, or all
+  expire ID                     give a message up that waits or was held back: its pending
+                                recipients fail
+  flush DOMAIN                  take in anew the deferred mail with a pending recipient in DOMAIN
   queue                         list the messages in incoming, active, deferred and hold
   qshape [-s] [-l] [-b N] [-t MINUTES] [QUEUE]...
                                 tell the ages of mail by domain: of recipients, or with -s of
@@ -47,6 +53,6 @@ The files conf/params and conf/transport of the spool say the parameters and the
 
 Exit status: 0 done, 1 wrong words, 2 bad input (the file and its line are named), 3 disk fault,
 4 output fault, 5 input fault, 6 damaged spool (the file is named), 7 RESTS were used up, 8 limit
-reached, 9 no memory, 10 connection fault, 12 unreadable file (which is named).
+reached, 9 no memory, 10 connection fault, 11 no such message, 12 unreadable file (which is named).
 Standard error says why, with the place and the system's words. With 0 it may have warnings, and
 behind a drain a line of what it came to.";

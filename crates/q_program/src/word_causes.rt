@@ -46,6 +46,12 @@ fn no_queue(alloc: Global, words: &[String]) -> Option<String> {
     None
 }
 
+// The word of a command that takes one, and what it is.
+fn no_word(alloc: Global, words: &[String], what: &str) -> Option<String> {
+    let word = words.iter().skip(1).find(|word| word.as_str() != "--")?;
+    format!(in alloc; "{:?} is {what}", word.as_str()).ok()
+}
+
 /// Which word of a command is refused, where the refusal doesn't say it.
 pub(crate) fn cause_in_words(
     alloc: Global,
@@ -55,6 +61,9 @@ pub(crate) fn cause_in_words(
     match error {
         WordsError::NoAddress => no_address(alloc, words),
         WordsError::NoQueue => no_queue(alloc, words),
+        WordsError::NoTarget => no_word(alloc, words, "neither an id nor ALL"),
+        WordsError::NoId => no_word(alloc, words, "no id"),
+        WordsError::NoDomain => no_word(alloc, words, "no domain"),
         WordsError::NoCommand => {
             let word = words.first()?;
             format!(in alloc; "{:?} is no command", word.as_str()).ok()

@@ -31,7 +31,7 @@ use Rattle.q_model.specs.declared.event.LifeEvent.{LifeEvent}
 use Rattle.q_model.specs.declared.event.LifeEvent.TheVariants.{Begin}
 use Rattle.q_model.specs.declared.event.Mode.{Mode}
 use Rattle.q_replay.proofs.SureBooks.{crash_ids, sure_after}
-use Rattle.q_replay.specs.LivesLeft.{AreTold, IsLeft, LeavesLives, LeftAt}
+use Rattle.q_replay.specs.LivesLeft.{AreTold, IsLeft, LeavesLives, LeftAt, LifeIsTold}
 use Rattle.q_replay.specs.RunEnds.{entries_on}
 
 one_text : (t : Table) (e : Entry) → text t (e ∷ []) ≡ line t e
@@ -64,7 +64,7 @@ IsOf k left = (left ≡ k) ⊎ IsCrashOf k left
 module _ (b : Book) (orderly : IsOrderly b) (before : List ℕ) where
   -- ---- a life
 
-  by_life : (life : Life) (told : List ℕ) → IsLife b life → AreTold life.world.table (life_entries b life) before told → IsLeft b before told life.left
+  pub by_life : (life : Life) (told : List ℕ) → IsLife b life → LifeIsTold life.world.table (life_entries b life) life.steps before told → IsLeft b before told life.left
   by_life life told is lines = record {
     by = inl (record { life = life; is = is; left_is = refl; lines = lines });
     orderly = lives_orderly b (life ∷ []) orderly (is, tt);
@@ -123,12 +123,12 @@ module _ (b : Book) (orderly : IsOrderly b) (before : List ℕ) where
     }
 
     pub life_whole : (done rest : List Entry) (left : Book) (told : List ℕ) → all ≡ done ++ rest → told ≡ before ++ text w.table done → IsOf (after_all w first done).book left → IsLeft b before told left
-    life_whole done rest left told is told_is of = by_life (life_to (length done) left) told (is_life done rest (after_all w first done).book left is (inl refl) of) (lines_whole done rest left told is told_is)
+    life_whole done rest left told is told_is of = by_life (life_to (length done) left) told (is_life done rest (after_all w first done).book left is (inl refl) of) (inl (refl, lines_whole done rest left told is told_is))
 
     life_part : (done rest : List Entry) (e : Entry) (part : ℕ) (end left : Book) (told : List ℕ) → all ≡ done ++ (e ∷ rest) → told ≡ (before ++ text w.table done) ++ take part (line w.table e) → IsEnd (after w (after_all w first done) e) end → IsOf end left → IsLeft b before told left
     life_part done rest e part end left told is told_is ends of =
         let apart : all ≡ (done ++ e ∷ []) ++ rest = is ∙ sym (append_assoc done (e ∷ []) rest) in
-        by_life (life_to (length (done ++ e ∷ [])) left) told (is_life (done ++ e ∷ []) rest end left apart (subst (λ (l : Ledger). IsEnd l end) (sym (one_more w first done e)) ends) of) (lines_part done rest e part left told apart told_is)
+        by_life (life_to (length (done ++ e ∷ [])) left) told (is_life (done ++ e ∷ []) rest end left apart (subst (λ (l : Ledger). IsEnd l end) (sym (one_more w first done e)) ends) of) (inl (refl, lines_part done rest e part left told apart told_is))
 
     -- a run that was cut off, where Q is what stands for a book
     module _ (Q : Book → Type 0) (told : List ℕ) (done : List Entry) where
@@ -182,11 +182,11 @@ leaves_wider P Q p f = record {
   before = λ t c le left. ⊎_elim (λ was. inl was) (λ new. inr (f c new)) (p.before t c le left);
 }
 
-crash_of : (b : Book) (before : List ℕ) (c : Remains) (k : Book) → IsLeftOf k c → ((left : Book) → IsOf k left → IsLeft b before c.told left) → LeftAt b before c
+pub crash_of : (b : Book) (before : List ℕ) (c : Remains) (k : Book) → IsLeftOf k c → ((left : Book) → IsOf k left → IsLeft b before c.told left) → LeftAt b before c
 crash_of b before c k left says = (left.left, left.stands, sure_after k left.left left.after, says left.left (inr left.after))
 
 module _ (w : World) (mode : Mode) (b : Book) (orderly : IsOrderly b) (usable : IsUsable w) (items : List LifeEvent) (fits : AreAllowed w (opening mode b) (Begin ∷ items)) where
-  crash_left : (before : List ℕ) (c : Remains) → IsLeftOfRun w (opening mode b) (run w (opening mode b) (Begin ∷ items)) before c → LeftAt b before c
+  pub crash_left : (before : List ℕ) (c : Remains) → IsLeftOfRun w (opening mode b) (run w (opening mode b) (Begin ∷ items)) before c → LeftAt b before c
   crash_left before c a =
       let s = cut b orderly before w mode usable items fits (λ k. IsLeftOf k c) c.told a.done a.rest a.part a.all a.told a.book a.disk_first in
       crash_of b before c s.0 s.1 s.2

@@ -9,10 +9,11 @@ use Rattle.q_model.specs.FilesStand.{Stands}
 use Rattle.q_model.specs.Settings.{Table}
 use Rattle.q_model.specs.SpoolFiles.{Files}
 use Rattle.q_model.specs.Text.{text}
+use Rattle.q_model.specs.ToolSteps.{ToolStep}
 use Rattle.q_model.specs.declared.entry.Entry.{Entry}
 use Rattle.q_replay.proofs.LivesLeft.{still_orderly}
 use Rattle.q_replay.proofs.SureBooks.{sure_after, sure_again}
-use Rattle.q_replay.specs.LivesLeft.{AreTold, IsLeft, LeavesLives, LeftAsItWas, LeftByLife}
+use Rattle.q_replay.specs.LivesLeft.{AreTold, AreToldThenTools, IsLeft, LeavesLives, LeftAsItWas, LeftByLife, LifeIsTold}
 use Rattle.q_replay.specs.Spools.{AreCalls, AreToldBy, Calls, CameToEnd, Course, host_behind, none, OnlyLooks, Seen, seen, ServesBook, then, WasCutOff}
 
 -- a book, or what a crash makes of it
@@ -100,6 +101,17 @@ told_here table es before told more is h = record {
   told_is = same_behind before more (([] ++ text table h.done) ++ take h.part (text table h.last)) (sym is ∙ h.told_is ∙ append_assoc before (text table h.done) (take h.part (text table h.last)));
 }
 
+told_then_tools_here : (table : Table) (es : List Entry) (steps : List ToolStep) (before told more : List ℕ) → told ≡ before ++ more → AreToldThenTools table es steps before told → AreToldThenTools table es steps [] more
+told_then_tools_here table es steps before told more is h = record {
+  by_tools = h.by_tools;
+  tools = h.tools;
+  told_is = same_behind before more (([] ++ text table es) ++ h.by_tools) (sym is ∙ h.told_is ∙ append_assoc before (text table es) h.by_tools);
+}
+
+life_told_here : (table : Table) (es : List Entry) (steps : List ToolStep) (before told more : List ℕ) → told ≡ before ++ more → LifeIsTold table es steps before told → LifeIsTold table es steps [] more
+life_told_here table es steps before told more is (inl (idle, h)) = inl (idle, told_here table es before told more is h)
+life_told_here table es steps before told more is (inr h) = inr (told_then_tools_here table es steps before told more is h)
+
 -- a life may leave what a crash makes of what it left
 life_again : (b : Book) (life : Life) (left : Book) → IsLife b life → IsOf life.left left → IsLife b (record life { left = left })
 life_again b life left is of = record { usable = is.usable; fits = is.fits; left = on is.left of }
@@ -135,7 +147,7 @@ module _ {H : Type 0} (view : H → View) (b : Book) (h : H) (c : Course H) (cs 
         begins = inl refl;
         lives = here ∷ ran.lives;
         are = (life_again b life ran.first by.is of, ran.are);
-        told = inr (here, ran.lives, refl, told_here life.world.table (life_entries b life) u.told told c.told told_is by.lines, ran.told);
+        told = inr (here, ran.lives, refl, life_told_here life.world.table (life_entries b life) life.steps u.told told c.told told_is by.lines, ran.told);
         left = ran.left;
       }
 

@@ -10,4 +10,5 @@ pub mod AnyLists
 pub mod Spools
 pub mod Submissions
 pub mod Takings
+pub mod ToolLines
 pub mod Deliveries

@@ -15,7 +15,7 @@ use Rattle.q_model.specs.Message.{Message}
 use Rattle.q_model.specs.Orderly.{is_lawful, is_orderly}
 use Rattle.q_model.specs.declared.entry.Entry.{Entry}
 use Rattle.q_model.specs.declared.id.Id.{Id}
-use Rattle.q_replay.specs.LivesLeft.{AreTold, LeavesLives}
+use Rattle.q_replay.specs.LivesLeft.{LeavesLives, LifeIsTold}
 
 -- ---- one call
 
@@ -88,12 +88,14 @@ host_behind h (then c cs) = host_behind c.next cs
 abbrev pub TellsNoLife : {H : Type 0} → Course H → Type 0
 TellsNoLife c = (c.runs ≡ false) ⊎ (c.told ≡ [])
 
--- Each call ran one of these lives, in order, and told its lines, or told none of a life.
+-- Each call ran one of these lives, in order, and told its lines and those of the tools behind it, or told
+-- none of a life.
 abbrev pub AreToldBy : {H : Type 0} → Book → List Life → Calls H → Type 0
 AreToldBy b lives none = lives ≡ []
 AreToldBy b lives (then c cs) = (TellsNoLife c × AreToldBy b lives cs)
     ⊎ ((life : Life) × (rest : List Life) × (lives ≡ life ∷ rest)
-    × AreTold life.world.table (life_entries b life) [] c.told × AreToldBy life.left rest cs)
+    × LifeIsTold life.world.table (life_entries b life) life.steps [] c.told
+    × AreToldBy life.left rest cs)
 
 -- the call that a life on a book was
 abbrev pub call_of : Book → Life → Call

@@ -92,3 +92,4 @@ asked_form words (requests.Listen port count rests) is = is.1.some
 asked_form words (requests.Qshape request) is = is.1.shape
 asked_form words requests.Queue is = tt
 asked_form words (requests.Load mails) is = tt
+asked_form words (requests.Tool tool) is = tt

@@ -116,7 +116,7 @@ unfolding world_of
 table_by w conf is = ap (λ (k : World). k.table) is
 
 module _ (conf : Conf) (u m v : View) (lawful : TellsCrashes u) (stays : Stays u m) (goes : conf_of u.files ≡ goes_by (world_of conf)) where
-  found_here : (r : Result (Unit {0}) ReplayError) (area : Area) (name : List ℕ) → RefusesDamage area name m v r → FindsDamage area name u v (status_of r)
+  pub found_here : (r : Result (Unit {0}) ReplayError) (area : Area) (name : List ℕ) → RefusesDamage area name m v r → FindsDamage area name u v (status_of r)
   found_here (Ok done) area name h = absurd h
   found_here (Err errors.Disk) area name h = record { names = inr (inl refl); stays = stays_on u m v stays h.1 }
   found_here (Err errors.Tell) area name h = record { names = inr (inr (inl refl)); stays = stays_on u m v stays h.1 }
@@ -130,7 +130,7 @@ module _ (conf : Conf) (u m v : View) (lawful : TellsCrashes u) (stays : Stays u
     stays = stays_on u m v stays h.1;
   }
 
-  named_damage : (r : Result (Unit {0}) ReplayError) (area : Area) (name : List ℕ) → status_of r ≡ status.Damaged area name → IsErrOf r (errors.Damaged area name)
+  pub named_damage : (r : Result (Unit {0}) ReplayError) (area : Area) (name : List ℕ) → status_of r ≡ status.Damaged area name → IsErrOf r (errors.Damaged area name)
   named_damage (Ok done) area name is = absurd cc
   named_damage (Err errors.Disk) area name is = absurd cc
   named_damage (Err errors.Tell) area name is = absurd cc

@@ -11,3 +11,4 @@ pub mod Listens
 pub mod ListensLeft
 pub mod Serving
 pub mod Called
+pub mod ToolRuns

@@ -31,7 +31,7 @@ use Rattle.q_top.specs.declared.status.Status.TheVariants as status
 use Rattle.q_words.specs.declared.error.WordsError.{WordsError}
 use Rattle.q_words.specs.declared.error.WordsError.TheVariants as words_errors
 use Rattle.q_words.specs.declared.request.Request.{Request}
-use Rattle.q_words.specs.declared.request.Request.TheVariants.{Drain, Listen, Replay, Submit}
+use Rattle.q_words.specs.declared.request.Request.TheVariants.{Drain, Listen, Replay, Submit, Tool}
 
 -- ---- a line of conf
 
@@ -130,6 +130,7 @@ module _ (Asks : Request → Type 0) where
   untold_named content status.NoMemory h = tt
   untold_named content status.Door h = tt
   untold_named content (status.Unfinished n) h = tt
+  untold_named content status.Absent h = h
 
   -- what a content that was read has too much of, the source has
   pub of_source : (text : Option (List ℕ)) (content : List ℕ) (s : Status) → HasRead text content → IsNamed Asks (Some content) s → IsNamed Asks text s
@@ -199,6 +200,7 @@ unnamed Asks text status.Source h = tt
 unnamed Asks text status.NoMemory h = tt
 unnamed Asks text status.Door h = tt
 unnamed Asks text (status.Unfinished n) h = tt
+unnamed Asks text status.Absent h = absurd cc
 
 pub words_named : (Asks : Request → Type 0) (text : Option (List ℕ)) (error : WordsError) → IsNamed Asks text (words_status error)
 words_named Asks text words_errors.NoMemory = tt
@@ -206,6 +208,9 @@ words_named Asks text words_errors.NoCommand = tt
 words_named Asks text (words_errors.Refused why) = tt
 words_named Asks text words_errors.NoAddress = tt
 words_named Asks text words_errors.NoQueue = tt
+words_named Asks text words_errors.NoTarget = tt
+words_named Asks text words_errors.NoId = tt
+words_named Asks text words_errors.NoDomain = tt
 
 -- where the one asks for a command, the other does
 module _ (P Q : Request → Type 0) (f : (r : Request) → P r → Q r) (text : Option (List ℕ)) where
@@ -234,6 +239,7 @@ module _ (P Q : Request → Type 0) (f : (r : Request) → P r → Q r) (text : 
   asked_too status.NoMemory h = tt
   asked_too status.Door h = tt
   asked_too (status.Unfinished n) h = tt
+  asked_too status.Absent (tool, one, asks) = (tool, one, f (Tool tool) asks)
 
 -- ---- rests
 

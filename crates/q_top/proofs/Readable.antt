@@ -23,7 +23,7 @@ use Rattle.q_top.specs.declared.status.Status.{Status}
 use Rattle.q_words.specs.declared.error.WordsError.{WordsError}
 use Rattle.q_words.specs.declared.error.WordsError.TheVariants as words_errors
 
-error_readable : (error : ReplayError) → is_error_unreadable error ≡ false → is_unreadable (replay_status error) ≡ false
+pub error_readable : (error : ReplayError) → is_error_unreadable error ≡ false → is_unreadable (replay_status error) ≡ false
 error_readable errors.Disk h = refl
 error_readable errors.Tell h = refl
 error_readable errors.Source h = refl
@@ -75,6 +75,9 @@ words_readable words_errors.NoCommand = refl
 words_readable (words_errors.Refused why) = refl
 words_readable words_errors.NoAddress = refl
 words_readable words_errors.NoQueue = refl
+words_readable words_errors.NoTarget = refl
+words_readable words_errors.NoId = refl
+words_readable words_errors.NoDomain = refl
 
 -- what only tells names no fault of lives
 pub told_no_lives : (told : Result (Unit {0}) HostError) → is_of_lives (telling_status told) ≡ false
@@ -89,6 +92,9 @@ words_no_lives words_errors.NoCommand = refl
 words_no_lives (words_errors.Refused why) = refl
 words_no_lives words_errors.NoAddress = refl
 words_no_lives words_errors.NoQueue = refl
+words_no_lives words_errors.NoTarget = refl
+words_no_lives words_errors.NoId = refl
+words_no_lives words_errors.NoDomain = refl
 
 pub no_lives_of : {P : Type 0} (s : Status) → is_of_lives s ≡ false → is_of_lives s ≡ true → P
 no_lives_of s none some = absurd (let bad : false ≡ true = sym none ∙ some in cc)

@@ -34,6 +34,10 @@ use Rattle.q_replay.specs.declared.error.ReplayError.{ReplayError}
 use Rattle.q_replay.specs.declared.letters.Letter.{Letter}
 use Rattle.q_settings.specs.Ranges.{IsInRange}
 use Rattle.q_telling.specs.Telling.{LeavesFiles, TellsFront, TellsMore}
+use Rattle.q_tools.proofs.ToolLives.{tool_lives}
+use Rattle.q_tools.specs.ToolEnds.{ToolEnds}
+use Rattle.q_tools.specs.declared.error.ToolError.{ToolError}
+use Rattle.q_tools.specs.declared.task.Task.{Task}
 use Rattle.q_top.proofs.FirstRefusals.{settings_of, table_by}
 use Rattle.q_top.proofs.ListensLeft.{listening_lives}
 use Rattle.q_top.proofs.RunsBehind.{still_stands}
@@ -66,6 +70,15 @@ module _ (conf : Conf) (u m v : View) (lawful : TellsCrashes u) (stays : Stays u
       let so = good u b h orderly in
       let run = ends b (still_stands u m lawful stays b h) orderly w (settings_of w conf refl) (table_by w conf refl) in
       lives_behind b so u m v (reads_keep b b u m lawful stays h) (submission_lives w b moment letter m v r late form (usable w range) so run)
+
+-- a queue tool
+module _ (conf : Conf) (u m v : View) (lawful : TellsCrashes u) (stays : Stays u m) (range : IsInRange (world_of conf).settings) (moment : ℕ) (task : Task) (r : Result (Unit {0}) ToolError) where
+  pub tool_serves : moment ≤ 999990000000 → ForOrderly conf.params conf.table m (λ w b. ToolEnds w b moment task m v r) → Serves true u v
+  tool_serves late ends b h orderly =
+      let w = world_of conf in
+      let so = good u b h orderly in
+      let ended = ends b (still_stands u m lawful stays b h) orderly w (settings_of w conf refl) (table_by w conf refl) in
+      lives_behind b so u m v (reads_keep b b u m lawful stays h) (tool_lives w b moment (usable w range) so task m v r late ended)
 
 -- a drain
 module _ (conf : Conf) (u m v : View) (lawful : TellsCrashes u) (stays : Stays u m) (range : IsInRange (world_of conf).settings) (o : Outsides) (r : Result Delivered ReplayError) where

@@ -7,3 +7,4 @@ pub mod Promises
 pub mod Qmgr
 pub mod Statuses
 pub mod Tellings
+pub mod Tools

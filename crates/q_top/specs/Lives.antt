@@ -26,7 +26,10 @@ use Rattle.q_restart.specs.Damages.{IsDamage}
 use Rattle.q_stream.specs.Clocks.{AddsMoment}
 use Rattle.q_top.specs.Contents.{most_content}
 use Rattle.q_top.specs.Courses.{ForBooks, InWorld, Moments, Texts}
-use Rattle.q_top.specs.Statuses.{delivery_status, input_of, listen_status, status_of}
+use Rattle.q_tools.specs.ToolEnds.{ToolEnds}
+use Rattle.q_tools.specs.declared.error.ToolError.{ToolError}
+use Rattle.q_tools.specs.declared.task.Task.{Task}
+use Rattle.q_top.specs.Statuses.{delivery_status, input_of, listen_status, status_of, tool_status}
 use Rattle.q_top.specs.declared.status.Status.{Status}
 use Rattle.q_top.specs.declared.status.Status.TheVariants as status
 
@@ -108,6 +111,25 @@ pub record EndsListening (w : World) (b : Book) (port count : ℕ) (o : AtDoor) 
 pub record ListensOnSpool (port count : ℕ) (o : AtDoor) (u v : View) (s : Status) : Type 0 where
   pub refused : RefusesFirst u v s
   pub run : ForBooks u (λ w b. EndsListening w b port count o u v s)
+
+-- ---- queue tools
+
+-- the status says how far a tool went on a book, at this moment
+pub record EndsTool (w : World) (b : Book) (moment : ℕ) (task : Task) (u v : View) (s : Status) : Type 0 where
+  pub result : Result (Unit {0}) ToolError
+  pub says : s ≡ tool_status result
+  pub ends : ToolEnds w b moment task u v result
+
+-- A tool at a moment: by conf and the spool it is refused, or its life is run, and behind it the act.
+pub record WorksAt (moment : ℕ) (task : Task) (u v : View) (s : Status) : Type 0 where
+  pub refused : RefusesFirst u v s
+  pub run : ForBooks u (λ w b. EndsTool w b moment task u v s)
+
+-- so it is at the clock's one moment
+pub record WorksNow (task : Task) (moments : Moments) (u v : View) (s : Status) : Type 0 where
+  pub moment : ℕ
+  pub given : AddsMoment moments.before moments.after moment
+  pub works : WorksAt moment task u v s
 
 -- ---- submit
 

@@ -1,5 +1,5 @@
 -- What a status names, whether the host tells its files or not.
-use Rattle.std.specs.Prelude.{◌<◌, ◌⊎◌, IfSome, length, List, Option, ℕ}
+use Rattle.std.specs.Prelude.{◌<◌, ◌≡◌, ◌⊎◌, IfSome, length, List, Option, true, ℕ}
 use Rattle.q_conf.specs.Confs.{at_fault, SaySo}
 use Rattle.q_conf.specs.declared.error.ConfFile.TheVariants as conf
 use Rattle.q_model.specs.declared.limits.Bound.{Bound}
@@ -12,9 +12,12 @@ use Rattle.q_restart.specs.declared.error.OpenError.TheVariants as open_errors
 use Rattle.q_top.specs.Contents.{most_content}
 use Rattle.q_top.specs.declared.status.InputFile.TheVariants.{Events, Parameters, Table}
 use Rattle.q_top.specs.declared.status.Status.{Status}
-use Rattle.q_top.specs.declared.status.Status.TheVariants.{BadInput, Damaged, Limit}
+use Rattle.q_top.specs.declared.status.Status.TheVariants.{Absent, BadInput, Damaged, Limit}
 use Rattle.q_words.specs.declared.request.Request.{Request}
-use Rattle.q_words.specs.declared.request.Request.TheVariants.{Drain, Listen, Replay, Submit}
+use Rattle.q_tools.specs.Tasks.{is_one}
+use Rattle.q_top.specs.Tools.{task_of}
+use Rattle.q_words.specs.declared.request.Request.TheVariants.{Drain, Listen, Replay, Submit, Tool}
+use Rattle.q_words.specs.declared.tool.ToolRequest.{ToolRequest}
 
 -- the text is an event list with a line that is at fault, where it is told
 abbrev pub HasFault : Option (List ℕ) → ℕ → Type 0
@@ -40,11 +43,15 @@ IsTooMuch Asks text bound = (Asks Replay × HasTooMuch text bound)
 abbrev pub AsksToListen : (Request → Type 0) → Type 0
 AsksToListen Asks = (port : ℕ) × (count : ℕ) × (rests : ℕ) × Asks (Listen port count rests)
 
+-- a queue tool is asked to act on one message
+abbrev pub AsksForOne : (Request → Type 0) → Type 0
+AsksForOne Asks = (tool : ToolRequest) × (is_one (task_of tool) ≡ true) × Asks (Tool tool)
+
 -- A line of conf is one at which some texts are at fault. A damage, and that no generation is left, are
 -- what some names of boot and some files of the queues show. A line of an event list, and the limits of
 -- what is handed in, are named for commands alone that take the source's text, and by that, where the
 -- source tells it; the limit of serials also where mail is taken by SMTP, and that of deliveries for a
--- drain alone.
+-- drain alone. A message isn't found where a tool is asked to act on one.
 abbrev pub IsNamed : (Asks : Request → Type 0) → (text : Option (List ℕ)) → Status → Type 0
 IsNamed Asks text (BadInput Events line) = Asks Replay × HasFault text line
 IsNamed Asks text (BadInput Parameters line) = SaySo (at_fault conf.Parameters line)
@@ -54,4 +61,5 @@ IsNamed Asks text (Limit bounds.Generation) = IsRefusalOfSome open_errors.Spent
 IsNamed Asks text (Limit bounds.Deliveries) = (rests : ℕ) × Asks (Drain rests)
 IsNamed Asks text (Limit bounds.Serial) = IsTooMuch Asks text bounds.Serial ⊎ AsksToListen Asks
 IsNamed Asks text (Limit bound) = IsTooMuch Asks text bound
+IsNamed Asks text Absent = AsksForOne Asks
 IsNamed Asks text status = Unit {0}

@@ -10,8 +10,9 @@ use Rattle.q_listen.specs.ListenEnds.{AreTooFew as AreTooFewAtDoor, CountsRests 
 use Rattle.q_replay.specs.Spools.{Serves}
 use Rattle.q_shape.specs.Buckets.{IsShape}
 use Rattle.q_top.specs.Courses.{at_door, Connections, Entrances, Moments, Texts, outsides}
-use Rattle.q_top.specs.Lives.{DrainsSpool, ListensOnSpool, Replays, Submits}
+use Rattle.q_top.specs.Lives.{DrainsSpool, ListensOnSpool, Replays, Submits, WorksNow}
 use Rattle.q_top.specs.Tellings.{Lists, TellsAges, TellsLoad}
+use Rattle.q_top.specs.Tools.{task_of}
 use Rattle.q_top.specs.declared.status.Status.{Status}
 use Rattle.q_top.specs.declared.status.Status.TheVariants as status
 use Rattle.q_words.specs.Requests.{IsRequest}
@@ -48,6 +49,7 @@ HasForm (requests.Listen port count rests) = 1 ≤ count
 HasForm (requests.Qshape request) = IsShape request.shape
 HasForm requests.Queue = Unit {0}
 HasForm (requests.Load mails) = Unit {0}
+HasForm (requests.Tool tool) = Unit {0}
 
 -- the command takes bytes of its source
 abbrev pub takes_input : Request → Bool
@@ -61,6 +63,7 @@ asks_clock (requests.Submit sender to) = true
 asks_clock (requests.Drain rests) = true
 asks_clock (requests.Listen port count rests) = true
 asks_clock (requests.Qshape request) = true
+asks_clock (requests.Tool tool) = true
 asks_clock request = false
 
 -- it delivers over connections
@@ -85,6 +88,7 @@ Does (requests.Listen port count rests) texts moments connections entrances s u 
 Does (requests.Qshape request) texts moments connections entrances s u v = TellsAges request moments u v s
 Does requests.Queue texts moments connections entrances s u v = Lists u v s
 Does (requests.Load mails) texts moments connections entrances s u v = TellsLoad mails u v s
+Does (requests.Tool tool) texts moments connections entrances s u v = WorksNow (task_of tool) moments u v s
 
 -- the commands that run a life, or many; the others only look
 abbrev pub runs_lives : Request → Bool
@@ -95,6 +99,7 @@ runs_lives (requests.Listen port count rests) = true
 runs_lives (requests.Qshape request) = false
 runs_lives requests.Queue = false
 runs_lives (requests.Load mails) = false
+runs_lives (requests.Tool tool) = true
 
 -- the command that the words ask for was carried out
 pub record CarriesOut (words : List (List ℕ)) (texts : Texts) (moments : Moments) (connections : Connections)

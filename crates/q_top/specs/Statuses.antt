@@ -15,12 +15,15 @@ use Rattle.q_replay.specs.declared.deliveries.Delivered.{Delivered}
 use Rattle.q_replay.specs.declared.deliveries.Delivered.TheVariants as deliveries
 use Rattle.q_replay.specs.declared.error.ReplayError.{ReplayError}
 use Rattle.q_replay.specs.declared.error.ReplayError.TheVariants as errors
+use Rattle.q_super.specs.declared.error.SuperError.TheVariants as acts
+use Rattle.q_tools.specs.declared.error.ToolError.{ToolError}
+use Rattle.q_tools.specs.declared.error.ToolError.TheVariants.{Act, Life}
 use Rattle.q_top.specs.declared.content.ContentError.{ContentError}
 use Rattle.q_top.specs.declared.content.ContentError.TheVariants as content_errors
 use Rattle.q_top.specs.declared.status.InputFile.{InputFile}
 use Rattle.q_top.specs.declared.status.InputFile.TheVariants.{Events, Parameters, Table}
 use Rattle.q_top.specs.declared.status.Status.{Status}
-use Rattle.q_top.specs.declared.status.Status.TheVariants.{BadInput, Damaged, Disk, Done, Door, Limit, NoMemory, Source, Tell, Unfinished, Unreadable, Usage}
+use Rattle.q_top.specs.declared.status.Status.TheVariants.{Absent, BadInput, Damaged, Disk, Done, Door, Limit, NoMemory, Source, Tell, Unfinished, Unreadable, Usage}
 
 -- the exit status of a program
 abbrev pub status_number : Status → ℕ
@@ -35,6 +38,7 @@ status_number (Unfinished rests) = 7
 status_number (Limit bound) = 8
 status_number NoMemory = 9
 status_number Door = 10
+status_number Absent = 11
 status_number (Unreadable area name) = 12
 
 -- a queue file can't be read any longer
@@ -42,12 +46,13 @@ abbrev pub is_unreadable : Status → Bool
 is_unreadable (Unreadable area name) = true
 is_unreadable _ = false
 
--- the input, the spool, one of its files or a limit is at fault
+-- the input, the spool, one of its files, what was asked of it or a limit is at fault
 abbrev pub is_of_lives : Status → Bool
 is_of_lives (BadInput file line) = true
 is_of_lives (Damaged area name) = true
 is_of_lives (Limit bound) = true
 is_of_lives (Unreadable area name) = true
+is_of_lives Absent = true
 is_of_lives _ = false
 
 -- how a command ends whose lives ended so
@@ -87,6 +92,15 @@ abbrev pub listen_status : Result Listened ListenError → Status
 listen_status (Ok listenings.All) = Done
 listen_status (Ok (listenings.Unfinished rests)) = Unfinished rests
 listen_status (Err error) = listen_error_status error
+
+-- how a command ends by how a queue tool ended
+abbrev pub tool_status : Result (Unit {0}) ToolError → Status
+tool_status (Ok done) = Done
+tool_status (Err (Life error)) = replay_status error
+tool_status (Err (Act acts.Disk)) = Disk
+tool_status (Err (Act acts.Tell)) = Tell
+tool_status (Err (Act acts.NoMemory)) = NoMemory
+tool_status (Err (Act acts.Absent)) = Absent
 
 -- a file of conf among the files of input
 abbrev pub input_of : ConfFile → InputFile

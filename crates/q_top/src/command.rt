@@ -18,6 +18,7 @@ use crate::replaying::replay_list;
 use crate::status::Status;
 use crate::submitting::submit_content;
 use crate::telling::{list_queues, table_ages};
+use crate::tooling::use_tool;
 use q_door::Door;
 use q_host::Host;
 use q_link::{Hops, Link};
@@ -81,6 +82,7 @@ fn carry_out<L: Link, K: Link, H: Host, S: Source, C: Clock, N: Hops<Link = L>, 
         Request::Qshape(table) => table_ages(alloc, host, clock, &table),
         Request::Queue => list_queues(alloc, host),
         Request::Load { mails } => tell_load(alloc, host, mails),
+        Request::Tool(tool) => use_tool(alloc, host, clock, tool),
     }
 }
 
@@ -93,7 +95,10 @@ fn carry_out<L: Link, K: Link, H: Host, S: Source, C: Clock, N: Hops<Link = L>, 
 /// conf, and begins a life that delivers by SMTP (RFC 5321) until no delivery is in flight.
 /// `listen` reads the files of conf, and begins a life that takes mail by SMTP at a port, over so
 /// many connections one behind the other; a message is acknowledged only when its `arrive` line was
-/// told. A missing file of conf says as much as an empty one. `queue` tells the listing of the
+/// told. `hold`, `release` and `requeue`, each with an id or `ALL`, `expire` with an id, and `flush`
+/// with a domain read the files of conf, run an intake life with the clock's moment alone, and then
+/// move messages or give one up; of each they tell the line `WORD ID`, behind what the disk holds of
+/// it. A missing file of conf says as much as an empty one. `queue` tells the listing of the
 /// queues, `qshape` the ages of their mail; these two read no conf, begin no life and change
 /// nothing. `load` reads no conf and opens no spool: it runs a generated load on a host in memory
 /// of its own, and tells a summary.
@@ -106,7 +111,9 @@ fn carry_out<L: Link, K: Link, H: Host, S: Source, C: Clock, N: Hops<Link = L>, 
 /// says which limit an event passes, of a drain that no number is left for a delivery, and of
 /// `listen` that no serial is left for a message. `Disk`, `Tell`, `Source` and `Door` come where
 /// the host, the source or the door failed, `NoMemory` where memory ran out. `Unfinished` comes
-/// where a drain or `listen` has given all rests that its words allow, and needs another.
+/// where a drain or `listen` has given all rests that its words allow, and needs another. `Absent`
+/// comes, behind the life's lines, where a tool names a message that stands nowhere where the act takes
+/// messages from, or that can't be given up since its file is no queue file.
 /// `Unreadable` names a queue file of a life that can't be read any longer. What was told before a
 /// refusal stands on disk. With `Done` the deferral log of each message that `replay` admitted, and
 /// didn't remove since, reads as its delays since the last admission.
@@ -133,8 +140,8 @@ pub fn qmgr<L: Link, K: Link, H: Host, S: Source, C: Clock, N: Hops<Link = L>, D
         (record { before = C.given clock.old; after = C.given clock.new })
         (record { before = N.view hops.old; after = N.view hops.new })
         (record { before = D.view door.old; after = D.view door.new }) result) }
-    // Only replay and submit take from the source, none but submit, drain, listen and qshape asks the
-    // clock, none but drain uses connections, and none but listen the door.
+    // Only replay and submit take from the source, none but submit, drain, listen, the tools and qshape
+    // asks the clock, none but drain uses connections, and none but listen the door.
     ensures alone { is_usage (texts_of words.now) ≡ false → LeavesAlone (texts_of words.now)
         source.old source.new clock.old clock.new hops.old hops.new door.old door.new }
     // Only drain and listen are left unfinished, and only where all rests were given that the words say.
@@ -145,7 +152,8 @@ pub fn qmgr<L: Link, K: Link, H: Host, S: Source, C: Clock, N: Hops<Link = L>, D
     // They aren't where these are as many as the links may answer `NotYet`.
     ensures few { (n : ℕ) → result ≡ Status.Unfinished n → AsksFor (texts_of words.now)
         (λ request. NeedsMoreRests request n (N.view hops.old) (D.view door.old)) }
-    // The input, the spool, one of its files and limits are at fault for commands alone that run lives.
+    // The input, the spool, one of its files, what is asked of it and limits are at fault for commands
+    // alone that run lives.
     ensures lives { is_of_lives result ≡ true → AsksForLives (texts_of words.now) }
     // Of every host: a line of conf, a damage, and that no generation is left, are what some texts and
     // files show; a line of an event list is at fault, and a limit passed, by what the words ask for

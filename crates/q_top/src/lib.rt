@@ -1,5 +1,6 @@
-//! The commands of the queue manager on a spool: `submit`, `replay`, `drain` and `listen` run lives,
-//! `qshape` and `queue` look at what the queues hold, and `load` runs a generated load in memory.
+//! The commands of the queue manager on a spool: `submit`, `replay`, `drain` and `listen` run lives, and so
+//! do the queue tools `hold`, `release`, `requeue`, `expire` and `flush` before they act; `qshape` and
+//! `queue` look at what the queues hold, and `load` runs a generated load in memory.
 //!
 //! `qmgr` reads the words of a command and carries it out. It is no error to give any words, text or
 //! files of conf: what is wrong with them is a status of its own. On a host that tells its files, the
@@ -16,6 +17,7 @@ mod replaying;
 mod status;
 mod submitting;
 mod telling;
+mod tooling;
 
 pub use command::qmgr;
 pub use promises::whatever_is_called;

@@ -1,12 +1,14 @@
 //! How a command ended.
 ghost use Rattle.std.specs.Prelude.{◌≡◌, ◌≢◌, ℕ};
-ghost use Rattle.q_top.specs.Statuses.{conf_status, delivery_status, input_of, listen_error_status, listen_status, replay_status, status_number, status_of, telling_status};
+ghost use Rattle.q_top.specs.Statuses.{conf_status, delivery_status, input_of, listen_error_status, listen_status, replay_status, status_number, status_of, telling_status, tool_status};
 
 use q_conf::{ConfError, ConfFile};
 use q_host::HostError;
 use q_listen::{ListenError, Listened};
 use q_model::{Area, Bound, Name};
 use q_replay::{Delivered, ReplayError};
+use q_super::SuperError;
+use q_tools::ToolError;
 use std::fmt;
 
 /// A file of input that has a grammar.
@@ -48,6 +50,9 @@ pub enum Status {
     NoMemory,
     /// The port can't be taken, or no connection could be accepted.
     Door,
+    /// The message that a queue tool is to act on stands nowhere where the act takes messages from, or
+    /// can't be given up.
+    Absent,
     /// A queue file of a life can't be read any longer: this name in this area. It comes over a host
     /// alone that doesn't tell its files.
     Unreadable { area: Area, name: Name },
@@ -70,6 +75,7 @@ impl Status {
             Status::Limit { .. } => 8,
             Status::NoMemory => 9,
             Status::Door => 10,
+            Status::Absent => 11,
             Status::Unreadable { .. } => 12,
         }
     }
@@ -154,6 +160,23 @@ pub(crate) fn listen_status(end: Result<Listened, ListenError>) -> Status
     }
 }
 
+/// How a command ends by how a queue tool ended.
+pub(crate) fn tool_status(end: Result<(), ToolError>) -> Status
+    ensures exact { result ≡ tool_status end }
+    ensures no_usage { result ≢ Status.Usage }
+    ensures no_door { result ≢ Status.Door }
+    ensures no_rests { (n : ℕ) → result ≢ Status.Unfinished n }
+{
+    match end {
+        Ok(()) => Status::Done,
+        Err(ToolError::Life(error)) => replay_status(error),
+        Err(ToolError::Act(SuperError::Disk)) => Status::Disk,
+        Err(ToolError::Act(SuperError::Tell)) => Status::Tell,
+        Err(ToolError::Act(SuperError::NoMemory)) => Status::NoMemory,
+        Err(ToolError::Act(SuperError::Absent)) => Status::Absent,
+    }
+}
+
 fn input_of(file: ConfFile) -> InputFile
     ensures { result ≡ input_of file }
 {
@@ -217,6 +240,7 @@ impl fmt::Display for Status {
             Status::Limit { bound } => write!(f, "limit reached: {bound}"),
             Status::NoMemory => write!(f, "no memory"),
             Status::Door => write!(f, "connection fault"),
+            Status::Absent => write!(f, "no such message"),
             Status::Unreadable { area, name } => {
                 let folder = area.folder();
                 write!(f, "unreadable file: {folder}/{name}")

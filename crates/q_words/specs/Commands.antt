@@ -61,6 +61,20 @@ mails_rule = record (new_rule (codes "mails")) {
 abbrev pub load_app : App
 load_app = with_rule (new_app (codes "load")) mails_rule
 
+-- `hold ID`, and so with the other acts on messages
+abbrev pub id_rule : Rule
+id_rule = record (new_rule (codes "id")) { required = true }
+
+abbrev pub id_app : Text → App
+id_app command = with_rule (new_app command) id_rule
+
+-- `flush DOMAIN`
+abbrev pub domain_rule : Rule
+domain_rule = record (new_rule (codes "domain")) { required = true }
+
+abbrev pub domain_app : App
+domain_app = with_rule (new_app (codes "flush")) domain_rule
+
 -- `qshape -l -s -b N -t MINUTES QUEUE..`
 abbrev pub flag_rule : Text → ℕ → Rule
 flag_rule id letter = record (new_rule id) { short = Some letter; action = Some SetTrue }

@@ -1,4 +1,5 @@
 pub mod Commands
 pub mod Given
 pub mod Requests
+pub mod Tools
 pub mod Usages

@@ -13,7 +13,9 @@ use Rattle.q_model.specs.Values.{Receiver}
 use Rattle.q_words.specs.declared.request.Request.{Request}
 use Rattle.q_words.specs.declared.request.Request.TheVariants as requests
 use Rattle.q_shape.specs.declared.request.TableRequest.{TableRequest}
+use Rattle.q_words.specs.declared.tool.ToolRequest.TheVariants as tools
 use Rattle.q_words.specs.Commands.{drain_app, listen_app, load_app, qshape_app, submit_app}
+use Rattle.q_words.specs.Tools.{IsDomain, IsOne, IsTarget}
 
 -- all words of an argument
 abbrev pub words_of : Text → List Row → List Text
@@ -126,3 +128,12 @@ IsRequest words (requests.Listen port count rests) =
     (command_of words ≡ Some (codes "listen")) × IsListenOf (matches_of listen_app words) port count rests
 IsRequest words (requests.Qshape table) =
     (command_of words ≡ Some (codes "qshape")) × IsTableRequest (matches_of qshape_app words) table
+IsRequest words (requests.Tool (tools.Hold target)) =
+    (command_of words ≡ Some (codes "hold")) × IsTarget (codes "hold") words target
+IsRequest words (requests.Tool (tools.Release target)) =
+    (command_of words ≡ Some (codes "release")) × IsTarget (codes "release") words target
+IsRequest words (requests.Tool (tools.Requeue target)) =
+    (command_of words ≡ Some (codes "requeue")) × IsTarget (codes "requeue") words target
+IsRequest words (requests.Tool (tools.Expire id)) = (command_of words ≡ Some (codes "expire")) × IsOne words id
+IsRequest words (requests.Tool (tools.Flush domain)) =
+    (command_of words ≡ Some (codes "flush")) × IsDomain words domain

@@ -5,8 +5,9 @@ use Rattle.std.specs.Prelude.{◌||◌, ◌≡◌, Bool, bytes_eq, codes, Err, f
 use Rattle.clap.specs.Words.{matches_of, new_app, Row, Text}
 use Rattle.q_words.specs.declared.error.WordsError.{WordsError}
 use Rattle.q_words.specs.declared.error.WordsError.TheVariants as errors
-use Rattle.q_words.specs.Commands.{drain_app, is_fault, listen_app, load_app, qshape_app, submit_app}
+use Rattle.q_words.specs.Commands.{domain_app, drain_app, id_app, is_fault, listen_app, load_app, qshape_app, submit_app}
 use Rattle.q_words.specs.Requests.{command_of, is_queue, sender_in, to_in, words_of}
+use Rattle.q_words.specs.Tools.{domain_in, id_in, target_in}
 
 -- a word of `submit` is no address
 abbrev pub has_no_address : List Row → Bool
@@ -35,6 +36,29 @@ is_listen_usage words = is_fault listen_app words
 abbrev pub is_plain_usage : Text → List Text → Bool
 is_plain_usage command words = is_fault (new_app command) words
 
+-- a word of an act is neither an id nor `ALL`
+abbrev pub is_target_usage : Text → List Text → Bool
+is_target_usage command words =
+    is_fault (id_app command) words || is_none (target_in (matches_of (id_app command) words))
+
+-- one of `expire` is no id
+abbrev pub is_expire_usage : List Text → Bool
+is_expire_usage words = is_fault (id_app (codes "expire")) words
+    || is_none (id_in (matches_of (id_app (codes "expire")) words))
+
+-- one of `flush` is no domain
+abbrev pub is_flush_usage : List Text → Bool
+is_flush_usage words = is_fault domain_app words || is_none (domain_in (matches_of domain_app words))
+
+abbrev pub is_tool_usage : List Text → Text → Bool
+is_tool_usage words command =
+    if bytes_eq command (codes "hold") then is_target_usage (codes "hold") words
+    else if bytes_eq command (codes "release") then is_target_usage (codes "release") words
+    else if bytes_eq command (codes "requeue") then is_target_usage (codes "requeue") words
+    else if bytes_eq command (codes "expire") then is_expire_usage words
+    else if bytes_eq command (codes "flush") then is_flush_usage words
+    else true
+
 abbrev pub is_usage_of : List Text → Text → Bool
 is_usage_of words command =
     if bytes_eq command (codes "replay") then is_plain_usage (codes "replay") words
@@ -44,7 +68,7 @@ is_usage_of words command =
     else if bytes_eq command (codes "load") then is_load_usage words
     else if bytes_eq command (codes "queue") then is_plain_usage (codes "queue") words
     else if bytes_eq command (codes "listen") then is_listen_usage words
-    else true
+    else is_tool_usage words command
 
 -- The words are refused: the first is no command, or the command refuses them.
 abbrev pub is_usage : List Text → Bool

@@ -1,7 +1,7 @@
 //! The commands as clap reads their words.
 ghost use Rattle.std.specs.Prelude.{◌≡◌, codes, false, map, IfOk, string_bytes};
 ghost use Rattle.clap.specs.Words.{app_of, fault_of, FailsBy, found_of, matches_of, rows_of, rule_of, new_app};
-ghost use Rattle.q_words.specs.Commands.{drain_app, flags_app, listen_app, load_app};
+ghost use Rattle.q_words.specs.Commands.{domain_app, domain_rule, drain_app, flags_app, id_app, id_rule, listen_app, load_app};
 ghost use Rattle.q_words.specs.Commands.{qshape_app, submit_app};
 ghost use Rattle.q_words.specs.Commands.{count_rule, flag_rule, mails_rule, port_rule, rests_rule};
 ghost use Rattle.q_words.specs.Commands.{sender_rule, to_rule};
@@ -135,6 +135,33 @@ fn load<'a>(alloc: Global) -> Result<Command<'a>, AllocError>
     Command::new(alloc, "load").arg(mails(alloc))
 }
 
+fn id<'a>(alloc: Global) -> Arg<'a>
+    ensures rule { rule_of result ≡ id_rule }
+    ensures local { result.global ≡ false }
+{
+    Arg::new(alloc, "id").required(true)
+}
+
+fn domain<'a>(alloc: Global) -> Arg<'a>
+    ensures rule { rule_of result ≡ domain_rule }
+    ensures local { result.global ≡ false }
+{
+    Arg::new(alloc, "domain").required(true)
+}
+
+/// An act on messages.
+fn act<'a>(alloc: Global, name: &'a str) -> Result<Command<'a>, AllocError>
+    ensures { IfOk result (λ c. app_of c ≡ id_app name.entry.now) }
+{
+    Command::new(alloc, name).arg(id(alloc))
+}
+
+fn flush<'a>(alloc: Global) -> Result<Command<'a>, AllocError>
+    ensures { IfOk result (λ c. app_of c ≡ domain_app) }
+{
+    Command::new(alloc, "flush").arg(domain(alloc))
+}
+
 /// The flags of `qshape`.
 fn with_flags<'a>(alloc: Global) -> Result<Command<'a>, AllocError>
     ensures { IfOk result (λ c. app_of c ≡ flags_app) }
@@ -217,6 +244,34 @@ pub(crate) fn qshape_matches<'a>(
     ensures minutes { IfOk result (λ m. HasNumber m (codes "minutes") 1 10000) }
 {
     let command = qshape(alloc)?;
+    command.try_get_matches_from(words)
+}
+
+/// The same of an act on messages.
+pub(crate) fn id_matches<'a>(
+    alloc: Global,
+    name: &'a str,
+    words: &'a [String],
+) -> Result<ArgMatches<'a>, Error>
+    ensures refused { FailsBy
+        (fault_of (id_app name.entry.now) (map string_bytes words.entry.now)) result }
+    ensures found { IfOk result (λ m. rows_of (found_of m)
+        ≡ matches_of (id_app name.entry.now) (map string_bytes words.entry.now)) }
+{
+    let command = act(alloc, name)?;
+    command.try_get_matches_from(words)
+}
+
+/// The same of `flush`.
+pub(crate) fn domain_matches<'a>(
+    alloc: Global,
+    words: &'a [String],
+) -> Result<ArgMatches<'a>, Error>
+    ensures refused { FailsBy (fault_of domain_app (map string_bytes words.entry.now)) result }
+    ensures found { IfOk result (λ m. rows_of (found_of m)
+        ≡ matches_of domain_app (map string_bytes words.entry.now)) }
+{
+    let command = flush(alloc)?;
     command.try_get_matches_from(words)
 }
 

@@ -13,7 +13,7 @@ use thiserror::Error;
 pub enum WordsError {
     #[error("no memory")]
     NoMemory,
-    #[error("error: the first word is none of replay, submit, drain, qshape, queue, load, listen")]
+    #[error("error: the first word is none of replay, submit, drain, qshape, queue, load, listen, hold, release, requeue, expire, flush")]
     NoCommand,
     /// clap's reason, and the usage of the command.
     #[error("{0}")]
@@ -22,6 +22,12 @@ pub enum WordsError {
     NoAddress,
     #[error("error: a word is none of incoming, active, deferred, hold\n\nUsage: qshape [OPTIONS] [QUEUE]...")]
     NoQueue,
+    #[error("error: the word is neither the id of a message nor ALL")]
+    NoTarget,
+    #[error("error: the word is no id of a message\n\nUsage: expire <ID>")]
+    NoId,
+    #[error("error: the word is no domain\n\nUsage: flush <DOMAIN>")]
+    NoDomain,
 }
 
 impl From<NoMemory> for WordsError {

@@ -14,6 +14,7 @@ use crate::loading::read_load;
 use crate::request::Request;
 use crate::submission::read_submission;
 use crate::tables::read_table;
+use crate::tools::read_tool;
 use std::alloc::Global;
 
 /// Whether a command without words takes these, the command in front.
@@ -70,12 +71,13 @@ fn read_command(alloc: Global, command: &[u8], words: &[String]) -> Result<Reque
     if command == b"listen".as_slice() {
         return read_listen(alloc, words);
     }
-    Err(WordsError::NoCommand)
+    read_tool(alloc, command, words)
 }
 
 /// What the words ask for, the command in front. They are refused exactly where the first is no
 /// command, the command's words break its form as clap states it (a request for help is a refusal
-/// too), a word of `submit` is no address, or one of `qshape` is no queue. What is answered is what
+/// too), a word of `submit` is no address, one of `qshape` is no queue, one of an act is no id and isn't
+/// `ALL`, where that is allowed, or one of `flush` is no domain. What is answered is what
 /// the words say: each option's value, or its default where none is given, and of the queues those
 /// that are named, incoming and active where none is.
 pub fn read_words(alloc: Global, words: &[String]) -> Result<Request, WordsError>

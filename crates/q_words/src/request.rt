@@ -1,4 +1,5 @@
 //! What the words of a command ask for.
+use crate::tool::ToolRequest;
 use q_model::{Address, Addresses};
 use q_shape::TableRequest;
 
@@ -31,4 +32,6 @@ pub enum Request {
         count: u32,
         rests: u64,
     },
+    /// Act on messages that wait.
+    Tool(ToolRequest),
 }

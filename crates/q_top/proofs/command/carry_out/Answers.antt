@@ -2,7 +2,7 @@ use Rattle.std.proofs.Common.{◌≡◌, ◌∙◌, sym}
 use Rattle.q_top.proofs.Named.{asked_too, unnamed}
 use Rattle.q_top.proofs.Readable.{no_lives_of}
 use Rattle.q_top.proofs.Rests.{drain_needs, gave_drain, gave_listen, listen_needs}
-use Rattle.q_words.specs.declared.request.Request.TheVariants.{Drain, Listen, Replay, Submit}
+use Rattle.q_words.specs.declared.request.Request.TheVariants.{Drain, Listen, Replay, Submit, Tool}
 use Rattle.q_top.proofs.command.carry_out.Goals as goal
 
 pub returns-in-Replay-clause-unfinished : goal.returns-in-Replay-clause-unfinished
@@ -84,3 +84,14 @@ returns-in-Queue-clause-named g c = unnamed (λ r. r ≡ c.args.request) (g.S.So
 
 pub returns-in-Load-clause-named : goal.returns-in-Load-clause-named
 returns-in-Load-clause-named g c = unnamed (λ r. r ≡ c.args.request) (g.S.Source.left c.args.source.now) c.tell_load.result c.tell_load.ensures.no_lives
+
+pub returns-in-Tool-clause-unfinished : goal.returns-in-Tool-clause-unfinished
+returns-in-Tool-clause-unfinished g c n is = absurd (c.use_tool.ensures.no_rests n is)
+
+pub returns-in-Tool-clause-few : goal.returns-in-Tool-clause-few
+returns-in-Tool-clause-few g c n is = absurd (c.use_tool.ensures.no_rests n is)
+
+pub returns-in-Tool-clause-named : goal.returns-in-Tool-clause-named
+returns-in-Tool-clause-named g c =
+    let text = g.S.Source.left c.args.source.now in
+    asked_too (λ r. r ≡ Tool c.in-Tool.tool) (λ r. r ≡ c.args.request) (λ r is. is ∙ sym c.in-Tool.is) text c.use_tool.result (c.use_tool.ensures.named text)

@@ -1,0 +1,10 @@
+pub mod Acts
+pub mod Deeds
+pub mod Domains
+pub mod Finding
+pub mod GivingUp
+pub mod Moves
+pub mod Names
+pub mod Plays
+pub mod Refusals
+pub mod Standings

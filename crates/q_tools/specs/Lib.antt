@@ -1,0 +1,5 @@
+pub mod Lives
+pub mod Refusals
+pub mod Resting
+pub mod Tasks
+pub mod ToolEnds
