@@ -22,7 +22,7 @@ equal_from Less h = absurd cc
 equal_from Equal h = refl
 equal_from Greater h = absurd cc
 
-same_position : (a b : ℕ) → is_at (nat_cmp a) b ≡ nat_eq a b
+pub same_position : (a b : ℕ) → is_at (nat_cmp a) b ≡ nat_eq a b
 same_position a b = by (nat_eq a b) refl
   where
     never : (s : Bool) → is_at (nat_cmp a) b ≡ s → nat_eq a b ≡ false → s ≡ false

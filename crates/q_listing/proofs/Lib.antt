@@ -1,5 +1,6 @@
-mod CodeLaws
+pub mod CodeLaws
+pub mod GoneLaws
 mod MessageLaws
-mod RecipientLaws
-mod ToldLaws
+pub mod RecipientLaws
+pub mod ToldLaws
 mod WholeFiles

@@ -14,7 +14,7 @@ use std::alloc::Global;
 use std::collections::BTreeMap;
 
 /// Codes by position.
-pub(crate) type Codes = BTreeMap<u32, u16>;
+pub type Codes = BTreeMap<u32, u16>;
 
 /// Of each position the last code.
 fn last_codes(alloc: Global, notes: &[Note]) -> Result<Codes, NoMemory>
@@ -29,7 +29,7 @@ fn last_codes(alloc: Global, notes: &[Note]) -> Result<Codes, NoMemory>
 }
 
 /// The code of a position.
-pub(crate) fn code_of(codes: &Codes, position: u32) -> Option<u16>
+pub fn code_of(codes: &Codes, position: u32) -> Option<u16>
     ensures { result ≡ get nat_cmp codes.now position }
 {
     match codes.get(&position) {
@@ -40,7 +40,7 @@ pub(crate) fn code_of(codes: &Codes, position: u32) -> Option<u16>
 
 /// The last code of each position in the deferral log of an id. They take as much memory as the log
 /// is long.
-pub(crate) fn codes_of<H: Host>(alloc: Global, host: &mut H, id: Id) -> Result<Codes, HostError>
+pub fn codes_of<H: Host>(alloc: Global, host: &mut H, id: Id) -> Result<Codes, HostError>
     ensures codes { IfOk result (λ codes. IsTrue H.tells → (position : ℕ)
         → get nat_cmp codes position ≡ last_code (notes_in (H.view host.old).files id) position) }
     ensures stays { IsTrue H.tells → Stays (H.view host.old) (H.view host.new) }

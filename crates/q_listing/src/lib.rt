@@ -11,4 +11,7 @@ mod listing;
 mod recipients;
 mod whole;
 
+pub use codes::{Codes, code_of, codes_of};
+pub use lines::{add_code, add_message, queue_text};
 pub use listing::tell_listing;
+pub use recipients::reader_of;

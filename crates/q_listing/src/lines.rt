@@ -8,7 +8,8 @@ ghost use Rattle.q_model.specs.IdTexts.{id_text};
 use q_model::{Address, Id, Moment, NoMemory, Place, id_name};
 use std::alloc::Global;
 
-fn queue_text(place: Place) -> &'static [u8]
+/// The name of a queue.
+pub fn queue_text(place: Place) -> &'static [u8]
     ensures { result.now ≡ queue_text place }
 {
     match place {
@@ -54,7 +55,7 @@ fn sender_text(sender: &Option<Address>) -> &[u8]
 
 /// Adds the line of a message: its queue, its id, the size of its content, its arrival and its
 /// sender.
-pub(crate) fn add_message(
+pub fn add_message(
     alloc: Global,
     text: &mut Vec<u8>,
     place: Place,
@@ -74,8 +75,8 @@ pub(crate) fn add_message(
     add(text, b"\n")
 }
 
-/// Adds a code in brackets.
-fn add_code(alloc: Global, text: &mut Vec<u8>, code: u16) -> Result<(), NoMemory>
+/// Adds a code in brackets; 0 stands for no reply.
+pub fn add_code(alloc: Global, text: &mut Vec<u8>, code: u16) -> Result<(), NoMemory>
     ensures { OnOk result (text.new.items ≡ text.old.items ++ code_text code) }
 {
     if code == 0 {

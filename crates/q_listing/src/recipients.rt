@@ -96,7 +96,7 @@ fn head_at<H: Host>(host: &mut H, spot: Spot) -> Result<Option<FileHead>, HostEr
 
 /// A reader of the pending recipients of a message that was found. That a queue file stands where
 /// the walk found it is sure only where the files stand for a book, so its head is read once more.
-fn reader_of<H: Host>(
+pub fn reader_of<H: Host>(
     alloc: Global,
     host: &mut H,
     found: &Found,

@@ -13,5 +13,6 @@ mod reader;
 mod times;
 
 pub use error::{ParamCause, ParamError};
+pub use parameter::Parameter;
 pub use q_settings::Params;
 pub use reader::read_params;

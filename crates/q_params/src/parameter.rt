@@ -4,7 +4,7 @@ ghost use Rattle.q_params.specs.Parameters.{all_parameters, name_of, place_of};
 
 /// A parameter that a file may set.
 #[derive(Clone, Copy, Debug, PartialEq, Eq)]
-pub(crate) enum Parameter {
+pub enum Parameter {
     ActiveLimit,
     RecipientLimit,
     RecipientMinimum,
@@ -30,9 +30,11 @@ pub(crate) enum Parameter {
 
 impl Parameter {
     /// How many parameters there are.
-    pub(crate) const COUNT: usize = 21;
+    pub const COUNT: usize = 21;
 
-    const ALL: [Parameter; Parameter::COUNT] = [
+    /// All of them: those of memory, of windows, of scheduling, of times and of marks, and the delay
+    /// between deliveries.
+    pub const ALL: [Parameter; Parameter::COUNT] = [
         Parameter::ActiveLimit,
         Parameter::RecipientLimit,
         Parameter::RecipientMinimum,
@@ -57,7 +59,7 @@ impl Parameter {
     ];
 
     /// Its name in postconf(5).
-    fn name(self) -> &'static [u8]
+    pub fn name(self) -> &'static [u8]
         ensures { result.now ≡ name_of self }
     {
         match self {

@@ -17,8 +17,8 @@ Usage: qmgr [-s] [-w SECONDS] SPOOL COMMAND [WORD]...
 
 SPOOL is the folder of the spool. Commands make it where it is missing, and lock it; where another
 process has it, they wait for it, at most SECONDS (default 0). With -s each change of a folder is
-synced by itself, else many together. queue and qshape change nothing, and look beside a process that
-has it. load touches no folder.
+synced by itself, else many together. queue, json, qshape, status, show, params, route and check change
+nothing, and look beside a process that has it. load touches no folder.
 
 Commands:
   submit SENDER RECIPIENT...    take in one message, whose content is standard input; <> is the
@@ -32,19 +32,28 @@ Commands:
                                 over COUNT connections (1 to 1000000, default 1), one behind the
                                 other; clients are waited for at most RESTS times (0 to 1000000000,
                                 default 1000000), ten milliseconds at most each time
-  hold ID|ALL                   hold a message back that waits in incoming or deferred, or all
-  release ID|ALL                let a message go that was held back, or all
-  requeue ID|ALL                take a deferred message in anew, or all
-  expire ID                     give a message up that waits or was held back: its pending
-                                recipients fail
+  hold ID|ALL|-                 hold a message back that waits in incoming or deferred, or all; with
+                                - the ids are read from standard input, one a line
+  release ID|ALL|-              let a message go that was held back, or all, or those of the input
+  requeue ID|ALL|-              take a deferred message in anew, or all, or those of the input
+  expire ID|-                   give a message up that waits or was held back, or those of the
+                                input: its pending recipients fail
   flush DOMAIN                  take in anew the deferred mail with a pending recipient in DOMAIN
   queue                         list the messages in incoming, active, deferred and hold
+  json                          the same as JSON, one object a line, as postqueue -j has them
   qshape [-s] [-l] [-b N] [-t MINUTES] [QUEUE]...
                                 tell the ages of mail by domain: of recipients, or with -s of
                                 senders; N buckets (2 to 20, default 10), the first of so many
                                 minutes (1 to 10000, default 5), each twice the one before or with
                                 -l as much above it; QUEUE is incoming, active, deferred or hold,
                                 by default the first two
+  status                        tell figures of the queues in the text format of Prometheus
+  show ID                       tell a message: its recipients with what became of each, and its
+                                content
+  params                        tell every parameter in force, with its line and its default
+  route ADDRESS...              tell where the mail to each address goes, and which line of the
+                                table says so
+  check                         tell what is wrong with the spool and the files of conf
   load N                        run a generated load of N mails (1 to 2000) in memory, and tell how
                                 many messages, recipients, deliveries and preemptions there were,
                                 and how many messages are left

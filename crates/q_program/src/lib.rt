@@ -7,6 +7,7 @@
 //! `q_top::qmgr`.
 #![tactic(auto)]
 
+mod acted;
 mod call;
 mod conf_causes;
 mod event_causes;
@@ -16,6 +17,7 @@ mod help;
 mod noted;
 mod passed_over;
 mod report;
+mod rights;
 mod routes;
 mod running;
 mod saying;

@@ -1,4 +1,4 @@
-//! A reader that keeps why it failed, and the lines that were read last.
+//! A reader that keeps why it failed, and the lines that were read last or list ids.
 use crate::heard::Heard;
 use std::alloc::Global;
 use std::io;
@@ -56,6 +56,15 @@ pub(crate) struct Noted<'a, R: Read> {
 }
 
 impl<R: Read> Noted<'_, R> {
+    // Keeps a piece of a list of ids, where there is memory.
+    fn keep_ids(&self, piece: &[u8]) {
+        if let Some(mut acted) = self.heard.acted.take() {
+            if acted.keep(piece).is_ok() {
+                self.heard.acted.set(Some(acted));
+            }
+        }
+    }
+
     // Keeps a piece of the lines, where there is memory.
     fn keep(&self, piece: &[u8]) {
         if let Some(mut lines) = self.heard.lines.take() {
@@ -77,6 +86,7 @@ impl<R: Read> Read for Noted<'_, R> {
             Ok(count) => {
                 if let Some(piece) = buf.get(..count) {
                     self.keep(piece);
+                    self.keep_ids(piece);
                 }
                 Ok(count)
             }

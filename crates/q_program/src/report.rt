@@ -3,6 +3,7 @@ use crate::conf_causes::{cause_in_params, cause_in_table};
 use crate::event_causes::cause_in_events;
 use crate::heard::Heard;
 use crate::passed_over::warn_of_files;
+use crate::rights::warn_of_rights;
 use crate::routes::warn_of_routes;
 use crate::running::Host;
 use crate::saying::say;
@@ -54,6 +55,7 @@ fn say_end(
                 InputFile::Events => cause_in_list(rt.alloc(), heard, line),
                 InputFile::Parameters => cause_in_params(rt.alloc(), host),
                 InputFile::Table => cause_in_table(rt.alloc(), host),
+                InputFile::Ids => None,
             };
             say_cause(rt, status, cause);
         }
@@ -95,9 +97,35 @@ fn say_drained(rt: HostRuntime, host: &mut Host<'_>, status: Status, sums: Sums)
     }
 }
 
+/// Says which messages a queue tool found nowhere, and how many it acted on.
+fn say_acted(rt: HostRuntime, status: Status, heard: &Heard) {
+    let Some(acted) = heard.acted.take() else {
+        return;
+    };
+    if status == Status::Absent {
+        acted.say_absent(rt);
+    }
+    acted.say_sum(rt);
+}
+
+/// Says that another process has the spool whose queues were looked at.
+fn warn_of_user(rt: HostRuntime, request: &Result<Request, WordsError>, host: &Host<'_>) {
+    match request {
+        Ok(Request::Params) | Ok(Request::Route(_)) => return,
+        _ => {}
+    }
+    if let Some(user) = host.user() {
+        say(
+            rt,
+            format_args!("{user}: a message may be missing, or told twice"),
+        );
+    }
+}
+
 /// Says on standard error how a command ended, and what an operator may wonder about.
 pub(crate) fn report(
     rt: HostRuntime,
+    folder: &str,
     words: &[String],
     request: &Result<Request, WordsError>,
     host: &mut Host<'_>,
@@ -107,12 +135,7 @@ pub(crate) fn report(
     crowded_out: u64,
 ) {
     warn_of_descriptors(rt, crowded_out);
-    if let Some(user) = host.user() {
-        say(
-            rt,
-            format_args!("{user}: a message may be missing, or told twice"),
-        );
-    }
+    warn_of_user(rt, request, host);
     match request {
         Err(error) if status == Status::Usage => return say_usage(rt, words, error),
         _ => {}
@@ -123,6 +146,8 @@ pub(crate) fn report(
     match request {
         Ok(Request::Drain { .. }) => say_drained(rt, host, status, heard.sums.get()),
         Ok(Request::Queue) if status == Status::Done => warn_of_files(rt, host),
+        Ok(Request::Tool(_)) => say_acted(rt, status, heard),
+        Ok(Request::Check) => warn_of_rights(rt, host, folder),
         _ => {}
     }
 }

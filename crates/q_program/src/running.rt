@@ -7,6 +7,7 @@ use crate::report::report;
 use crate::saying::say;
 use crate::tally::Counted;
 use q_folder_host::{Access, FolderHost, Syncs};
+use q_host::Host as Files;
 use q_stream::{RealClock, StdSource};
 use q_tcp_hops::{TcpDoor, TcpHops};
 use q_top::{Status, qmgr};
@@ -14,6 +15,19 @@ use q_words::{Request, WordsError, read_words};
 use std::fmt::Display;
 use std::io::ErrorKind;
 use std::{env, fs};
+
+/// What is told of a spool that another process has, and of one that none has.
+const IN_USE: &str = "\
+# HELP qmgr_spool_in_use Whether a process has the spool.
+# TYPE qmgr_spool_in_use gauge
+qmgr_spool_in_use 1
+";
+
+const FREE: &str = "\
+# HELP qmgr_spool_in_use Whether a process has the spool.
+# TYPE qmgr_spool_in_use gauge
+qmgr_spool_in_use 0
+";
 
 /// A host over the folders of a spool, whose output is counted.
 pub(crate) type Host<'a> = FolderHost<HostRuntime, Counted<'a>>;
@@ -40,14 +54,29 @@ fn syncs_of(rt: HostRuntime, request: &Result<Request, WordsError>, options: Opt
     Syncs::Grouped { keeps_lines }
 }
 
-/// What a command may do with the spool: two of them look at it alone.
+/// What a command may do with the spool: some look at it alone.
 fn access_of(rt: HostRuntime, request: &Result<Request, WordsError>, options: Options) -> Access {
     match request {
-        Ok(Request::Queue) | Ok(Request::Qshape(_)) => Access::Look,
+        Ok(Request::Queue) | Ok(Request::Qshape(_)) | Ok(Request::Json) => Access::Look,
+        Ok(Request::Status) | Ok(Request::Show(_)) | Ok(Request::Check) => Access::Look,
+        Ok(Request::Params) | Ok(Request::Route(_)) => Access::Look,
         _ => Access::Change {
             wait: options.wait,
             syncs: syncs_of(rt, request, options),
         },
+    }
+}
+
+/// Tells behind the figures of a spool whether a process has it, and answers how the command ended then.
+fn with_use(request: &Result<Request, WordsError>, host: &mut Host<'_>, status: Status) -> Status {
+    match request {
+        Ok(Request::Status) if status == Status::Done => {}
+        _ => return status,
+    }
+    let text = if host.user().is_some() { IN_USE } else { FREE };
+    match host.tell(text.as_bytes()) {
+        Ok(()) => status,
+        Err(_) => Status::Tell,
     }
 }
 
@@ -69,7 +98,7 @@ fn refuse<D: Display + Drop>(rt: HostRuntime, status: Status, why: D) -> u8 {
 fn run(rt: HostRuntime, options: Options, folder: &str, words: &[String]) -> u8 {
     let request = read_words(rt.alloc(), words);
     let access = access_of(rt, &request, options);
-    let heard = Heard::new(rt.alloc(), matches!(request, Ok(Request::Replay)));
+    let heard = Heard::new(rt.alloc(), &request);
     let output = Counted { rt, heard: &heard };
     let reader = Noted {
         reader: rt.reader(),
@@ -97,9 +126,11 @@ fn run(rt: HostRuntime, options: Options, folder: &str, words: &[String]) -> u8 
         &mut hops,
         &mut door,
     );
+    let status = with_use(&request, &mut host, status);
     let status = flushed(&mut host, status);
     report(
         rt,
+        folder,
         words,
         &request,
         &mut host,

@@ -103,6 +103,21 @@ impl Counted<'_> {
     }
 }
 
+impl Counted<'_> {
+    // Hears what a queue tool told, as long as there is memory.
+    fn hear_acts(&self, bytes: &[u8]) {
+        let Some(mut acted) = self.heard.acted.take() else {
+            return;
+        };
+        for line in bytes.split(|byte| *byte == b'\n') {
+            if acted.hear(line).is_err() {
+                return;
+            }
+        }
+        self.heard.acted.set(Some(acted));
+    }
+}
+
 impl Print for Counted<'_> {
     fn print<D: Display + Drop>(&self, value: D) -> io::Result<()> {
         self.rt.print(value)
@@ -116,6 +131,7 @@ impl Print for Counted<'_> {
         self.rt.write_all(bytes)?;
         self.count(bytes);
         self.hear(bytes);
+        self.hear_acts(bytes);
         Ok(())
     }
 }

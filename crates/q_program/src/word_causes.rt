@@ -31,6 +31,13 @@ fn no_address(alloc: Global, words: &[String]) -> Option<String> {
     None
 }
 
+// The word of `route` that is no address.
+fn no_route(alloc: Global, words: &[String]) -> Option<String> {
+    let mut addresses = words.iter().skip(1).filter(|word| word.as_str() != "--");
+    let word = addresses.find(|word| Address::new(word.as_bytes()).is_none())?;
+    format!(in alloc; "{:?} is no address", word.as_str()).ok()
+}
+
 fn is_queue(word: &str) -> bool {
     matches!(word, "incoming" | "active" | "deferred" | "hold")
 }
@@ -61,8 +68,10 @@ pub(crate) fn cause_in_words(
     match error {
         WordsError::NoAddress => no_address(alloc, words),
         WordsError::NoQueue => no_queue(alloc, words),
-        WordsError::NoTarget => no_word(alloc, words, "neither an id nor ALL"),
+        WordsError::NoTarget => no_word(alloc, words, "neither an id nor ALL, nor -"),
+        WordsError::NoChosen => no_word(alloc, words, "neither an id nor -"),
         WordsError::NoId => no_word(alloc, words, "no id"),
+        WordsError::NoRoute => no_route(alloc, words),
         WordsError::NoDomain => no_word(alloc, words, "no domain"),
         WordsError::NoCommand => {
             let word = words.first()?;

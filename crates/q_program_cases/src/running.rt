@@ -64,6 +64,23 @@ pub(crate) fn run(rt: HostRuntime, room: &Room, words: &str, streams: &Streams) 
     show_status(rt, output.status)
 }
 
+/// The second words of the lines that a listing tells of messages, a line each.
+pub(crate) fn ids_told_by(rt: HostRuntime, room: &Room, words: &str) -> Result<String> {
+    let mut command = command_of(rt, room, words)?;
+    let output = command.output(&rt)?;
+    let mut ids = String::new(rt.alloc());
+    for line in str::from_utf8(output.stdout.as_slice())?.lines() {
+        if line.starts_with(" ") || line.starts_with("--") {
+            continue;
+        }
+        if let Some(id) = line.split(' ').nth(1) {
+            ids.push_str(id)?;
+            ids.push('\n')?;
+        }
+    }
+    Ok(ids)
+}
+
 /// A command that runs, with its standard input open.
 #[derive(Drop)]
 pub(crate) struct Running {

@@ -3,7 +3,7 @@ use crate::client::Client;
 use crate::hops::next_hop;
 use crate::many::{add_bytes, make_files};
 use crate::room::Room;
-use crate::running::{Running, Streams, run};
+use crate::running::{Running, Streams, ids_told_by, run};
 use anyhow::{Context, Result, bail};
 use q_serving::Server;
 use std::fs;
@@ -188,6 +188,7 @@ impl Stage {
             "input" => self.streams.input = format!(in self.rt.alloc(); "{text}\n")?,
             "input-from" => self.streams.input_from = Some(self.room.inside(text)?),
             "output-to" => self.streams.output_to = Some(self.room.inside(text)?),
+            "input-ids-of" => self.streams.input = ids_told_by(self.rt, &self.room, text)?,
             "input-lines" => self.repeat(name, behind)?,
             "route" => self.route(name, behind)?,
             "names" => self.show_names(text)?,

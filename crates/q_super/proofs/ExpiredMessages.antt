@@ -1,5 +1,5 @@
 -- A message that is given up: what stands at its place, and its deeds.
-use Rattle.std.proofs.Common.{◌≡◌, ◌∙◌, ◌∷◌, ◌++◌, ◌||◌, ◌&&◌, [], ℕ, true, false, not, List, None, Option, Some, is_some, ⊎_elim, refl, sym, ap, subst, true≢false}
+use Rattle.std.proofs.Common.{◌≡◌, ◌∙◌, ◌∷◌, ◌++◌, ◌||◌, ◌&&◌, [], ℕ, inl, true, false, not, List, None, Option, Some, is_some, ⊎_elim, refl, sym, ap, subst, true≢false}
 use Rattle.std.specs.List.{list_all, list_any}
 use Rattle.std.specs.Option.{option_map_or}
 use Rattle.std.specs.Prelude.{if◌then◌else◌, IsSome, IsSomeAnd, nat_le}
@@ -37,6 +37,7 @@ use Rattle.q_super.specs.Finding.{IsFoundAt}
 use Rattle.q_super.specs.GivingUp.{IsFileOf, IsQueueFile, MayFail}
 use Rattle.q_super.specs.Moves.{stands_there}
 use Rattle.q_super.specs.Plays.{after_deeds, HaltsDeeds, IsAtRest, PlaysDeeds}
+use Rattle.q_super.proofs.EachFound.{idle_deeds}
 use Rattle.q_super.proofs.FileMoves.{IsDamagedOne, IsOfMessage, which}
 use Rattle.q_super.proofs.MaySteps.{found_moved, stands_wider, taken_fails}
 use Rattle.q_super.proofs.Playing.{halts_behind, halts_more, plays_then, reads_play, takes_step, tries_step}
@@ -223,10 +224,4 @@ nowhere f act b id h none = false_from_ne_true (stands_in (takes act) b id) (λ 
 
 -- so there is nothing to do
 pub nothing_done : (f : Files) (act : Act) (b : Book) (id : Id) → Stands f b → IsFoundAt f act id None → deeds_of act id b ≡ []
-nothing_done f act b id h none = by act (nowhere f act b id h none)
-  where
-    by : (a : Act) → stands_in (takes a) b id ≡ false → deeds_of a id b ≡ []
-    by acts.Hold k = ap (λ t. if t then moving (word_of acts.Hold) (goal_of acts.Hold) id else []) k
-    by acts.Release k = ap (λ t. if t then moving (word_of acts.Release) (goal_of acts.Release) id else []) k
-    by acts.Requeue k = ap (λ t. if t then moving (word_of acts.Requeue) (goal_of acts.Requeue) id else []) k
-    by acts.Expire k = ap (λ t. if t then expired b id else []) k
+nothing_done f act b id h none = idle_deeds act b id (inl (nowhere f act b id h none))

@@ -3,9 +3,12 @@ pub mod AllTaken
 pub mod DamagedFiles
 pub mod DomainTests
 pub mod DueTimes
+pub mod EachActs
+pub mod EachFound
 pub mod ExpiredMessages
 pub mod Faults
 pub mod FileMoves
+pub mod FoundPlaces
 pub mod GivenUp
 pub mod MaySteps
 pub mod Names

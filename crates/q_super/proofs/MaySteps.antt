@@ -49,7 +49,7 @@ unpaired_moved b id q = unpaired_same b (after_step b (moves id q))
     ∙ all_ids_mapped b b.generation (changed id (move_to q)) (changed_name id (move_to q) (λ x. refl)))
     (λ i. stands-moved (move_message b id q) id q i ∙ stands_mapped b b.generation (changed id (move_to q)) (changed_name id (move_to q) (λ x. refl)) i)
 
-unpaired_failed : (b : Book) (id : Id) (p : ℕ) → is_unpaired b ≡ true → is_unpaired (after_step b (fails id p)) ≡ true
+pub unpaired_failed : (b : Book) (id : Id) (p : ℕ) → is_unpaired b ≡ true → is_unpaired (after_step b (fails id p)) ≡ true
 unpaired_failed b id p =
     unpaired_same b (after_step b (fails id p))
     (all_ids_mapped b b.generation (changed id (with_failure (given_up p))) (changed_name id (with_failure (given_up p)) (λ x. refl)))

@@ -1,25 +1,21 @@
 -- Files that move and are told, one behind another.
-use Rattle.std.proofs.Common.{◌≡◌, ◌<◌, ◌≤◌, ◌+◌, ◌∙◌, ◌||◌, ◌&&◌, ◌∷◌, ◌++◌, [], ℕ, zero, suc, Bool, true, false, List, map, length, take, take_all, drop, get_or, is_some, if◌then◌else◌, ⊎_elim, inl, inr, refl, sym, ap, subst, arith, true≢false}
-use Rattle.std.specs.List.{AllByRecursion, list_any}
+use Rattle.std.proofs.Common.{◌≡◌, ◌<◌, ◌≤◌, ◌+◌, ◌∙◌, ◌∷◌, ◌++◌, [], ℕ, zero, suc, true, false, List, map, length, take, take_all, drop, get_or, is_some, ⊎_elim, inl, inr, refl, sym, ap, subst, arith, true≢false}
+use Rattle.std.specs.List.{AllByRecursion}
 use Rattle.std.specs.Prelude.{Err, IsErrAnd, IsErrOf, Ok, Result, slice_index_or}
-use Rattle.std.proofs.lemmas.Bool.{and_left, false_from_ne_true}
 use Rattle.std.proofs.lemmas.Grind.{flat_map-append}
 use Rattle.std.proofs.lemmas.List.{take-append-drop, take_more}
 use Rattle.q_model.specs.declared.id.Id.{Id}
 use Rattle.q_model.specs.declared.rows.Place.{Place}
 use Rattle.q_model.specs.declared.rows.Place.TheVariants as places
-use Rattle.q_model.specs.Book.{Book, Damaged}
+use Rattle.q_model.specs.Book.{Book}
 use Rattle.q_model.specs.FilesStand.{Stands}
 use Rattle.q_model.specs.Ids.{id_eq}
-use Rattle.q_model.specs.Message.{Message}
 use Rattle.q_model.specs.Places.{place_eq}
 use Rattle.q_model.specs.SpoolFiles.{file_at, Files}
 use Rattle.q_model.specs.ToolSteps.{after_step, moves}
-use Rattle.q_model.proofs.EachLaws.{any-map, each-both, each-same}
-use Rattle.q_model.proofs.IdLaws.{id_eq-true}
-use Rattle.q_model.proofs.StandChanges.{any-same, Stands-message}
+use Rattle.q_model.proofs.EachLaws.{each-both, each-same}
+use Rattle.q_model.proofs.StandChanges.{Stands-message}
 use Rattle.q_model.proofs.StandDamaged.{Stands-damaged}
-use Rattle.q_model.proofs.StandLaws.{true_false}
 use Rattle.q_laws.proofs.Distinct.{distinct_tail, id_cases}
 use Rattle.q_laws.proofs.Members.{IsIn}
 use Rattle.q_host.specs.Calls.{Stays}
@@ -30,6 +26,7 @@ use Rattle.q_super.specs.declared.standing.Standing.{Standing}
 use Rattle.q_super.specs.Deeds.{Deed, does, line_of, moving, moving_each, tells}
 use Rattle.q_super.specs.Moves.{AreThere, is_file, stands_there}
 use Rattle.q_super.specs.Plays.{after_deeds, HaltsDeeds, PlaysDeeds}
+use Rattle.q_super.proofs.EachFound.{in_other}
 use Rattle.q_super.proofs.FileMoves.{IsDamagedOne, IsOfMessage, which}
 use Rattle.q_super.proofs.Playing.{after_deeds-append, halts_behind, halts_more, plays_none, plays_then, reads_play, takes_step, tries_step}
 
@@ -56,28 +53,8 @@ surely_there f b s h there gone = true≢false (sym (file_there f b s h there) �
 
 -- ---- another file stays where it is
 
-module _ (id i : Id) (q place : Place) (apart : id_eq i id ≡ false) where
-  other : (x : Id) → id_eq x id ≡ true → id_eq x i ≡ false
-  other x e = false_from_ne_true (id_eq x i) (λ k. true_false (id_eq i id) (ap (λ (j : Id). id_eq j id) (sym (id_eq-true x i k)) ∙ e) apart)
-
-  same_message : (x : Message) (t : Bool) → id_eq x.id id ≡ t → (id_eq (if t then record x { place = q } else x).id i && place_eq place (if t then record x { place = q } else x).place) ≡ (id_eq x.id i && place_eq place x.place)
-  same_message x true e = and_left (id_eq x.id i) (place_eq place q) (other x.id e) ∙ sym (and_left (id_eq x.id i) (place_eq place x.place) (other x.id e))
-  same_message x false e = refl
-
-  same_damaged : (x : Damaged) (t : Bool) → id_eq x.id id ≡ t → (id_eq (if t then record x { place = q } else x).id i && place_eq place (if t then record x { place = q } else x).place) ≡ (id_eq x.id i && place_eq place x.place)
-  same_damaged x true e = and_left (id_eq x.id i) (place_eq place q) (other x.id e) ∙ sym (and_left (id_eq x.id i) (place_eq place x.place) (other x.id e))
-  same_damaged x false e = refl
-
-pub still_there : (b : Book) (id : Id) (q : Place) (s : Standing) → id_eq s.id id ≡ false → stands_there (after_step b (moves id q)) s ≡ stands_there b s
-still_there b id q s apart =
-    let p = λ (m : Message). id_eq m.id s.id && place_eq s.place m.place in
-    let r = λ (d : Damaged). id_eq d.id s.id && place_eq s.place d.place in
-    ap (λ t. t || list_any (λ (d : Damaged). id_eq d.id s.id && place_eq s.place d.place) (after_step b (moves id q)).damaged)
-    (any-map (λ (m : Message). id_eq m.id s.id && place_eq s.place m.place) (λ (m : Message). if id_eq m.id id then record m { place = q } else m) b.messages
-    ∙ any-same (λ (m : Message). id_eq (if id_eq m.id id then record m { place = q } else m).id s.id && place_eq s.place (if id_eq m.id id then record m { place = q } else m).place) (λ (m : Message). id_eq m.id s.id && place_eq s.place m.place) b.messages (λ x. same_message id s.id q s.place apart x (id_eq x.id id) refl))
-    ∙ ap (λ t. list_any (λ (m : Message). id_eq m.id s.id && place_eq s.place m.place) b.messages || t)
-    (any-map (λ (d : Damaged). id_eq d.id s.id && place_eq s.place d.place) (λ (d : Damaged). if id_eq d.id id then record d { place = q } else d) b.damaged
-    ∙ any-same (λ (d : Damaged). id_eq (if id_eq d.id id then record d { place = q } else d).id s.id && place_eq s.place (if id_eq d.id id then record d { place = q } else d).place) (λ (d : Damaged). id_eq d.id s.id && place_eq s.place d.place) b.damaged (λ x. same_damaged id s.id q s.place apart x (id_eq x.id id) refl))
+still_there : (b : Book) (id : Id) (q : Place) (s : Standing) → id_eq s.id id ≡ false → stands_there (after_step b (moves id q)) s ≡ stands_there b s
+still_there b id q s apart = in_other (place_eq s.place) b id q s.id apart
 
 each_apart : (id : Id) (ss : List Standing) → (IsIn id (map (λ (s : Standing). s.id) ss) → ⊥) → AllByRecursion (λ (s : Standing). id_eq s.id id ≡ false) ss
 each_apart id [] none = tt

@@ -1,7 +1,9 @@
 pub mod Acts
 pub mod Deeds
 pub mod Domains
+pub mod EachDeeds
 pub mod Finding
+pub mod FoundPlaces
 pub mod GivingUp
 pub mod Moves
 pub mod Names

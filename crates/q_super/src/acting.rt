@@ -21,7 +21,12 @@ use q_model::Id;
 use std::alloc::Global;
 
 /// Does the act with the file, and tells its line. `false` where nothing was done.
-fn act_on<H: Host>(alloc: Global, host: &mut H, act: Act, file: Standing) -> Result<bool, HostError>
+pub(crate) fn act_on<H: Host>(
+    alloc: Global,
+    host: &mut H,
+    act: Act,
+    file: Standing,
+) -> Result<bool, HostError>
     requires { IsSource act file.id file.place }
     ensures ok { IfOk result (λ done. IsTrue H.tells → OnBook (H.view host.old) (λ b.
         stands_there b file ≡ true → (done ≡ not (has_none (deeds_of act file.id b)))

@@ -18,7 +18,8 @@ use Rattle.q_super.specs.declared.acts.Act.{Act}
 use Rattle.q_super.specs.declared.acts.Act.TheVariants as acts
 use Rattle.q_super.specs.Acts.{goal_of, takes, word_of}
 use Rattle.q_super.specs.Deeds.{Deed, deeds_of, does, expired, expiring, failing, flushed, line_of, lines_in, moving, steps_in, tells}
-use Rattle.q_super.specs.Plays.{next_line}
+use Rattle.q_super.specs.EachDeeds.{each_deeds}
+use Rattle.q_super.specs.Plays.{after_deeds, next_line}
 use Rattle.q_super.specs.Standings.{taken}
 use Rattle.q_tools.specs.Tasks.{deeds_for}
 use Rattle.q_tools.specs.declared.task.Task.{Task}
@@ -117,7 +118,37 @@ deeds_tell acts.Release id b = if_tells (stands_in (takes acts.Release) b id) (m
 deeds_tell acts.Requeue id b = if_tells (stands_in (takes acts.Requeue) b id) (moving (word_of acts.Requeue) (goal_of acts.Requeue) id) (one_tells (word_of acts.Requeue) (goal_of acts.Requeue) id refl)
 deeds_tell acts.Expire id b = if_tells (stands_in (takes acts.Expire) b id) (expired b id) (found_tells (message_of b id))
 
+-- ---- some deeds behind others
+
+any_behind : {A : Type 0} (p : A → Bool) (xs ys : List A) → list_any p ys ≡ true → list_any p (xs ++ ys) ≡ true
+any_behind p xs ys h = list_any-append p xs ys ∙ or_right (list_any p xs) (list_any p ys) h
+
+-- so it is where more steps were done before
+tells_later : (before past : List ToolStep) (ds : List Deed) → TellsDone past ds → TellsDone (before ++ past) ds
+tells_later before past [] h = tt
+tells_later before past (does s ∷ ds) h =
+    subst (λ (steps : List ToolStep). TellsDone steps ds) (sym (append_assoc before past (s ∷ []))) (tells_later before (past ++ s ∷ []) ds h)
+tells_later before past (tells line ∷ ds) h = (
+  record { named = (h.0).named; is = (h.0).is; names = record { word = (h.0).names.word; done = any_behind (is_step_of (h.0).named.id) before past (h.0).names.done } },
+  tells_later before past ds h.1,
+)
+
+tells_then : (past : List ToolStep) (ds more : List Deed) → TellsDone past ds → TellsDone (past ++ steps_in ds) more → TellsDone past (ds ++ more)
+tells_then past [] more h k = subst (λ (steps : List ToolStep). TellsDone steps more) (append-nil past) k
+tells_then past (does s ∷ ds) more h k =
+    tells_then (past ++ s ∷ []) ds more h (subst (λ (steps : List ToolStep). TellsDone steps more) (sym (append_assoc past (s ∷ []) (steps_in ds))) k)
+tells_then past (tells line ∷ ds) more h k = (h.0, tells_then past ds more h.1 k)
+
+ids_tell : (act : Act) (ids : List Id) (b : Book) (past : List ToolStep) → TellsDone past (each_deeds act ids b)
+ids_tell act [] b past = tt
+ids_tell act (id ∷ ids) b past =
+    let ds = deeds_of act id b in
+    tells_then past ds (each_deeds act ids (after_deeds b ds))
+    (subst (λ (steps : List ToolStep). TellsDone steps ds) (append-nil past) (tells_later past [] ds (deeds_tell act id b)))
+    (ids_tell act ids (after_deeds b ds) (past ++ steps_in ds))
+
 pub task_tells : (task : Task) (b : Book) → TellsDone [] (deeds_for task b)
 task_tells (tasks.One act id) b = deeds_tell act id b
+task_tells (tasks.Each act ids) b = ids_tell act ids b []
 task_tells (tasks.All act) b = each_tells (taken act b) (λ s. s.id) [] (word_of act) (goal_of act) (act_word act)
 task_tells (tasks.Flush domain) b = each_tells (flushed domain b) (λ s. s.id) [] (codes "flush") places.Incoming refl

@@ -14,7 +14,7 @@ use Rattle.q_super.specs.Refusals.{EachFault}
 use Rattle.q_super.specs.declared.error.SuperError.{SuperError}
 use Rattle.q_super.specs.declared.error.SuperError.TheVariants as acts
 use Rattle.q_tools.specs.Lives.{book_behind, IsRun}
-use Rattle.q_tools.specs.Tasks.{FindsNone, OnOrderly, StopsWork, Works}
+use Rattle.q_tools.specs.Tasks.{OnOrderly, StopsWork, Works, WorksOthers}
 use Rattle.q_tools.specs.ToolEnds.{deeds_behind, StopsBehind, ToolEnds}
 use Rattle.q_tools.specs.declared.error.ToolError.TheVariants.{Act}
 use Rattle.q_tools.specs.declared.task.Task.{Task}
@@ -37,17 +37,17 @@ module _ (params : Settings) (range : IsInRange params) (w : World) (same : para
   pub ends_done : OnOrderly m (λ k. Works task k m v) → ToolEnds w b moment task u v (Ok tt)
   ends_done h =
       let works = on_end (λ k. Works task k m v) h in
-      (works.some, played_behind w b moment u m v run (deeds_behind w b moment task) works.may works.plays)
+      (works.found, played_behind w b moment u m v run (deeds_behind w b moment task) works.may works.plays)
 
   stopped : (error : HostError) → StopsWork task end error m v → StopsBehind w b moment task error u v
   stopped error (inl stays) = inl (stayed_behind w b moment u m v run lawful stays)
   stopped error (inr halts) = inr (halted_behind w b moment u m v run (deeds_behind w b moment task) error halts.may halts.halts)
 
-  pub ends_given_up : (why : SuperError) → EachFault {T = Unit {0}} (Err why) (λ error. OnOrderly m (λ k. StopsWork task k error m v)) → (IsErrOf {T = Unit {0}} (Err why) acts.Absent → OnOrderly m (λ k. FindsNone task k m v))
+  pub ends_given_up : (why : SuperError) → EachFault {T = Unit {0}} (Err why) (λ error. OnOrderly m (λ k. StopsWork task k error m v)) → (IsErrOf {T = Unit {0}} (Err why) acts.Absent → OnOrderly m (λ k. WorksOthers task k m v))
       → ToolEnds w b moment task u v (Err (Act why))
   ends_given_up acts.Disk h none = stopped faults.Disk (on_end (λ k. StopsWork task k faults.Disk m v) (h faults.Disk refl))
   ends_given_up acts.Tell h none = stopped faults.Tell (on_end (λ k. StopsWork task k faults.Tell m v) (h faults.Tell refl))
   ends_given_up acts.NoMemory h none = stopped faults.NoMemory (on_end (λ k. StopsWork task k faults.NoMemory m v) (h faults.NoMemory refl))
   ends_given_up acts.Absent h none =
-      let found = on_end (λ k. FindsNone task k m v) (none refl) in
-      (found.none, stayed_behind w b moment u m v run lawful found.stays)
+      let works = on_end (λ k. WorksOthers task k m v) (none refl) in
+      (works.lacks, played_behind w b moment u m v run (deeds_behind w b moment task) works.may works.plays)

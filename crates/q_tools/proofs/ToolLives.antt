@@ -135,7 +135,7 @@ module _ (w : World) (b : Book) (moment : ℕ) (usable : IsUsable w) (orderly : 
 
   pub tool_lives : (task : Task) (u v : View) (r : Result (Unit {0}) ToolError) → moment ≤ 999990000000 → ToolEnds w b moment task u v r → LeavesLives b u v
   tool_lives task u v (Ok done) late h = played_lives (deeds_behind w b moment task) u v (task_tells task end) h.1
-  tool_lives task u v (Err (Act acts.Absent)) late h = played_lives [] u v tt h.1
+  tool_lives task u v (Err (Act acts.Absent)) late h = played_lives (deeds_behind w b moment task) u v (task_tells task end) h.1
   tool_lives task u v (Err (Act acts.Disk)) late h = stopped_lives task faults.Disk u v h
   tool_lives task u v (Err (Act acts.Tell)) late h = stopped_lives task faults.Tell u v h
   tool_lives task u v (Err (Act acts.NoMemory)) late h = stopped_lives task faults.NoMemory u v h

@@ -16,7 +16,7 @@ use Rattle.q_super.specs.declared.error.SuperError.TheVariants as acts
 use Rattle.q_tools.specs.declared.error.ToolError.{ToolError}
 use Rattle.q_tools.specs.declared.error.ToolError.TheVariants.{Act, Life}
 use Rattle.q_tools.specs.declared.task.Task.{Task}
-use Rattle.q_tools.specs.Tasks.{is_one}
+use Rattle.q_tools.specs.Tasks.{may_lack}
 
 -- Its life takes no list and no mail: no line is at fault, and no limit is passed but that of generations.
 abbrev pub IsLifeRefusal : ReplayError → Type 0
@@ -26,10 +26,10 @@ IsLifeRefusal (errors.Limit bounds.Generation) = IsNamed (errors.Limit bounds.Ge
 IsLifeRefusal (errors.Limit bound) = ⊥
 IsLifeRefusal error = IsNamed error
 
--- the same of its life; a message isn't found only where the task is with one
+-- the same of its life; a message isn't found only where the task names messages
 abbrev pub IsToolRefusal : Task → ToolError → Type 0
 IsToolRefusal task (Life error) = IsLifeRefusal error
-IsToolRefusal task (Act acts.Absent) = is_one task ≡ true
+IsToolRefusal task (Act acts.Absent) = may_lack task ≡ true
 IsToolRefusal task (Act error) = Unit {0}
 
 -- a queue file can't be read any longer

@@ -16,7 +16,7 @@ use Rattle.q_super.specs.Deeds.{Deed, lines_in, steps_in}
 use Rattle.q_super.specs.Plays.{after_deeds, IsLeftOfDeeds, next_line, StandsAfter}
 use Rattle.q_super.specs.declared.error.SuperError.TheVariants as acts
 use Rattle.q_tools.specs.Lives.{book_behind, life_taken, life_text, tool_entries, tool_items}
-use Rattle.q_tools.specs.Tasks.{deeds_for, finds_none}
+use Rattle.q_tools.specs.Tasks.{deeds_for, lacks_some}
 use Rattle.q_tools.specs.declared.error.ToolError.{ToolError}
 use Rattle.q_tools.specs.declared.error.ToolError.TheVariants.{Act, Life}
 use Rattle.q_tools.specs.declared.task.Task.{Task}
@@ -59,14 +59,14 @@ abbrev pub StopsBehind : World → Book → ℕ → Task → HostError → View 
 StopsBehind w b moment task error u v = PlaysBehind w b moment [] u v
     ⊎ HaltsBehind w b moment (deeds_behind w b moment task) error u v
 
--- By each answer: all was done; the life didn't come to its end, and nothing behind it was begun; there was
--- nothing to do; or the host gave up behind the life.
+-- By each answer: all was done; the life didn't come to its end, and nothing behind it was begun; some message
+-- was lacking, and the others had their turn; or the host gave up behind the life.
 abbrev pub ToolEnds : World → Book → ℕ → Task → View → View → Result (Unit {0}) ToolError → Type 0
-ToolEnds w b moment task u v (Ok done) = (finds_none task (book_behind w b moment) ≡ false)
+ToolEnds w b moment task u v (Ok done) = (lacks_some task (book_behind w b moment) ≡ false)
     × PlaysBehind w b moment (deeds_behind w b moment task) u v
 ToolEnds w b moment task u v (Err (Life error)) = RunEnds w Intake b (life_taken w b moment) u v (Err error)
-ToolEnds w b moment task u v (Err (Act acts.Absent)) = (finds_none task (book_behind w b moment) ≡ true)
-    × PlaysBehind w b moment [] u v
+ToolEnds w b moment task u v (Err (Act acts.Absent)) = (lacks_some task (book_behind w b moment) ≡ true)
+    × PlaysBehind w b moment (deeds_behind w b moment task) u v
 ToolEnds w b moment task u v (Err (Act acts.Disk)) = StopsBehind w b moment task faults.Disk u v
 ToolEnds w b moment task u v (Err (Act acts.Tell)) = StopsBehind w b moment task faults.Tell u v
 ToolEnds w b moment task u v (Err (Act acts.NoMemory)) = StopsBehind w b moment task faults.NoMemory u v

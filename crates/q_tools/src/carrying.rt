@@ -23,9 +23,10 @@ use std::alloc::Global;
 ///
 /// `Life` comes with `Limit` where no generation is left, with `Damaged` for a spool that can't be
 /// opened, before anything is told, and with what else ends a life early; then no message was acted on.
-/// `Act` comes behind the life's end: with `Absent` exactly where the task is with one message, and it
-/// stands nowhere where the act takes messages from, or, to be given up, isn't in a queue file. `Disk`
-/// and `Tell` come where the host failed, `NoMemory` where memory ran out; what was told before stands.
+/// `Act` comes behind the life's end: with `Absent` exactly where the task names a message that stands
+/// nowhere where the act takes messages from, or, to be given up, isn't in a queue file; the others that it
+/// names had their turn then. `Disk` and `Tell` come where the host failed, `NoMemory` where memory ran out;
+/// what was told before stands.
 /// It is an error to ask for `Expire` with all messages.
 pub fn carry<H: Host>(
     alloc: Global,

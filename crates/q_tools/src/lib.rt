@@ -2,8 +2,8 @@
 //! messages that wait.
 //!
 //! The life brings back or finishes what an earlier one left in active, so that tools find the spool at
-//! rest. Each act changes the disk first, and then tells its line. A message isn't found, or one can't
-//! be given up, is a refusal behind the life.
+//! rest. Each act changes the disk first, and then tells its line. That a message isn't found, or can't be
+//! given up, is a refusal behind the life.
 #![tactic(auto)]
 
 mod carrying;
@@ -14,5 +14,5 @@ mod task;
 
 pub use carrying::carry;
 pub use error::ToolError;
-pub use q_super::Act;
+pub use q_super::{Act, Ids};
 pub use task::Task;

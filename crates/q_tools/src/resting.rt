@@ -5,7 +5,7 @@ ghost use Rattle.q_host.specs.Faults.{DiskCause};
 ghost use Rattle.q_super.specs.Refusals.{EachFault, ToolCause};
 ghost use Rattle.q_super.specs.declared.error.SuperError.TheVariants as errors;
 ghost use Rattle.q_tools.specs.Resting.{HasNoneActive};
-ghost use Rattle.q_tools.specs.Tasks.{FindsNone, is_one, IsTask, OnOrderly, StopsWork, Works};
+ghost use Rattle.q_tools.specs.Tasks.{IsTask, may_lack, OnOrderly, StopsWork, Works, WorksOthers};
 
 use crate::task::{Task, work};
 use q_host::{Host, HostError};
@@ -47,8 +47,8 @@ pub(crate) fn work_at_rest<H: Host>(
         StopsWork task.now b error (H.view host.old) (H.view host.new))) }
     ensures absent { IsErrOf result errors.Absent → IsTrue H.tells
         → OnOrderly (H.view host.old) (λ b.
-        FindsNone task.now b (H.view host.old) (H.view host.new)) }
-    ensures one { IsErrOf result errors.Absent → is_one task.now ≡ true }
+        WorksOthers task.now b (H.view host.old) (H.view host.new)) }
+    ensures named { IsErrOf result errors.Absent → may_lack task.now ≡ true }
     ensures cause { ToolCause (H.faults host.old) (H.faults host.new) result }
 {
     if has_active(alloc, host)? {

@@ -1,11 +1,11 @@
 -- Each call of `qmgr` serves the spool.
-use Rattle.std.proofs.Common.{◌≡◌, ◌⊎◌, Bool, false, inl, inr, List, [], ◌∷◌, ⊎_elim, refl, subst, sym, true}
-use Rattle.q_books.specs.HostStands.{HostStands, IsLeftOf, TellsCrashes}
+use Rattle.std.proofs.Common.{◌≡◌, Bool, false, inl, inr, List, [], ◌∷◌, ⊎_elim, refl, subst, sym, true}
+use Rattle.q_books.specs.HostStands.{TellsCrashes}
 use Rattle.q_books.proofs.Joining.{reads_keep}
 use Rattle.q_host.proofs.Stays.{stays_here}
 use Rattle.q_host.specs.Calls.{Stays}
 use Rattle.q_host.specs.View.{View}
-use Rattle.q_replay.specs.Spools.{AreCalls, OnlyLooks, Serves}
+use Rattle.q_replay.specs.Spools.{AreCalls, Serves}
 use Rattle.q_top.proofs.RunsBehind.{still_stands}
 use Rattle.q_top.proofs.Serving.{still_serves}
 use Rattle.q_top.specs.Promises.{AreQmgrCalls, courses, IsOfQmgr, QmgrCall}

@@ -12,3 +12,5 @@ pub mod ListensLeft
 pub mod Serving
 pub mod Called
 pub mod ToolRuns
+pub mod ConfLooks
+pub mod SpoolLooks

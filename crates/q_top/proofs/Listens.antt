@@ -12,7 +12,7 @@ use Rattle.q_host.specs.Calls.{Stays}
 use Rattle.q_host.specs.View.{View}
 use Rattle.q_host.specs.declared.error.HostError.{HostError}
 use Rattle.q_host.specs.declared.error.HostError.TheVariants as faults
-use Rattle.q_listen.specs.ListenEnds.{HasNoSerial, IsStoryOf, LeavesOff, ListenEnds, ListensToAll, Outside, Outsides, StopsBehind, StopsWithin}
+use Rattle.q_listen.specs.ListenEnds.{HasNoSerial, IsStoryOf, ListenEnds, Outside, Outsides, StopsBehind, StopsWithin}
 use Rattle.q_listen.specs.Listens.{ServesSome}
 use Rattle.q_listen.specs.Refusals.{FindsDamage as FindsEach, NamesOnlyDamage, RefusesDamage}
 use Rattle.q_listen.specs.Stories.{Story}

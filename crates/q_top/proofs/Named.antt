@@ -1,10 +1,16 @@
 -- What statuses name.
-use Rattle.std.proofs.Common.{◌≡◌, ℕ, ap, false, inl, inr, List, None, refl, Some, subst}
+use Rattle.std.proofs.Common.{◌≡◌, ℕ, ap, false, inl, inr, List, None, refl, Some, subst, true}
 use Rattle.std.specs.Prelude.{Err, IfErr, IfSome, Ok, Option, Result}
 use Rattle.q_conf.specs.Confs.{IsFaultOfSome}
 use Rattle.q_conf.specs.declared.error.ConfError.{ConfError}
 use Rattle.q_conf.specs.declared.error.ConfError.TheVariants as conf_errors
 use Rattle.q_conf.specs.declared.error.ConfFile.TheVariants as conf
+use Rattle.q_input.specs.IdLines.{IsRefusedList}
+use Rattle.q_input.specs.Inputs.{HasRead, IsUnread}
+use Rattle.q_input.specs.declared.error.IdsError.{IdsError}
+use Rattle.q_input.specs.declared.error.IdsError.TheVariants as ids_errors
+use Rattle.q_input.specs.declared.error.InputError.{InputError}
+use Rattle.q_input.specs.declared.error.InputError.TheVariants as input_errors
 use Rattle.q_model.specs.declared.limits.Bound.{Bound}
 use Rattle.q_model.specs.declared.limits.Bound.TheVariants as bounds
 use Rattle.q_model.specs.Values.{Receiver}
@@ -19,19 +25,20 @@ use Rattle.q_replay.specs.declared.deliveries.Delivered.{Delivered}
 use Rattle.q_replay.specs.declared.deliveries.Delivered.TheVariants as deliveries
 use Rattle.q_replay.specs.declared.error.ReplayError.{ReplayError}
 use Rattle.q_replay.specs.declared.error.ReplayError.TheVariants as errors
-use Rattle.q_top.specs.Contents.{HasRead, IsNoContent}
-use Rattle.q_top.specs.Named.{AsksToListen, HasTooMuch, IsNamed, IsTooMuch}
+use Rattle.q_top.specs.Contents.{most_content}
+use Rattle.q_top.specs.Named.{AsksToList, HasTooMuch, IsNamed, IsTooMuch}
 use Rattle.q_top.specs.Qmgr.{words_status}
-use Rattle.q_top.specs.Statuses.{conf_status, content_status, delivery_status, is_of_lives, listen_status, replay_status, status_of}
-use Rattle.q_top.specs.declared.content.ContentError.{ContentError}
-use Rattle.q_top.specs.declared.content.ContentError.TheVariants as content_errors
-use Rattle.q_top.specs.declared.status.InputFile.TheVariants.{Events, Parameters, Table}
+use Rattle.q_top.specs.Statuses.{conf_status, content_status, delivery_status, ids_status, names_fault, listen_status, replay_status, status_of}
+use Rattle.q_top.specs.Tools.{is_listed, names_some}
+use Rattle.q_top.specs.declared.work.Work.{Work}
+use Rattle.q_top.specs.declared.work.Work.TheVariants.{Listed, Ready}
+use Rattle.q_top.specs.declared.status.InputFile.TheVariants.{Events, Ids, Parameters, Table}
 use Rattle.q_top.specs.declared.status.Status.{Status}
 use Rattle.q_top.specs.declared.status.Status.TheVariants as status
 use Rattle.q_words.specs.declared.error.WordsError.{WordsError}
 use Rattle.q_words.specs.declared.error.WordsError.TheVariants as words_errors
 use Rattle.q_words.specs.declared.request.Request.{Request}
-use Rattle.q_words.specs.declared.request.Request.TheVariants.{Drain, Listen, Replay, Submit, Tool}
+use Rattle.q_words.specs.declared.request.Request.TheVariants.{Drain, Listen, Replay, Show, Submit, Tool}
 
 -- ---- a line of conf
 
@@ -58,7 +65,7 @@ list_named text errors.Tell h line = tt
 list_named text errors.Source h line = tt
 list_named text errors.NoMemory h line = tt
 list_named text (errors.BadEvent n) h line = (refl, line)
-list_named text (errors.Limit bounds.Content) h line = list_passes bounds.Content text (λ is. cc) line
+list_named text (errors.Limit bounds.Content) h line = inl (list_passes bounds.Content text (λ is. cc) line)
 list_named text (errors.Limit bounds.Recipients) h line = list_passes bounds.Recipients text (λ is. cc) line
 list_named text (errors.Limit bounds.Generation) h line = h
 list_named text (errors.Limit bounds.Serial) h line = inl (list_passes bounds.Serial text (λ is. cc) line)
@@ -80,7 +87,7 @@ module _ (sender : Option (List ℕ)) (to : List Receiver) where
   letter_named content errors.Source h = absurd h
   letter_named content errors.NoMemory h = tt
   letter_named content (errors.BadEvent line) h = absurd h
-  letter_named content (errors.Limit bounds.Content) h = inr (sender, to, refl, h)
+  letter_named content (errors.Limit bounds.Content) h = inl (inr (sender, to, refl, h))
   letter_named content (errors.Limit bounds.Recipients) h = inr (sender, to, refl, h)
   letter_named content (errors.Limit bounds.Generation) h = h
   letter_named content (errors.Limit bounds.Serial) h = inl (inr (sender, to, refl, tt))
@@ -93,10 +100,10 @@ module _ (sender : Option (List ℕ)) (to : List Receiver) where
   submitted_named content (Ok done) h = tt
   submitted_named content (Err error) h = letter_named content error h
 
-  pub content_named : (text : Option (List ℕ)) (error : ContentError) → IsNoContent text error → IsNamed (λ r. r ≡ Submit sender to) text (content_status error)
-  content_named text content_errors.TooLong h = inr (sender, to, refl, h)
-  content_named text content_errors.Source h = tt
-  content_named text content_errors.NoMemory h = tt
+  pub content_named : (text : Option (List ℕ)) (error : InputError) → IsUnread most_content text error → IsNamed (λ r. r ≡ Submit sender to) text (content_status error)
+  content_named text input_errors.TooLong h = inl (inr (sender, to, refl, h))
+  content_named text input_errors.Source h = tt
+  content_named text input_errors.NoMemory h = tt
 
 module _ (Asks : Request → Type 0) where
   -- what is too much of the content is so whether the source tells it or not
@@ -111,10 +118,12 @@ module _ (Asks : Request → Type 0) where
 
   untold_named : (content : List ℕ) (s : Status) → IsNamed Asks (Some content) s → IsNamed Asks None s
   untold_named content (status.BadInput Events line) h = (h.0, tt)
+  untold_named content (status.BadInput Ids line) h = (h.0, tt)
   untold_named content (status.BadInput Parameters line) h = h
   untold_named content (status.BadInput Table line) h = h
   untold_named content (status.Damaged area name) h = h
-  untold_named content (status.Limit bounds.Content) h = untold content bounds.Content h
+  untold_named content (status.Limit bounds.Content) (inl h) = inl (untold content bounds.Content h)
+  untold_named content (status.Limit bounds.Content) (inr long) = inr (long.0, tt)
   untold_named content (status.Limit bounds.Recipients) h = untold content bounds.Recipients h
   untold_named content (status.Limit bounds.Generation) h = h
   untold_named content (status.Limit bounds.Serial) (inl h) = inl (untold content bounds.Serial h)
@@ -133,9 +142,21 @@ module _ (Asks : Request → Type 0) where
   untold_named content status.Absent h = h
 
   -- what a content that was read has too much of, the source has
-  pub of_source : (text : Option (List ℕ)) (content : List ℕ) (s : Status) → HasRead text content → IsNamed Asks (Some content) s → IsNamed Asks text s
+  pub of_source : (text : Option (List ℕ)) (content : List ℕ) (s : Status) → HasRead most_content text content → IsNamed Asks (Some content) s → IsNamed Asks text s
   of_source None content s read h = untold_named content s h
   of_source (Some bytes) content s read h = subst (λ (x : List ℕ). IsNamed Asks (Some x) s) read.all h
+
+-- ---- a list of ids
+
+pub listed_some : (w : Work) → is_listed w ≡ true → names_some w ≡ true
+listed_some (Ready task) h = absurd cc
+listed_some (Listed act) h = refl
+
+pub ids_named : (Asks : Request → Type 0) (text : Option (List ℕ)) (error : IdsError) → AsksToList Asks → IsRefusedList text error → IsNamed Asks text (ids_status error)
+ids_named Asks text (ids_errors.BadLine line) asks h = (asks, h)
+ids_named Asks text ids_errors.TooLong asks h = inr (asks, h)
+ids_named Asks text ids_errors.Source asks h = tt
+ids_named Asks text ids_errors.NoMemory asks h = tt
 
 -- ---- a delivery
 
@@ -187,7 +208,7 @@ module _ (port count rests : ℕ) (text : Option (List ℕ)) where
 
 -- ---- other commands
 
-pub unnamed : (Asks : Request → Type 0) (text : Option (List ℕ)) (s : Status) → is_of_lives s ≡ false → IsNamed Asks text s
+pub unnamed : (Asks : Request → Type 0) (text : Option (List ℕ)) (s : Status) → names_fault s ≡ false → IsNamed Asks text s
 unnamed Asks text (status.BadInput file line) h = absurd cc
 unnamed Asks text (status.Damaged area name) h = absurd cc
 unnamed Asks text (status.Limit bound) h = absurd cc
@@ -209,7 +230,9 @@ words_named Asks text (words_errors.Refused why) = tt
 words_named Asks text words_errors.NoAddress = tt
 words_named Asks text words_errors.NoQueue = tt
 words_named Asks text words_errors.NoTarget = tt
+words_named Asks text words_errors.NoChosen = tt
 words_named Asks text words_errors.NoId = tt
+words_named Asks text words_errors.NoRoute = tt
 words_named Asks text words_errors.NoDomain = tt
 
 -- where the one asks for a command, the other does
@@ -218,12 +241,17 @@ module _ (P Q : Request → Type 0) (f : (r : Request) → P r → Q r) (text : 
   too_much bound (inl (asks, h)) = inl (f Replay asks, h)
   too_much bound (inr (sender, to, asks, h)) = inr (sender, to, f (Submit sender to) asks, h)
 
+  lists_too : AsksToList P → AsksToList Q
+  lists_too (tool, is, asks) = (tool, is, f (Tool tool) asks)
+
   pub asked_too : (s : Status) → IsNamed P text s → IsNamed Q text s
   asked_too (status.BadInput Events line) h = (f Replay h.0, h.1)
+  asked_too (status.BadInput Ids line) (asks, h) = (lists_too asks, h)
   asked_too (status.BadInput Parameters line) h = h
   asked_too (status.BadInput Table line) h = h
   asked_too (status.Damaged area name) h = h
-  asked_too (status.Limit bounds.Content) h = too_much bounds.Content h
+  asked_too (status.Limit bounds.Content) (inl h) = inl (too_much bounds.Content h)
+  asked_too (status.Limit bounds.Content) (inr (asks, long)) = inr (lists_too asks, long)
   asked_too (status.Limit bounds.Recipients) h = too_much bounds.Recipients h
   asked_too (status.Limit bounds.Generation) h = h
   asked_too (status.Limit bounds.Serial) (inl h) = inl (too_much bounds.Serial h)
@@ -239,7 +267,8 @@ module _ (P Q : Request → Type 0) (f : (r : Request) → P r → Q r) (text : 
   asked_too status.NoMemory h = tt
   asked_too status.Door h = tt
   asked_too (status.Unfinished n) h = tt
-  asked_too status.Absent (tool, one, asks) = (tool, one, f (Tool tool) asks)
+  asked_too status.Absent (inl (tool, some, asks)) = inl (tool, some, f (Tool tool) asks)
+  asked_too status.Absent (inr (id, asks)) = inr (id, f (Show id) asks)
 
 -- ---- rests
 

@@ -5,6 +5,10 @@ use Rattle.q_conf.specs.declared.error.ConfError.{ConfError}
 use Rattle.q_conf.specs.declared.error.ConfError.TheVariants as conf_errors
 use Rattle.q_host.specs.declared.error.HostError.{HostError}
 use Rattle.q_host.specs.declared.error.HostError.TheVariants as faults
+use Rattle.q_input.specs.declared.error.IdsError.{IdsError}
+use Rattle.q_input.specs.declared.error.IdsError.TheVariants as ids_errors
+use Rattle.q_input.specs.declared.error.InputError.{InputError}
+use Rattle.q_input.specs.declared.error.InputError.TheVariants as input_errors
 use Rattle.q_listen.specs.Refusals.{is_unreadable as is_listen_unreadable}
 use Rattle.q_listen.specs.declared.listened.ListenError.{ListenError}
 use Rattle.q_listen.specs.declared.listened.ListenError.TheVariants as listen_errors
@@ -16,9 +20,7 @@ use Rattle.q_replay.specs.declared.deliveries.Delivered.TheVariants as deliverie
 use Rattle.q_replay.specs.declared.error.ReplayError.{ReplayError}
 use Rattle.q_replay.specs.declared.error.ReplayError.TheVariants as errors
 use Rattle.q_top.specs.Qmgr.{words_status}
-use Rattle.q_top.specs.Statuses.{conf_status, content_status, delivery_status, is_of_lives, is_unreadable, listen_status, replay_status, status_of, telling_status}
-use Rattle.q_top.specs.declared.content.ContentError.{ContentError}
-use Rattle.q_top.specs.declared.content.ContentError.TheVariants as content_errors
+use Rattle.q_top.specs.Statuses.{conf_status, content_status, delivery_status, ids_status, names_fault, is_unreadable, listen_status, replay_status, status_of, telling_status}
 use Rattle.q_top.specs.declared.status.Status.{Status}
 use Rattle.q_words.specs.declared.error.WordsError.{WordsError}
 use Rattle.q_words.specs.declared.error.WordsError.TheVariants as words_errors
@@ -58,10 +60,16 @@ conf_readable conf_errors.Disk = refl
 conf_readable conf_errors.NoMemory = refl
 conf_readable (conf_errors.BadLine file line) = refl
 
-pub content_readable : (error : ContentError) → is_unreadable (content_status error) ≡ false
-content_readable content_errors.TooLong = refl
-content_readable content_errors.Source = refl
-content_readable content_errors.NoMemory = refl
+pub content_readable : (error : InputError) → is_unreadable (content_status error) ≡ false
+content_readable input_errors.TooLong = refl
+content_readable input_errors.Source = refl
+content_readable input_errors.NoMemory = refl
+
+pub ids_readable : (error : IdsError) → is_unreadable (ids_status error) ≡ false
+ids_readable (ids_errors.BadLine line) = refl
+ids_readable ids_errors.TooLong = refl
+ids_readable ids_errors.Source = refl
+ids_readable ids_errors.NoMemory = refl
 
 pub told_readable : (told : Result (Unit {0}) HostError) → is_unreadable (telling_status told) ≡ false
 told_readable (Ok done) = refl
@@ -76,25 +84,29 @@ words_readable (words_errors.Refused why) = refl
 words_readable words_errors.NoAddress = refl
 words_readable words_errors.NoQueue = refl
 words_readable words_errors.NoTarget = refl
+words_readable words_errors.NoChosen = refl
 words_readable words_errors.NoId = refl
+words_readable words_errors.NoRoute = refl
 words_readable words_errors.NoDomain = refl
 
--- what only tells names no fault of lives
-pub told_no_lives : (told : Result (Unit {0}) HostError) → is_of_lives (telling_status told) ≡ false
-told_no_lives (Ok done) = refl
-told_no_lives (Err faults.Disk) = refl
-told_no_lives (Err faults.Tell) = refl
-told_no_lives (Err faults.NoMemory) = refl
+-- what only tells names no fault
+pub told_faultless : (told : Result (Unit {0}) HostError) → names_fault (telling_status told) ≡ false
+told_faultless (Ok done) = refl
+told_faultless (Err faults.Disk) = refl
+told_faultless (Err faults.Tell) = refl
+told_faultless (Err faults.NoMemory) = refl
 
-pub words_no_lives : (error : WordsError) → is_of_lives (words_status error) ≡ false
-words_no_lives words_errors.NoMemory = refl
-words_no_lives words_errors.NoCommand = refl
-words_no_lives (words_errors.Refused why) = refl
-words_no_lives words_errors.NoAddress = refl
-words_no_lives words_errors.NoQueue = refl
-words_no_lives words_errors.NoTarget = refl
-words_no_lives words_errors.NoId = refl
-words_no_lives words_errors.NoDomain = refl
+pub words_faultless : (error : WordsError) → names_fault (words_status error) ≡ false
+words_faultless words_errors.NoMemory = refl
+words_faultless words_errors.NoCommand = refl
+words_faultless (words_errors.Refused why) = refl
+words_faultless words_errors.NoAddress = refl
+words_faultless words_errors.NoQueue = refl
+words_faultless words_errors.NoTarget = refl
+words_faultless words_errors.NoChosen = refl
+words_faultless words_errors.NoId = refl
+words_faultless words_errors.NoRoute = refl
+words_faultless words_errors.NoDomain = refl
 
-pub no_lives_of : {P : Type 0} (s : Status) → is_of_lives s ≡ false → is_of_lives s ≡ true → P
-no_lives_of s none some = absurd (let bad : false ≡ true = sym none ∙ some in cc)
+pub faultless_of : {P : Type 0} (s : Status) → names_fault s ≡ false → names_fault s ≡ true → P
+faultless_of s none some = absurd (let bad : false ≡ true = sym none ∙ some in cc)

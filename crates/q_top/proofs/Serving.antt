@@ -1,5 +1,5 @@
 -- What a command does to a spool that stands for an orderly book.
-use Rattle.std.proofs.Common.{◌≡◌, ◌≤◌, ◌⊎◌, [], inl, inr, List, refl, ⊎_elim, subst, sym, true, ℕ}
+use Rattle.std.proofs.Common.{◌≡◌, ◌≤◌, inl, inr, List, refl, ⊎_elim, subst, sym, true, ℕ}
 use Rattle.std.specs.Prelude.{Result}
 use Rattle.q_books.specs.HostStands.{HostStands, IsLeftOf, TellsCrashes}
 use Rattle.q_books.proofs.Joining.{reads_keep}
@@ -33,7 +33,7 @@ use Rattle.q_replay.specs.declared.deliveries.Delivered.{Delivered}
 use Rattle.q_replay.specs.declared.error.ReplayError.{ReplayError}
 use Rattle.q_replay.specs.declared.letters.Letter.{Letter}
 use Rattle.q_settings.specs.Ranges.{IsInRange}
-use Rattle.q_telling.specs.Telling.{LeavesFiles, TellsFront, TellsMore}
+use Rattle.q_telling.specs.Telling.{LeavesFiles, TellsMore}
 use Rattle.q_tools.proofs.ToolLives.{tool_lives}
 use Rattle.q_tools.specs.ToolEnds.{ToolEnds}
 use Rattle.q_tools.specs.declared.error.ToolError.{ToolError}

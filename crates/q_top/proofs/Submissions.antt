@@ -4,18 +4,19 @@ use Rattle.std.specs.Prelude.{IfSome, length}
 use Rattle.q_host.specs.View.{View}
 use Rattle.q_host.proofs.Stays.{stays_here}
 use Rattle.q_stream.specs.Clocks.{AddsMoment}
-use Rattle.q_top.specs.Contents.{HasRead, IsNoContent, most_content}
+use Rattle.q_input.specs.Inputs.{HasRead, IsUnread}
+use Rattle.q_input.specs.declared.error.InputError.{InputError}
+use Rattle.q_input.specs.declared.error.InputError.TheVariants as errors
+use Rattle.q_top.specs.Contents.{most_content}
 use Rattle.q_top.specs.Courses.{Moments, Texts}
 use Rattle.q_top.specs.Lives.{HasNoContent, letter_of, RefusesContent, Submits, SubmitsAt, SubmitsNow}
 use Rattle.q_top.specs.Statuses.{content_status}
-use Rattle.q_top.specs.declared.content.ContentError.{ContentError}
-use Rattle.q_top.specs.declared.content.ContentError.TheVariants as errors
 use Rattle.q_top.specs.declared.status.Status.{Status}
 use Rattle.q_model.specs.Values.{Receiver}
 
 module _ (sender : Option (List ℕ)) (to : List Receiver) (texts : Texts) (moments : Moments) where
   -- there is none
-  pub no_content : (u : View) (error : ContentError) → IsNoContent texts.before error → Submits sender to texts moments u u (content_status error)
+  pub no_content : (u : View) (error : InputError) → IsUnread most_content texts.before error → Submits sender to texts moments u u (content_status error)
   no_content u errors.TooLong none = record {
     long = both texts.before (λ bytes long. record { names = inl refl; stays = stays_here u });
     run = too_long texts.before none;
@@ -50,7 +51,7 @@ module _ (sender : Option (List ℕ)) (to : List Receiver) (texts : Texts) (mome
       any_run (Some bytes) = λ few. inl (record { names = inr refl; stays = stays_here u })
 
   -- there is one
-  pub with_content : (content : List ℕ) (moment : ℕ) (u v : View) (s : Status) → HasRead texts.before content → AddsMoment moments.before moments.after moment
+  pub with_content : (content : List ℕ) (moment : ℕ) (u v : View) (s : Status) → HasRead most_content texts.before content → AddsMoment moments.before moments.after moment
       → SubmitsAt moment (letter_of sender to content) u v s → Submits sender to texts moments u v s
   with_content content moment u v s read given submits = record {
     long = not_long texts.before read.all;

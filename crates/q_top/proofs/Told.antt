@@ -1,6 +1,6 @@
 -- How a command ends that only tells.
 use Rattle.std.proofs.Common.{[], inl, inr, refl}
-use Rattle.std.specs.Prelude.{Err, Ok, OnErr, OnOk, Result}
+use Rattle.std.specs.Prelude.{Err, IfOk, Ok, OnErr, OnOk, Result}
 use Rattle.q_host.proofs.Moments.{goes_nowhere}
 use Rattle.q_host.specs.Steps.{Stay}
 use Rattle.q_host.specs.View.{View}
@@ -24,6 +24,10 @@ on_ok_of (Err e) f p = tt
 pub on_err_of : {T E : Type 0} {P Q : Type 0} (r : Result T E) → (P → Q) → OnErr r P → OnErr r Q
 on_err_of (Ok x) f p = tt
 on_err_of (Err e) f p = f p
+
+pub if_ok_of : {T E : Type 0} {P Q : T → Type 0} (r : Result T E) → ((x : T) → P x → Q x) → IfOk r P → IfOk r Q
+if_ok_of (Ok x) f p = f x p
+if_ok_of (Err e) f p = tt
 
 pub when_ok : {T E P : Type 0} (r : Result T E) → P → OnOk r P
 when_ok (Ok x) p = p

@@ -40,9 +40,8 @@ use Rattle.q_top.proofs.Readable.{error_readable}
 use Rattle.q_top.proofs.RunsBehind.{halts_first, looked_first, run_behind, still_stands}
 use Rattle.q_top.specs.Causes.{HasHostCause}
 use Rattle.q_top.specs.Lives.{EndsTool, FindsDamage, WorksAt}
-use Rattle.q_top.specs.Named.{IsNamed}
+use Rattle.q_top.specs.Named.{IsNamed, MayLackFor}
 use Rattle.q_top.specs.Statuses.{conf_status, is_unreadable, tool_status}
-use Rattle.q_top.specs.Tools.{task_of}
 use Rattle.q_top.specs.declared.status.Status.TheVariants as status
 use Rattle.q_words.specs.declared.request.Request.TheVariants.{Tool}
 use Rattle.q_words.specs.declared.tool.ToolRequest.{ToolRequest}
@@ -88,7 +87,7 @@ module _ (w : World) (b : Book) (moment : ℕ) (u m v : View) (lawful : TellsCra
   pub tool_behind : (task : Task) (r : Result (Unit {0}) ToolError) → ToolEnds w b moment task m v r → ToolEnds w b moment task u v r
   tool_behind task (Ok done) e = (e.0, played_on _ e.1)
   tool_behind task (Err (Life error)) e = run_behind w Intake b u m lawful stays h v (life_taken w b moment) (Err error) e
-  tool_behind task (Err (Act acts.Absent)) e = (e.0, played_on [] e.1)
+  tool_behind task (Err (Act acts.Absent)) e = (e.0, played_on _ e.1)
   tool_behind task (Err (Act acts.Disk)) e = stopped_on task faults.Disk e
   tool_behind task (Err (Act acts.Tell)) e = stopped_on task faults.Tell e
   tool_behind task (Err (Act acts.NoMemory)) e = stopped_on task faults.NoMemory e
@@ -142,25 +141,25 @@ module _ (conf : Conf) (u m v : View) (lawful : TellsCrashes u) (stays : Stays u
 
 -- ---- statuses
 
-pub tool_named : (tool : ToolRequest) (text : Option (List ℕ)) (r : Result (Unit {0}) ToolError) → IfErr r (IsToolRefusal (task_of tool)) → IsNamed (λ x. x ≡ Tool tool) text (tool_status r)
-tool_named tool text (Ok done) h = tt
-tool_named tool text (Err (Act acts.Disk)) h = tt
-tool_named tool text (Err (Act acts.Tell)) h = tt
-tool_named tool text (Err (Act acts.NoMemory)) h = tt
-tool_named tool text (Err (Act acts.Absent)) h = (tool, h, refl)
-tool_named tool text (Err (Life errors.Disk)) h = tt
-tool_named tool text (Err (Life errors.Tell)) h = tt
-tool_named tool text (Err (Life errors.Source)) h = absurd h
-tool_named tool text (Err (Life errors.NoMemory)) h = tt
-tool_named tool text (Err (Life (errors.BadEvent line))) h = absurd h
-tool_named tool text (Err (Life (errors.Limit bounds.Content))) h = absurd h
-tool_named tool text (Err (Life (errors.Limit bounds.Recipients))) h = absurd h
-tool_named tool text (Err (Life (errors.Limit bounds.Generation))) h = h
-tool_named tool text (Err (Life (errors.Limit bounds.Serial))) h = absurd h
-tool_named tool text (Err (Life (errors.Limit bounds.Input))) h = absurd h
-tool_named tool text (Err (Life (errors.Limit bounds.Deliveries))) h = absurd h
-tool_named tool text (Err (Life (errors.Damaged area name))) h = h
-tool_named tool text (Err (Life (errors.Unreadable area name))) h = tt
+pub tool_named : (task : Task) (tool : ToolRequest) (text : Option (List ℕ)) → MayLackFor tool task → (r : Result (Unit {0}) ToolError) → IfErr r (IsToolRefusal task) → IsNamed (λ x. x ≡ Tool tool) text (tool_status r)
+tool_named task tool text lacks (Ok done) h = tt
+tool_named task tool text lacks (Err (Act acts.Disk)) h = tt
+tool_named task tool text lacks (Err (Act acts.Tell)) h = tt
+tool_named task tool text lacks (Err (Act acts.NoMemory)) h = tt
+tool_named task tool text lacks (Err (Act acts.Absent)) h = inl (tool, lacks h, refl)
+tool_named task tool text lacks (Err (Life errors.Disk)) h = tt
+tool_named task tool text lacks (Err (Life errors.Tell)) h = tt
+tool_named task tool text lacks (Err (Life errors.Source)) h = absurd h
+tool_named task tool text lacks (Err (Life errors.NoMemory)) h = tt
+tool_named task tool text lacks (Err (Life (errors.BadEvent line))) h = absurd h
+tool_named task tool text lacks (Err (Life (errors.Limit bounds.Content))) h = absurd h
+tool_named task tool text lacks (Err (Life (errors.Limit bounds.Recipients))) h = absurd h
+tool_named task tool text lacks (Err (Life (errors.Limit bounds.Generation))) h = h
+tool_named task tool text lacks (Err (Life (errors.Limit bounds.Serial))) h = absurd h
+tool_named task tool text lacks (Err (Life (errors.Limit bounds.Input))) h = absurd h
+tool_named task tool text lacks (Err (Life (errors.Limit bounds.Deliveries))) h = absurd h
+tool_named task tool text lacks (Err (Life (errors.Damaged area name))) h = h
+tool_named task tool text lacks (Err (Life (errors.Unreadable area name))) h = tt
 
 pub tool_readable : (r : Result (Unit {0}) ToolError) → IfErr r (λ error. is_tool_unreadable error ≡ false) → is_unreadable (tool_status r) ≡ false
 tool_readable (Ok done) h = refl

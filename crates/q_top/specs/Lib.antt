@@ -2,6 +2,7 @@ pub mod Contents
 pub mod Courses
 pub mod Causes
 pub mod Lives
+pub mod Looks
 pub mod Named
 pub mod Promises
 pub mod Qmgr

@@ -7,7 +7,10 @@ use Rattle.q_host.specs.Calls.{Stays}
 use Rattle.q_host.specs.View.{View}
 use Rattle.q_model.specs.Book.{Book}
 use Rattle.q_model.specs.Settings.{World}
+use Rattle.q_input.specs.IdLines.{IsRefusedList, Lists}
+use Rattle.q_input.specs.declared.error.IdsError.{IdsError}
 use Rattle.q_model.specs.declared.event.Mode.TheVariants.{Intake}
+use Rattle.q_model.specs.declared.id.Id.{Id}
 use Rattle.q_model.specs.declared.spot.Area.{Area}
 use Rattle.q_model.specs.Values.{Receiver}
 use Rattle.q_drain.specs.Swept.{Outsides}
@@ -28,8 +31,12 @@ use Rattle.q_top.specs.Contents.{most_content}
 use Rattle.q_top.specs.Courses.{ForBooks, InWorld, Moments, Texts}
 use Rattle.q_tools.specs.ToolEnds.{ToolEnds}
 use Rattle.q_tools.specs.declared.error.ToolError.{ToolError}
+use Rattle.q_super.specs.declared.acts.Act.{Act}
 use Rattle.q_tools.specs.declared.task.Task.{Task}
-use Rattle.q_top.specs.Statuses.{delivery_status, input_of, listen_status, status_of, tool_status}
+use Rattle.q_tools.specs.declared.task.Task.TheVariants.{Each}
+use Rattle.q_top.specs.declared.work.Work.{Work}
+use Rattle.q_top.specs.declared.work.Work.TheVariants.{Listed, Ready}
+use Rattle.q_top.specs.Statuses.{delivery_status, ids_status, input_of, listen_status, status_of, tool_status}
 use Rattle.q_top.specs.declared.status.Status.{Status}
 use Rattle.q_top.specs.declared.status.Status.TheVariants as status
 
@@ -130,6 +137,28 @@ pub record WorksNow (task : Task) (moments : Moments) (u v : View) (s : Status) 
   pub moment : ℕ
   pub given : AddsMoment moments.before moments.after moment
   pub works : WorksAt moment task u v s
+
+-- the list of ids is refused, or can't be read, and nothing was told or changed
+pub record RefusesList (left : Option (List ℕ)) (u v : View) (s : Status) : Type 0 where
+  pub error : IdsError
+  pub says : s ≡ ids_status error
+  pub is : IsRefusedList left error
+  pub stays : Stays u v
+
+-- the act is done with each message whose id the source has, where it tells that
+pub record WorksEach (act : Act) (texts : Texts) (moments : Moments) (u v : View) (s : Status) : Type 0 where
+  pub ids : List Id
+  pub lists : IfSome texts.before (Lists ids)
+  pub works : WorksNow (Each act ids) moments u v s
+
+-- By what the source has, a list is refused, or the act is done.
+abbrev pub WorksThrough : Act → Texts → Moments → View → View → Status → Type 0
+WorksThrough act texts moments u v s = RefusesList texts.before u v s ⊎ WorksEach act texts moments u v s
+
+-- how a tool ends, by what its words say to do
+abbrev pub DoesWork : Work → Texts → Moments → View → View → Status → Type 0
+DoesWork (Ready task) texts moments u v s = WorksNow task moments u v s
+DoesWork (Listed act) texts moments u v s = WorksThrough act texts moments u v s
 
 -- ---- submit
 

@@ -1,7 +1,10 @@
 -- What a status names, whether the host tells its files or not.
-use Rattle.std.specs.Prelude.{◌<◌, ◌≡◌, ◌⊎◌, IfSome, length, List, Option, true, ℕ}
+use Rattle.std.specs.Prelude.{◌<◌, ◌≡◌, ◌⊎◌, Err, IfSome, length, List, Option, true, ℕ}
 use Rattle.q_conf.specs.Confs.{at_fault, SaySo}
 use Rattle.q_conf.specs.declared.error.ConfFile.TheVariants as conf
+use Rattle.q_input.specs.IdLines.{ids_in, most_id_bytes}
+use Rattle.q_input.specs.declared.error.IdsError.TheVariants.{BadLine}
+use Rattle.q_model.specs.declared.id.Id.{Id}
 use Rattle.q_model.specs.declared.limits.Bound.{Bound}
 use Rattle.q_model.specs.declared.limits.Bound.TheVariants as bounds
 use Rattle.q_model.specs.Values.{Receiver}
@@ -10,13 +13,14 @@ use Rattle.q_replay.specs.Named.{IsAtFault, ListPasses}
 use Rattle.q_restart.specs.Judgements.{IsRefusalOfSome}
 use Rattle.q_restart.specs.declared.error.OpenError.TheVariants as open_errors
 use Rattle.q_top.specs.Contents.{most_content}
-use Rattle.q_top.specs.declared.status.InputFile.TheVariants.{Events, Parameters, Table}
+use Rattle.q_top.specs.declared.status.InputFile.TheVariants.{Events, Ids, Parameters, Table}
 use Rattle.q_top.specs.declared.status.Status.{Status}
 use Rattle.q_top.specs.declared.status.Status.TheVariants.{Absent, BadInput, Damaged, Limit}
 use Rattle.q_words.specs.declared.request.Request.{Request}
-use Rattle.q_tools.specs.Tasks.{is_one}
-use Rattle.q_top.specs.Tools.{task_of}
-use Rattle.q_words.specs.declared.request.Request.TheVariants.{Drain, Listen, Replay, Submit, Tool}
+use Rattle.q_tools.specs.Tasks.{may_lack}
+use Rattle.q_tools.specs.declared.task.Task.{Task}
+use Rattle.q_top.specs.Tools.{is_listed, names_some, work_of}
+use Rattle.q_words.specs.declared.request.Request.TheVariants.{Drain, Listen, Replay, Show, Submit, Tool}
 use Rattle.q_words.specs.declared.tool.ToolRequest.{ToolRequest}
 
 -- the text is an event list with a line that is at fault, where it is told
@@ -43,23 +47,46 @@ IsTooMuch Asks text bound = (Asks Replay × HasTooMuch text bound)
 abbrev pub AsksToListen : (Request → Type 0) → Type 0
 AsksToListen Asks = (port : ℕ) × (count : ℕ) × (rests : ℕ) × Asks (Listen port count rests)
 
--- a queue tool is asked to act on one message
-abbrev pub AsksForOne : (Request → Type 0) → Type 0
-AsksForOne Asks = (tool : ToolRequest) × (is_one (task_of tool) ≡ true) × Asks (Tool tool)
+-- a queue tool is asked to act on messages that are named
+abbrev pub AsksForSome : (Request → Type 0) → Type 0
+AsksForSome Asks = (tool : ToolRequest) × (names_some (work_of tool) ≡ true) × Asks (Tool tool)
+
+-- on those whose ids the input has
+abbrev pub AsksToList : (Request → Type 0) → Type 0
+AsksToList Asks = (tool : ToolRequest) × (is_listed (work_of tool) ≡ true) × Asks (Tool tool)
+
+-- the tool names messages, where the task may find one absent
+abbrev pub MayLackFor : ToolRequest → Task → Type 0
+MayLackFor tool task = may_lack task ≡ true → names_some (work_of tool) ≡ true
+
+-- this line of the input is no id, where it is told
+abbrev pub HasNoId : Option (List ℕ) → ℕ → Type 0
+HasNoId text line = IfSome text (λ bytes. ids_in bytes ≡ Err (BadLine line))
+
+-- the input is too long for a list of ids
+abbrev pub IsTooLong : Option (List ℕ) → Type 0
+IsTooLong text = IfSome text (λ bytes. most_id_bytes < length bytes)
+
+-- a message is named that may be absent
+abbrev pub AsksForMessage : (Request → Type 0) → Type 0
+AsksForMessage Asks = AsksForSome Asks ⊎ ((id : Id) × Asks (Show id))
 
 -- A line of conf is one at which some texts are at fault. A damage, and that no generation is left, are
 -- what some names of boot and some files of the queues show. A line of an event list, and the limits of
 -- what is handed in, are named for commands alone that take the source's text, and by that, where the
 -- source tells it; the limit of serials also where mail is taken by SMTP, and that of deliveries for a
--- drain alone. A message isn't found where a tool is asked to act on one.
+-- drain alone. So are a line and the length of a list of ids. A message isn't found where one is named.
 abbrev pub IsNamed : (Asks : Request → Type 0) → (text : Option (List ℕ)) → Status → Type 0
 IsNamed Asks text (BadInput Events line) = Asks Replay × HasFault text line
+IsNamed Asks text (BadInput Ids line) = AsksToList Asks × HasNoId text line
 IsNamed Asks text (BadInput Parameters line) = SaySo (at_fault conf.Parameters line)
 IsNamed Asks text (BadInput Table line) = SaySo (at_fault conf.Table line)
 IsNamed Asks text (Damaged area name) = IsRefusalOfSome (open_errors.Damaged area name)
 IsNamed Asks text (Limit bounds.Generation) = IsRefusalOfSome open_errors.Spent
 IsNamed Asks text (Limit bounds.Deliveries) = (rests : ℕ) × Asks (Drain rests)
+IsNamed Asks text (Limit bounds.Content) =
+    IsTooMuch Asks text bounds.Content ⊎ AsksToList Asks × IsTooLong text
 IsNamed Asks text (Limit bounds.Serial) = IsTooMuch Asks text bounds.Serial ⊎ AsksToListen Asks
 IsNamed Asks text (Limit bound) = IsTooMuch Asks text bound
-IsNamed Asks text Absent = AsksForOne Asks
+IsNamed Asks text Absent = AsksForMessage Asks
 IsNamed Asks text status = Unit {0}

@@ -1,7 +1,6 @@
 -- Calls of `qmgr` on one spool, one after another, and what holds of all of them, whatever comes.
-use Rattle.std.specs.Prelude.{◌≡◌, ◌⊎◌, [], List, map, true, false, ℕ, ◌∷◌}
+use Rattle.std.specs.Prelude.{◌≡◌, ◌⊎◌, [], List, true, false, ℕ, ◌∷◌}
 use Rattle.q_books.specs.HostStands.{HostStands}
-use Rattle.q_host.specs.Calls.{Stays}
 use Rattle.q_host.specs.View.{View}
 use Rattle.q_model.specs.Book.{Book}
 use Rattle.q_model.specs.Orderly.{is_orderly}

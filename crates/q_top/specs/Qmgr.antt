@@ -10,9 +10,10 @@ use Rattle.q_listen.specs.ListenEnds.{AreTooFew as AreTooFewAtDoor, CountsRests 
 use Rattle.q_replay.specs.Spools.{Serves}
 use Rattle.q_shape.specs.Buckets.{IsShape}
 use Rattle.q_top.specs.Courses.{at_door, Connections, Entrances, Moments, Texts, outsides}
-use Rattle.q_top.specs.Lives.{DrainsSpool, ListensOnSpool, Replays, Submits, WorksNow}
-use Rattle.q_top.specs.Tellings.{Lists, TellsAges, TellsLoad}
-use Rattle.q_top.specs.Tools.{task_of}
+use Rattle.q_top.specs.Lives.{DoesWork, DrainsSpool, ListensOnSpool, Replays, Submits}
+use Rattle.q_top.specs.Tellings.{Lists, ListsJson, TellsAges, TellsFigures, TellsLoad}
+use Rattle.q_top.specs.Looks.{Checks, Shows, TellsParameters, TellsWays}
+use Rattle.q_top.specs.Tools.{is_listed, work_of}
 use Rattle.q_top.specs.declared.status.Status.{Status}
 use Rattle.q_top.specs.declared.status.Status.TheVariants as status
 use Rattle.q_words.specs.Requests.{IsRequest}
@@ -50,11 +51,18 @@ HasForm (requests.Qshape request) = IsShape request.shape
 HasForm requests.Queue = Unit {0}
 HasForm (requests.Load mails) = Unit {0}
 HasForm (requests.Tool tool) = Unit {0}
+HasForm requests.Json = Unit {0}
+HasForm requests.Status = Unit {0}
+HasForm (requests.Show id) = Unit {0}
+HasForm requests.Params = Unit {0}
+HasForm (requests.Route addresses) = Unit {0}
+HasForm requests.Check = Unit {0}
 
 -- the command takes bytes of its source
 abbrev pub takes_input : Request → Bool
 takes_input requests.Replay = true
 takes_input (requests.Submit sender to) = true
+takes_input (requests.Tool tool) = is_listed (work_of tool)
 takes_input request = false
 
 -- it asks the clock
@@ -88,7 +96,14 @@ Does (requests.Listen port count rests) texts moments connections entrances s u 
 Does (requests.Qshape request) texts moments connections entrances s u v = TellsAges request moments u v s
 Does requests.Queue texts moments connections entrances s u v = Lists u v s
 Does (requests.Load mails) texts moments connections entrances s u v = TellsLoad mails u v s
-Does (requests.Tool tool) texts moments connections entrances s u v = WorksNow (task_of tool) moments u v s
+Does (requests.Tool tool) texts moments connections entrances s u v =
+    DoesWork (work_of tool) texts moments u v s
+Does requests.Json texts moments connections entrances s u v = ListsJson u v s
+Does requests.Status texts moments connections entrances s u v = TellsFigures u v s
+Does (requests.Show id) texts moments connections entrances s u v = Shows id u v s
+Does requests.Params texts moments connections entrances s u v = TellsParameters u v s
+Does (requests.Route addresses) texts moments connections entrances s u v = TellsWays addresses u v s
+Does requests.Check texts moments connections entrances s u v = Checks u v s
 
 -- the commands that run a life, or many; the others only look
 abbrev pub runs_lives : Request → Bool
@@ -100,6 +115,21 @@ runs_lives (requests.Qshape request) = false
 runs_lives requests.Queue = false
 runs_lives (requests.Load mails) = false
 runs_lives (requests.Tool tool) = true
+runs_lives requests.Json = false
+runs_lives requests.Status = false
+runs_lives (requests.Show id) = false
+runs_lives requests.Params = false
+runs_lives (requests.Route addresses) = false
+runs_lives requests.Check = false
+
+-- the commands that may find a fault of the input, of the spool, of one of its files, of what is asked of it,
+-- or a limit; the others only tell what there is
+abbrev pub may_blame : Request → Bool
+may_blame (requests.Show id) = true
+may_blame requests.Params = true
+may_blame (requests.Route addresses) = true
+may_blame requests.Check = true
+may_blame request = runs_lives request
 
 -- the command that the words ask for was carried out
 pub record CarriesOut (words : List (List ℕ)) (texts : Texts) (moments : Moments) (connections : Connections)
@@ -132,9 +162,9 @@ NeedsMoreRests request n hops door = ⊥
 abbrev pub AsksFor : List (List ℕ) → (Request → Type 0) → Type 0
 AsksFor words says = (request : Request) × IsRequest words request × says request
 
--- the words ask for a command that runs lives
-abbrev pub AsksForLives : List (List ℕ) → Type 0
-AsksForLives words = AsksFor words (λ request. runs_lives request ≡ true)
+-- the words ask for a command that may find such a fault
+abbrev pub AsksToJudge : List (List ℕ) → Type 0
+AsksToJudge words = AsksFor words (λ request. may_blame request ≡ true)
 
 -- of the source, the clock, the connections and the door those stay as they were that the command has no
 -- use for

@@ -4,9 +4,17 @@ use Rattle.q_conf.specs.declared.error.ConfError.{ConfError}
 use Rattle.q_conf.specs.declared.error.ConfError.TheVariants as conf_errors
 use Rattle.q_conf.specs.declared.error.ConfFile.{ConfFile}
 use Rattle.q_conf.specs.declared.error.ConfFile.TheVariants as conf_files
+use Rattle.q_check.specs.declared.found.Found.{Found}
+use Rattle.q_check.specs.declared.found.Found.TheVariants as founds
+use Rattle.q_conf_texts.specs.declared.error.LookError.{LookError}
+use Rattle.q_conf_texts.specs.declared.error.LookError.TheVariants as look_errors
 use Rattle.q_model.specs.declared.limits.Bound.TheVariants as bounds
 use Rattle.q_host.specs.declared.error.HostError.{HostError}
 use Rattle.q_host.specs.declared.error.HostError.TheVariants as faults
+use Rattle.q_input.specs.declared.error.IdsError.{IdsError}
+use Rattle.q_input.specs.declared.error.IdsError.TheVariants as ids_errors
+use Rattle.q_input.specs.declared.error.InputError.{InputError}
+use Rattle.q_input.specs.declared.error.InputError.TheVariants as input_errors
 use Rattle.q_listen.specs.declared.listened.Listened.{Listened}
 use Rattle.q_listen.specs.declared.listened.Listened.TheVariants as listenings
 use Rattle.q_listen.specs.declared.listened.ListenError.{ListenError}
@@ -18,10 +26,8 @@ use Rattle.q_replay.specs.declared.error.ReplayError.TheVariants as errors
 use Rattle.q_super.specs.declared.error.SuperError.TheVariants as acts
 use Rattle.q_tools.specs.declared.error.ToolError.{ToolError}
 use Rattle.q_tools.specs.declared.error.ToolError.TheVariants.{Act, Life}
-use Rattle.q_top.specs.declared.content.ContentError.{ContentError}
-use Rattle.q_top.specs.declared.content.ContentError.TheVariants as content_errors
 use Rattle.q_top.specs.declared.status.InputFile.{InputFile}
-use Rattle.q_top.specs.declared.status.InputFile.TheVariants.{Events, Parameters, Table}
+use Rattle.q_top.specs.declared.status.InputFile.TheVariants.{Events, Ids, Parameters, Table}
 use Rattle.q_top.specs.declared.status.Status.{Status}
 use Rattle.q_top.specs.declared.status.Status.TheVariants.{Absent, BadInput, Damaged, Disk, Done, Door, Limit, NoMemory, Source, Tell, Unfinished, Unreadable, Usage}
 
@@ -47,13 +53,13 @@ is_unreadable (Unreadable area name) = true
 is_unreadable _ = false
 
 -- the input, the spool, one of its files, what was asked of it or a limit is at fault
-abbrev pub is_of_lives : Status → Bool
-is_of_lives (BadInput file line) = true
-is_of_lives (Damaged area name) = true
-is_of_lives (Limit bound) = true
-is_of_lives (Unreadable area name) = true
-is_of_lives Absent = true
-is_of_lives _ = false
+abbrev pub names_fault : Status → Bool
+names_fault (BadInput file line) = true
+names_fault (Damaged area name) = true
+names_fault (Limit bound) = true
+names_fault (Unreadable area name) = true
+names_fault Absent = true
+names_fault _ = false
 
 -- how a command ends whose lives ended so
 abbrev pub replay_status : ReplayError → Status
@@ -120,8 +126,40 @@ telling_status (Err faults.Disk) = Disk
 telling_status (Err faults.Tell) = Tell
 telling_status (Err faults.NoMemory) = NoMemory
 
+-- how a command ends that tells what the files of conf say
+abbrev pub look_status : Result (Unit {0}) LookError → Status
+look_status (Ok done) = Done
+look_status (Err look_errors.Disk) = Disk
+look_status (Err look_errors.Tell) = Tell
+look_status (Err look_errors.NoMemory) = NoMemory
+look_status (Err (look_errors.BadLine file line)) = BadInput (input_of file) line
+
+-- how a command ends that told a message, if there is one
+abbrev pub show_status : Result Bool HostError → Status
+show_status (Ok true) = Done
+show_status (Ok false) = Absent
+show_status (Err error) = telling_status (Err error)
+
+-- how a command ends that found this
+abbrev pub found_status : Found → Status
+found_status founds.Nothing = Done
+found_status (founds.BadConf file line) = BadInput (input_of file) line
+found_status (founds.Damaged area name) = Damaged area name
+
+-- how a command ends that told what is wrong
+abbrev pub check_status : Result Found HostError → Status
+check_status (Ok found) = found_status found
+check_status (Err error) = telling_status (Err error)
+
 -- how a command ends that has no content
-abbrev pub content_status : ContentError → Status
-content_status content_errors.TooLong = Limit bounds.Content
-content_status content_errors.Source = Source
-content_status content_errors.NoMemory = NoMemory
+abbrev pub content_status : InputError → Status
+content_status input_errors.TooLong = Limit bounds.Content
+content_status input_errors.Source = Source
+content_status input_errors.NoMemory = NoMemory
+
+-- how a command ends whose input is no list of ids
+abbrev pub ids_status : IdsError → Status
+ids_status (ids_errors.BadLine line) = BadInput Ids line
+ids_status ids_errors.TooLong = Limit bounds.Content
+ids_status ids_errors.Source = Source
+ids_status ids_errors.NoMemory = NoMemory

@@ -14,6 +14,8 @@ use Rattle.q_top.specs.Courses.{Moments}
 use Rattle.q_top.specs.Lives.{IsGivenUp}
 use Rattle.q_top.specs.declared.status.Status.{Status}
 use Rattle.q_top.specs.declared.status.Status.TheVariants.{Done}
+use Rattle.q_views.specs.JsonLines.{json_text}
+use Rattle.q_views.specs.Metrics.{status_text}
 use Rattle.q_shape.specs.declared.request.TableRequest.{TableRequest}
 
 -- With Done all was told; else the host failed or memory ran out, and some first part was.
@@ -29,6 +31,18 @@ pub record Lists (u v : View) (s : Status) : Type 0 where
   pub whatever : EndsLooking u v s
   pub listed : (b : Book) → Stands u.files b
       → EndsTelling (TellsMore (listing u.files b) u v) (TellsFront (listing u.files b) u v) s
+
+-- `json`: the same of the listing as JSON lines.
+pub record ListsJson (u v : View) (s : Status) : Type 0 where
+  pub whatever : EndsLooking u v s
+  pub listed : (b : Book) → Stands u.files b
+      → EndsTelling (TellsMore (json_text u.files b) u v) (TellsFront (json_text u.files b) u v) s
+
+-- `status`: the same of the figures of the book.
+pub record TellsFigures (u v : View) (s : Status) : Type 0 where
+  pub whatever : EndsLooking u v s
+  pub figures : (b : Book) → Stands u.files b
+      → EndsTelling (TellsMore (status_text b) u v) (TellsFront (status_text b) u v) s
 
 -- the table of ages at this moment is told
 abbrev pub EndsTable : ℕ → TableRequest → Book → View → View → Status → Type 0

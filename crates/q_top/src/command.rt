@@ -5,19 +5,22 @@ ghost use Rattle.q_replay.specs.ReplayEnds.{IsFitSpool};
 ghost use Rattle.q_replay.specs.Spools.{Serves};
 ghost use Rattle.q_top.specs.Causes.{HasDoorCause, HasHostCause, HasSourceCause};
 ghost use Rattle.q_top.specs.Courses.{Connections, Entrances, Moments, Texts};
-ghost use Rattle.q_top.specs.Qmgr.{asks_clock, AsksFor, AsksForLives, Does, GaveAllRests, HasForm, LeavesAlone, MayCarryOut, NeedsMoreRests, RefusesWords, runs_lives, takes_input, texts_of, uses_connections, uses_door, words_status};
+ghost use Rattle.q_top.specs.Qmgr.{asks_clock, AsksFor, AsksToJudge, Does, GaveAllRests, HasForm, LeavesAlone, may_blame, MayCarryOut, NeedsMoreRests, RefusesWords, runs_lives, takes_input, texts_of, uses_connections, uses_door, words_status};
 ghost use Rattle.q_top.specs.Named.{IsNamed};
-ghost use Rattle.q_top.specs.Statuses.{is_of_lives, is_unreadable};
+ghost use Rattle.q_top.specs.Statuses.{names_fault, is_unreadable};
 ghost use Rattle.q_words.specs.Requests.{IsRequest};
 ghost use Rattle.q_words.specs.Usages.{is_usage};
 
+use crate::checking::check_spool;
 use crate::draining::drain_spool;
 use crate::listening::listen_spool;
 use crate::loading::tell_load;
+use crate::looking::{tell_parameters, tell_ways};
 use crate::replaying::replay_list;
+use crate::showing::show_message;
 use crate::status::Status;
 use crate::submitting::submit_content;
-use crate::telling::{list_queues, table_ages};
+use crate::telling::{list_json, list_queues, table_ages, tell_figures};
 use crate::tooling::use_tool;
 use q_door::Door;
 use q_host::Host;
@@ -64,7 +67,7 @@ fn carry_out<L: Link, K: Link, H: Host, S: Source, C: Clock, N: Hops<Link = L>, 
     ensures clock_stays { asks_clock request ≡ false → clock.new ≡ clock.old }
     ensures connections_stay { uses_connections request ≡ false → hops.new ≡ hops.old }
     ensures door_stays { uses_door request ≡ false → door.new ≡ door.old }
-    ensures lives { is_of_lives result ≡ true → runs_lives request ≡ true }
+    ensures blames { names_fault result ≡ true → may_blame request ≡ true }
     ensures no_usage { result ≢ Status.Usage }
     ensures unfinished { (n : ℕ) → result ≡ Status.Unfinished n → GaveAllRests request n
         (record { before = N.view hops.old; after = N.view hops.new })
@@ -82,7 +85,13 @@ fn carry_out<L: Link, K: Link, H: Host, S: Source, C: Clock, N: Hops<Link = L>, 
         Request::Qshape(table) => table_ages(alloc, host, clock, &table),
         Request::Queue => list_queues(alloc, host),
         Request::Load { mails } => tell_load(alloc, host, mails),
-        Request::Tool(tool) => use_tool(alloc, host, clock, tool),
+        Request::Tool(tool) => use_tool(alloc, source, host, clock, tool),
+        Request::Json => list_json(alloc, host),
+        Request::Status => tell_figures(alloc, host),
+        Request::Show(id) => show_message(alloc, host, id),
+        Request::Params => tell_parameters(alloc, host),
+        Request::Route(addresses) => tell_ways(alloc, host, &addresses),
+        Request::Check => check_spool(alloc, host),
     }
 }
 
@@ -95,12 +104,13 @@ fn carry_out<L: Link, K: Link, H: Host, S: Source, C: Clock, N: Hops<Link = L>, 
 /// conf, and begins a life that delivers by SMTP (RFC 5321) until no delivery is in flight.
 /// `listen` reads the files of conf, and begins a life that takes mail by SMTP at a port, over so
 /// many connections one behind the other; a message is acknowledged only when its `arrive` line was
-/// told. `hold`, `release` and `requeue`, each with an id or `ALL`, `expire` with an id, and `flush`
-/// with a domain read the files of conf, run an intake life with the clock's moment alone, and then
-/// move messages or give one up; of each they tell the line `WORD ID`, behind what the disk holds of
-/// it. A missing file of conf says as much as an empty one. `queue` tells the listing of the
-/// queues, `qshape` the ages of their mail; these two read no conf, begin no life and change
-/// nothing. `load` reads no conf and opens no spool: it runs a generated load on a host in memory
+/// told. `hold`, `release` and `requeue`, each with an id, `ALL` or `-`, `expire` with an id or `-`, and
+/// `flush` with a domain read ids from the source, where the word is `-`, and the files of conf, run an
+/// intake life with the clock's moment alone, and then move messages or give them up; of each they tell
+/// the line `WORD ID`, behind what the disk holds of it. A missing file of conf says as much as an empty
+/// one. `queue` tells the listing of the queues, `json` the same as JSON lines, `qshape` the ages of
+/// their mail, `status` figures, and `show` one message; `params` tells the parameters in force, `route`
+/// where mail goes, and `check` what is wrong. These begin no life and change nothing. `load` reads no conf and opens no spool: it runs a generated load on a host in memory
 /// of its own, and tells a summary.
 ///
 /// `Usage` comes for words that are none of a command. Of `submit`, `Limit` of content comes next.
@@ -113,7 +123,8 @@ fn carry_out<L: Link, K: Link, H: Host, S: Source, C: Clock, N: Hops<Link = L>, 
 /// the host, the source or the door failed, `NoMemory` where memory ran out. `Unfinished` comes
 /// where a drain or `listen` has given all rests that its words allow, and needs another. `Absent`
 /// comes, behind the life's lines, where a tool names a message that stands nowhere where the act takes
-/// messages from, or that can't be given up since its file is no queue file.
+/// messages from, or that can't be given up since its file is no queue file; where it names several, the
+/// others were acted on. To `show` it comes where nothing stands under the id.
 /// `Unreadable` names a queue file of a life that can't be read any longer. What was told before a
 /// refusal stands on disk. With `Done` the deferral log of each message that `replay` admitted, and
 /// didn't remove since, reads as its delays since the last admission.
@@ -140,8 +151,8 @@ pub fn qmgr<L: Link, K: Link, H: Host, S: Source, C: Clock, N: Hops<Link = L>, D
         (record { before = C.given clock.old; after = C.given clock.new })
         (record { before = N.view hops.old; after = N.view hops.new })
         (record { before = D.view door.old; after = D.view door.new }) result) }
-    // Only replay and submit take from the source, none but submit, drain, listen, the tools and qshape
-    // asks the clock, none but drain uses connections, and none but listen the door.
+    // Only replay, submit and tools that list ids take from the source, none but submit, drain, listen,
+    // the tools and qshape asks the clock, none but drain uses connections, and none but listen the door.
     ensures alone { is_usage (texts_of words.now) ≡ false → LeavesAlone (texts_of words.now)
         source.old source.new clock.old clock.new hops.old hops.new door.old door.new }
     // Only drain and listen are left unfinished, and only where all rests were given that the words say.
@@ -153,11 +164,11 @@ pub fn qmgr<L: Link, K: Link, H: Host, S: Source, C: Clock, N: Hops<Link = L>, D
     ensures few { (n : ℕ) → result ≡ Status.Unfinished n → AsksFor (texts_of words.now)
         (λ request. NeedsMoreRests request n (N.view hops.old) (D.view door.old)) }
     // The input, the spool, one of its files, what is asked of it and limits are at fault for commands
-    // alone that run lives.
-    ensures lives { is_of_lives result ≡ true → AsksForLives (texts_of words.now) }
+    // alone that run lives or judge what they look at.
+    ensures blames { names_fault result ≡ true → AsksToJudge (texts_of words.now) }
     // Of every host: a line of conf, a damage, and that no generation is left, are what some texts and
-    // files show; a line of an event list is at fault, and a limit passed, by what the words ask for
-    // and, where the source tells, by its text.
+    // files show; a line of an event list or of ids is at fault, and a limit passed, by what the words
+    // ask for and, where the source tells, by its text.
     ensures named { IsNamed (IsRequest (texts_of words.now)) (S.left source.old) result }
     // Where the host tells its files, each queue file can be read.
     ensures readable { IsTrue H.tells → is_unreadable result ≡ false }

@@ -3,7 +3,7 @@ ghost use Rattle.q_host.specs.View.{Told};
 ghost use Rattle.q_telling.specs.Telling.{TellingCause};
 ghost use Rattle.q_replay.specs.Spools.{Serves};
 ghost use Rattle.q_top.specs.Causes.{HasHostCause};
-ghost use Rattle.q_top.specs.Statuses.{is_of_lives, is_unreadable};
+ghost use Rattle.q_top.specs.Statuses.{names_fault, is_unreadable};
 ghost use Rattle.q_top.specs.Tellings.{IsLoadText, MayTellSummary, TellsLoad, TellsSummary};
 ghost use Rattle.std.specs.Prelude.{◌≢◌, IfOk, OnErr, OnOk, ℕ, ◌≡◌, false};
 
@@ -37,7 +37,7 @@ pub(crate) fn tell_load<H: Host>(alloc: Global, host: &mut H, mails: u32) -> Sta
     ensures tells { Told H.tells H.view host.old host.new (λ u v. TellsLoad mails u v result) }
     ensures serves { Told H.tells H.view host.old host.new (Serves false) }
     ensures readable { is_unreadable result ≡ false }
-    ensures no_lives { is_of_lives result ≡ false }
+    ensures faultless { names_fault result ≡ false }
     ensures host { HasHostCause (H.faults host.old) (H.faults host.new) result }
     ensures no_source { result ≢ Status.Source }
     ensures no_usage { result ≢ Status.Usage }

@@ -20,6 +20,8 @@ pub enum InputFile {
     Parameters,
     /// The transport table, in the file `transport` of conf.
     Table,
+    /// Ids of messages, one a line, from the source.
+    Ids,
 }
 
 /// How a command ended. Everything but `Done` is a refusal.
@@ -50,8 +52,8 @@ pub enum Status {
     NoMemory,
     /// The port can't be taken, or no connection could be accepted.
     Door,
-    /// The message that a queue tool is to act on stands nowhere where the act takes messages from, or
-    /// can't be given up.
+    /// A message that a queue tool is to act on stands nowhere where the act takes messages from, or
+    /// can't be given up; or nothing stands under an id that is to be shown.
     Absent,
     /// A queue file of a life can't be read any longer: this name in this area. It comes over a host
     /// alone that doesn't tell its files.
@@ -177,7 +179,8 @@ pub(crate) fn tool_status(end: Result<(), ToolError>) -> Status
     }
 }
 
-fn input_of(file: ConfFile) -> InputFile
+/// A file of conf among the files of input.
+pub(crate) fn input_of(file: ConfFile) -> InputFile
     ensures { result ≡ input_of file }
 {
     match file {
@@ -228,6 +231,7 @@ impl fmt::Display for Status {
                 InputFile::Events => write!(f, "bad input: events line {line}"),
                 InputFile::Parameters => write!(f, "bad input: parameters line {line}"),
                 InputFile::Table => write!(f, "bad input: table line {line}"),
+                InputFile::Ids => write!(f, "bad input: ids line {line}"),
             },
             Status::Disk => write!(f, "disk fault"),
             Status::Tell => write!(f, "output fault"),

@@ -12,28 +12,28 @@ ghost use Rattle.q_top.specs.Courses.{Moments, Texts};
 ghost use Rattle.q_top.specs.Lives.{SubmitsAt, Submits};
 ghost use Rattle.q_words.specs.declared.request.Request.TheVariants.{Submit};
 
-use crate::content::{ContentError, read_content};
 use crate::status::{Status, conf_status, status_of};
 use q_conf::read_conf;
 use q_host::Host;
-use q_model::{Address, Addresses, Bound, Moment};
+use q_input::{InputError, read_all};
+use q_model::{Address, Addresses, Bound, MOST_MAIL_BYTES, Moment};
 use q_replay::{Letter, submit};
 use q_stream::{Clock, Source};
 use std::alloc::Global;
 
 /// How a command ends that has no content.
-fn content_status(error: ContentError) -> Status
+fn content_status(error: InputError) -> Status
     ensures exact { result ≡ content_status error }
     ensures no_usage { result ≢ Status.Usage }
     ensures no_door { result ≢ Status.Door }
     ensures no_rests { (n : ℕ) → result ≢ Status.Unfinished n }
 {
     match error {
-        ContentError::TooLong => Status::Limit {
+        InputError::TooLong => Status::Limit {
             bound: Bound::Content,
         },
-        ContentError::Source => Status::Source,
-        ContentError::NoMemory => Status::NoMemory,
+        InputError::Source => Status::Source,
+        InputError::NoMemory => Status::NoMemory,
     }
 }
 
@@ -82,7 +82,7 @@ pub(crate) fn submit_content<H: Host, S: Source, C: Clock>(
     ensures no_door { result ≢ Status.Door }
     ensures no_rests { (n : ℕ) → result ≢ Status.Unfinished n }
 {
-    match read_content(alloc, source) {
+    match read_all(alloc, source, MOST_MAIL_BYTES as usize) {
         Ok(content) => {
             let letter = Letter {
                 sender,

@@ -61,7 +61,17 @@ mails_rule = record (new_rule (codes "mails")) {
 abbrev pub load_app : App
 load_app = with_rule (new_app (codes "load")) mails_rule
 
--- `hold ID`, and so with the other acts on messages
+-- `route ADDRESS..`
+abbrev pub address_rule : Rule
+address_rule = record (new_rule (codes "address")) {
+  required = true;
+  range = Some (record { start_inclusive = 1; end_inclusive = 2 ^ 64 - 1 });
+}
+
+abbrev pub route_app : App
+route_app = with_rule (new_app (codes "route")) address_rule
+
+-- `hold ID`, and so with the other acts on messages and with `show`
 abbrev pub id_rule : Rule
 id_rule = record (new_rule (codes "id")) { required = true }
 

@@ -15,7 +15,8 @@ use Rattle.q_words.specs.declared.request.Request.TheVariants as requests
 use Rattle.q_shape.specs.declared.request.TableRequest.{TableRequest}
 use Rattle.q_words.specs.declared.tool.ToolRequest.TheVariants as tools
 use Rattle.q_words.specs.Commands.{drain_app, listen_app, load_app, qshape_app, submit_app}
-use Rattle.q_words.specs.Tools.{IsDomain, IsOne, IsTarget}
+use Rattle.q_words.specs.Looks.{IsOne, IsRoute}
+use Rattle.q_words.specs.Tools.{IsChosen, IsDomain, IsTarget}
 
 -- all words of an argument
 abbrev pub words_of : Text → List Row → List Text
@@ -134,6 +135,13 @@ IsRequest words (requests.Tool (tools.Release target)) =
     (command_of words ≡ Some (codes "release")) × IsTarget (codes "release") words target
 IsRequest words (requests.Tool (tools.Requeue target)) =
     (command_of words ≡ Some (codes "requeue")) × IsTarget (codes "requeue") words target
-IsRequest words (requests.Tool (tools.Expire id)) = (command_of words ≡ Some (codes "expire")) × IsOne words id
+IsRequest words (requests.Tool (tools.Expire chosen)) =
+    (command_of words ≡ Some (codes "expire")) × IsChosen words chosen
 IsRequest words (requests.Tool (tools.Flush domain)) =
     (command_of words ≡ Some (codes "flush")) × IsDomain words domain
+IsRequest words requests.Json = command_of words ≡ Some (codes "json")
+IsRequest words requests.Status = command_of words ≡ Some (codes "status")
+IsRequest words requests.Params = command_of words ≡ Some (codes "params")
+IsRequest words requests.Check = command_of words ≡ Some (codes "check")
+IsRequest words (requests.Show id) = (command_of words ≡ Some (codes "show")) × IsOne words id
+IsRequest words (requests.Route addresses) = (command_of words ≡ Some (codes "route")) × IsRoute words addresses

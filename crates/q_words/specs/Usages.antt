@@ -5,9 +5,10 @@ use Rattle.std.specs.Prelude.{◌||◌, ◌≡◌, Bool, bytes_eq, codes, Err, f
 use Rattle.clap.specs.Words.{matches_of, new_app, Row, Text}
 use Rattle.q_words.specs.declared.error.WordsError.{WordsError}
 use Rattle.q_words.specs.declared.error.WordsError.TheVariants as errors
-use Rattle.q_words.specs.Commands.{domain_app, drain_app, id_app, is_fault, listen_app, load_app, qshape_app, submit_app}
+use Rattle.q_words.specs.Commands.{domain_app, drain_app, id_app, is_fault, listen_app, load_app, qshape_app, route_app, submit_app}
 use Rattle.q_words.specs.Requests.{command_of, is_queue, sender_in, to_in, words_of}
-use Rattle.q_words.specs.Tools.{domain_in, id_in, target_in}
+use Rattle.q_words.specs.Looks.{addresses_in, id_in}
+use Rattle.q_words.specs.Tools.{chosen_in, domain_in, target_in}
 
 -- a word of `submit` is no address
 abbrev pub has_no_address : List Row → Bool
@@ -36,19 +37,38 @@ is_listen_usage words = is_fault listen_app words
 abbrev pub is_plain_usage : Text → List Text → Bool
 is_plain_usage command words = is_fault (new_app command) words
 
--- a word of an act is neither an id nor `ALL`
+-- a word of an act is no id, and neither `ALL` nor `-`
 abbrev pub is_target_usage : Text → List Text → Bool
 is_target_usage command words =
     is_fault (id_app command) words || is_none (target_in (matches_of (id_app command) words))
 
--- one of `expire` is no id
+-- one of `expire` is no id and isn't `-`
 abbrev pub is_expire_usage : List Text → Bool
 is_expire_usage words = is_fault (id_app (codes "expire")) words
-    || is_none (id_in (matches_of (id_app (codes "expire")) words))
+    || is_none (chosen_in (matches_of (id_app (codes "expire")) words))
+
+-- one of `show` is no id
+abbrev pub is_show_usage : List Text → Bool
+is_show_usage words = is_fault (id_app (codes "show")) words
+    || is_none (id_in (matches_of (id_app (codes "show")) words))
+
+-- one of `route` is no address
+abbrev pub is_route_usage : List Text → Bool
+is_route_usage words = is_fault route_app words || is_none (addresses_in (matches_of route_app words))
 
 -- one of `flush` is no domain
 abbrev pub is_flush_usage : List Text → Bool
 is_flush_usage words = is_fault domain_app words || is_none (domain_in (matches_of domain_app words))
+
+abbrev pub is_look_usage : List Text → Text → Bool
+is_look_usage words command =
+    if bytes_eq command (codes "json") then is_plain_usage (codes "json") words
+    else if bytes_eq command (codes "status") then is_plain_usage (codes "status") words
+    else if bytes_eq command (codes "params") then is_plain_usage (codes "params") words
+    else if bytes_eq command (codes "check") then is_plain_usage (codes "check") words
+    else if bytes_eq command (codes "show") then is_show_usage words
+    else if bytes_eq command (codes "route") then is_route_usage words
+    else true
 
 abbrev pub is_tool_usage : List Text → Text → Bool
 is_tool_usage words command =
@@ -57,7 +77,7 @@ is_tool_usage words command =
     else if bytes_eq command (codes "requeue") then is_target_usage (codes "requeue") words
     else if bytes_eq command (codes "expire") then is_expire_usage words
     else if bytes_eq command (codes "flush") then is_flush_usage words
-    else true
+    else is_look_usage words command
 
 abbrev pub is_usage_of : List Text → Text → Bool
 is_usage_of words command =

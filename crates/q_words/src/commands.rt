@@ -2,7 +2,7 @@
 ghost use Rattle.std.specs.Prelude.{◌≡◌, codes, false, map, IfOk, string_bytes};
 ghost use Rattle.clap.specs.Words.{app_of, fault_of, FailsBy, found_of, matches_of, rows_of, rule_of, new_app};
 ghost use Rattle.q_words.specs.Commands.{domain_app, domain_rule, drain_app, flags_app, id_app, id_rule, listen_app, load_app};
-ghost use Rattle.q_words.specs.Commands.{qshape_app, submit_app};
+ghost use Rattle.q_words.specs.Commands.{address_rule, qshape_app, route_app, submit_app};
 ghost use Rattle.q_words.specs.Commands.{count_rule, flag_rule, mails_rule, port_rule, rests_rule};
 ghost use Rattle.q_words.specs.Commands.{sender_rule, to_rule};
 ghost use Rattle.q_words.specs.Commands.{buckets_rule, minutes_rule, queues_rule};
@@ -149,7 +149,21 @@ fn domain<'a>(alloc: Global) -> Arg<'a>
     Arg::new(alloc, "domain").required(true)
 }
 
-/// An act on messages.
+/// The addresses of `route`.
+fn addresses<'a>(alloc: Global) -> Arg<'a>
+    ensures rule { rule_of result ≡ address_rule }
+    ensures local { result.global ≡ false }
+{
+    Arg::new(alloc, "address").required(true).num_args(1..)
+}
+
+fn route<'a>(alloc: Global) -> Result<Command<'a>, AllocError>
+    ensures { IfOk result (λ c. app_of c ≡ route_app) }
+{
+    Command::new(alloc, "route").arg(addresses(alloc))
+}
+
+/// A command that takes an id.
 fn act<'a>(alloc: Global, name: &'a str) -> Result<Command<'a>, AllocError>
     ensures { IfOk result (λ c. app_of c ≡ id_app name.entry.now) }
 {
@@ -247,7 +261,7 @@ pub(crate) fn qshape_matches<'a>(
     command.try_get_matches_from(words)
 }
 
-/// The same of an act on messages.
+/// The same of a command that takes an id.
 pub(crate) fn id_matches<'a>(
     alloc: Global,
     name: &'a str,
@@ -272,6 +286,16 @@ pub(crate) fn domain_matches<'a>(
         ≡ matches_of domain_app (map string_bytes words.entry.now)) }
 {
     let command = flush(alloc)?;
+    command.try_get_matches_from(words)
+}
+
+/// The same of `route`.
+pub(crate) fn route_matches<'a>(alloc: Global, words: &'a [String]) -> Result<ArgMatches<'a>, Error>
+    ensures refused { FailsBy (fault_of route_app (map string_bytes words.entry.now)) result }
+    ensures found { IfOk result (λ m. rows_of (found_of m)
+        ≡ matches_of route_app (map string_bytes words.entry.now)) }
+{
+    let command = route(alloc)?;
     command.try_get_matches_from(words)
 }
 

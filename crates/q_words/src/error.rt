@@ -13,7 +13,7 @@ use thiserror::Error;
 pub enum WordsError {
     #[error("no memory")]
     NoMemory,
-    #[error("error: the first word is none of replay, submit, drain, qshape, queue, load, listen, hold, release, requeue, expire, flush")]
+    #[error("error: the first word is none of replay, submit, drain, listen, hold, release, requeue, expire, flush, queue, json, qshape, status, show, params, route, check, load")]
     NoCommand,
     /// clap's reason, and the usage of the command.
     #[error("{0}")]
@@ -22,10 +22,14 @@ pub enum WordsError {
     NoAddress,
     #[error("error: a word is none of incoming, active, deferred, hold\n\nUsage: qshape [OPTIONS] [QUEUE]...")]
     NoQueue,
-    #[error("error: the word is neither the id of a message nor ALL")]
+    #[error("error: the word is neither the id of a message nor ALL, nor - for ids from the input")]
     NoTarget,
-    #[error("error: the word is no id of a message\n\nUsage: expire <ID>")]
+    #[error("error: the word is neither the id of a message nor - for ids from the input\n\nUsage: expire <ID>")]
+    NoChosen,
+    #[error("error: the word is no id of a message\n\nUsage: show <ID>")]
     NoId,
+    #[error("error: a word is no address\n\nUsage: route <ADDRESS>...")]
+    NoRoute,
     #[error("error: the word is no domain\n\nUsage: flush <DOMAIN>")]
     NoDomain,
 }

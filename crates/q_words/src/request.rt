@@ -1,6 +1,6 @@
 //! What the words of a command ask for.
 use crate::tool::ToolRequest;
-use q_model::{Address, Addresses};
+use q_model::{Address, Addresses, Id, Sequence};
 use q_shape::TableRequest;
 
 /// What the words of a command ask for.
@@ -34,4 +34,16 @@ pub enum Request {
     },
     /// Act on messages that wait.
     Tool(ToolRequest),
+    /// Tell what the queues hold as JSON lines.
+    Json,
+    /// Tell figures of the spool.
+    Status,
+    /// Tell the message of an id.
+    Show(Id),
+    /// Tell the parameters in force.
+    Params,
+    /// Tell where the mail to these addresses goes.
+    Route(Sequence<Address>),
+    /// Tell what is wrong with the spool and the files of conf.
+    Check,
 }

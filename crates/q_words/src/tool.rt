@@ -1,12 +1,22 @@
 //! What a queue tool is asked to do.
 use q_model::{Hop, Id};
 
+/// Which messages are named.
+#[derive(Clone, Copy, Debug, PartialEq, Eq)]
+pub enum Chosen {
+    /// That of the id.
+    One(Id),
+    /// Those whose ids the source names, one a line.
+    Listed,
+}
+
 /// With which messages an act is done.
 #[derive(Clone, Copy, Debug, PartialEq, Eq)]
 pub enum Target {
     /// All that the act takes.
     All,
-    One(Id),
+    /// Those that are named.
+    Only(Chosen),
 }
 
 /// What a queue tool is asked to do.
@@ -18,8 +28,8 @@ pub enum ToolRequest {
     Release(Target),
     /// Take in anew what was deferred.
     Requeue(Target),
-    /// Give a message up.
-    Expire(Id),
+    /// Give messages up.
+    Expire(Chosen),
     /// Take in anew the deferred mail for a domain.
     Flush(Hop),
 }

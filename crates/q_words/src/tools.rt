@@ -1,24 +1,33 @@
 //! The words of queue tools.
 ghost use Rattle.std.specs.Prelude.{◌≡◌, codes, is_none, map, Some, string_bytes};
 ghost use Rattle.clap.specs.Words.{found_of, matches_of, rows_of};
-ghost use Rattle.q_trace.specs.PartTexts.{hop_of, id_of};
+ghost use Rattle.q_trace.specs.PartTexts.{hop_of};
 ghost use Rattle.q_words.specs.Requests.{command_of, IsRequest};
-ghost use Rattle.q_words.specs.Tools.{domain_in, id_in, IsDomain, IsOne, IsTarget, target_in, target_of};
+ghost use Rattle.q_words.specs.Tools.{chosen_in, chosen_of, domain_in, IsChosen, IsDomain, IsTarget, target_in, target_of};
 ghost use Rattle.q_words.specs.Usages.{is_expire_usage, is_flush_usage, is_target_usage, is_tool_usage, IsAnswer};
 
 use crate::arguments::first_of;
 use crate::commands::{domain_matches, id_matches};
 use crate::error::{WordsError, refused};
+use crate::looking::read_look;
 use crate::request::Request;
-use crate::tool::{Target, ToolRequest};
+use crate::tool::{Chosen, Target, ToolRequest};
 use clap::ArgMatches;
-use q_model::{Hop, Id, Name, id_of};
+use q_input::id_named;
+use q_model::Hop;
 use std::alloc::Global;
 
-fn id_named(text: &[u8]) -> Option<Id>
-    ensures { result ≡ id_of text.now }
+/// The messages that a word names, if it isn't `ALL`.
+fn chosen_of(word: &str) -> Option<Chosen>
+    ensures { result ≡ chosen_of word.now }
 {
-    id_of(Name::new(text)?)
+    if word == "-" {
+        return Some(Chosen::Listed);
+    }
+    match id_named(word.as_bytes()) {
+        Some(id) => Some(Chosen::One(id)),
+        None => None,
+    }
 }
 
 fn target_of(word: &str) -> Option<Target>
@@ -27,8 +36,8 @@ fn target_of(word: &str) -> Option<Target>
     if word == "ALL" {
         return Some(Target::All);
     }
-    match id_named(word.as_bytes()) {
-        Some(id) => Some(Target::One(id)),
+    match chosen_of(word) {
+        Some(chosen) => Some(Target::Only(chosen)),
         None => None,
     }
 }
@@ -42,11 +51,11 @@ fn target_in<'a>(matches: &ArgMatches<'a>) -> Option<Target>
     }
 }
 
-fn id_in<'a>(matches: &ArgMatches<'a>) -> Option<Id>
-    ensures { result ≡ id_in (rows_of (found_of matches.now)) }
+fn chosen_in<'a>(matches: &ArgMatches<'a>) -> Option<Chosen>
+    ensures { result ≡ chosen_in (rows_of (found_of matches.now)) }
 {
     match first_of(matches, "id") {
-        Some(word) => id_named(word.as_bytes()),
+        Some(word) => chosen_of(word),
         None => None,
     }
 }
@@ -81,23 +90,23 @@ fn read_target(alloc: Global, name: &str, words: &[String]) -> Result<Target, Wo
     }
 }
 
-fn some_id<'a>(matches: &ArgMatches<'a>) -> Result<Id, WordsError>
-    ensures { IsAnswer (is_none (id_in (rows_of (found_of matches.now))))
-        (λ id. id_in (rows_of (found_of matches.now)) ≡ Some id) result }
+fn some_chosen<'a>(matches: &ArgMatches<'a>) -> Result<Chosen, WordsError>
+    ensures { IsAnswer (is_none (chosen_in (rows_of (found_of matches.now))))
+        (λ chosen. chosen_in (rows_of (found_of matches.now)) ≡ Some chosen) result }
 {
-    match id_in(matches) {
-        Some(id) => Ok(id),
-        None => Err(WordsError::NoId),
+    match chosen_in(matches) {
+        Some(chosen) => Ok(chosen),
+        None => Err(WordsError::NoChosen),
     }
 }
 
-/// The message that the words of `expire` name, the command in front.
-fn read_id(alloc: Global, words: &[String]) -> Result<Id, WordsError>
+/// The messages that the words of `expire` name, the command in front.
+fn read_chosen(alloc: Global, words: &[String]) -> Result<Chosen, WordsError>
     ensures { IsAnswer (is_expire_usage (map string_bytes words.now))
-        (IsOne (map string_bytes words.now)) result }
+        (IsChosen (map string_bytes words.now)) result }
 {
     match id_matches(alloc, "expire", words) {
-        Ok(matches) => some_id(&matches),
+        Ok(matches) => some_chosen(&matches),
         Err(error) => Err(refused(error)),
     }
 }
@@ -123,7 +132,7 @@ fn read_domain(alloc: Global, words: &[String]) -> Result<Hop, WordsError>
     }
 }
 
-/// What the words of a queue tool ask for, the command in front.
+/// What the words of a queue tool, or of a command that looks, ask for, the command in front.
 pub(crate) fn read_tool(
     alloc: Global,
     command: &[u8],
@@ -146,12 +155,12 @@ pub(crate) fn read_tool(
         return Ok(Request::Tool(ToolRequest::Requeue(target)));
     }
     if command == b"expire".as_slice() {
-        let id = read_id(alloc, words)?;
-        return Ok(Request::Tool(ToolRequest::Expire(id)));
+        let chosen = read_chosen(alloc, words)?;
+        return Ok(Request::Tool(ToolRequest::Expire(chosen)));
     }
     if command == b"flush".as_slice() {
         let domain = read_domain(alloc, words)?;
         return Ok(Request::Tool(ToolRequest::Flush(domain)));
     }
-    Err(WordsError::NoCommand)
+    read_look(alloc, command, words)
 }

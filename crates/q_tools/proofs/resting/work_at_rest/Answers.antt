@@ -1,8 +1,7 @@
-use Rattle.std.proofs.Common.{[], false, inr}
+use Rattle.std.proofs.Common.{[], inr}
 use Rattle.q_books.proofs.Results.{on_ok}
 use Rattle.q_books.proofs.Joining.{reads_keep}
 use Rattle.q_books.specs.HostStands.{TellsCrashes}
-use Rattle.q_host.proofs.Stays.{stays_on}
 use Rattle.q_super.proofs.Playing.{halts_behind, plays_then, reads_play}
 use Rattle.q_tools.specs.Tasks.{deeds_for}
 use Rattle.q_tools.proofs.AtRest.{at_rest}
@@ -19,7 +18,7 @@ returns-clause-ok g c = on_ok c.work.result (λ works t b h orderly.
     let there = (reads_keep b b u v lawful st h).stands in
     let both = works t b there rest in
     record {
-      some = both.0;
+      found = both.0;
       may = c.work.ensures.may t b there rest;
       plays = plays_then b [] (deeds_for c.args.task.now b) u v w (reads_play b u v lawful st h) both.1;
     }) c.work.ensures.ok
@@ -46,5 +45,10 @@ returns-clause-absent g c is t b h orderly =
     let lawful : TellsCrashes u = (record { only = g.met.H.Host.only_now c.args.host.now; told = g.met.H.Host.told_stays c.args.host.now }) in
     let st = c.in_ok-has_active.ensures.stays t in
     let rest = at_rest u.files b h.reads (c.in_ok-has_active.ensures.none t c.if-branch.false) orderly in
-    let found = c.work.ensures.absent is t b (reads_keep b b u v lawful st h).stands rest in
-    record { none = found.0; stays = stays_on u v w st found.1 }
+    let there = (reads_keep b b u v lawful st h).stands in
+    let both = c.work.ensures.absent is t b there rest in
+    record {
+      lacks = both.0;
+      may = c.work.ensures.may t b there rest;
+      plays = plays_then b [] (deeds_for c.args.task.now b) u v w (reads_play b u v lawful st h) both.1;
+    }

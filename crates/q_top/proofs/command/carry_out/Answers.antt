@@ -1,8 +1,8 @@
 use Rattle.std.proofs.Common.{◌≡◌, ◌∙◌, sym}
 use Rattle.q_top.proofs.Named.{asked_too, unnamed}
-use Rattle.q_top.proofs.Readable.{no_lives_of}
+use Rattle.q_top.proofs.Readable.{faultless_of}
 use Rattle.q_top.proofs.Rests.{drain_needs, gave_drain, gave_listen, listen_needs}
-use Rattle.q_words.specs.declared.request.Request.TheVariants.{Drain, Listen, Replay, Submit, Tool}
+use Rattle.q_words.specs.declared.request.Request.TheVariants.{Drain, Listen, Replay, Show, Submit, Tool}
 use Rattle.q_top.proofs.command.carry_out.Goals as goal
 
 pub returns-in-Replay-clause-unfinished : goal.returns-in-Replay-clause-unfinished
@@ -36,14 +36,14 @@ returns-in-Queue-clause-unfinished g c n is = absurd (c.list_queues.ensures.no_r
 pub returns-in-Load-clause-unfinished : goal.returns-in-Load-clause-unfinished
 returns-in-Load-clause-unfinished g c n is = absurd (c.tell_load.ensures.no_rests n is)
 
-pub returns-in-Qshape-clause-lives : goal.returns-in-Qshape-clause-lives
-returns-in-Qshape-clause-lives g c = no_lives_of c.table_ages.result c.table_ages.ensures.no_lives
+pub returns-in-Qshape-clause-blames : goal.returns-in-Qshape-clause-blames
+returns-in-Qshape-clause-blames g c = faultless_of c.table_ages.result c.table_ages.ensures.faultless
 
-pub returns-in-Queue-clause-lives : goal.returns-in-Queue-clause-lives
-returns-in-Queue-clause-lives g c = no_lives_of c.list_queues.result c.list_queues.ensures.no_lives
+pub returns-in-Queue-clause-blames : goal.returns-in-Queue-clause-blames
+returns-in-Queue-clause-blames g c = faultless_of c.list_queues.result c.list_queues.ensures.faultless
 
-pub returns-in-Load-clause-lives : goal.returns-in-Load-clause-lives
-returns-in-Load-clause-lives g c = no_lives_of c.tell_load.result c.tell_load.ensures.no_lives
+pub returns-in-Load-clause-blames : goal.returns-in-Load-clause-blames
+returns-in-Load-clause-blames g c = faultless_of c.tell_load.result c.tell_load.ensures.faultless
 
 pub returns-in-Replay-clause-few : goal.returns-in-Replay-clause-few
 returns-in-Replay-clause-few g c n is = absurd (c.replay_list.ensures.no_rests n is)
@@ -77,13 +77,13 @@ returns-in-Listen-clause-named g c =
     asked_too (λ r. r ≡ Listen c.in-Listen.port c.in-Listen.count c.in-Listen.rests) (λ r. r ≡ c.args.request) (λ r is. is ∙ sym c.in-Listen.is) text c.listen_spool.result (c.listen_spool.ensures.named text)
 
 pub returns-in-Qshape-clause-named : goal.returns-in-Qshape-clause-named
-returns-in-Qshape-clause-named g c = unnamed (λ r. r ≡ c.args.request) (g.S.Source.left c.args.source.now) c.table_ages.result c.table_ages.ensures.no_lives
+returns-in-Qshape-clause-named g c = unnamed (λ r. r ≡ c.args.request) (g.S.Source.left c.args.source.now) c.table_ages.result c.table_ages.ensures.faultless
 
 pub returns-in-Queue-clause-named : goal.returns-in-Queue-clause-named
-returns-in-Queue-clause-named g c = unnamed (λ r. r ≡ c.args.request) (g.S.Source.left c.args.source.now) c.list_queues.result c.list_queues.ensures.no_lives
+returns-in-Queue-clause-named g c = unnamed (λ r. r ≡ c.args.request) (g.S.Source.left c.args.source.now) c.list_queues.result c.list_queues.ensures.faultless
 
 pub returns-in-Load-clause-named : goal.returns-in-Load-clause-named
-returns-in-Load-clause-named g c = unnamed (λ r. r ≡ c.args.request) (g.S.Source.left c.args.source.now) c.tell_load.result c.tell_load.ensures.no_lives
+returns-in-Load-clause-named g c = unnamed (λ r. r ≡ c.args.request) (g.S.Source.left c.args.source.now) c.tell_load.result c.tell_load.ensures.faultless
 
 pub returns-in-Tool-clause-unfinished : goal.returns-in-Tool-clause-unfinished
 returns-in-Tool-clause-unfinished g c n is = absurd (c.use_tool.ensures.no_rests n is)
@@ -92,6 +92,72 @@ pub returns-in-Tool-clause-few : goal.returns-in-Tool-clause-few
 returns-in-Tool-clause-few g c n is = absurd (c.use_tool.ensures.no_rests n is)
 
 pub returns-in-Tool-clause-named : goal.returns-in-Tool-clause-named
-returns-in-Tool-clause-named g c =
+returns-in-Tool-clause-named g c = asked_too (λ r. r ≡ Tool c.in-Tool.tool) (λ r. r ≡ c.args.request) (λ r is. is ∙ sym c.in-Tool.is) (g.S.Source.left c.args.source.now) c.use_tool.result c.use_tool.ensures.named
+
+pub returns-in-Json-clause-unfinished : goal.returns-in-Json-clause-unfinished
+returns-in-Json-clause-unfinished g c n is = absurd (c.list_json.ensures.no_rests n is)
+
+pub returns-in-Json-clause-few : goal.returns-in-Json-clause-few
+returns-in-Json-clause-few g c n is = absurd (c.list_json.ensures.no_rests n is)
+
+pub returns-in-Json-clause-named : goal.returns-in-Json-clause-named
+returns-in-Json-clause-named g c = unnamed (λ r. r ≡ c.args.request) (g.S.Source.left c.args.source.now) c.list_json.result c.list_json.ensures.faultless
+
+pub returns-in-Json-clause-blames : goal.returns-in-Json-clause-blames
+returns-in-Json-clause-blames g c = faultless_of c.list_json.result c.list_json.ensures.faultless
+
+pub returns-in-Status-clause-unfinished : goal.returns-in-Status-clause-unfinished
+returns-in-Status-clause-unfinished g c n is = absurd (c.tell_figures.ensures.no_rests n is)
+
+pub returns-in-Status-clause-few : goal.returns-in-Status-clause-few
+returns-in-Status-clause-few g c n is = absurd (c.tell_figures.ensures.no_rests n is)
+
+pub returns-in-Status-clause-named : goal.returns-in-Status-clause-named
+returns-in-Status-clause-named g c = unnamed (λ r. r ≡ c.args.request) (g.S.Source.left c.args.source.now) c.tell_figures.result c.tell_figures.ensures.faultless
+
+pub returns-in-Status-clause-blames : goal.returns-in-Status-clause-blames
+returns-in-Status-clause-blames g c = faultless_of c.tell_figures.result c.tell_figures.ensures.faultless
+
+pub returns-in-Show-clause-unfinished : goal.returns-in-Show-clause-unfinished
+returns-in-Show-clause-unfinished g c n is = absurd (c.show_message.ensures.no_rests n is)
+
+pub returns-in-Show-clause-few : goal.returns-in-Show-clause-few
+returns-in-Show-clause-few g c n is = absurd (c.show_message.ensures.no_rests n is)
+
+pub returns-in-Show-clause-named : goal.returns-in-Show-clause-named
+returns-in-Show-clause-named g c =
     let text = g.S.Source.left c.args.source.now in
-    asked_too (λ r. r ≡ Tool c.in-Tool.tool) (λ r. r ≡ c.args.request) (λ r is. is ∙ sym c.in-Tool.is) text c.use_tool.result (c.use_tool.ensures.named text)
+    asked_too (λ r. r ≡ Show c.in-Show.id) (λ r. r ≡ c.args.request) (λ r is. is ∙ sym c.in-Show.is) text c.show_message.result (c.show_message.ensures.named text)
+
+pub returns-in-Params-clause-unfinished : goal.returns-in-Params-clause-unfinished
+returns-in-Params-clause-unfinished g c n is = absurd (c.tell_parameters.ensures.no_rests n is)
+
+pub returns-in-Params-clause-few : goal.returns-in-Params-clause-few
+returns-in-Params-clause-few g c n is = absurd (c.tell_parameters.ensures.no_rests n is)
+
+pub returns-in-Params-clause-named : goal.returns-in-Params-clause-named
+returns-in-Params-clause-named g c =
+    let text = g.S.Source.left c.args.source.now in
+    asked_too (λ r. ⊥) (λ r. r ≡ c.args.request) (λ r none. absurd none) text c.tell_parameters.result (c.tell_parameters.ensures.named text)
+
+pub returns-in-Route-clause-unfinished : goal.returns-in-Route-clause-unfinished
+returns-in-Route-clause-unfinished g c n is = absurd (c.tell_ways.ensures.no_rests n is)
+
+pub returns-in-Route-clause-few : goal.returns-in-Route-clause-few
+returns-in-Route-clause-few g c n is = absurd (c.tell_ways.ensures.no_rests n is)
+
+pub returns-in-Route-clause-named : goal.returns-in-Route-clause-named
+returns-in-Route-clause-named g c =
+    let text = g.S.Source.left c.args.source.now in
+    asked_too (λ r. ⊥) (λ r. r ≡ c.args.request) (λ r none. absurd none) text c.tell_ways.result (c.tell_ways.ensures.named text)
+
+pub returns-in-Check-clause-unfinished : goal.returns-in-Check-clause-unfinished
+returns-in-Check-clause-unfinished g c n is = absurd (c.check_spool.ensures.no_rests n is)
+
+pub returns-in-Check-clause-few : goal.returns-in-Check-clause-few
+returns-in-Check-clause-few g c n is = absurd (c.check_spool.ensures.no_rests n is)
+
+pub returns-in-Check-clause-named : goal.returns-in-Check-clause-named
+returns-in-Check-clause-named g c =
+    let text = g.S.Source.left c.args.source.now in
+    asked_too (λ r. ⊥) (λ r. r ≡ c.args.request) (λ r none. absurd none) text c.check_spool.result (c.check_spool.ensures.named text)

@@ -3,7 +3,7 @@ use Rattle.q_top.proofs.Asked.{asked_form}
 use Rattle.q_top.specs.Qmgr.{texts_of, words_status}
 use Rattle.q_words.specs.Requests.{IsRequest}
 use Rattle.q_top.proofs.Named.{asked_too, words_named}
-use Rattle.q_top.proofs.Readable.{words_readable, no_lives_of, words_no_lives}
+use Rattle.q_top.proofs.Readable.{words_readable, faultless_of, words_faultless}
 use Rattle.q_top.proofs.command.qmgr.Goals as goal
 
 pub carry_out-requires-clause-form : goal.carry_out-requires-clause-form
@@ -31,11 +31,11 @@ returns-in-Ok-clause-alone g c usage = inr (record {
 pub returns-in-Err-clause-alone : goal.returns-in-Err-clause-alone
 returns-in-Err-clause-alone g c usage = inl (refl, refl, refl, refl)
 
-pub returns-in-Ok-clause-lives : goal.returns-in-Ok-clause-lives
-returns-in-Ok-clause-lives g c of = (c.in-Ok.request, c.in-Ok.ensures.1, c.carry_out.ensures.lives of)
+pub returns-in-Ok-clause-blames : goal.returns-in-Ok-clause-blames
+returns-in-Ok-clause-blames g c of = (c.in-Ok.request, c.in-Ok.ensures.1, c.carry_out.ensures.blames of)
 
-pub returns-in-Err-clause-lives : goal.returns-in-Err-clause-lives
-returns-in-Err-clause-lives g c = rw c.words_status.ensures.exact (no_lives_of (words_status c.in-Err.error) (words_no_lives c.in-Err.error))
+pub returns-in-Err-clause-blames : goal.returns-in-Err-clause-blames
+returns-in-Err-clause-blames g c = rw c.words_status.ensures.exact (faultless_of (words_status c.in-Err.error) (words_faultless c.in-Err.error))
 
 pub returns-in-Err-clause-named : goal.returns-in-Err-clause-named
 returns-in-Err-clause-named g c = rw c.words_status.ensures.exact (words_named (IsRequest (texts_of c.args.words.now)) (g.S.Source.left c.args.source.now) c.in-Err.error)

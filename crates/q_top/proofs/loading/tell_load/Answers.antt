@@ -2,7 +2,7 @@ use Rattle.std.proofs.Common.{[], ⊎_elim}
 use Rattle.q_top.proofs.Serving.{ends_looking, told_looks}
 use Rattle.q_top.specs.Statuses.{telling_status}
 use Rattle.q_top.proofs.Told.{ends_telling, on_err_of, on_ok_of}
-use Rattle.q_top.proofs.Readable.{told_no_lives, told_readable}
+use Rattle.q_top.proofs.Readable.{told_faultless, told_readable}
 use Rattle.q_top.proofs.loading.tell_load.Goals as goal
 
 pub returns-clause-tells : goal.returns-clause-tells
@@ -21,5 +21,5 @@ returns-clause-serves g c t b h orderly =
     ends_looking (telling_status r) b u v (λ all. told_looks all.text b u v h all.told) (λ part. ⊎_elim (λ none. told_looks [] b u v h none) (λ front. told_looks (front.told).part b u v h (front.told).told) part)
     (ends_telling r (on_ok_of r (λ f. f t) c.tell_summary.ensures.told) (on_err_of r (λ f. f t) c.tell_summary.ensures.front))
 
-pub returns-clause-no_lives : goal.returns-clause-no_lives
-returns-clause-no_lives g c = rw c.telling_status.ensures.exact (told_no_lives c.tell_summary.result)
+pub returns-clause-faultless : goal.returns-clause-faultless
+returns-clause-faultless g c = rw c.telling_status.ensures.exact (told_faultless c.tell_summary.result)

@@ -12,14 +12,14 @@ pub returns-in-Ok-clause-submits : goal.returns-in-Ok-clause-submits
 returns-in-Ok-clause-submits g c t =
     let left = g.S.Source.left in
     let given = g.C.Clock.given in
-    with_content c.args.sender c.args.to (record { before = left c.args.source.now; after = left c.read_content.new.source }) (record { before = given c.args.clock.now; after = given c.now-moment.new.self })
+    with_content c.args.sender c.args.to (record { before = left c.args.source.now; after = left c.read_all.new.source }) (record { before = given c.args.clock.now; after = given c.now-moment.new.self })
     c.in-Ok.content c.now-moment.result (g.H.Host.view c.args.host.now) (g.H.Host.view c.submit_letter.new.host) c.submit_letter.result c.in-Ok.ensures.whole c.now-moment.ensures.given (c.submit_letter.ensures.submits t)
 
 pub returns-in-Err-clause-submits : goal.returns-in-Err-clause-submits
 returns-in-Err-clause-submits g c t =
     let left = g.S.Source.left in
     let given = g.C.Clock.given in
-    rw c.content_status.ensures.exact (no_content c.args.sender c.args.to (record { before = left c.args.source.now; after = left c.read_content.new.source }) (record { before = given c.args.clock.now; after = given c.args.clock.now })
+    rw c.content_status.ensures.exact (no_content c.args.sender c.args.to (record { before = left c.args.source.now; after = left c.read_all.new.source }) (record { before = given c.args.clock.now; after = given c.args.clock.now })
     (g.H.Host.view c.args.host.now) c.in-Err.error c.in-Err.ensures.error)
 
 pub returns-in-Ok-clause-readable : goal.returns-in-Ok-clause-readable

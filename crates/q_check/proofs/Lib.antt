@@ -1,0 +1,12 @@
+mod BlankLaws
+mod CheckTexts
+mod ConfTexts
+mod CopyLaws
+mod DamageLaws
+mod FaultLaws
+mod FaultLines
+mod FileNameLaws
+mod HopLaws
+mod RefusalLaws
+mod TextLists
+mod ToldLaws

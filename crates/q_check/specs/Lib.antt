@@ -1,0 +1,10 @@
+pub mod Checks
+pub mod Copies
+pub mod Faults
+pub mod FileNames
+pub mod Lines
+pub mod NextHops
+pub mod QueueTexts
+pub mod Refusals
+pub mod SpoolDamages
+pub mod Worst

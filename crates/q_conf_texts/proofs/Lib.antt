@@ -1,0 +1,9 @@
+pub mod CaseLaws
+pub mod DecidingLaws
+pub mod DefaultLaws
+pub mod EndLaws
+pub mod FoundLaws
+pub mod InForceLaws
+pub mod LookupLaws
+pub mod SettingLaws
+pub mod TableReads

@@ -1,0 +1,4 @@
+mod BootLaws
+mod JsonLaws
+mod LineLaws
+mod TallyLaws

@@ -1,0 +1,4 @@
+pub mod Generations
+pub mod JsonLines
+pub mod Metrics
+pub mod Tallies

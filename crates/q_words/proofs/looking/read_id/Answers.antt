@@ -1,0 +1,19 @@
+use Rattle.std.proofs.Common.{◌≡◌, List, map, Some}
+use Rattle.std.specs.Prelude.{codes, is_none, string_bytes}
+use Rattle.clap.specs.Words.{App, fault_of, matches_of, Row}
+use Rattle.q_model.specs.declared.id.Id.{Id}
+use Rattle.q_words.specs.Commands.{id_app, is_fault}
+use Rattle.q_words.specs.Looks.{id_in, IsOne}
+use Rattle.q_words.proofs.AnswerLaws.{answer-err, answer-ok, is-fault, no-fault}
+use Rattle.q_words.proofs.looking.read_id.Goals as goal
+
+abbrev app : App
+app = id_app (codes "show")
+
+pub returns-in-Ok : goal.returns-in-Ok
+returns-in-Ok c = let ws = map string_bytes c.args.words.now in
+    answer-ok (is_fault app ws) _ (matches_of app ws) (λ rows. is_none (id_in rows)) (λ (rows : List Row) (id : Id). id_in rows ≡ Some id) c.some_id.result (no-fault (fault_of app ws) c.in-Ok.ensures.refused) c.in-Ok.ensures.found c.some_id.ensures
+
+pub returns-in-Err : goal.returns-in-Err
+returns-in-Err c = let ws = map string_bytes c.args.words.now in
+    answer-err (is_fault app ws) (is_none (id_in (matches_of app ws))) (IsOne ws) c.refused.result (λ u. is-fault (fault_of app ws) c.in-Err.error c.in-Err.ensures.refused (c.refused.ensures u))
