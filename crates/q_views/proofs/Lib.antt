@@ -1,3 +1,4 @@
+mod AsciiLaws
 mod BootLaws
 mod JsonLaws
 mod LineLaws

@@ -8,8 +8,8 @@ mod counting;
 mod figures;
 mod generation;
 mod json;
-mod json_lines;
 mod metrics;
+mod objects;
 mod status;
 
 pub use json::tell_json;
