@@ -59,6 +59,10 @@ impl Stage {
     pub(crate) fn run(&mut self, words: &str, input: &[u8]) -> Result<(), Flaw> {
         let alloc = self.alloc;
         let moments = mem::replace(&mut self.moments, Vec::new(alloc));
+        let rots = match &self.fault {
+            Some(fault) => fault.rots(),
+            None => false,
+        };
         self.plan_fault(words, input, moments.as_slice())?;
         self.told_before = self.host.told().len();
         self.calls_before = self.host.calls();
@@ -78,6 +82,6 @@ impl Stage {
         let moments = moments.as_slice();
         let status = run_on(alloc, host, words, &mut source, moments, hops, door)?;
         self.ended = Some(status);
-        Ok(())
+        self.audit_first(words, rots)
     }
 }

@@ -109,6 +109,14 @@ fn call_of(alloc: Global, given: Given<'_>, line: &str) -> Result<u64, Flaw> {
 }
 
 impl Fault {
+    /// Whether a file rots.
+    pub(crate) fn rots(&self) -> bool {
+        match self.kind {
+            Kind::Rots(_) => true,
+            _ => false,
+        }
+    }
+
     /// Makes the host fail there.
     pub(crate) fn plan(
         &self,

@@ -8,7 +8,7 @@ use q_top::Status;
 use std::alloc::Global;
 
 /// How a command ended: its status, and the text of it.
-fn end_text(alloc: Global, status: Status) -> Result<String, Flaw> {
+pub(crate) fn end_text(alloc: Global, status: Status) -> Result<String, Flaw> {
     Ok(format!(in alloc; "{} {status}\n", status.number())?)
 }
 
@@ -25,7 +25,7 @@ fn lines_of(trace: &str, word: &str) -> u64 {
 
 impl Stage {
     /// What the last command told.
-    fn told(&self) -> &str {
+    pub(crate) fn told(&self) -> &str {
         match self.host.told().get(self.told_before..) {
             Some(told) => told,
             None => "",
@@ -171,6 +171,8 @@ impl Stage {
             "entries" => self.judge_entries(step, true)?,
             "no-entries" => self.judge_entries(step, false)?,
             "no-entry" => self.judge_no_entry(step)?,
+            "audits" => self.judge_audit(step)?,
+            "without" | "swapped" | "raised" => self.judge_change(step)?,
             _ => return self.judge_connections(step),
         }
         Ok(true)

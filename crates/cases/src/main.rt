@@ -7,6 +7,7 @@
 //! It is an error to name a file that isn't there; a line that is no step is shown as a difference.
 #![tactic(auto)]
 
+mod auditing;
 mod breaking;
 mod bytes;
 mod client;

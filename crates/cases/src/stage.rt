@@ -12,7 +12,7 @@ use crate::sweep::{Life, Sweep};
 use q_door::ScriptDoor;
 use q_link::ScriptHops;
 use q_mem_host::Rot;
-use q_model::Moment;
+use q_model::{Area, Moment};
 use q_silent_host::SilentHost;
 use q_top::Status;
 use std::alloc::Global;
@@ -26,6 +26,8 @@ pub(crate) const FIRST_MOMENT: Moment = 1_000;
 pub(crate) struct Stage {
     pub(crate) alloc: Global,
     pub(crate) host: SilentHost,
+    /// Whether nothing stands there but files of conf, and no life has begun.
+    pub(crate) is_fresh: bool,
     /// The moments that the clock gives.
     pub(crate) moments: Vec<Moment>,
     /// Which of the sizes is taken that a page names for pieces.
@@ -71,6 +73,7 @@ impl Stage {
         Stage {
             alloc,
             host: SilentHost::new(alloc),
+            is_fresh: true,
             moments: Vec::new(alloc),
             round,
             piece: PIECE,
@@ -95,6 +98,9 @@ impl Stage {
         let spot = spot_of(step.rest())?;
         let bytes = bytes_of(self.alloc, step.below.as_slice(), b"\n")?;
         self.host.put(spot.area, spot.name, bytes.as_slice())?;
+        if spot.area != Area::Conf {
+            self.is_fresh = false;
+        }
         Ok(())
     }
 
@@ -165,6 +171,7 @@ impl Stage {
         };
         let host = mem::replace(&mut self.host, SilentHost::new(self.alloc));
         self.host = host.crash(rot);
+        self.is_fresh = false;
         Ok(())
     }
 

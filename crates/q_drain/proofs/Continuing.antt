@@ -2,7 +2,7 @@
 use Rattle.std.proofs.Common.{◌≡◌, ◌≤◌, ◌+◌, inl, inr, ℕ, List, [], ◌∷◌, ◌++◌, length, map, Some, refl, sym, ap, ◌∙◌, subst}
 use Rattle.std.specs.List.{AllByRecursion}
 use Rattle.q_agent.specs.Sessions.{OpenSession, Rises}
-use Rattle.q_drain.proofs.Deciding.{AreDecisions}
+use Rattle.q_laws.proofs.Deciding.{AreDecisions}
 use Rattle.q_drain.proofs.Flying.{decided_flights}
 use Rattle.q_drain.proofs.InFlight.{decided_like, entry_like, like_like}
 use Rattle.q_drain.proofs.Silent.{are_inside}

@@ -1,6 +1,6 @@
 -- While a delivery is in flight, its message stands in active and keeps its sender, recipients and content.
 use Rattle.std.proofs.Common.{◌≡◌, true, List, [], ◌∷◌, map, Some, None, inl, inr, refl, sym, ap, ◌∙◌, subst}
-use Rattle.q_drain.proofs.Deciding.{AreDecisions, IsDecision}
+use Rattle.q_laws.proofs.Deciding.{AreDecisions, IsDecision}
 use Rattle.q_drain.proofs.Flying.{inside_flights}
 use Rattle.q_drain.proofs.Silent.{is_inside}
 use Rattle.q_drain.specs.Flights.{flight}

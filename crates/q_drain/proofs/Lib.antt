@@ -1,4 +1,3 @@
-pub mod Deciding
 pub mod Silent
 pub mod Naming
 pub mod Rooming

@@ -8,7 +8,7 @@ use Rattle.q_drain.proofs.Adding.{begun_added, ended_added, moment_added}
 use Rattle.q_drain.proofs.Closing.{all_later, some_later}
 use Rattle.q_drain.proofs.Continuing.{IsTurn, open_turn}
 use Rattle.q_drain.proofs.CuttingOff.{failed_longer}
-use Rattle.q_drain.proofs.Deciding.{decisions_are}
+use Rattle.q_laws.proofs.Deciding.{decisions_are}
 use Rattle.q_drain.proofs.Ending.{all_begun}
 use Rattle.q_drain.proofs.Flying.{at_flights}
 use Rattle.q_drain.proofs.Numbering.{entry_starts}

@@ -3,7 +3,7 @@ use Rattle.std.proofs.Common.{◌≡◌, ◌+◌, ℕ, Bool, true, false, if◌t
 use Rattle.std.proofs.lemmas.List.Sums.{sum_by-cons}
 use Rattle.std.specs.Option.{option_map_or}
 use Rattle.std.specs.Prelude.{count_by, nat_le}
-use Rattle.q_drain.proofs.Deciding.{AreDecisions, IsDecision}
+use Rattle.q_laws.proofs.Deciding.{AreDecisions, IsDecision}
 use Rattle.q_drain.proofs.Silent.{AreInside, is_inside}
 use Rattle.q_drain.specs.Flights.{AreNumbered}
 use Rattle.q_drain.specs.Told.{Begun, begun_from, begun_of, moment_behind}

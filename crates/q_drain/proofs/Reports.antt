@@ -16,7 +16,7 @@ use Rattle.q_drain.proofs.Adding.{begun_added, ended_added, moment_added}
 use Rattle.q_drain.proofs.Closing.{all_later, closes_case, record_by, unlinked_case}
 use Rattle.q_drain.proofs.Continuing.{IsTurn, open_turn}
 use Rattle.q_drain.proofs.CuttingOff.{IsPair, cut_without, failed_longer, failed_more}
-use Rattle.q_drain.proofs.Deciding.{decisions_are}
+use Rattle.q_laws.proofs.Deciding.{decisions_are}
 use Rattle.q_drain.proofs.Ending.{all_begun}
 use Rattle.q_drain.proofs.Flying.{reply_flights}
 use Rattle.q_drain.proofs.Moments.{begun_behind, delivery_same, open_before}

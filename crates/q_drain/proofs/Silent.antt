@@ -2,7 +2,7 @@
 use Rattle.std.proofs.Common.{◌≡◌, ℕ, true, false, List, [], ◌∷◌, ◌++◌, refl, ◌∙◌, ap}
 use Rattle.std.specs.List.{AllByRecursion}
 use Rattle.std.specs.Prelude.{flat_map}
-use Rattle.q_drain.proofs.Deciding.{AreDecisions, IsDecision, decisions_are}
+use Rattle.q_laws.proofs.Deciding.{AreDecisions, IsDecision, decisions_are}
 use Rattle.q_drain.specs.Told.{ended, ended_of, event_of, events_of, moment_after, moment_behind, moment_of, moments_of}
 use Rattle.q_laws.specs.Traces.{is_inner, is_outside}
 use Rattle.q_model.specs.declared.entry.Entry.{Entry}

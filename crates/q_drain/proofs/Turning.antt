@@ -10,7 +10,7 @@ use Rattle.std.specs.Prelude.{nat_lt}
 use Rattle.q_agent.specs.Sessions.{OpenSession}
 use Rattle.q_drain.proofs.Adding.{begun_added, found_longer, moment_added}
 use Rattle.q_drain.proofs.Clocking.{IsClockedBy, first_clocked, later_clocked, none_clocked, same_clocked}
-use Rattle.q_drain.proofs.Deciding.{AreDecisions}
+use Rattle.q_laws.proofs.Deciding.{AreDecisions}
 use Rattle.q_drain.proofs.Polling.{some_work}
 use Rattle.q_drain.proofs.Naming.{at_names_turn, at_turn, reply_names_turn, reply_turn}
 use Rattle.q_drain.proofs.Numbering.{decided_numbers, entry_starts, inside_starts}

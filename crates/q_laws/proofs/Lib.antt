@@ -49,3 +49,4 @@ pub mod Living
 pub mod Standing
 pub mod JobsLeft
 pub mod Resting
+pub mod Deciding

@@ -2,7 +2,7 @@
 use Rattle.std.proofs.Common.{◌+◌, ◌<◌, ◌^◌, ◌≡◌, ◌≤◌, ◌∙◌, ◌∷◌, [], ap, arith, Bool, false, if◌then◌else◌, length, length-append, List, Option, refl, Some, suc, true, ℕ}
 use Rattle.std.proofs.lemmas.List.{length-map}
 use Rattle.std.specs.Prelude.{◌==◌, find, map, not}
-use Rattle.q_drain.proofs.Deciding.{AreDecisions, decisions_are, IsDecision}
+use Rattle.q_laws.proofs.Deciding.{AreDecisions, decisions_are, IsDecision}
 use Rattle.q_drain.proofs.Flying.{at_flights, inside_flights, reply_flights}
 use Rattle.q_drain.proofs.Numbering.{entry_starts}
 use Rattle.q_drain.proofs.Silent.{is_inside}

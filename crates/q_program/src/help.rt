@@ -17,8 +17,8 @@ Usage: qmgr [-s] [-w SECONDS] SPOOL COMMAND [WORD]...
 
 SPOOL is the folder of the spool. Commands make it where it is missing, and lock it; where another
 process has it, they wait for it, at most SECONDS (default 0). With -s each change of a folder is
-synced by itself, else many together. queue, json, qshape, status, show, params, route and check change
-nothing, and look beside a process that has it. load touches no folder.
+synced by itself, else many together. queue, json, qshape, status, show, params, route, check and audit
+change nothing, and look beside a process that has it. load touches no folder.
 
 Commands:
   submit SENDER RECIPIENT...    take in one message, whose content is standard input; <> is the
@@ -54,6 +54,10 @@ Commands:
   route ADDRESS...              tell where the mail to each address goes, and which line of the
                                 table says so
   check                         tell what is wrong with the spool and the files of conf
+  audit                         judge each line of the trace of standard input: tell whether it is one
+                                of a run on an empty spool, by the parameters and the table of SPOOL,
+                                and how far preemption delayed each job, or the first line that isn't
+                                lawful and the rule that it breaks
   load N                        run a generated load of N mails (1 to 2000) in memory, and tell how
                                 many messages, recipients, deliveries and preemptions there were,
                                 and how many messages are left

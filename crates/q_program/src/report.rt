@@ -56,6 +56,7 @@ fn say_end(
                 InputFile::Parameters => cause_in_params(rt.alloc(), host),
                 InputFile::Table => cause_in_table(rt.alloc(), host),
                 InputFile::Ids => None,
+                InputFile::Trace => None,
             };
             say_cause(rt, status, cause);
         }
@@ -111,7 +112,7 @@ fn say_acted(rt: HostRuntime, status: Status, heard: &Heard) {
 /// Says that another process has the spool whose queues were looked at.
 fn warn_of_user(rt: HostRuntime, request: &Result<Request, WordsError>, host: &Host<'_>) {
     match request {
-        Ok(Request::Params) | Ok(Request::Route(_)) => return,
+        Ok(Request::Params) | Ok(Request::Route(_)) | Ok(Request::Audit) => return,
         _ => {}
     }
     if let Some(user) = host.user() {

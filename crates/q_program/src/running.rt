@@ -59,7 +59,7 @@ fn access_of(rt: HostRuntime, request: &Result<Request, WordsError>, options: Op
     match request {
         Ok(Request::Queue) | Ok(Request::Qshape(_)) | Ok(Request::Json) => Access::Look,
         Ok(Request::Status) | Ok(Request::Show(_)) | Ok(Request::Check) => Access::Look,
-        Ok(Request::Params) | Ok(Request::Route(_)) => Access::Look,
+        Ok(Request::Params) | Ok(Request::Route(_)) | Ok(Request::Audit) => Access::Look,
         _ => Access::Change {
             wait: options.wait,
             syncs: syncs_of(rt, request, options),

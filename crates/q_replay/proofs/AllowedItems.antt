@@ -29,7 +29,7 @@ use Rattle.q_model.specs.declared.event.LifeEvent.{LifeEvent}
 use Rattle.q_model.specs.declared.event.LifeEvent.TheVariants.{Begin, Heard}
 use Rattle.q_model.specs.declared.event.Mode.{Mode}
 use Rattle.q_model.specs.declared.event.Mode.TheVariants.{Deliver, Intake}
-use Rattle.q_drain.proofs.Deciding.{AreDecisions, decisions_are, IsDecision}
+use Rattle.q_laws.proofs.Deciding.{AreDecisions, decisions_are, IsDecision}
 use Rattle.q_events.specs.Readings.{is_list_end}
 use Rattle.q_laws.proofs.Living.{entry_living}
 use Rattle.q_model.specs.declared.entry.Entry.{Entry}

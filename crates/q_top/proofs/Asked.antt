@@ -99,3 +99,4 @@ asked_form words (requests.Show id) is = tt
 asked_form words requests.Params is = tt
 asked_form words (requests.Route addresses) is = tt
 asked_form words requests.Check is = tt
+asked_form words requests.Audit is = tt

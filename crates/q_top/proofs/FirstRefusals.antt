@@ -41,7 +41,7 @@ use Rattle.q_top.proofs.RunsBehind.{halts_first, list_behind, replay_behind, run
 pub says_both : (c : Sayings) (w : World) (file : ConfFile) (line : ℕ) → c ≡ goes_by w → c ≡ at_fault file line → ⊥
 says_both c w file line is at = let bad : goes_by w ≡ at_fault file line = sym is ∙ at in cc
 
-same_fault : (f g : ConfFile) (n k : ℕ) → at_fault f n ≡ at_fault g k → status.BadInput (input_of f) n ≡ status.BadInput (input_of g) k
+pub same_fault : (f g : ConfFile) (n k : ℕ) → at_fault f n ≡ at_fault g k → status.BadInput (input_of f) n ≡ status.BadInput (input_of g) k
 same_fault f g n k is =
     let file : f ≡ g = cc in
     let line : n ≡ k = cc in

@@ -1,4 +1,5 @@
 pub mod Asked
+pub mod Audited
 pub mod FirstRefusals
 pub mod Named
 pub mod Readable

@@ -32,13 +32,13 @@ use Rattle.q_top.specs.Statuses.{conf_status, content_status, delivery_status, i
 use Rattle.q_top.specs.Tools.{is_listed, names_some}
 use Rattle.q_top.specs.declared.work.Work.{Work}
 use Rattle.q_top.specs.declared.work.Work.TheVariants.{Listed, Ready}
-use Rattle.q_top.specs.declared.status.InputFile.TheVariants.{Events, Ids, Parameters, Table}
+use Rattle.q_top.specs.declared.status.InputFile.TheVariants.{Events, Ids, Parameters, Table, Trace}
 use Rattle.q_top.specs.declared.status.Status.{Status}
 use Rattle.q_top.specs.declared.status.Status.TheVariants as status
 use Rattle.q_words.specs.declared.error.WordsError.{WordsError}
 use Rattle.q_words.specs.declared.error.WordsError.TheVariants as words_errors
 use Rattle.q_words.specs.declared.request.Request.{Request}
-use Rattle.q_words.specs.declared.request.Request.TheVariants.{Drain, Listen, Replay, Show, Submit, Tool}
+use Rattle.q_words.specs.declared.request.Request.TheVariants.{Audit, Drain, Listen, Replay, Show, Submit, Tool}
 
 -- ---- a line of conf
 
@@ -69,7 +69,7 @@ list_named text (errors.Limit bounds.Content) h line = inl (list_passes bounds.C
 list_named text (errors.Limit bounds.Recipients) h line = list_passes bounds.Recipients text (λ is. cc) line
 list_named text (errors.Limit bounds.Generation) h line = h
 list_named text (errors.Limit bounds.Serial) h line = inl (list_passes bounds.Serial text (λ is. cc) line)
-list_named text (errors.Limit bounds.Input) h line = list_passes bounds.Input text (λ is. cc) line
+list_named text (errors.Limit bounds.Input) h line = inl (list_passes bounds.Input text (λ is. cc) line)
 list_named text (errors.Limit bounds.Deliveries) h line = absurd h
 list_named text (errors.Damaged area name) h line = h
 list_named text (errors.Unreadable area name) h line = tt
@@ -119,6 +119,7 @@ module _ (Asks : Request → Type 0) where
   untold_named : (content : List ℕ) (s : Status) → IsNamed Asks (Some content) s → IsNamed Asks None s
   untold_named content (status.BadInput Events line) h = (h.0, tt)
   untold_named content (status.BadInput Ids line) h = (h.0, tt)
+  untold_named content (status.BadInput Trace line) h = (h.0, (h.1.0, tt))
   untold_named content (status.BadInput Parameters line) h = h
   untold_named content (status.BadInput Table line) h = h
   untold_named content (status.Damaged area name) h = h
@@ -128,7 +129,8 @@ module _ (Asks : Request → Type 0) where
   untold_named content (status.Limit bounds.Generation) h = h
   untold_named content (status.Limit bounds.Serial) (inl h) = inl (untold content bounds.Serial h)
   untold_named content (status.Limit bounds.Serial) (inr listens) = inr listens
-  untold_named content (status.Limit bounds.Input) h = untold content bounds.Input h
+  untold_named content (status.Limit bounds.Input) (inl h) = inl (untold content bounds.Input h)
+  untold_named content (status.Limit bounds.Input) (inr h) = inr (h.0, (h.1.0, tt))
   untold_named content (status.Limit bounds.Deliveries) h = h
   untold_named content (status.Unreadable area name) h = tt
   untold_named content status.Done h = tt
@@ -247,6 +249,7 @@ module _ (P Q : Request → Type 0) (f : (r : Request) → P r → Q r) (text : 
   pub asked_too : (s : Status) → IsNamed P text s → IsNamed Q text s
   asked_too (status.BadInput Events line) h = (f Replay h.0, h.1)
   asked_too (status.BadInput Ids line) (asks, h) = (lists_too asks, h)
+  asked_too (status.BadInput Trace line) h = (f Audit h.0, h.1)
   asked_too (status.BadInput Parameters line) h = h
   asked_too (status.BadInput Table line) h = h
   asked_too (status.Damaged area name) h = h
@@ -256,7 +259,8 @@ module _ (P Q : Request → Type 0) (f : (r : Request) → P r → Q r) (text : 
   asked_too (status.Limit bounds.Generation) h = h
   asked_too (status.Limit bounds.Serial) (inl h) = inl (too_much bounds.Serial h)
   asked_too (status.Limit bounds.Serial) (inr (port, count, rests, asks)) = inr (port, count, rests, f (Listen port count rests) asks)
-  asked_too (status.Limit bounds.Input) h = too_much bounds.Input h
+  asked_too (status.Limit bounds.Input) (inl h) = inl (too_much bounds.Input h)
+  asked_too (status.Limit bounds.Input) (inr h) = inr (f Audit h.0, h.1)
   asked_too (status.Limit bounds.Deliveries) h = (h.0, f (Drain h.0) h.1)
   asked_too (status.Unreadable area name) h = tt
   asked_too status.Done h = tt

@@ -1,5 +1,6 @@
 pub mod Contents
 pub mod Courses
+pub mod Audits
 pub mod Causes
 pub mod Lives
 pub mod Looks

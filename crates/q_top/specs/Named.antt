@@ -1,5 +1,6 @@
 -- What a status names, whether the host tells its files or not.
 use Rattle.std.specs.Prelude.{◌<◌, ◌≡◌, ◌⊎◌, Err, IfSome, length, List, Option, true, ℕ}
+use Rattle.q_audit.specs.TraceTexts.{IsFaultyAt, IsPastLimit}
 use Rattle.q_conf.specs.Confs.{at_fault, SaySo}
 use Rattle.q_conf.specs.declared.error.ConfFile.TheVariants as conf
 use Rattle.q_input.specs.IdLines.{ids_in, most_id_bytes}
@@ -7,20 +8,21 @@ use Rattle.q_input.specs.declared.error.IdsError.TheVariants.{BadLine}
 use Rattle.q_model.specs.declared.id.Id.{Id}
 use Rattle.q_model.specs.declared.limits.Bound.{Bound}
 use Rattle.q_model.specs.declared.limits.Bound.TheVariants as bounds
+use Rattle.q_model.specs.Settings.{Table as Transports}
 use Rattle.q_model.specs.Values.{Receiver}
 use Rattle.q_replay.specs.Listings.{listing_of}
 use Rattle.q_replay.specs.Named.{IsAtFault, ListPasses}
 use Rattle.q_restart.specs.Judgements.{IsRefusalOfSome}
 use Rattle.q_restart.specs.declared.error.OpenError.TheVariants as open_errors
 use Rattle.q_top.specs.Contents.{most_content}
-use Rattle.q_top.specs.declared.status.InputFile.TheVariants.{Events, Ids, Parameters, Table}
+use Rattle.q_top.specs.declared.status.InputFile.TheVariants.{Events, Ids, Parameters, Table, Trace}
 use Rattle.q_top.specs.declared.status.Status.{Status}
 use Rattle.q_top.specs.declared.status.Status.TheVariants.{Absent, BadInput, Damaged, Limit}
 use Rattle.q_words.specs.declared.request.Request.{Request}
 use Rattle.q_tools.specs.Tasks.{may_lack}
 use Rattle.q_tools.specs.declared.task.Task.{Task}
 use Rattle.q_top.specs.Tools.{is_listed, names_some, work_of}
-use Rattle.q_words.specs.declared.request.Request.TheVariants.{Drain, Listen, Replay, Show, Submit, Tool}
+use Rattle.q_words.specs.declared.request.Request.TheVariants.{Audit, Drain, Listen, Replay, Show, Submit, Tool}
 use Rattle.q_words.specs.declared.tool.ToolRequest.{ToolRequest}
 
 -- the text is an event list with a line that is at fault, where it is told
@@ -71,14 +73,20 @@ IsTooLong text = IfSome text (λ bytes. most_id_bytes < length bytes)
 abbrev pub AsksForMessage : (Request → Type 0) → Type 0
 AsksForMessage Asks = AsksForSome Asks ⊎ ((id : Id) × Asks (Show id))
 
+-- a trace is to be audited, and by some table this is so of its text, where it is told
+abbrev pub AuditsText : (Request → Type 0) → Option (List ℕ) → (Transports → List ℕ → Type 0) → Type 0
+AuditsText Asks text says = Asks Audit × ((table : Transports) × IfSome text (says table))
+
 -- A line of conf is one at which some texts are at fault. A damage, and that no generation is left, are
 -- what some names of boot and some files of the queues show. A line of an event list, and the limits of
 -- what is handed in, are named for commands alone that take the source's text, and by that, where the
 -- source tells it; the limit of serials also where mail is taken by SMTP, and that of deliveries for a
--- drain alone. So are a line and the length of a list of ids. A message isn't found where one is named.
+-- drain alone. So are a line and the length of a list of ids, and those of a trace. A message isn't found
+-- where one is named.
 abbrev pub IsNamed : (Asks : Request → Type 0) → (text : Option (List ℕ)) → Status → Type 0
 IsNamed Asks text (BadInput Events line) = Asks Replay × HasFault text line
 IsNamed Asks text (BadInput Ids line) = AsksToList Asks × HasNoId text line
+IsNamed Asks text (BadInput Trace line) = AuditsText Asks text (λ table bytes. IsFaultyAt table bytes line)
 IsNamed Asks text (BadInput Parameters line) = SaySo (at_fault conf.Parameters line)
 IsNamed Asks text (BadInput Table line) = SaySo (at_fault conf.Table line)
 IsNamed Asks text (Damaged area name) = IsRefusalOfSome (open_errors.Damaged area name)
@@ -86,6 +94,7 @@ IsNamed Asks text (Limit bounds.Generation) = IsRefusalOfSome open_errors.Spent
 IsNamed Asks text (Limit bounds.Deliveries) = (rests : ℕ) × Asks (Drain rests)
 IsNamed Asks text (Limit bounds.Content) =
     IsTooMuch Asks text bounds.Content ⊎ AsksToList Asks × IsTooLong text
+IsNamed Asks text (Limit bounds.Input) = IsTooMuch Asks text bounds.Input ⊎ AuditsText Asks text IsPastLimit
 IsNamed Asks text (Limit bounds.Serial) = IsTooMuch Asks text bounds.Serial ⊎ AsksToListen Asks
 IsNamed Asks text (Limit bound) = IsTooMuch Asks text bound
 IsNamed Asks text Absent = AsksForMessage Asks

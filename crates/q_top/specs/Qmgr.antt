@@ -9,6 +9,7 @@ use Rattle.q_link.specs.Records.{HopsView}
 use Rattle.q_listen.specs.ListenEnds.{AreTooFew as AreTooFewAtDoor, CountsRests as CountsDoorRests}
 use Rattle.q_replay.specs.Spools.{Serves}
 use Rattle.q_shape.specs.Buckets.{IsShape}
+use Rattle.q_top.specs.Audits.{Audits}
 use Rattle.q_top.specs.Courses.{at_door, Connections, Entrances, Moments, Texts, outsides}
 use Rattle.q_top.specs.Lives.{DoesWork, DrainsSpool, ListensOnSpool, Replays, Submits}
 use Rattle.q_top.specs.Tellings.{Lists, ListsJson, TellsAges, TellsFigures, TellsLoad}
@@ -57,12 +58,14 @@ HasForm (requests.Show id) = Unit {0}
 HasForm requests.Params = Unit {0}
 HasForm (requests.Route addresses) = Unit {0}
 HasForm requests.Check = Unit {0}
+HasForm requests.Audit = Unit {0}
 
 -- the command takes bytes of its source
 abbrev pub takes_input : Request → Bool
 takes_input requests.Replay = true
 takes_input (requests.Submit sender to) = true
 takes_input (requests.Tool tool) = is_listed (work_of tool)
+takes_input requests.Audit = true
 takes_input request = false
 
 -- it asks the clock
@@ -104,6 +107,7 @@ Does (requests.Show id) texts moments connections entrances s u v = Shows id u v
 Does requests.Params texts moments connections entrances s u v = TellsParameters u v s
 Does (requests.Route addresses) texts moments connections entrances s u v = TellsWays addresses u v s
 Does requests.Check texts moments connections entrances s u v = Checks u v s
+Does requests.Audit texts moments connections entrances s u v = Audits texts u v s
 
 -- the commands that run a life, or many; the others only look
 abbrev pub runs_lives : Request → Bool
@@ -121,6 +125,7 @@ runs_lives (requests.Show id) = false
 runs_lives requests.Params = false
 runs_lives (requests.Route addresses) = false
 runs_lives requests.Check = false
+runs_lives requests.Audit = false
 
 -- the commands that may find a fault of the input, of the spool, of one of its files, of what is asked of it,
 -- or a limit; the others only tell what there is
@@ -129,6 +134,7 @@ may_blame (requests.Show id) = true
 may_blame requests.Params = true
 may_blame (requests.Route addresses) = true
 may_blame requests.Check = true
+may_blame requests.Audit = true
 may_blame request = runs_lives request
 
 -- the command that the words ask for was carried out

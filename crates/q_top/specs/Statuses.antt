@@ -1,5 +1,7 @@
 -- The number of each status, and the status by which a command ends.
 use Rattle.std.specs.Prelude.{Bool, Err, false, Ok, Result, true, ℕ}
+use Rattle.q_audit.specs.declared.trace.TraceError.{TraceError}
+use Rattle.q_audit.specs.declared.trace.TraceError.TheVariants as trace_errors
 use Rattle.q_conf.specs.declared.error.ConfError.{ConfError}
 use Rattle.q_conf.specs.declared.error.ConfError.TheVariants as conf_errors
 use Rattle.q_conf.specs.declared.error.ConfFile.{ConfFile}
@@ -27,7 +29,7 @@ use Rattle.q_super.specs.declared.error.SuperError.TheVariants as acts
 use Rattle.q_tools.specs.declared.error.ToolError.{ToolError}
 use Rattle.q_tools.specs.declared.error.ToolError.TheVariants.{Act, Life}
 use Rattle.q_top.specs.declared.status.InputFile.{InputFile}
-use Rattle.q_top.specs.declared.status.InputFile.TheVariants.{Events, Ids, Parameters, Table}
+use Rattle.q_top.specs.declared.status.InputFile.TheVariants.{Events, Ids, Parameters, Table, Trace}
 use Rattle.q_top.specs.declared.status.Status.{Status}
 use Rattle.q_top.specs.declared.status.Status.TheVariants.{Absent, BadInput, Damaged, Disk, Done, Door, Limit, NoMemory, Source, Tell, Unfinished, Unreadable, Usage}
 
@@ -163,3 +165,10 @@ ids_status (ids_errors.BadLine line) = BadInput Ids line
 ids_status ids_errors.TooLong = Limit bounds.Content
 ids_status ids_errors.Source = Source
 ids_status ids_errors.NoMemory = NoMemory
+
+-- how a command ends whose trace has no report
+abbrev pub trace_status : TraceError → Status
+trace_status trace_errors.NoMemory = NoMemory
+trace_status trace_errors.Source = Source
+trace_status (trace_errors.BadLine line) = BadInput Trace line
+trace_status trace_errors.TooLong = Limit bounds.Input

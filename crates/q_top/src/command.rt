@@ -11,6 +11,7 @@ ghost use Rattle.q_top.specs.Statuses.{names_fault, is_unreadable};
 ghost use Rattle.q_words.specs.Requests.{IsRequest};
 ghost use Rattle.q_words.specs.Usages.{is_usage};
 
+use crate::auditing::audit_source;
 use crate::checking::check_spool;
 use crate::draining::drain_spool;
 use crate::listening::listen_spool;
@@ -92,6 +93,7 @@ fn carry_out<L: Link, K: Link, H: Host, S: Source, C: Clock, N: Hops<Link = L>, 
         Request::Params => tell_parameters(alloc, host),
         Request::Route(addresses) => tell_ways(alloc, host, &addresses),
         Request::Check => check_spool(alloc, host),
+        Request::Audit => audit_source(alloc, source, host),
     }
 }
 
@@ -110,14 +112,17 @@ fn carry_out<L: Link, K: Link, H: Host, S: Source, C: Clock, N: Hops<Link = L>, 
 /// the line `WORD ID`, behind what the disk holds of it. A missing file of conf says as much as an empty
 /// one. `queue` tells the listing of the queues, `json` the same as JSON lines, `qshape` the ages of
 /// their mail, `status` figures, and `show` one message; `params` tells the parameters in force, `route`
-/// where mail goes, and `check` what is wrong. These begin no life and change nothing. `load` reads no conf and opens no spool: it runs a generated load on a host in memory
+/// where mail goes, and `check` what is wrong. `audit` reads the files of conf and a trace from the source,
+/// judges each line, and tells whether all are lawful and how far preemption delayed each job. These begin
+/// no life and change nothing. `load` reads no conf and opens no spool: it runs a generated load on a host in memory
 /// of its own, and tells a summary.
 ///
 /// `Usage` comes for words that are none of a command. Of `submit`, `Limit` of content comes next.
 /// Then `BadInput` names the first fault of the parameters, then of the table; `Damaged` the file
 /// for which the spool can't be opened, and `Limit` of generation says that no life is left: in all
 /// these nothing is changed or told. Of an event list `BadInput` names the first line that is none
-/// of one or whose event can't be taken, or the one behind the last where `end` is missing; `Limit`
+/// of one or whose event can't be taken, or the one behind the last where `end` is missing, and of a trace
+/// the first that is none of one; `Limit`
 /// says which limit an event passes, of a drain that no number is left for a delivery, and of
 /// `listen` that no serial is left for a message. `Disk`, `Tell`, `Source` and `Door` come where
 /// the host, the source or the door failed, `NoMemory` where memory ran out. `Unfinished` comes
@@ -151,7 +156,7 @@ pub fn qmgr<L: Link, K: Link, H: Host, S: Source, C: Clock, N: Hops<Link = L>, D
         (record { before = C.given clock.old; after = C.given clock.new })
         (record { before = N.view hops.old; after = N.view hops.new })
         (record { before = D.view door.old; after = D.view door.new }) result) }
-    // Only replay, submit and tools that list ids take from the source, none but submit, drain, listen,
+    // Only replay, submit, audit and tools that list ids take from the source, none but submit, drain, listen,
     // the tools and qshape asks the clock, none but drain uses connections, and none but listen the door.
     ensures alone { is_usage (texts_of words.now) ≡ false → LeavesAlone (texts_of words.now)
         source.old source.new clock.old clock.new hops.old hops.new door.old door.new }
@@ -168,7 +173,7 @@ pub fn qmgr<L: Link, K: Link, H: Host, S: Source, C: Clock, N: Hops<Link = L>, D
     ensures blames { names_fault result ≡ true → AsksToJudge (texts_of words.now) }
     // Of every host: a line of conf, a damage, and that no generation is left, are what some texts and
     // files show; a line of an event list or of ids is at fault, and a limit passed, by what the words
-    // ask for and, where the source tells, by its text.
+    // ask for and, where the source tells, by its text; so it is with those of a trace.
     ensures named { IsNamed (IsRequest (texts_of words.now)) (S.left source.old) result }
     // Where the host tells its files, each queue file can be read.
     ensures readable { IsTrue H.tells → is_unreadable result ≡ false }

@@ -22,6 +22,8 @@ pub enum InputFile {
     Table,
     /// Ids of messages, one a line, from the source.
     Ids,
+    /// The trace, from the source.
+    Trace,
 }
 
 /// How a command ended. Everything but `Done` is a refusal.
@@ -232,6 +234,7 @@ impl fmt::Display for Status {
                 InputFile::Parameters => write!(f, "bad input: parameters line {line}"),
                 InputFile::Table => write!(f, "bad input: table line {line}"),
                 InputFile::Ids => write!(f, "bad input: ids line {line}"),
+                InputFile::Trace => write!(f, "bad input: trace line {line}"),
             },
             Status::Disk => write!(f, "disk fault"),
             Status::Tell => write!(f, "output fault"),

@@ -143,5 +143,6 @@ IsRequest words requests.Json = command_of words ≡ Some (codes "json")
 IsRequest words requests.Status = command_of words ≡ Some (codes "status")
 IsRequest words requests.Params = command_of words ≡ Some (codes "params")
 IsRequest words requests.Check = command_of words ≡ Some (codes "check")
+IsRequest words requests.Audit = command_of words ≡ Some (codes "audit")
 IsRequest words (requests.Show id) = (command_of words ≡ Some (codes "show")) × IsOne words id
 IsRequest words (requests.Route addresses) = (command_of words ≡ Some (codes "route")) × IsRoute words addresses

@@ -66,6 +66,7 @@ is_look_usage words command =
     else if bytes_eq command (codes "status") then is_plain_usage (codes "status") words
     else if bytes_eq command (codes "params") then is_plain_usage (codes "params") words
     else if bytes_eq command (codes "check") then is_plain_usage (codes "check") words
+    else if bytes_eq command (codes "audit") then is_plain_usage (codes "audit") words
     else if bytes_eq command (codes "show") then is_show_usage words
     else if bytes_eq command (codes "route") then is_route_usage words
     else true

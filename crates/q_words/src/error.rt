@@ -13,7 +13,7 @@ use thiserror::Error;
 pub enum WordsError {
     #[error("no memory")]
     NoMemory,
-    #[error("error: the first word is none of replay, submit, drain, listen, hold, release, requeue, expire, flush, queue, json, qshape, status, show, params, route, check, load")]
+    #[error("error: the first word is none of replay, submit, drain, listen, hold, release, requeue, expire, flush, queue, json, qshape, status, show, params, route, check, audit, load")]
     NoCommand,
     /// clap's reason, and the usage of the command.
     #[error("{0}")]

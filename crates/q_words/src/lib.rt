@@ -1,6 +1,6 @@
 //! The words of each command, read by clap, with a contract that says exactly which are refused.
 //!
-//! The first word is the command: `replay`, `queue`, `json`, `status`, `params` and `check` take no more;
+//! The first word is the command: `replay`, `queue`, `json`, `status`, `params`, `check` and `audit` take no more;
 //! `submit` takes a sender, `<>` for the null sender, and one or more recipients; `drain` takes a number
 //! of rests; `qshape` takes options and queues; `load` takes a number of mails; `listen` takes a port, a
 //! number of connections and one of rests; `hold`, `release` and `requeue` take an id, `ALL`, or `-`

@@ -126,6 +126,9 @@ pub(crate) fn read_look(
     if command == b"check".as_slice() {
         return read_plain(alloc, "check", words, Request::Check);
     }
+    if command == b"audit".as_slice() {
+        return read_plain(alloc, "audit", words, Request::Audit);
+    }
     if command == b"show".as_slice() {
         let id = read_id(alloc, words)?;
         return Ok(Request::Show(id));

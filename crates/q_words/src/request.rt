@@ -46,4 +46,6 @@ pub enum Request {
     Route(Sequence<Address>),
     /// Tell what is wrong with the spool and the files of conf.
     Check,
+    /// Tell whether the trace of standard input is lawful, and how far preemption delayed each job.
+    Audit,
 }

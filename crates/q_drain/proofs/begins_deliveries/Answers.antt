@@ -1,4 +1,4 @@
-use Rattle.q_drain.proofs.Deciding.{decisions_are}
+use Rattle.q_laws.proofs.Deciding.{decisions_are}
 use Rattle.q_drain.proofs.Flying.{decided_flights}
 use Rattle.q_drain.proofs.Numbering.{decided_numbers, inside_starts}
 use Rattle.q_drain.proofs.Silent.{decisions_inside}

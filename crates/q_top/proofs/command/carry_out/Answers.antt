@@ -2,7 +2,7 @@ use Rattle.std.proofs.Common.{◌≡◌, ◌∙◌, sym}
 use Rattle.q_top.proofs.Named.{asked_too, unnamed}
 use Rattle.q_top.proofs.Readable.{faultless_of}
 use Rattle.q_top.proofs.Rests.{drain_needs, gave_drain, gave_listen, listen_needs}
-use Rattle.q_words.specs.declared.request.Request.TheVariants.{Drain, Listen, Replay, Show, Submit, Tool}
+use Rattle.q_words.specs.declared.request.Request.TheVariants.{Audit, Drain, Listen, Replay, Show, Submit, Tool}
 use Rattle.q_top.proofs.command.carry_out.Goals as goal
 
 pub returns-in-Replay-clause-unfinished : goal.returns-in-Replay-clause-unfinished
@@ -161,3 +161,12 @@ pub returns-in-Check-clause-named : goal.returns-in-Check-clause-named
 returns-in-Check-clause-named g c =
     let text = g.S.Source.left c.args.source.now in
     asked_too (λ r. ⊥) (λ r. r ≡ c.args.request) (λ r none. absurd none) text c.check_spool.result (c.check_spool.ensures.named text)
+
+pub returns-in-Audit-clause-unfinished : goal.returns-in-Audit-clause-unfinished
+returns-in-Audit-clause-unfinished g c n is = absurd (c.audit_source.ensures.no_rests n is)
+
+pub returns-in-Audit-clause-few : goal.returns-in-Audit-clause-few
+returns-in-Audit-clause-few g c n is = absurd (c.audit_source.ensures.no_rests n is)
+
+pub returns-in-Audit-clause-named : goal.returns-in-Audit-clause-named
+returns-in-Audit-clause-named g c = asked_too (λ r. r ≡ Audit) (λ r. r ≡ c.args.request) (λ r is. is ∙ sym c.in-Audit.is) (g.S.Source.left c.args.source.now) c.audit_source.result c.audit_source.ensures.named

@@ -1,0 +1,10 @@
+pub mod Breaking
+pub mod Delays
+pub mod Tallied
+pub mod ReportLaws
+pub mod ReportTexts
+pub mod Reports
+pub mod TraceTexts
+pub mod Reading
+pub mod Errors
+pub mod TraceEnds

@@ -1,0 +1,13 @@
+mod RecipientLaws
+mod BookLaws
+mod MemoryLaws
+mod JobLaws
+mod RowLaws
+mod RuleLaws
+mod FoundLaws
+mod ChangedBooks
+mod ChangeLaws
+mod StepLaws
+mod PastLaws
+mod CountLaws
+mod JudgeLaws

@@ -1,0 +1,6 @@
+mod Ending
+mod Onward
+mod Back
+pub mod Going
+pub mod Opening
+mod Fitting

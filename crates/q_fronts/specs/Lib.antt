@@ -1,0 +1,4 @@
+pub mod Fronts
+pub mod Openings
+pub mod Fitting
+pub mod Rules

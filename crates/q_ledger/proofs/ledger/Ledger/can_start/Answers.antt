@@ -1,0 +1,17 @@
+use Rattle.std.proofs.Common.{◌∙◌, ap, sym, filter}
+use Rattle.std.specs.List.{list_any}
+use Rattle.q_ledger.specs.State.{State}
+use Rattle.q_ledger.proofs.LoadedRows.{of_id}
+use Rattle.q_ledger.proofs.PartLaws.{any_within}
+use Rattle.q_ledger.proofs.RowLaws.{startable_is_own}
+use Rattle.q_ledger.specs.Spaces.{is_startable_of}
+use Rattle.q_ledger.specs.Worlds.{world_of}
+use Rattle.q_ledger.proofs.ledger.Ledger.can_start.Goals as goal
+
+pub returns : goal.returns
+returns c =
+    let w = world_of c.args.world.now in
+    let l = c.args.self.now.ledger in
+    let test = is_startable_of w l c.args.transport c.args.id in
+    c.starts_among.ensures ∙ ap (list_any test) (c.of.ensures ∙ ap (λ (s : State). filter (of_id c.args.id) s.ledger.waiting) c.self.view_is)
+    ∙ sym (any_within test (of_id c.args.id) l.waiting (startable_is_own w l c.args.transport c.args.id))

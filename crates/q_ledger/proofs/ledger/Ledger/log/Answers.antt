@@ -1,0 +1,10 @@
+use Rattle.std.proofs.Common.{sym, subst}
+use Rattle.q_ledger.proofs.MarkedLaws.{log_changes}
+use Rattle.q_ledger.specs.Taking.{IsChanged}
+use Rattle.q_model.specs.declared.entry.Entry.TheVariants as entries
+use Rattle.q_ledger.proofs.ledger.Ledger.log.Goals as goal
+
+pub returns-clause-changed : goal.returns-clause-changed
+returns-clause-changed c = λ w k h beside may.
+    subst (IsChanged w c.args.self.now.ledger (entries.Log c.args.id c.args.failure)) (sym c.in_ok-store_failure.ensures.stored)
+    (log_changes w k c.args.self.now c.args.id c.args.failure h beside)

@@ -1,0 +1,3 @@
+pub mod TextLines
+pub mod States
+pub mod LineReadings

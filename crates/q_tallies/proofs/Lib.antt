@@ -1,0 +1,4 @@
+mod TallyLaws
+pub mod CapLaws
+pub mod LaterLaws
+mod BoundLaws

@@ -1,0 +1,5 @@
+pub mod Ways
+pub mod Tallying
+pub mod Tallied
+pub mod Exact
+pub mod Bounded
