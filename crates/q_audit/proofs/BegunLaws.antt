@@ -9,13 +9,13 @@ use Rattle.q_audit.specs.Delays.{delay_by, Delay, delays, was_preempted}
 use Rattle.q_audit.specs.ReportLaws.{capped, DelaysAreBounded, DelaysAreWhole, has_few, is_bounded, JobsAreTold, ledger_before}
 use Rattle.q_audit.specs.Tallied.{is_of, Job, job_by, jobs}
 use Rattle.q_fronts.proofs.Going.{begins}
-use Rattle.q_fronts.specs.Fronts.{empty_at, IsFront}
+use Rattle.q_fronts.specs.Fronts.{IsFront}
 use Rattle.q_laws.proofs.Beginnings.{life_consistent}
 use Rattle.q_laws.proofs.Runs.{run_entries}
 use Rattle.q_laws.specs.Consistency.{IsConsistent, IsUsable}
 use Rattle.q_laws.specs.Traces.{AreEntriesOf}
 use Rattle.q_model.specs.Ids.{id_eq}
-use Rattle.q_model.specs.Ledger.{Ledger, opening}
+use Rattle.q_model.specs.Ledger.{Ledger}
 use Rattle.q_model.specs.Memory.{is_admitted}
 use Rattle.q_model.specs.Past.{is_life}
 use Rattle.q_model.specs.PreemptingStarts.{ends_job}

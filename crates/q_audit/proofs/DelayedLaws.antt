@@ -1,28 +1,28 @@
 -- How many deliveries go before a preempted job is bounded by the recipients of its message.
-use Rattle.std.proofs.Common.{◌≡◌, ◌≢◌, ℕ, ◌+◌, ◌-◌, ◌*◌, ◌^◌, ◌≤◌, ◌<◌, ◌++◌, Bool, true, false, List, [], ◌∷◌, map, filter, length, Option, Some, None, find, not, refl, sym, ap, ◌∙◌, subst, arith, cond, if◌then◌else◌, eqb-true, ltb-true, le-leb}
+use Rattle.std.proofs.Common.{◌≡◌, ◌≢◌, ℕ, ◌+◌, ◌-◌, ◌*◌, ◌^◌, ◌≤◌, ◌<◌, ◌++◌, Bool, true, false, List, [], ◌∷◌, map, filter, Option, Some, None, not, refl, sym, ap, ◌∙◌, subst, arith, cond, if◌then◌else◌, eqb-true, ltb-true, le-leb}
 use Rattle.std.proofs.Math.Nat.{le-mul_of_pos_right, le_trans}
 use Rattle.std.proofs.lemmas.Bool.{and_from, and_parts}
 use Rattle.std.proofs.lemmas.List.{map-append}
 use Rattle.std.specs.List.{list_all, list_any}
 use Rattle.std.specs.Option.{option_map_or}
-use Rattle.std.specs.Prelude.{◌==◌, ◌&&◌, min, nat_le, nat_lt}
+use Rattle.std.specs.Prelude.{◌==◌, ◌&&◌, min}
 use Rattle.q_audit.proofs.SinceLaws.{AreSince, IsSince, since_goes_on}
 use Rattle.q_audit.specs.Delays.{Delay, delay_by, delays, first_delay, Preempted, preempted_by, recipients_of, was_preempted}
 use Rattle.q_audit.specs.ReportLaws.{capped, has_few, is_bounded}
 use Rattle.q_inflation.proofs.Falling.{entry_may}
 use Rattle.q_inflation.proofs.Inflation.{job_inflation}
 use Rattle.q_laws.proofs.Kept.{entry_consistent}
-use Rattle.q_laws.proofs.Members.{all_at, any_from, any_in, find_in}
+use Rattle.q_laws.proofs.Members.{all_at, any_in, find_in}
 use Rattle.q_laws.specs.Consistency.{IsConsistent}
-use Rattle.q_laws.specs.Traces.{AreEntriesOf, IsEntryOf}
+use Rattle.q_laws.specs.Traces.{AreEntriesOf}
 use Rattle.q_model.proofs.IdLaws.{id_eq-true}
 use Rattle.q_model.specs.Accounts.{job_left, starts_of}
-use Rattle.q_model.specs.Candidates.{best, candidates, ids_behind, is_better, is_candidate, pays}
+use Rattle.q_model.specs.Candidates.{candidates, ids_behind, is_better, is_candidate, pays}
 use Rattle.q_model.specs.Ids.{id_eq}
 use Rattle.q_model.specs.Ledger.{Ledger}
 use Rattle.q_model.specs.Lists.{least}
 use Rattle.q_model.specs.Memory.{is_admitted}
-use Rattle.q_model.specs.Preemptions.{is_best, is_current, may_preempt}
+use Rattle.q_model.specs.Preemptions.{is_best, is_current}
 use Rattle.q_model.specs.PreemptingStarts.{preempting_starts}
 use Rattle.q_model.specs.Settings.{World}
 use Rattle.q_model.specs.Startable.{can_start, current, is_startable, line_of}

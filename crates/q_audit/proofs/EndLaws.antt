@@ -6,13 +6,11 @@ use Rattle.std.specs.Prelude.{Err, IfSome, Ok, Result}
 use Rattle.std.specs.Result.{IsErrAnd}
 use Rattle.q_audit.specs.Reading.{AuditState, Reads, ReadsLine, table_in}
 use Rattle.q_audit.specs.TraceEnds.{Goes, HasAll, HasRead, IsRefused, IsWhole, ReadsOn}
-use Rattle.q_audit.specs.TraceTexts.{AreLinesWith, IsAtFault, IsFaultyAt, IsLineWith, IsPart, IsPastLimit, IsTrace, lines_of, Tells}
+use Rattle.q_audit.specs.TraceTexts.{AreLinesWith, IsAtFault, IsLineWith, IsPart}
 use Rattle.q_audit.specs.declared.trace.TraceError.{TraceError}
 use Rattle.q_audit.specs.declared.trace.TraceError.TheVariants.{BadLine, NoMemory, Source, TooLong}
-use Rattle.q_lines.specs.LineReadings.{GivesNextLine, NextLineIs}
 use Rattle.q_lines.specs.States.{ReaderState, text_left}
 use Rattle.q_lines.specs.TextLines.{cut, is_long, lines_from, TextLine, unended, whole}
-use Rattle.q_lines.specs.declared.line_reader.NextLine.{NextLine}
 use Rattle.q_lines.specs.declared.line_reader.NextLine.TheVariants as nexts
 use Rattle.q_model.specs.Settings.{Table, World}
 use Rattle.q_model.specs.TextParts.{text_line}
@@ -108,20 +106,6 @@ at_fault w start a r left number h is next = by_start start h.goes (λ bytes at 
       is = g.2 ∙ ap (λ (xs : List TextLine). h.lines ++ xs) n.2;
       fault = n.3;
       here = number_here w start a r left number h is;
-    })
-
--- the limit is passed
-pub at_limit : (w : World) (start : Option (List ℕ)) (a : AuditState) (r : ReaderState) (left : Option (List ℕ)) → HasRead w start a r left
-    → IfSome (text_left r.buffered left) (λ bytes. (line : List ℕ) × (lines_from r.budget bytes ≡ cut line ∷ []) × (is_long (cut line) ≡ false)) → IsRefused w start TooLong
-at_limit w start a r left h next = by_start start h.goes (λ bytes at g.
-    let n = left_is _ (text_left r.buffered left) g.0 g.1 next in
-    record {
-      lines = h.lines;
-      es = h.entries;
-      before = h.told;
-      part = n.0;
-      is = g.2 ∙ ap (λ (xs : List TextLine). h.lines ++ xs) n.1;
-      short = n.2;
     })
 
 -- a line that is too long is at fault

@@ -5,7 +5,6 @@ use Rattle.std.proofs.lemmas.Map.Views.{any-filter_same}
 use Rattle.std.specs.List.{enumerate_from, list_any}
 use Rattle.std.specs.Option.{option_map_or}
 use Rattle.std.specs.Prelude.{◌+◌, ◌&&◌, ◌||◌, nat_le}
-use Rattle.q_audit.specs.Delays.{recipients_of}
 use Rattle.q_laws.proofs.Added.{still_found}
 use Rattle.q_laws.proofs.InPlace.{on_change}
 use Rattle.q_laws.proofs.Loaded.{records_is}
@@ -13,7 +12,6 @@ use Rattle.q_laws.proofs.Moved.{move_to, other_left}
 use Rattle.q_laws.proofs.Tidied.{tidy_scan_is}
 use Rattle.q_laws.specs.Consistency.{IsConsistent}
 use Rattle.q_model.proofs.IdLaws.{id_eq-true}
-use Rattle.q_model.specs.Accounts.{is_admit_of}
 use Rattle.q_model.specs.Alternation.{Pick, after_pick, from_deferred, from_incoming, passed, pick}
 use Rattle.q_model.specs.Arrivals.{arrived}
 use Rattle.q_model.specs.Batches.{load_rows}
@@ -50,7 +48,6 @@ use Rattle.q_model.specs.declared.rows.Admitted.{Admitted}
 use Rattle.q_model.specs.declared.rows.Delivery.{Delivery}
 use Rattle.q_model.specs.declared.rows.Place.{Place}
 use Rattle.q_model.specs.declared.rows.Request.{Request}
-use Rattle.q_model.specs.declared.rows.Row.{Row}
 use Rattle.q_model.specs.declared.rows.Scan.{Scan}
 use Rattle.q_model.specs.declared.entry.Entry.TheVariants as entries
 use Rattle.q_model.specs.declared.event.Trigger.TheVariants as triggers

@@ -18,9 +18,9 @@ use Rattle.q_audit.specs.Tallied.{delay_of, is_of, Job, job_with, jobs, taken_up
 use Rattle.q_audit.specs.declared.audit.Breach.{Breach}
 use Rattle.q_fronts.specs.Fronts.{IsFront, IsLedgerAfter}
 use Rattle.q_laws.specs.Consistency.{IsUsable}
-use Rattle.q_ledger.specs.Holding.{Holds, IsBrokenBy, Recounted}
+use Rattle.q_ledger.specs.Holding.{Holds, IsBrokenBy}
 use Rattle.q_model.specs.Ledger.{Ledger}
-use Rattle.q_model.specs.Settings.{Settings, Table, World}
+use Rattle.q_model.specs.Settings.{World}
 use Rattle.q_model.specs.Step.{after_all}
 use Rattle.q_model.specs.declared.entry.Entry.{Entry}
 use Rattle.q_settings.specs.Ranges.{IsInRange}

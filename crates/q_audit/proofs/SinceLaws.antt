@@ -1,9 +1,8 @@
 -- Of a job that wasn't preempted since its message came into memory: the ledger at that moment, and the entries since.
-use Rattle.std.proofs.Common.{◌≡◌, ℕ, ◌++◌, Bool, true, false, List, [], ◌∷◌, length, Option, Some, None, not, inl, inr, refl, sym, ap, ◌∙◌, subst, cond, take_while}
+use Rattle.std.proofs.Common.{◌≡◌, ℕ, ◌++◌, Bool, true, false, List, [], ◌∷◌, length, Option, Some, None, not, refl, sym, ap, ◌∙◌, subst, cond, take_while}
 use Rattle.std.proofs.lemmas.Bool.{and_from, and_parts, or_parts}
 use Rattle.std.proofs.lemmas.List.Sums.{take_while-cons}
 use Rattle.std.specs.List.{list_all, list_any}
-use Rattle.std.specs.Option.{option_map_or}
 use Rattle.std.specs.Prelude.{◌&&◌, ◌||◌, is_none, is_some}
 use Rattle.q_audit.proofs.KeptLaws.{after_kept, change_counts, count_in, counted}
 use Rattle.q_audit.specs.Delays.{recipients_of, was_preempted}

@@ -1,13 +1,12 @@
 -- What is kept of the jobs tells which of them were preempted since their messages came into memory.
-use Rattle.std.proofs.Common.{◌≡◌, ℕ, ◌+◌, ◌++◌, cond, take_while, subst, eqb-true, eq-eqb, Bool, true, false, List, [], ◌∷◌, Option, Some, None, not, refl, sym, ap, ◌∙◌, if◌then◌else◌}
+use Rattle.std.proofs.Common.{◌≡◌, ℕ, ◌+◌, ◌++◌, cond, take_while, subst, eqb-true, eq-eqb, Bool, true, false, List, [], ◌∷◌, Some, None, not, refl, sym, ap, ◌∙◌, if◌then◌else◌}
 use Rattle.std.proofs.lemmas.Bool.{and_parts}
 use Rattle.std.proofs.lemmas.List.Sums.{take_while-cons}
 use Rattle.std.specs.List.{list_any}
-use Rattle.std.specs.Option.{option_map_or}
 use Rattle.std.specs.Prelude.{◌==◌, ◌&&◌, ◌||◌, is_some}
 use Rattle.q_audit.proofs.SinceLaws.{preempted_more}
-use Rattle.q_audit.specs.Delays.{Preempted, preempted_by, recipients_of, was_preempted}
-use Rattle.q_audit.specs.Tallied.{first_job, is_of, Job, job_by, jobs}
+use Rattle.q_audit.specs.Delays.{recipients_of, was_preempted}
+use Rattle.q_audit.specs.Tallied.{is_of, Job, job_by, jobs}
 use Rattle.q_inflation.proofs.Falling.{entry_may}
 use Rattle.q_laws.proofs.Kept.{entry_consistent}
 use Rattle.q_laws.specs.Consistency.{IsConsistent}

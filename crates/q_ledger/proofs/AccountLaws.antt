@@ -5,19 +5,16 @@ use Rattle.std.proofs.lemmas.Grind.{common_steps}
 use Rattle.std.specs.List.{position_or_len}
 use Rattle.std.specs.Option.{option_map_or}
 use Rattle.std.specs.Prelude.{◌&&◌, ◌==◌, filter, find, slice_get}
-use Rattle.q_bare.specs.Counts.{Counts, counted, counts_after, no_counts}
+use Rattle.q_bare.specs.Counts.{Counts, counted, counts_after}
 use Rattle.q_ledger.proofs.ListLaws.{position-find}
-use Rattle.q_ledger.specs.Accounting.{AreFew, counts_nothing}
+use Rattle.q_ledger.specs.Accounting.{AreFew}
 use Rattle.q_ledger.specs.Beside.{AreAccounts}
 use Rattle.q_ledger.specs.Counted.{change_or_add, charged_jobs, is_of, raised, started_jobs, with_charge, with_start}
 use Rattle.q_ledger.specs.declared.accounts.Account.{Account}
 use Rattle.q_ledger.specs.declared.accounts.Accounts.{Accounts}
 use Rattle.q_model.proofs.IdLaws.{id_eq-refl, id_eq-true}
 use Rattle.q_model.specs.Ids.{id_eq}
-use Rattle.q_model.specs.Accounts.{charge_of, is_admit_of, is_start_of}
-use Rattle.q_model.specs.Past.{is_arrive, is_life, is_start}
-use Rattle.q_model.specs.Values.{Receiver, Site}
-use Rattle.q_model.specs.declared.entry.Entry.{Entry}
+use Rattle.q_model.specs.Values.{Site}
 use Rattle.q_model.specs.declared.entry.Entry.TheVariants as entries
 use Rattle.q_model.specs.declared.id.Id.{Id}
 
@@ -261,63 +258,3 @@ begun_accounts a b c id k starts arrivals jobs = record {
   starts = λ i t. ap (λ xs. starts_among xs i t) jobs ∙ begun_value (λ x. x.starts) id i t a.jobs.items (c.deliveries_of i t) (k.starts i t) (id_eq id i) refl;
   charged = λ i t. ap (λ xs. charged_among xs i t) jobs ∙ begun_value (λ x. x.charged) id i t a.jobs.items (c.charged_to i t) (k.charged i t) (id_eq id i) refl;
 }
-
--- ---- a message comes, and entries that count nothing
-
-pub arrived_accounts : (a b : Accounts) (c : Counts) (id : Id) (sender : Option (List ℕ)) (to : List Receiver) (content : List ℕ) → AreAccounts a c → AreFew c →
-    b.starts ≡ a.starts → b.arrivals ≡ raised a.arrivals 1 → b.jobs.items ≡ a.jobs.items → AreAccounts b (counts_after (entries.Arrive id sender to content) c)
-arrived_accounts a b c id sender to content k few starts arrivals jobs =
-    let all = few.messages in
-    let told = k.messages in
-    record {
-      deliveries = starts ∙ k.deliveries ∙ sym (zero-add c.deliveries);
-      messages = omega (arith, arrivals, told, all);
-      starts = λ i t. ap (λ xs. starts_among xs i t) jobs ∙ k.starts i t ∙ sym (zero-add (c.deliveries_of i t));
-      charged = λ i t. ap (λ xs. charged_among xs i t) jobs ∙ k.charged i t ∙ sym (zero-add (c.charged_to i t));
-    }
-
--- the entry counts nothing
-record IsQuiet (e : Entry) : Type 0 where
-  life : is_life e ≡ false
-  start : is_start e ≡ false
-  arrive : is_arrive e ≡ false
-  admit : (i : Id) → is_admit_of i e ≡ false
-  starts : (i : Id) (t : ℕ) → is_start_of i t e ≡ false
-  charge : (i : Id) (t : ℕ) → charge_of i t e ≡ 0
-
-pub quiet_accounts : (a : Accounts) (c : Counts) (e : Entry) → counts_nothing e ≡ true → AreAccounts a c → AreAccounts a (counts_after e c)
-quiet_accounts a c e quiet k = by e quiet
-  where
-    still : (e : Entry) → IsQuiet e → AreAccounts a (counts_after e c)
-    still e q = subst (λ (d : Counts). AreAccounts a (counted e d)) (sym (ap (λ b. if b then no_counts else c) q.life)) (record {
-      deliveries = k.deliveries ∙ sym (ap (λ b. (if b then 1 else 0) + c.deliveries) q.start ∙ zero-add c.deliveries);
-      messages = k.messages ∙ sym (ap (λ b. (if b then 1 else 0) + c.messages) q.arrive ∙ zero-add c.messages);
-      starts = λ i t. k.starts i t ∙ sym (ap (λ b. if b then 0 else (if is_start_of i t e then 1 else 0) + c.deliveries_of i t) (q.admit i)
-          ∙ ap (λ b. (if b then 1 else 0) + c.deliveries_of i t) (q.starts i t) ∙ zero-add (c.deliveries_of i t));
-      charged = λ i t. k.charged i t ∙ sym (ap (λ b. if b then 0 else charge_of i t e + c.charged_to i t) (q.admit i)
-          ∙ ap (λ n. n + c.charged_to i t) (q.charge i t) ∙ zero-add (c.charged_to i t));
-    })
-
-    none : (e : Entry) → is_life e ≡ false → is_start e ≡ false → is_arrive e ≡ false → ((i : Id) → is_admit_of i e ≡ false) → ((i : Id) (t : ℕ) → is_start_of i t e ≡ false) → ((i : Id) (t : ℕ) → charge_of i t e ≡ 0) → AreAccounts a (counts_after e c)
-    none e l s r m b g = still e (record { life = l; start = s; arrive = r; admit = m; starts = b; charge = g })
-
-    by : (e : Entry) → counts_nothing e ≡ true → AreAccounts a (counts_after e c)
-    by (entries.At t) h = none (entries.At t) refl refl refl (λ i. refl) (λ i n. refl) (λ i n. refl)
-    by (entries.Back id) h = none (entries.Back id) refl refl refl (λ i. refl) (λ i n. refl) (λ i n. refl)
-    by (entries.Load id from to) h = none (entries.Load id from to) refl refl refl (λ i. refl) (λ i n. refl) (λ i n. refl)
-    by (entries.Reply number state outcomes) h = none (entries.Reply number state outcomes) refl refl refl (λ i. refl) (λ i n. refl) (λ i n. refl)
-    by (entries.Skip id site positions) h = none (entries.Skip id site positions) refl refl refl (λ i. refl) (λ i n. refl) (λ i n. refl)
-    by (entries.Log id failure) h = none (entries.Log id failure) refl refl refl (λ i. refl) (λ i n. refl) (λ i n. refl)
-    by (entries.Mark id position) h = none (entries.Mark id position) refl refl refl (λ i. refl) (λ i n. refl) (λ i n. refl)
-    by (entries.Sync id) h = none (entries.Sync id) refl refl refl (λ i. refl) (λ i n. refl) (λ i n. refl)
-    by (entries.Defer id due) h = none (entries.Defer id due) refl refl refl (λ i. refl) (λ i n. refl) (λ i n. refl)
-    by (entries.Bounce id) h = none (entries.Bounce id) refl refl refl (λ i. refl) (λ i n. refl) (λ i n. refl)
-    by (entries.Remove id) h = none (entries.Remove id) refl refl refl (λ i. refl) (λ i n. refl) (λ i n. refl)
-    by (entries.Corrupt id) h = none (entries.Corrupt id) refl refl refl (λ i. refl) (λ i n. refl) (λ i n. refl)
-    by (entries.Trigger kind) h = none (entries.Trigger kind) refl refl refl (λ i. refl) (λ i n. refl) (λ i n. refl)
-    by entries.End h = none entries.End refl refl refl (λ i. refl) (λ i n. refl) (λ i n. refl)
-    by (entries.Life generation mode) h = absurd cc
-    by (entries.Arrive id sender to content) h = absurd cc
-    by (entries.Admit id) h = absurd cc
-    by (entries.Start number id site positions) h = absurd cc
-    by (entries.Preempt child parent transport need) h = absurd cc

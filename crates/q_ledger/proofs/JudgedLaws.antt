@@ -84,10 +84,6 @@ rule_living c w b e living = sym (ap (λ x. if x then (if may_by c w b e then 20
 allowed_living : (c : Counts) (w : World) (b : Ledger) (e : Entry) → c.living ≡ true → allowed_by c w b e ≡ may_by c w b e
 allowed_living c w b e living = ap (λ x. (x || (is_life e && not c.begun)) && may_by c w b e) living
 
--- it is what is due
-pub due_judged : (c : Counts) (w : World) (b : Ledger) (e : Entry) → c.living ≡ true → next_by c w b ≡ Some e → IsJudgedBy c w b e Lawful
-due_judged c w b e living h = judged_lawful c w b e (inr (living, h))
-
 -- something else is due
 pub other_judged : (c : Counts) (w : World) (b : Ledger) (e d : Entry) → c.living ≡ true → next_by c w b ≡ Some d → (d ≡ e → ⊥) → IsJudgedBy c w b e (Broken (if may_by c w b e then 20 else row_of e))
 other_judged c w b e d living h other =

@@ -1,36 +1,10 @@
 -- Searches for the least, from the end of a list.
 use Rattle.std.proofs.Common.{◌≡◌, ℕ, suc, ◌-◌, ◌<◌, ◌≤◌, Bool, true, false, List, ◌∷◌, length, drop, get_or, sym, ap, ◌∙◌, arith, drop-cons, Option, Some, None, refl}
-use Rattle.std.specs.Option.{option_and_then, option_map_or}
+use Rattle.std.specs.Option.{option_and_then}
 use Rattle.std.specs.List.{cons_option}
 use Rattle.std.specs.Prelude.{[], filter, filter_map, if◌then◌else◌, map}
 use Rattle.q_ledger.specs.Best.{best_with, prefer}
 use Rattle.q_model.specs.Lists.{least}
-
--- one step of a search from the end
-pub least_back : {A : Type 0} (before : A → A → Bool) (xs : List A) (i : ℕ) (x : A) (best : Option A) →
-    0 < i → i ≤ length xs → x ≡ get_or xs (i - 1) x → best ≡ least before (drop i xs) →
-    Some (option_map_or (λ y. if before y x then y else x) best x) ≡ least before (drop (i - 1) xs)
-least_back before xs i x best some within at is =
-    let next : i ≡ suc (i - 1) = omega arith in
-    let lt : i - 1 < length xs = omega arith in
-    ap (λ o. Some (option_map_or (λ y. if before y x then y else x) o x)) (is ∙ ap (λ n. least before (drop n xs)) next)
-    ∙ ap (least before) (ap (λ y. y ∷ drop (suc (i - 1)) xs) at ∙ sym (drop-cons xs (i - 1) x lt))
-
--- ---- of those for which a function gives something
-
-given_step : {B : Type 0} (before : B → B → Bool) (o : Option B) (ys : List B) → best_with before o (least before ys) ≡ least before (cons_option o ys)
-given_step before None ys = refl
-given_step before (Some y) ys = refl
-
-pub given_back : {A B : Type 0} (before : B → B → Bool) (f : A → Option B) (xs : List A) (i : ℕ) (x : A) (best : Option B) →
-    0 < i → i ≤ length xs → x ≡ get_or xs (i - 1) x → best ≡ least before (filter_map f (drop i xs)) →
-    best_with before (f x) best ≡ least before (filter_map f (drop (i - 1) xs))
-given_back before f xs i x best some within at is =
-    let next : i ≡ suc (i - 1) = omega arith in
-    let lt : i - 1 < length xs = omega arith in
-    ap (best_with before (f x)) (is ∙ ap (λ n. least before (filter_map f (drop n xs))) next)
-    ∙ given_step before (f x) (filter_map f (drop (suc (i - 1)) xs))
-    ∙ ap (λ ys. least before (filter_map f ys)) (ap (λ y. y ∷ drop (suc (i - 1)) xs) at ∙ sym (drop-cons xs (i - 1) x lt))
 
 -- ---- of those that pass
 

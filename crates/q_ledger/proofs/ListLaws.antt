@@ -1,7 +1,7 @@
 -- Searches of lists.
 use Rattle.std.proofs.Common.{◌≡◌, ℕ, ◌<◌, ◌≤◌, Bool, true, false, cond, List, [], ◌∷◌, length, map, refl, sym, ap, ◌∙◌, arith, Option, Some, None, option_map, ◌⊎◌, inl, inr, subst, suc, ◌+◌, not, take_all, zero, set, get_or}
 use Rattle.std.specs.Prelude.{find, filter, position, slice_get, ◌||◌, ◌&&◌}
-use Rattle.std.specs.List.{list_any, remove, list_all, position_or_len}
+use Rattle.std.specs.List.{list_any, remove, position_or_len}
 use Rattle.std.proofs.lemmas.Grind.{common_steps}
 use Rattle.std.proofs.lemmas.Option.{get_or_from_slice_get, slice_get_cases}
 use Rattle.std.proofs.lemmas.List.Folds.{find_at}
@@ -23,14 +23,6 @@ pub find-same : {X : Type 0} (p q : X → Bool) → ((x : X) → p x ≡ q x) �
 find-same p q h [] = refl
 find-same p q h (x ∷ xs) = ap (λ b. cond b (Some x) (find p xs)) (h x) ∙ ap (cond (q x) (Some x)) (find-same p q h xs)
 
-pub list_any-map : {X Y : Type 0} (p : Y → Bool) (f : X → Y) (xs : List X) → list_any p (map f xs) ≡ list_any (λ x. p (f x)) xs
-list_any-map p f [] = refl
-list_any-map p f (x ∷ xs) = ap (λ b. p (f x) || b) (list_any-map p f xs)
-
-pub list_any-same : {X : Type 0} (p q : X → Bool) → ((x : X) → p x ≡ q x) → (xs : List X) → list_any p xs ≡ list_any q xs
-list_any-same p q h [] = refl
-list_any-same p q h (x ∷ xs) = ap (λ b. b || list_any p xs) (h x) ∙ ap (λ b. q x || b) (list_any-same p q h xs)
-
 -- what is found, and where it stands
 pub record IsFoundAt {X : Type 0} (p : X → Bool) (xs : List X) (i : ℕ) (x : X) : Type 0 where
   pub place : position p xs ≡ Some i
@@ -51,16 +43,6 @@ found_first p x o y rest false e h = rest h
 pub find-passes : {X : Type 0} (p : X → Bool) (xs : List X) (y : X) → find p xs ≡ Some y → p y ≡ true
 find-passes p [] y h = cc
 find-passes p (x ∷ xs) y h = found_first p x (find p xs) y (find-passes p xs y) (p x) refl h
-
-found_of_all : {X : Type 0} (q : X → Bool) (x : X) (o : Option X) (y : X) (d : Bool) → (d ≡ true → o ≡ Some y → q y ≡ true) → (b c : Bool) → q x ≡ c → (c && d) ≡ true → cond b (Some x) o ≡ Some y → q y ≡ true
-found_of_all q x o y d rest true true e both h = let same : x ≡ y = cc in subst (λ z. q z ≡ true) same e
-found_of_all q x o y d rest false true e both h = rest both h
-found_of_all q x o y d rest b false e both h = cc
-
--- what is found is one of those that all pass
-pub find-all : {X : Type 0} (p q : X → Bool) (xs : List X) (y : X) → list_all q xs ≡ true → find p xs ≡ Some y → q y ≡ true
-find-all p q [] y all h = cc
-find-all p q (x ∷ xs) y all h = found_of_all q x (find p xs) y (list_all q xs) (find-all p q xs y) (p x) (q x) refl all h
 
 removed_first : {X : Type 0} (x : X) (xs rest : List X) (n : ℕ) (b : Bool) → remove xs n ≡ rest → remove (x ∷ xs) (cond (not b) (1 + n) 0) ≡ cond b xs (x ∷ rest)
 removed_first x xs rest n true h = refl
@@ -99,10 +81,6 @@ numbered_all f n (suc i) [] h = refl
 numbered_all f n zero (x ∷ xs) h = absurd (omega arith)
 numbered_all f n (suc i) (x ∷ xs) h = let rest : length xs ≤ i = omega arith in ap (λ ys. f (n, x) ∷ ys) (numbered_all f (n + 1) i xs rest)
 
-pub map-same : {X Y : Type 0} (f g : X → Y) → ((x : X) → f x ≡ g x) → (xs : List X) → map f xs ≡ map g xs
-map-same f g h [] = refl
-map-same f g h (x ∷ xs) = ap (λ y. y ∷ map f xs) (h x) ∙ ap (λ ys. g x ∷ ys) (map-same f g h xs)
-
 pub filter-same : {X : Type 0} (p q : X → Bool) → ((x : X) → p x ≡ q x) → (xs : List X) → filter p xs ≡ filter q xs
 filter-same p q h [] = refl
 filter-same p q h (x ∷ xs) = ap (λ b. cond b (x ∷ filter p xs) (filter p xs)) (h x) ∙ ap (λ ys. cond (q x) (x ∷ ys) ys) (filter-same p q h xs)
@@ -126,24 +104,6 @@ filter_each p h (x ∷ xs) = ap (λ b. cond b (x ∷ filter p xs) (filter p xs))
 pub length-numbered : {X Y : Type 0} (f : (ℕ × X) → Y) (n : ℕ) (xs : List X) → length (map f (enumerate_from n xs)) ≡ length xs
 length-numbered f n [] = refl
 length-numbered f n (x ∷ xs) = ap suc (length-numbered f (n + 1) xs)
-
-pub slice_get-numbered : {X Y : Type 0} (f : (ℕ × X) → Y) (n t j : ℕ) (xs : List X) → j ≡ n + t → slice_get (map f (enumerate_from n xs)) t ≡ option_map (λ x. f (j, x)) (slice_get xs t)
-slice_get-numbered f n t j [] e = refl
-slice_get-numbered f n zero j (x ∷ xs) e = let same : n ≡ j = omega arith in ap (λ k. Some (f (k, x))) same
-slice_get-numbered f n (suc t) j (x ∷ xs) e = slice_get-numbered f (n + 1) t j xs (omega arith)
-
-either_true : (a b : Bool) → b ≡ true → (a || b) ≡ true
-either_true true b h = refl
-either_true false b h = h
-
-any_first : {X : Type 0} (q : X → Bool) (x : X) (o : Option X) (y : X) (rest : Bool) → q y ≡ true → (o ≡ Some y → rest ≡ true) → (b : Bool) → cond b (Some x) o ≡ Some y → (q x || rest) ≡ true
-any_first q x o y rest h k true e = let same : y ≡ x = cc in ap (λ z. q z || rest) (sym same) ∙ ap (λ b. b || rest) h
-any_first q x o y rest h k false e = either_true (q x) rest (k e)
-
--- what is found is there
-pub find-any : {X : Type 0} (p q : X → Bool) (xs : List X) (y : X) → find p xs ≡ Some y → q y ≡ true → list_any q xs ≡ true
-find-any p q [] y e h = cc
-find-any p q (x ∷ xs) y e h = any_first q x (find p xs) y (list_any q xs) h (λ g. find-any p q xs y g h) (p x) e
 
 none_first : {X : Type 0} (b : Bool) (x : X) (o : Option X) (rest : Bool) → (o ≡ None → rest ≡ false) → cond b (Some x) o ≡ None → (b || rest) ≡ false
 none_first true x o rest h e = cc

@@ -22,10 +22,6 @@ kept_none p (x ∷ xs) h =
 
 -- ---- the first that passes, in two lists
 
-first_here : {X : Type 0} (x : X) (xs ys zs : List X) (b : Bool) → (b ≡ false → zs ≡ xs ++ ys) → cond b (xs ++ ys) (x ∷ zs) ≡ cond b xs (x ∷ xs) ++ ys
-first_here x xs ys zs true h = refl
-first_here x xs ys zs false h = ap (λ ws. x ∷ ws) (h refl)
-
 drop_step : {X : Type 0} (x : X) (all xs rest zs : List X) (b a : Bool) → (b || a) ≡ true → (a ≡ true → zs ≡ rest ++ xs) → cond b (all ++ xs) (x ∷ zs) ≡ cond b all (x ∷ rest) ++ xs
 drop_step x all xs rest zs true a h k = refl
 drop_step x all xs rest zs false a h k = ap (λ ws. x ∷ ws) (k h)
@@ -81,10 +77,6 @@ kept_among p q (x ∷ xs) = kept_step q x (filter p xs) (filter (λ y. p y && q 
 find_step : {X : Type 0} (q : X → Bool) (x : X) (rest : List X) (o : Option X) (a b : Bool) → q x ≡ b → o ≡ find q rest → cond (a && b) (Some x) o ≡ find q (cond a (x ∷ rest) rest)
 find_step q x rest o true b e h = ap (λ c. cond c (Some x) o) (sym e) ∙ ap (λ r. cond (q x) (Some x) r) h
 find_step q x rest o false b e h = h
-
-pub find_among : {X : Type 0} (p q : X → Bool) (xs : List X) → find (λ x. p x && q x) xs ≡ find q (filter p xs)
-find_among p q [] = refl
-find_among p q (x ∷ xs) = find_step q x (filter p xs) (find (λ y. p y && q y) xs) (p x) (q x) refl (find_among p q xs)
 
 pub some_length : {X : Type 0} (x : X) (xs : List X) → (length (x ∷ xs) == 0) ≡ false
 some_length x xs = ne_eqb (suc (length xs)) 0 (λ e. omega (arith, e))

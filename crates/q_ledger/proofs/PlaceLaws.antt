@@ -34,11 +34,6 @@ one_here test i xs h =
     places_step test i i xs ∙ ap (λ b. if b then i ∷ next else next) h
     ∙ ap (λ n. i ∷ places_from (i + 1) test (drop n xs)) (sym (add-one i))
 
-pub first_here : {A : Type 0} (test : ℕ → A → Bool) (from i : ℕ) (xs : List A) →
-    slice_get (places_from from test (drop from xs)) 0 ≡ slice_get (places_from i test (drop i xs)) 0 → passes_at test i (slice_get xs i) ≡ true →
-    Some i ≡ slice_get (places_from from test (drop from xs)) 0
-first_here test from i xs same h = sym (same ∙ ap (λ ps. slice_get ps 0) (one_here test i xs h))
-
 -- behind the end there is none
 pub none_left : {A : Type 0} (test : ℕ → A → Bool) (i : ℕ) (xs : List A) → length xs ≤ i → places_from i test (drop i xs) ≡ []
 none_left test i xs h = ap (places_from i test) (drop_all i xs h)

@@ -57,19 +57,6 @@ few_asleep waiting flights limit rs h =
     fewer_pass is_asleep (is_remembered_in waiting flights) rs (λ r inside k. (and_parts (not (is_awake r)) (is_unused_in waiting flights r.site) k).0) in
     sym (ap (λ b. if b then drop_first (is_remembered_in waiting flights) rs else rs) (le-ltb limit (tally (is_remembered_in waiting flights) rs) (omega (arith, less, h))))
 
-none_busy : (b : Bool) (n : ℕ) → (n == 0) ≡ false → (not b && (n == 0)) ≡ false
-none_busy true n h = refl
-none_busy false n h = h
-
--- a site with a delivery is used
-pub busy_used : (waits : Bool) (n : ℕ) → (n == 0) ≡ false → false ≡ (not waits && (n == 0))
-busy_used waits n h = sym (none_busy waits n h)
-
--- one without is used where a row waits
-pub idle_used : (waits : Bool) (n : ℕ) → (n == 0) ≡ true → not waits ≡ (not waits && (n == 0))
-idle_used true n h = refl
-idle_used false n h = sym h
-
 -- ---- no record came to be unused
 
 abbrev pub comes_unused : Ledger → Ledger → SiteRecord → Bool

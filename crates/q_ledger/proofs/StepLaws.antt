@@ -20,7 +20,7 @@ use Rattle.q_ledger.specs.Beside.{AreAccounts, IsBeside, IsOfLedger, recipients_
 use Rattle.q_ledger.specs.Counted.{is_of}
 use Rattle.q_ledger.specs.Empty.{empty_ledger}
 use Rattle.q_ledger.specs.Following.{TakesIn}
-use Rattle.q_ledger.specs.Holding.{AreTold, Holds, HoldsNothing, IsBrokenBy, IsJudged, IsJudgedBy, IsJudgment, Recounted, TakesOver}
+use Rattle.q_ledger.specs.Holding.{AreTold, Holds, HoldsNothing, IsJudged, IsJudgedBy, IsJudgment, Recounted, TakesOver}
 use Rattle.q_ledger.specs.Ruling.{HasLines}
 use Rattle.q_ledger.specs.State.{State}
 use Rattle.q_ledger.specs.Taking.{IsTaken}
@@ -28,7 +28,6 @@ use Rattle.q_ledger.specs.Worlds.{world_of}
 use Rattle.q_ledger.specs.declared.accounts.Account.{Account}
 use Rattle.q_ledger.specs.declared.accounts.Accounts.{Accounts}
 use Rattle.q_ledger.specs.declared.recount.Judged.{Judged}
-use Rattle.q_ledger.specs.declared.recount.Judged.TheVariants.{Broken, Lawful}
 use Rattle.q_model.specs.Ids.{id_eq}
 use Rattle.q_model.specs.Ledger.{Ledger}
 use Rattle.q_model.specs.Message.{Message}
@@ -75,20 +74,6 @@ recipients_held w r (first ∷ es) l id one h after =
     let k = h.since.held in
     ap (λ (x : Ledger). recipients_in x id) (sym k.bare_ledger) ∙ recipients_bare k.ledger id
     ∙ ap (λ (x : Ledger). recipients_in x id) (one w first es k.ledger l k.front after)
-
--- ---- a broken entry
-
-broken_is : (a : Result Judged NoMemory) (n rule : ℕ) → a ≡ Ok (Broken n) → a ≡ Ok (Broken rule) → n ≡ rule
-broken_is a n rule h k = let same : Ok (Broken n) ≡ Ok (Broken rule) = sym h ∙ k in cc
-
-broken_not : (n : ℕ) → Broken n ≡ Lawful → ⊥
-broken_not n h = absurd cc
-
-pub broken_by : (w : World) (es : List Entry) (e : Entry) (a : Result Judged NoMemory) (n rule : ℕ) → IsJudged w es e (Broken n) → a ≡ Ok (Broken n) → a ≡ Ok (Broken rule) → IsBrokenBy w es e rule
-broken_by w es e a n rule k is same = record {
-  breaks = λ f. broken_not n (k.lawful.1 f);
-  named = λ l after. sym (broken_is a n rule is same) ∙ k.rule n refl l after;
-}
 
 -- ---- judging
 

@@ -1,5 +1,5 @@
 -- How the accounts of jobs are kept: where a change finds its account, and when it has room for one more.
-use Rattle.std.specs.Prelude.{◌≡◌, ◌≤◌, ◌<◌, ◌+◌, ◌^◌, Bool, false, List, set, slice_get, Some, true, vec_capacity, vec_len, ℕ}
+use Rattle.std.specs.Prelude.{◌≡◌, ◌≤◌, ◌<◌, ◌+◌, ◌^◌, List, set, slice_get, Some, vec_capacity, vec_len, ℕ}
 use Rattle.q_bare.specs.Counts.{Counts}
 use Rattle.q_ledger.specs.declared.accounts.Accounts.{Accounts}
 use Rattle.q_model.specs.declared.entry.Entry.{Entry}
@@ -14,12 +14,6 @@ HasChanged {A = A} change place old new = (x : A) → slice_get old place ≡ So
 abbrev pub HasRoom : Accounts → Type 0
 HasRoom a = vec_len a.jobs < vec_capacity a.jobs
 
--- both say the same
-pub record AreAlike (a b : Accounts) : Type 0 where
-  pub starts : b.starts ≡ a.starts
-  pub arrivals : b.arrivals ≡ a.arrivals
-  pub jobs : b.jobs.items ≡ a.jobs.items
-
 -- What is counted fits: in all, and of each job.
 pub record AreFew (c : Counts) : Type 0 where
   pub deliveries : c.deliveries < 2 ^ 60
@@ -30,12 +24,3 @@ pub record AreFew (c : Counts) : Type 0 where
 abbrev pub IsChargedWithin : Counts → Entry → Type 0
 IsChargedWithin c (entries.Preempt child parent transport need) = c.charged_to parent transport + need < 2 ^ 64
 IsChargedWithin c e = Unit {0}
-
--- the entry counts nothing
-abbrev pub counts_nothing : Entry → Bool
-counts_nothing (entries.Life generation mode) = false
-counts_nothing (entries.Arrive id sender to content) = false
-counts_nothing (entries.Admit id) = false
-counts_nothing (entries.Start number id site positions) = false
-counts_nothing (entries.Preempt child parent transport need) = false
-counts_nothing _ = true

@@ -1,8 +1,6 @@
 //! Which messages are in memory, and how many recipients.
 ghost use Rattle.std.specs.Prelude.{◌≡◌, ◌-◌, ◌^◌, length, min, sum_by};
-ghost use Rattle.std.specs.List.{list_any};
 ghost use Rattle.std.specs.Option.{option_copied};
-ghost use Rattle.q_model.specs.Ids.{id_eq};
 ghost use Rattle.q_model.specs.Memory.{free, has_waiting, in_memory};
 ghost use Rattle.q_ledger.specs.Held.{is_idle_in, is_idle_slot, slot_in, unread_in};
 ghost use Rattle.q_ledger.specs.Worlds.{world_of};
@@ -52,12 +50,6 @@ impl Slot {
 }
 
 impl Ledger {
-    pub(crate) fn is_admitted(&self, id: Id) -> bool
-        ensures { result ≡ list_any (λ s. id_eq s.id id) self.now.slots }
-    {
-        self.admitted.iter().any(|slot| same_id(slot.id, id))
-    }
-
     pub(crate) fn slot(&self, id: Id) -> Option<&Slot>
         ensures { option_copied result ≡ slot_in self.now id }
     {

@@ -66,98 +66,47 @@ impl Ledger {
         ensures err { OnErr result (self.new ≡ self.old) }
     {
         match entry {
-            Entry::Life { generation, mode } => {
-                self.begin(alloc, world, *generation, *mode)?;
-                Ok(())
-            }
-            Entry::At { moment } => {
-                self.pass_time(world, *moment);
-                Ok(())
-            }
+            Entry::Life { generation, mode } => self.begin(alloc, world, *generation, *mode)?,
+            Entry::At { moment } => self.pass_time(world, *moment),
             Entry::Arrive { id, sender, to, .. } => {
-                self.arrive(alloc, *id, sender, to.as_slice())?;
-                Ok(())
+                self.arrive(alloc, *id, sender, to.as_slice())?
             }
-            Entry::Back { id } => {
-                self.back(*id);
-                Ok(())
-            }
-            Entry::Admit { id } => {
-                self.admit(*id)?;
-                Ok(())
-            }
-            Entry::Load { id, from, to } => {
-                self.load(alloc, world, *id, *from, *to)?;
-                Ok(())
-            }
+            Entry::Back { id } => self.back(*id),
+            Entry::Admit { id } => self.admit(*id)?,
+            Entry::Load { id, from, to } => self.load(alloc, world, *id, *from, *to)?,
             Entry::Start {
                 number,
                 id,
                 site,
                 positions,
-            } => {
-                self.start(*number, *id, site, positions.as_slice())?;
-                Ok(())
-            }
+            } => { self.start(*number, *id, site, positions.as_slice())? }
             Entry::Preempt {
                 child,
                 parent,
                 transport,
                 ..
-            } => {
-                self.preempt(*child, *parent, *transport)?;
-                Ok(())
-            }
+            } => { self.preempt(*child, *parent, *transport)? }
             Entry::Reply {
                 number,
                 site,
                 outcomes,
-            } => {
-                self.reply(alloc, world, *number, *site, outcomes.as_slice())?;
-                Ok(())
-            }
+            } => { self.reply(alloc, world, *number, *site, outcomes.as_slice())? }
             Entry::Skip {
                 id,
                 site,
                 positions,
-            } => {
-                self.skip(alloc, world, *id, site, positions.as_slice())?;
-                Ok(())
-            }
-            Entry::Log { id, failure } => {
-                self.log(*id, *failure)?;
-                Ok(())
-            }
-            Entry::Mark { id, position } => {
-                self.mark(*id, *position);
-                Ok(())
-            }
-            Entry::Sync { id } => {
-                self.sync(*id)?;
-                Ok(())
-            }
-            Entry::Defer { id, due } => {
-                self.defer(*id, *due);
-                Ok(())
-            }
-            Entry::Bounce { id } => {
-                self.bounce(alloc, *id)?;
-                Ok(())
-            }
-            Entry::Remove { id } => {
-                self.remove(*id);
-                Ok(())
-            }
-            Entry::Corrupt { .. } => {
-                self.book.is_whole();
-                Ok(())
-            }
-            Entry::Trigger { kind } => {
-                self.pull(world, *kind);
-                Ok(())
-            }
-            Entry::End => Ok(()),
+            } => { self.skip(alloc, world, *id, site, positions.as_slice())? }
+            Entry::Log { id, failure } => self.log(*id, *failure)?,
+            Entry::Mark { id, position } => self.mark(*id, *position),
+            Entry::Sync { id } => self.sync(*id)?,
+            Entry::Defer { id, due } => self.defer(*id, *due),
+            Entry::Bounce { id } => self.bounce(alloc, *id)?,
+            Entry::Remove { id } => self.remove(*id),
+            Entry::Corrupt { .. } => self.book.is_whole(),
+            Entry::Trigger { kind } => self.pull(world, *kind),
+            Entry::End => {}
         }
+        Ok(())
     }
 
     /// Takes an allowed entry over, and tidies what is left.

@@ -1,7 +1,7 @@
 //! Deliveries in flight, counted by transport and by site.
 ghost use Rattle.std.specs.Prelude.{◌≡◌};
 ghost use Rattle.std.specs.Option.{option_copied};
-ghost use Rattle.q_model.specs.Deliveries.{busy, flight_of, flights_of, waits_at};
+ghost use Rattle.q_model.specs.Deliveries.{busy, flight_of, flights_of};
 
 use crate::ids::same_site;
 use crate::ledger::Ledger;
@@ -26,12 +26,6 @@ impl Ledger {
             .iter()
             .filter(|flight| same_site(&flight.row.site, site))
             .count()
-    }
-
-    pub(crate) fn waits_at(&self, site: &Site) -> bool
-        ensures { result ≡ waits_at self.now.ledger site.now }
-    {
-        self.waiting.waits_at(site)
     }
 
     pub(crate) fn flight(&self, number: u64) -> Option<&Delivery>

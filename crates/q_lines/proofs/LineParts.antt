@@ -59,10 +59,6 @@ pub record IsPart (most : ℕ) (bytes : List ℕ) (left : ℕ) (part rest : List
 abbrev pub PartTaken : ℕ → Option (List ℕ) → ℕ → List ℕ → Option (List ℕ) → Type 0
 PartTaken most old left part new = IfSome old (λ bytes. (rest : List ℕ) × (new ≡ Some rest) × IsPart most bytes left part rest)
 
-pub nothing_taken : (most : ℕ) (old : Option (List ℕ)) → PartTaken most old most [] old
-nothing_taken most None = tt
-nothing_taken most (Some bytes) = (bytes, refl, record { whole = refl; lines = refl; in_line = refl })
-
 -- a byte of the line, or its end
 byte_more : (left b : ℕ) (rest : List ℕ) → (b == 10) ≡ false → lines_from (suc left) (b ∷ rest) ≡ onto_line b (lines_from left rest)
 byte_more left b rest h = rw h refl

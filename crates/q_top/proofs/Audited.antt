@@ -4,11 +4,9 @@ use Rattle.std.specs.Prelude.{Bool, Err, IsTrue, Ok, OnErr, OnOk, Option, Result
 use Rattle.q_audit.specs.TraceEnds.{IsRefused, ReportsTrace}
 use Rattle.q_audit.specs.declared.trace.TraceError.{TraceError}
 use Rattle.q_audit.specs.declared.trace.TraceError.TheVariants as trace_errors
-use Rattle.q_books.specs.HostStands.{HostStands}
-use Rattle.q_conf.specs.Confs.{at_fault, conf_of, goes_by, IsConfFault}
+use Rattle.q_conf.specs.Confs.{conf_of, goes_by, IsConfFault}
 use Rattle.q_conf.specs.declared.error.ConfError.{ConfError}
 use Rattle.q_conf.specs.declared.error.ConfError.TheVariants as conf_errors
-use Rattle.q_conf.specs.declared.error.ConfFile.{ConfFile}
 use Rattle.q_host.proofs.Moments.{goes_nowhere}
 use Rattle.q_host.proofs.Stays.{stays_on}
 use Rattle.q_host.specs.Calls.{Stays}
@@ -17,7 +15,6 @@ use Rattle.q_host.specs.Steps.{Stay}
 use Rattle.q_host.specs.View.{View}
 use Rattle.q_host.specs.declared.error.HostError.{HostError}
 use Rattle.q_host.specs.declared.error.HostError.TheVariants as faults
-use Rattle.q_model.specs.Book.{Book}
 use Rattle.q_model.specs.FaultCounts.{Rose}
 use Rattle.q_model.specs.Settings.{World}
 use Rattle.q_replay.specs.Spools.{Serves}
@@ -30,11 +27,10 @@ use Rattle.q_top.specs.Audits.{Audits, EndsAudit}
 use Rattle.q_top.specs.Causes.{HasHostCause, HasSourceCause}
 use Rattle.q_top.specs.Courses.{Texts}
 use Rattle.q_top.specs.Named.{IsNamed}
-use Rattle.q_top.specs.Statuses.{conf_status, is_unreadable, names_fault, telling_status, trace_status}
+use Rattle.q_top.specs.Statuses.{conf_status, is_unreadable, telling_status, trace_status}
 use Rattle.q_top.specs.Tellings.{EndsTelling}
 use Rattle.q_top.specs.declared.status.Status.{Status}
 use Rattle.q_top.specs.declared.status.Status.TheVariants as status
-use Rattle.q_words.specs.declared.request.Request.{Request}
 use Rattle.q_words.specs.declared.request.Request.TheVariants.{Audit}
 
 -- ---- by the files of conf

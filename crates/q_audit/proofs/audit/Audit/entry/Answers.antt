@@ -1,4 +1,4 @@
-use Rattle.std.proofs.Common.{◌≡◌, ◌∙◌, ◌++◌, ◌∷◌, [], ◌+◌, ap, arith, false, length, List, None, Option, refl, Some, subst, sym, ℕ}
+use Rattle.std.proofs.Common.{◌≡◌, ◌∙◌, ◌++◌, ◌∷◌, [], ◌+◌, ap, arith, false, length, None, Option, refl, Some, subst, sym}
 use Rattle.std.specs.Prelude.{is_some}
 use Rattle.q_audit.proofs.ReadingLaws.{counted_line, passed_over}
 use Rattle.q_audit.specs.Reading.{AuditState, Judges, Reads}

@@ -1,11 +1,9 @@
-use Rattle.std.proofs.Common.{◌≡◌, ◌∙◌, ◌++◌, ◌∷◌, [], ◌<◌, ◌+◌, ap, arith, length, List, None, Ok, Some, subst, sym, ℕ}
+use Rattle.std.proofs.Common.{◌≡◌, ◌∙◌, ◌++◌, ◌∷◌, [], ◌<◌, ◌+◌, ap, arith, length, None, Ok, Some, subst, sym}
 use Rattle.q_audit.proofs.ReadingLaws.{broken_next, lawful_next}
 use Rattle.q_audit.specs.Reading.{AuditState, IsBreach, Reads}
 use Rattle.q_audit.specs.declared.audit.Breach.{Breach}
 use Rattle.q_ledger.specs.Holding.{Holds}
 use Rattle.q_ledger.specs.Worlds.{world_of}
-use Rattle.q_model.specs.declared.entry.Entry.{Entry}
-use Rattle.q_model.specs.Settings.{World}
 use Rattle.q_audit.proofs.audit.Audit.judge.Goals as goal
 
 pub returns-in_ok-take-in-Lawful-clause-judges : goal.returns-in_ok-take-in-Lawful-clause-judges

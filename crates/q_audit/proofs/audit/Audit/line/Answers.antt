@@ -1,12 +1,10 @@
-use Rattle.std.proofs.Common.{◌≡◌, ◌∙◌, ap, Err, IsErrOf, List, Ok, refl, Result, subst, sym, ℕ}
+use Rattle.std.proofs.Common.{◌≡◌, ◌∙◌, ap, Err, IsErrOf, Ok, refl, Result, subst}
 use Rattle.std.specs.Result.{IsErrAnd}
 use Rattle.q_audit.specs.Errors.{audit_error}
-use Rattle.q_audit.specs.Reading.{AuditState, Reads}
+use Rattle.q_audit.specs.Reading.{AuditState}
 use Rattle.q_audit.specs.declared.error.AuditError.{AuditError}
 use Rattle.q_audit.specs.declared.error.AuditError.TheVariants as audit
-use Rattle.q_ledger.specs.Worlds.{world_of}
 use Rattle.q_model.specs.Settings.{Table, World}
-use Rattle.q_model.specs.declared.entry.Entry.{Entry}
 use Rattle.q_trace.specs.Bounds.{as_told, IsLineOf, IsNoLine}
 use Rattle.q_trace.specs.declared.error.EntryError.{EntryError}
 use Rattle.q_trace.specs.declared.error.EntryError.TheVariants as entry

@@ -1,5 +1,5 @@
-use Rattle.std.proofs.Common.{◌≡◌, ◌+◌, ◌-◌, ◌^◌, ◌∙◌, ◌∷◌, [], List, ap, arith, min, Option, subst, ℕ}
-use Rattle.q_audit.proofs.EndLaws.{at_end, at_fault, at_limit, line_refused, on_refusal, read_more, short_part, too_long}
+use Rattle.std.proofs.Common.{◌≡◌, ◌+◌, ◌-◌, ◌^◌, ◌∙◌, ◌∷◌, [], ap, arith, min, subst, ℕ}
+use Rattle.q_audit.proofs.EndLaws.{at_end, at_fault, line_refused, on_refusal, read_more, short_part, too_long}
 use Rattle.q_audit.specs.Reading.{AuditState}
 use Rattle.q_lines.specs.LineReadings.{GivesNextLine, Spends}
 use Rattle.q_lines.specs.TextLines.{unended}

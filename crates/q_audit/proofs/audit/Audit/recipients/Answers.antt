@@ -1,4 +1,4 @@
-use Rattle.std.proofs.Common.{◌≡◌, ◌∙◌, ap, List, Some, subst, sym, ℕ}
+use Rattle.std.proofs.Common.{◌≡◌, ◌∙◌, ap, Some, subst, sym, ℕ}
 use Rattle.q_audit.specs.Delays.{Preempted, preempted_by, recipients_of}
 use Rattle.q_audit.specs.Reading.{AuditState}
 use Rattle.q_ledger.specs.Holding.{Holds}

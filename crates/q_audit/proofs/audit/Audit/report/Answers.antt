@@ -1,9 +1,8 @@
-use Rattle.std.proofs.Common.{◌≡◌, ◌∙◌, ap, inl, inr, List, map, None, Some, subst, sym, ℕ}
+use Rattle.std.proofs.Common.{◌≡◌, ◌∙◌, ap, inl, inr, List, map, subst, sym}
 use Rattle.q_audit.proofs.ReadingLaws.{told_broken, told_lawful}
 use Rattle.q_audit.specs.Reading.{AuditState, Reads}
 use Rattle.q_audit.specs.ReportTexts.{lawful_text}
 use Rattle.q_audit.specs.Tallied.{delay_of, Job}
-use Rattle.q_audit.specs.declared.audit.Breach.{Breach}
 use Rattle.q_model.specs.Settings.{Table}
 use Rattle.q_transport.specs.Routing.{table_of}
 use Rattle.q_audit.proofs.audit.Audit.report.Goals.{in-None+in_ok-text-in-None, in-Some+in_ok-text-in-Some}
