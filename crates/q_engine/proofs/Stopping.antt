@@ -3,7 +3,7 @@ use Rattle.std.proofs.Common.{◌≡◌, ◌∙◌, ◌≤◌, Bool, List, ap, a
 use Rattle.std.specs.Prelude.{Err, IsErrOf, IsTrue, Ok, Result, ◌||◌}
 use Rattle.std.specs.Result.{IsErrAnd}
 use Rattle.q_entries.specs.Causes.{HostCause}
-use Rattle.q_events.proofs.LineParts.{rose_later}
+use Rattle.q_lines.proofs.LineParts.{rose_later}
 use Rattle.q_host.specs.Faults.{DiskCause, Faults, TellCause}
 use Rattle.q_host.specs.declared.error.HostError.{HostError}
 use Rattle.q_host.specs.declared.error.HostError.TheVariants as faults

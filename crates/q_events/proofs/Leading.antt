@@ -6,11 +6,12 @@ use Rattle.std.specs.Option.{ok_or, option_map_or}
 use Rattle.std.proofs.lemmas.Bool.{le-ltb, and_parts, and_from}
 use Rattle.std.proofs.lemmas.List.{append-nil, length_push}
 use Rattle.q_events.specs.EventLines.{meaning_of_line}
-use Rattle.q_events.specs.EventList.{FirstItem, found, bad, past_limit, meaning, is_leading, leads, content_by, content_of, item_of, command_in, item_at, first_item}
-use Rattle.q_events.specs.LineReadings.{AnswersAt, GivesLine, LineAt, StopsInLine}
+use Rattle.q_events.specs.EventList.{FirstItem, found, bad, past_limit, meaning, is_leading, leads, content_by, content_of, item_of, command_in, item_in, item_at, first_item, passes_limit}
+use Rattle.q_events.specs.LineReadings.{AnswersAt, GivesLine, LineAt, Says}
 use Rattle.q_events.specs.Readings.{GivesItem, reading, StopsBefore}
 use Rattle.q_events.specs.States.{EventsState}
-use Rattle.q_events.specs.TextLines.{TextLine, whole, cut, is_long, lines_from}
+use Rattle.q_lines.specs.LineReadings.{StopsInLine}
+use Rattle.q_lines.specs.TextLines.{TextLine, whole, unended, cut, bytes_of, is_long, lines_from}
 use Rattle.q_events.specs.declared.error.EventError.{EventError}
 use Rattle.q_events.specs.declared.error.EventError.TheVariants as errors
 use Rattle.q_events.specs.declared.list_item.ListItem.{ListItem}
@@ -72,8 +73,24 @@ led_reading e now bytes content rest more is at stops =
 
 -- ---- one line more
 
-meaning_of : (text : List ℕ) → length text ≤ 16777216 → meaning (whole text) ≡ meaning_of_line text
-meaning_of text short = ap (λ b. if b then None else meaning_of_line text) (le-ltb 16777216 (length text) short)
+-- a line that isn't cut
+said_bytes : (line : TextLine) (text : List ℕ) → Says line text → bytes_of line ≡ text
+said_bytes (whole line) text says = says
+said_bytes (unended line) text says = says
+said_bytes (cut line) text says = absurd says
+
+no_limit : (line : TextLine) (text : List ℕ) → Says line text → passes_limit line ≡ false
+no_limit (whole line) text says = refl
+no_limit (unended line) text says = refl
+no_limit (cut line) text says = absurd says
+
+meaning_short : (text : List ℕ) → length text ≤ 16777216 → meaning (whole text) ≡ meaning_of_line text
+meaning_short text short = ap (λ b. if b then None else meaning_of_line text) (le-ltb 16777216 (length text) short)
+
+meaning_of : (line : TextLine) (text : List ℕ) → Says line text → length text ≤ 16777216 → meaning line ≡ meaning_of_line text
+meaning_of (whole line) text says short = ap (λ (x : List ℕ). meaning (whole x)) says ∙ meaning_short text short
+meaning_of (unended line) text says short = ap (λ (x : List ℕ). meaning (whole x)) says ∙ meaning_short text short
+meaning_of (cut line) text says short = absurd says
 
 flat_push : (ls : List TextLine) (x : TextLine) → flat_map content_of (ls ++ x ∷ []) ≡ flat_map content_of ls ++ content_of x
 flat_push [] x = append-nil (content_of x)
@@ -103,13 +120,13 @@ pub line_led : (e now later : EventsState) (old mid new : Option (List ℕ)) (co
     → meaning_of_line text ≡ Some said → command_in (Some said) ≡ None → more ≡ content ++ content_by text (Some said) → later.lines ≡ now.lines + 1 → Led e old more later new
 line_led e now later None mid new content more text said led at short is_said none added count = tt
 line_led e now later (Some bytes) None new content more text said (rest, m, is) at short is_said none added count = absurd (cc)
-line_led e now later (Some bytes) (Some mid) new content more text said (rest, m, is) (others, n, at) short is_said none added count =
+line_led e now later (Some bytes) (Some mid) new content more text said (rest, m, is) (others, line, n, says, at) short is_said none added count =
     let same : mid ≡ rest = cc in
-    let meant = meaning_of text short ∙ is_said in (
+    let meant = meaning_of line text says short ∙ is_said in (
       others,
       n,
-      led_more e now later bytes content more rest others (whole text) is (ap (lines_from now.budget) (sym same) ∙ at) (ap is_leading meant ∙ no_command said none)
-          (added ∙ ap (λ (o : Option ListLine). content ++ content_by text o) (sym meant)) count,
+      led_more e now later bytes content more rest others line is (ap (lines_from now.budget) (sym same) ∙ at) (ap is_leading meant ∙ no_command said none)
+          (added ∙ ap (λ (o : Option ListLine). content ++ content_by text o) (sym meant) ∙ ap (λ (x : List ℕ). content ++ content_by x (meaning line)) (sym (said_bytes line text says))) count,
     )
 
 -- ---- a line that is no leading one
@@ -117,20 +134,22 @@ line_led e now later (Some bytes) (Some mid) new content more text said (rest, m
 no_front : (x : TextLine) (xs : List TextLine) → leads x ≡ false → take_while leads (x ∷ xs) ≡ []
 no_front x xs h = ap (λ b. take (cond b (1 + prefix_len leads xs) 0) (x ∷ xs)) h
 
-at_line : (content text : List ℕ) (n : ℕ) (more : List TextLine) (o : Option ListLine) → length text ≤ 16777216 → meaning_of_line text ≡ o
-    → item_at content n (whole text ∷ more) ≡ option_map_or (λ item. found item n more) (option_and_then (item_of content n) (command_in o)) (bad n)
-at_line content text n more o short said = ap (λ (x : Option ListLine). option_map_or (λ item. found item n more) (option_and_then (item_of content n) (command_in x)) (bad n)) (meaning_of text short ∙ said)
+at_line : (content text : List ℕ) (line : TextLine) (n : ℕ) (more : List TextLine) (o : Option ListLine) → Says line text → length text ≤ 16777216 → meaning_of_line text ≡ o
+    → item_at content n (line ∷ more) ≡ option_map_or (λ item. found item n more) (option_and_then (item_of content n) (command_in o)) (bad n)
+at_line content text line n more o says short said =
+    ap (λ b. if b then past_limit else option_map_or (λ item. found item n more) (item_in content n line) (bad n)) (no_limit line text says)
+    ∙ ap (λ (x : Option ListLine). option_map_or (λ item. found item n more) (option_and_then (item_of content n) (command_in x)) (bad n)) (meaning_of line text says short ∙ said)
 
-stops_at : (text : List ℕ) (more : List TextLine) (o : Option ListLine) → length text ≤ 16777216 → meaning_of_line text ≡ o → is_leading o ≡ false → take_while leads (whole text ∷ more) ≡ []
-stops_at text more o short said h = no_front (whole text) more (ap is_leading (meaning_of text short ∙ said) ∙ h)
+stops_at : (text : List ℕ) (line : TextLine) (more : List TextLine) (o : Option ListLine) → Says line text → length text ≤ 16777216 → meaning_of_line text ≡ o → is_leading o ≡ false → take_while leads (line ∷ more) ≡ []
+stops_at text line more o says short said h = no_front line more (ap is_leading (meaning_of line text says short ∙ said) ∙ h)
 
-line_reading : (e now later : EventsState) (bytes content text mid rest others : List ℕ) (o : Option ListLine) → IsLed e bytes content now rest → mid ≡ rest → lines_from now.budget mid ≡ whole text ∷ lines_from later.budget others
-    → length text ≤ 16777216 → meaning_of_line text ≡ o → is_leading o ≡ false → later.lines ≡ now.lines + 1
+line_reading : (e now later : EventsState) (bytes content text mid rest others : List ℕ) (line : TextLine) (o : Option ListLine) → IsLed e bytes content now rest → mid ≡ rest → Says line text
+    → lines_from now.budget mid ≡ line ∷ lines_from later.budget others → length text ≤ 16777216 → meaning_of_line text ≡ o → is_leading o ≡ false → later.lines ≡ now.lines + 1
     → reading e bytes ≡ option_map_or (λ item. found item later.lines (lines_from later.budget others)) (option_and_then (item_of content later.lines) (command_in o)) (bad later.lines)
-line_reading e now later bytes content text mid rest others o is same at short said h count =
+line_reading e now later bytes content text mid rest others line o is same says at short said h count =
     let more = lines_from later.budget others in
-    led_reading e now bytes content rest (whole text ∷ more) is (ap (lines_from now.budget) (sym same) ∙ at) (stops_at text more o short said h)
-    ∙ ap (λ n. item_at content n (whole text ∷ more)) (sym count) ∙ at_line content text later.lines more o short said
+    led_reading e now bytes content rest (line ∷ more) is (ap (lines_from now.budget) (sym same) ∙ at) (stops_at text line more o says short said h)
+    ∙ ap (λ n. item_at content n (line ∷ more)) (sym count) ∙ at_line content text line later.lines more o says short said
 
 -- the item of a command
 pub item_found : (e now later : EventsState) (old mid new : Option (List ℕ)) (content text : List ℕ) (command : Command) (item : ListItem) → Led e old content now mid → LineAt now mid later new text → length text ≤ 16777216
@@ -138,11 +157,11 @@ pub item_found : (e now later : EventsState) (old mid new : Option (List ℕ)) (
     → IfSome old (λ bytes. (rest : List ℕ) × (new ≡ Some rest) × (reading e bytes ≡ found item later.lines (lines_from later.budget rest)))
 item_found e now later None mid new content text command item led at short said h count = tt
 item_found e now later (Some bytes) None new content text command item (rest, m, is) at short said h count = absurd (cc)
-item_found e now later (Some bytes) (Some mid) new content text command item (rest, m, is) (others, n, at) short said h count =
+item_found e now later (Some bytes) (Some mid) new content text command item (rest, m, is) (others, line, n, says, at) short said h count =
     let same : mid ≡ rest = cc in (
       others,
       n,
-      line_reading e now later bytes content text mid rest others (Some (Told command)) is same at short said refl count
+      line_reading e now later bytes content text mid rest others line (Some (Told command)) is same says at short said refl count
           ∙ ap (λ (o : Option ListItem). option_map_or (λ item. found item later.lines (lines_from later.budget others)) o (bad later.lines)) h,
     )
 
@@ -152,9 +171,9 @@ pub no_item : (e now later : EventsState) (old mid new : Option (List ℕ)) (con
     → IfSome old (λ bytes. reading e bytes ≡ bad later.lines)
 no_item e now later None mid new content text command led at short said h count = tt
 no_item e now later (Some bytes) None new content text command (rest, m, is) at short said h count = absurd (cc)
-no_item e now later (Some bytes) (Some mid) new content text command (rest, m, is) (others, n, at) short said h count =
+no_item e now later (Some bytes) (Some mid) new content text command (rest, m, is) (others, line, n, says, at) short said h count =
     let same : mid ≡ rest = cc in
-    line_reading e now later bytes content text mid rest others (Some (Told command)) is same at short said refl count
+    line_reading e now later bytes content text mid rest others line (Some (Told command)) is same says at short said refl count
     ∙ ap (λ (o : Option ListItem). option_map_or (λ item. found item later.lines (lines_from later.budget others)) o (bad later.lines)) h
 
 -- a line that is none of an event list
@@ -162,8 +181,8 @@ pub bad_line : (e now later : EventsState) (old mid new : Option (List ℕ)) (co
     → meaning_of_line text ≡ None → later.lines ≡ now.lines + 1 → IfSome old (λ bytes. reading e bytes ≡ bad later.lines)
 bad_line e now later None mid new content text led at short said count = tt
 bad_line e now later (Some bytes) None new content text (rest, m, is) at short said count = absurd (cc)
-bad_line e now later (Some bytes) (Some mid) new content text (rest, m, is) (others, n, at) short said count =
-    let same : mid ≡ rest = cc in line_reading e now later bytes content text mid rest others None is same at short said refl count
+bad_line e now later (Some bytes) (Some mid) new content text (rest, m, is) (others, line, n, says, at) short said count =
+    let same : mid ≡ rest = cc in line_reading e now later bytes content text mid rest others line None is same says at short said refl count
 
 -- ---- where there is no next line
 
@@ -190,6 +209,10 @@ is_cut line more short content n = (refl, rw short refl)
 too_long : (line : TextLine) (more : List TextLine) → is_long line ≡ true → (content : List ℕ) (n : ℕ) → (take_while leads (line ∷ more) ≡ []) × (item_at content n (line ∷ more) ≡ bad n)
 too_long (whole line) more long content n = (
   no_front (whole line) more (ap (λ b. is_leading (if b then None else meaning_of_line line)) long),
+  ap (λ b. option_map_or (λ item. found item n more) (option_and_then (item_of content n) (command_in (if b then None else meaning_of_line line))) (bad n)) long,
+)
+too_long (unended line) more long content n = (
+  no_front (unended line) more (ap (λ b. is_leading (if b then None else meaning_of_line line)) long),
   ap (λ b. option_map_or (λ item. found item n more) (option_and_then (item_of content n) (command_in (if b then None else meaning_of_line line))) (bad n)) long,
 )
 too_long (cut line) more long content n = (refl, rw long refl)

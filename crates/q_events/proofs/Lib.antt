@@ -1,3 +1,3 @@
-pub mod LineParts
+pub mod NextLines
 pub mod Leading
 pub mod ItemForms

@@ -6,7 +6,7 @@ use Rattle.q_model.specs.Lists.{has_none}
 use Rattle.q_model.specs.TextParts.{text_line}
 use Rattle.q_model.specs.declared.event.Event.TheVariants as events
 use Rattle.q_events.specs.EventLines.{meaning_of_line}
-use Rattle.q_events.specs.TextLines.{cut, is_long, TextLine, whole, bytes_of}
+use Rattle.q_lines.specs.TextLines.{bytes_of, cut, is_long, TextLine, unended, whole}
 use Rattle.q_events.specs.declared.list_item.ListItem.{ListItem}
 use Rattle.q_events.specs.declared.list_item.ListItem.TheVariants as items
 use Rattle.q_events.specs.declared.line.ListLine.{ListLine}
@@ -14,9 +14,10 @@ use Rattle.q_events.specs.declared.line.ListLine.TheVariants.{Body, Passed, Told
 use Rattle.q_events.specs.declared.line.Command.{Command}
 use Rattle.q_events.specs.declared.line.Command.TheVariants as commands
 
--- what a line says, if it is whole and not too long
+-- what a line says, if it isn't cut and not too long; a last line may lack its LF
 abbrev pub meaning : TextLine → Option ListLine
 meaning (whole line) = if is_long (whole line) then None else meaning_of_line line
+meaning (unended line) = if is_long (unended line) then None else meaning_of_line line
 meaning (cut line) = None
 
 -- the lines that may stand before a mail: those that are passed over, and those of its content
@@ -64,6 +65,7 @@ command_in (Some (Told command)) = Some command
 -- a line is cut by the limit of the list, and isn't too long before
 abbrev pub passes_limit : TextLine → Bool
 passes_limit (whole line) = false
+passes_limit (unended line) = false
 passes_limit (cut line) = not (is_long (cut line))
 
 -- the item of a line, which has number n and stands behind this content

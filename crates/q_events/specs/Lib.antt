@@ -1,4 +1,3 @@
-pub mod TextLines
 pub mod EventLines
 pub mod EventList
 pub mod States

@@ -1,9 +1,10 @@
 -- What a call gives of the bytes that are left of an event list.
 use Rattle.std.specs.List.{list_all}
-use Rattle.std.specs.Prelude.{◌+◌, ◌++◌, ◌==◌, ◌≡◌, Bool, Err, false, if◌then◌else◌, IfSome, List, not, Ok, Option, Result, Some, true, ℕ}
+use Rattle.std.specs.Prelude.{◌+◌, ◌++◌, ◌≡◌, Bool, Err, false, if◌then◌else◌, IfSome, List, Ok, Option, Result, Some, true, ℕ}
 use Rattle.q_events.specs.EventList.{bad, first_item, found, leads, past_limit, FirstItem}
-use Rattle.q_events.specs.States.{EventsState, text_left}
-use Rattle.q_events.specs.TextLines.{lines_from, TextLine}
+use Rattle.q_events.specs.States.{EventsState}
+use Rattle.q_lines.specs.States.{text_left}
+use Rattle.q_lines.specs.TextLines.{is_in_line, lines_from, TextLine}
 use Rattle.q_model.specs.declared.limits.Bound.TheVariants.{Input}
 use Rattle.q_events.specs.declared.error.EventError.{EventError}
 use Rattle.q_events.specs.declared.error.EventError.TheVariants as errors
@@ -21,10 +22,6 @@ abbrev pub is_list_end : ListItem → Bool
 is_list_end (items.Step event line) = false
 is_list_end items.Restart = false
 is_list_end items.End = true
-
--- no line ends in these bytes
-abbrev pub is_in_line : List ℕ → Bool
-is_in_line bytes = list_all (λ b. not (b == 10)) bytes
 
 -- The source stopped before an item: the lines that were taken whole are passed over or of content, and what
 -- was taken behind them has no end.

@@ -10,8 +10,8 @@ ghost use Rattle.q_events.specs.States.{unread_list};
 
 use crate::error::EventError;
 use crate::line::{Command, ListLine, parse};
-use crate::line_reader::{LineError, LineReader, NextLine};
 use crate::list_item::ListItem;
+use q_lines::{LineError, LineReader, NextLine};
 use q_model::{Bound, Bytes, Event, NoMemory};
 use q_stream::Source;
 use std::alloc::Global;
@@ -123,6 +123,11 @@ impl Events {
     {
         match self.reader.read_line(alloc, source) {
             Ok(NextLine::Line(line)) => {
+                self.lines += 1;
+                Ok(line)
+            }
+            // A last line may lack its LF.
+            Ok(NextLine::Unended(line)) => {
                 self.lines += 1;
                 Ok(line)
             }

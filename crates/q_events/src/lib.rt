@@ -9,7 +9,6 @@
 mod error;
 mod events;
 mod line;
-mod line_reader;
 mod list_item;
 
 pub use error::EventError;

@@ -58,7 +58,7 @@ GivesNextLine r old r' new line =
 -- a line isn't too long, and is some of what the text may have
 abbrev pub Spends : ReaderState → ReaderState → NextLine → Type 0
 Spends r r' (Line line) = (r'.budget < r.budget) × (length line.items ≤ 16777216)
-Spends r r' (Unended line) = length line.items ≤ 16777216
+Spends r r' (Unended line) = (r'.budget < r.budget) × (length line.items ≤ 16777216)
 Spends r r' TooLong = Unit {0}
 Spends r r' PastLimit = Unit {0}
 Spends r r' End = Unit {0}

@@ -88,6 +88,13 @@ impl LineReader {
         }
     }
 
+    /// From now on the text may have no byte more, so no line is given.
+    pub fn give_up(&mut self)
+        ensures { self.new ≡ record self.old { budget = 0 } }
+    {
+        self.budget = 0;
+    }
+
     /// Takes bytes from the source, where all that were taken before are given.
     fn fill<S: Source>(&mut self, source: &mut S) -> Take
         requires { self.old.buffered ≡ [] }

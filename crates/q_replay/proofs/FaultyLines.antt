@@ -8,8 +8,9 @@ use Rattle.q_engine.specs.declared.error.EngineError.{EngineError}
 use Rattle.q_engine.specs.declared.error.EngineError.TheVariants as engine_errors
 use Rattle.q_events.specs.EventList.{bad, found, past_limit}
 use Rattle.q_events.specs.Readings.{GivesItem, reading}
-use Rattle.q_events.specs.States.{EventsState, text_left, unread_list}
-use Rattle.q_events.specs.TextLines.{lines_from}
+use Rattle.q_events.specs.States.{EventsState, unread_list}
+use Rattle.q_lines.specs.States.{text_left}
+use Rattle.q_lines.specs.TextLines.{lines_from}
 use Rattle.q_events.specs.declared.error.EventError.{EventError}
 use Rattle.q_events.specs.declared.error.EventError.TheVariants as event_errors
 use Rattle.q_events.specs.declared.list_item.ListItem.{ListItem}

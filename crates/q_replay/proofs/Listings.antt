@@ -5,7 +5,7 @@ use Rattle.std.specs.Option.{option_map_or}
 use Rattle.std.specs.Prelude.{option_and_then}
 use Rattle.std.proofs.lemmas.Bool.{and_parts}
 use Rattle.q_events.specs.EventList.{FirstItem, found, bad, past_limit, command_in, content_of, first_item, item_at, item_of, leads, meaning, passes_limit}
-use Rattle.q_events.specs.TextLines.{TextLine}
+use Rattle.q_lines.specs.TextLines.{TextLine}
 use Rattle.q_events.specs.declared.list_item.ListItem.{ListItem}
 use Rattle.q_replay.specs.Listings.{Listing, listing}
 use Rattle.q_replay.specs.Listings.{gives as says, bad as breaks, past_limit as passes}

@@ -16,7 +16,7 @@ use Rattle.q_model.proofs.RunLaws.{after_all-append, run-turn}
 use Rattle.q_events.specs.EventList.{found, first_item, leads, bad as bad_line, past_limit as at_limit}
 use Rattle.q_events.specs.Readings.{is_list_end, reading}
 use Rattle.q_events.specs.States.{EventsState}
-use Rattle.q_events.specs.TextLines.{lines_from}
+use Rattle.q_lines.specs.TextLines.{lines_from}
 use Rattle.q_model.specs.declared.limits.Bound.TheVariants.{Input}
 use Rattle.q_events.specs.declared.list_item.ListItem.{ListItem}
 use Rattle.q_events.specs.declared.list_item.ListItem.TheVariants.{End, Restart}

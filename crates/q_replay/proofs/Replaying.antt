@@ -10,8 +10,9 @@ use Rattle.q_entries.specs.Runs.{PlaysRun}
 use Rattle.q_events.specs.EventList.{bad, first_item, found, past_limit}
 use Rattle.q_events.specs.Forms.{IsItemInForm}
 use Rattle.q_events.specs.Readings.{GivesItem, is_list_end, reading}
-use Rattle.q_events.specs.States.{EventsState, text_left, unread_list}
-use Rattle.q_events.specs.TextLines.{lines_from}
+use Rattle.q_events.specs.States.{EventsState, unread_list}
+use Rattle.q_lines.specs.States.{text_left}
+use Rattle.q_lines.specs.TextLines.{lines_from}
 use Rattle.q_model.specs.declared.limits.Bound.{Bound}
 use Rattle.q_events.specs.declared.error.EventError.{EventError}
 use Rattle.q_events.specs.declared.error.EventError.TheVariants as event_errors

@@ -4,7 +4,7 @@ use Rattle.std.specs.Prelude.{ℕ, ◌+◌, if◌then◌else◌, List, [], ◌�
 use Rattle.q_model.specs.declared.event.LifeEvent.TheVariants.{Begin, Heard, Finish}
 use Rattle.q_model.specs.declared.event.LifeEvent.{LifeEvent}
 use Rattle.q_events.specs.EventList.{command_in, content_of, item_of, leads, meaning, passes_limit}
-use Rattle.q_events.specs.TextLines.{lines_from, TextLine}
+use Rattle.q_lines.specs.TextLines.{lines_from, TextLine}
 use Rattle.q_events.specs.declared.list_item.ListItem.{ListItem}
 use Rattle.q_events.specs.declared.list_item.ListItem.TheVariants.{Step, Restart, End}
 

@@ -2,8 +2,7 @@
 use Rattle.std.specs.Prelude.{◌≡◌, ◌⊎◌, ◌+◌, ◌++◌, [], Err, length, List, Option, Result, Some, true, ℕ}
 use Rattle.q_books.specs.HostStands.{HostStands}
 use Rattle.q_engine.specs.Beginnings.{InWorlds}
-use Rattle.q_events.specs.Readings.{is_in_line}
-use Rattle.q_events.specs.TextLines.{lines_from, TextLine}
+use Rattle.q_lines.specs.TextLines.{TextLine, is_in_line, lines_from}
 use Rattle.q_events.specs.declared.list_item.ListItem.TheVariants.{Restart}
 use Rattle.q_host.specs.View.{View}
 use Rattle.q_model.specs.Book.{Book}

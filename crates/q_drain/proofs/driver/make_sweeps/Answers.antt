@@ -19,7 +19,7 @@ use Rattle.q_drain.specs.declared.sweep.Sweep.{Sweep}
 use Rattle.q_engine.proofs.Stopping.{ok_stop, same_stop, stop_readable}
 use Rattle.q_engine.specs.declared.stop.Stop.TheVariants as stops
 use Rattle.q_engine.specs.Stands.{IsReady}
-use Rattle.q_events.proofs.LineParts.{rose_later}
+use Rattle.q_lines.proofs.LineParts.{rose_later}
 use Rattle.q_link.specs.Records.{HopsView}
 use Rattle.q_link.specs.WaitsLeft.{Spares}
 use Rattle.q_drain.proofs.driver.make_sweeps.Goals as goal

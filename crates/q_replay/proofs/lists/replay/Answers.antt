@@ -5,7 +5,8 @@ use Rattle.q_books.specs.HostStands.{TellsCrashes}
 use Rattle.q_engine.specs.declared.engine.Engine.{Engine}
 use Rattle.q_events.specs.Readings.{is_list_end}
 use Rattle.q_events.specs.declared.error.EventError.{EventError}
-use Rattle.q_events.specs.States.{EventsState, text_left, unread_list}
+use Rattle.q_events.specs.States.{EventsState, unread_list}
+use Rattle.q_lines.specs.States.{text_left}
 use Rattle.q_model.specs.FaultCounts.{Rose}
 use Rattle.q_model.specs.Ledger.{opening}
 use Rattle.q_model.specs.declared.event.Mode.TheVariants.{Deliver}

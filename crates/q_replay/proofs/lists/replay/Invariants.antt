@@ -1,7 +1,7 @@
 use Rattle.std.proofs.Common.{◌≤◌, ◌≡◌, false, IsTrue}
 use Rattle.std.specs.Prelude.{IfSome}
 use Rattle.q_engine.specs.Stands.{IsReady}
-use Rattle.q_events.specs.States.{text_left}
+use Rattle.q_lines.specs.States.{text_left}
 use Rattle.q_model.specs.Book.{Book}
 use Rattle.q_model.specs.Settings.{World}
 use Rattle.q_replay.proofs.FaultyLines.{IsRestOf}

@@ -31,7 +31,7 @@ returns-in-Unended-clause-reads g c w start h =
     let line = c.in-Unended.field-0.items in
     let gives = subst (λ (x : NextLine). GivesNextLine c.args.reader.now left c.read_line.new.self left' x) c.in-Unended.is c.in_ok-line.ensures.line in
     let short = subst (λ (x : NextLine). Spends c.args.reader.now c.read_line.new.self x) c.in-Unended.is c.in_ok-line.ensures.progress in
-    at_end w start c.args.self.now c.args.reader.now c.read_line.new.self left left' (unended line ∷ []) h (short_part line short) gives
+    at_end w start c.args.self.now c.args.reader.now c.read_line.new.self left left' (unended line ∷ []) h (short_part line short.1) gives
 
 pub returns-in-TooLong-clause-reads : goal.returns-in-TooLong-clause-reads
 returns-in-TooLong-clause-reads g c w start h =

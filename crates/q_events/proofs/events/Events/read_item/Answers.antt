@@ -2,7 +2,8 @@ use Rattle.std.proofs.Common.{◌≡◌, ◌∙◌, ◌++◌, ℕ, List, Some, a
 use Rattle.std.proofs.lemmas.Result.{err_from_is_err_and}
 use Rattle.q_events.specs.EventLines.{meaning_of_line}
 use Rattle.q_events.specs.EventList.{content_by}
-use Rattle.q_events.specs.States.{text_left, EventsState}
+use Rattle.q_events.specs.States.{EventsState}
+use Rattle.q_lines.specs.States.{text_left}
 use Rattle.q_events.proofs.ItemForms.{item_in_form}
 use Rattle.q_events.proofs.Leading.{bad_line, is_told, line_fails, line_led, told_gives}
 use Rattle.q_events.proofs.events.Events.read_item.Goals as goal

@@ -1,5 +1,5 @@
 use Rattle.std.proofs.Common.{◌≡◌, ◌≤◌, false}
-use Rattle.q_events.specs.States.{text_left}
+use Rattle.q_lines.specs.States.{text_left}
 use Rattle.q_events.proofs.Leading.{Led}
 use Rattle.q_events.proofs.events.Events.read_item.Given as goal
 
